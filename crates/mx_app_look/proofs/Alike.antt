@@ -10,7 +10,59 @@ use Rattle.mx_app_look.specs.declared.sight.Sight.{Sight}
 use Rattle.mx_app_look.specs.Answers.{IsMade}
 use Rattle.mx_app_look.specs.Places.{place_text}
 use Rattle.mx_app_look.specs.Seeking.{IsHalted}
-use Rattle.mx_app_look.specs.Sessions.{IsAnsweredBy, IsSession, prompt_text}
+use Rattle.mx_app_look.specs.Sessions.{IsAnswered, IsAnsweredBy, IsSession, end_text, ends, prompt_text}
+use Rattle.mx_walk.specs.declared.progress.Part.{Part}
+use Rattle.mx_app_look.proofs.Traced.{unmarked}
+
+-- ---- the text of a session, which its marks don't change
+
+abbrev pub Texts : Bool → Sight → List (Option (List ℕ)) → List ℕ → Type 0
+Texts asks s [] text = text ≡ []
+Texts asks s (None ∷ xs) text = text ≡ end_text asks
+Texts asks s (Some l ∷ xs) text =
+    ((ends l ≡ true) × (text ≡ []))
+    ⊎ ((ends l ≡ false) × ((u : Sight) × (answer : List ℕ) × (rest : List ℕ) × IsAnswered s l u answer × Texts asks u xs rest
+    × (text ≡ (answer ++ prompt_text asks u.walker) ++ rest)))
+
+pub texts_of : (asks : Bool) (s : Sight) (xs : List (Option (List ℕ))) (t : List ℕ) (ps : List Part) → IsSession asks s xs t ps → Texts asks s xs t
+texts_of asks s [] t ps a = a.0
+texts_of asks s (None ∷ xs) t ps a = a.0
+texts_of asks s (Some l ∷ xs) t ps (inl a) = inl (a.0, a.1)
+texts_of asks s (Some l ∷ xs) t ps (inr a) = let p = a.1 in inr (a.0, (p.0, p.1, p.2, p.5, texts_of asks p.0 xs p.2 p.4 p.7, p.8))
+
+abbrev pub bare : Sight → Sight
+bare s = record s { walker = unmarked s.walker }
+
+bare_made : (s u : Sight) (q : Request) (t : List ℕ) → IsMade s q u t → IsMade (bare s) q (bare u) t
+bare_made s u Nothing t a = (ap bare a.0, a.1)
+bare_made s u (Forward n) t a = (ap bare a.0, a.1)
+bare_made s u (Back n) t a = (ap bare a.0, a.1)
+bare_made s u (Step n) t a = (ap bare a.0, a.1)
+bare_made s u (StepBack n) t a = (ap bare a.0, a.1)
+bare_made s u (GoTo p) t a = (ap bare a.0, a.1)
+bare_made s u (Point p) t a = (ap bare a.0, a.1)
+bare_made s u Continue t a = let h = a.2 in (a.0, a.1, (ap bare h.0, h.1))
+bare_made s u Reverse t a = let h = a.2 in (a.0, a.1, (ap bare h.0, h.1))
+bare_made s u (Until h) t a = (ap bare a.0, a.1)
+bare_made s u Where t a = (ap bare a.0, a.1)
+bare_made s u Why t a = (ap bare a.0, a.1)
+bare_made s u Processes t a = (ap bare a.0, a.1)
+bare_made s u Messages t a = (ap bare a.0, a.1)
+bare_made s u (Show p) t a = (ap bare a.0, a.1)
+bare_made s u Help t a = (ap bare a.0, a.1)
+bare_made s u Quit t a = (ap bare a.0, a.1)
+
+bare_answered : (s u : Sight) (line : List ℕ) (q : Option Request) (t : List ℕ) → IsAnsweredBy s line q u t → IsAnsweredBy (bare s) line q (bare u) t
+bare_answered s u line None t a = (ap bare a.0, a.1)
+bare_answered s u line (Some q) t a = bare_made s u q t a
+
+pub bare_texts : (asks : Bool) (s : Sight) (xs : List (Option (List ℕ))) (t : List ℕ) → Texts asks s xs t → Texts asks (bare s) xs t
+bare_texts asks s [] t a = a
+bare_texts asks s (None ∷ xs) t a = a
+bare_texts asks s (Some l ∷ xs) t (inl a) = inl a
+bare_texts asks s (Some l ∷ xs) t (inr a) = let p = a.1 in inr (a.0, (bare p.0, p.1, p.2, bare_answered s p.0 l (request_of l) p.1 p.3, bare_texts asks p.0 xs p.2 p.4, p.5))
+
+-- ---- one text
 
 -- the last position of what is in hand is one of its history
 abbrev pub IsReady : Sight → Type 0
@@ -78,16 +130,16 @@ answered_ready : (s u : Sight) (line : List ℕ) (q : Option Request) (t : List 
 answered_ready s u line None t l a = kept_ready s u s l a.0
 answered_ready s u line (Some q) t l a = ready s u q t l a
 
-pub same_session : (asks : Bool) (s : Sight) (xs : List (Option (List ℕ))) (t r : List ℕ) → IsReady s → IsSession asks s xs t → IsSession asks s xs r → t ≡ r
-same_session asks s [] t r l a b = a ∙ sym b
-same_session asks s (None ∷ xs) t r l a b = a ∙ sym b
-same_session asks s (Some x ∷ xs) t r l (inl a) (inl b) = a.1 ∙ sym b.1
-same_session asks s (Some x ∷ xs) t r l (inl a) (inr b) = let no : true ≡ false = sym a.0 ∙ b.0 in absurd cc
-same_session asks s (Some x ∷ xs) t r l (inr a) (inl b) = let no : true ≡ false = sym b.0 ∙ a.0 in absurd cc
-same_session asks s (Some x ∷ xs) t r l (inr a) (inr b) =
+pub same_texts : (asks : Bool) (s : Sight) (xs : List (Option (List ℕ))) (t r : List ℕ) → IsReady s → Texts asks s xs t → Texts asks s xs r → t ≡ r
+same_texts asks s [] t r l a b = a ∙ sym b
+same_texts asks s (None ∷ xs) t r l a b = a ∙ sym b
+same_texts asks s (Some x ∷ xs) t r l (inl a) (inl b) = a.1 ∙ sym b.1
+same_texts asks s (Some x ∷ xs) t r l (inl a) (inr b) = let no : true ≡ false = sym a.0 ∙ b.0 in absurd cc
+same_texts asks s (Some x ∷ xs) t r l (inr a) (inl b) = let no : true ≡ false = sym b.0 ∙ a.0 in absurd cc
+same_texts asks s (Some x ∷ xs) t r l (inr a) (inr b) =
     let p = a.1 in
     let q = b.1 in
     let same = answered_alike s p.0 q.0 x (request_of x) p.1 q.1 l p.3 q.3 in
-    let rest = same_session asks q.0 xs p.2 q.2 (answered_ready s q.0 x (request_of x) q.1 l q.3) (subst (λ (u : Sight). IsSession asks u xs p.2) same.0 p.4) q.4 in
+    let rest = same_texts asks q.0 xs p.2 q.2 (answered_ready s q.0 x (request_of x) q.1 l q.3) (subst (λ (u : Sight). Texts asks u xs p.2) same.0 p.4) q.4 in
     p.5 ∙ ap (λ (u : Sight). (p.1 ++ prompt_text asks u.walker) ++ p.2) same.0 ∙ ap (λ y. (y ++ prompt_text asks q.0.walker) ++ p.2) same.1
     ∙ ap (λ y. (q.1 ++ prompt_text asks q.0.walker) ++ y) rest ∙ sym q.5

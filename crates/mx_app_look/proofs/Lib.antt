@@ -13,3 +13,4 @@ mod Kernels
 mod WhyTexts
 mod Meeting
 mod Texts
+mod ShownMore

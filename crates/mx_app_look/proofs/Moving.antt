@@ -136,7 +136,7 @@ inside_by [] n x e = absurd cc
 inside_by (y ∷ ys) zero x e = omega arith
 inside_by (y ∷ ys) (suc n) x e = let lt = inside_by ys n x e in omega (arith, lt)
 
-steps_by : (records : List Record) (n : ℕ) (x : Record) → slice_get records n ≡ Some x → first_steps (drop n records) ≡ steps_in x.event
+pub steps_by : (records : List Record) (n : ℕ) (x : Record) → slice_get records n ≡ Some x → first_steps (drop n records) ≡ steps_in x.event
 steps_by [] n x e = absurd cc
 steps_by (y ∷ ys) zero x e = let same : y ≡ x = cc in ap (λ (z : Record). steps_in z.event) same
 steps_by (y ∷ ys) (suc n) x e = steps_by ys n x e

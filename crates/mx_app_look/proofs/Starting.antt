@@ -5,6 +5,7 @@ use Rattle.mx_machine.specs.World.{World}
 use Rattle.mx_debug.specs.declared.points.Breakpoint.{Breakpoint}
 use Rattle.mx_app_look.specs.declared.points.Points.{Points}
 use Rattle.mx_app_look.specs.declared.watches.Watch.{Watch}
+use Rattle.mx_walk.specs.declared.progress.Part.{Part}
 use Rattle.mx_walk.specs.Walks.{IsLast, Walk, first}
 use Rattle.mx_app_look.specs.declared.sight.Sight.{Sight}
 use Rattle.mx_app_look.specs.Sessions.{IsBegun, IsSession, sight_at}
@@ -18,11 +19,11 @@ is_begun w records k boot same here last = record {
 }
 
 -- a session by a walker, with nothing to halt at
-pub held_by_walk : (asks : Bool) (j k : Walk) (s : Points) (typed : List (Option (List ℕ))) (text : List ℕ) → j ≡ k → s.breakpoints ≡ [] → s.watches ≡ []
-    → (let u : Sight = record { walker = j; points = s } in IsSession asks u typed text) → IsSession asks (sight_at k) typed text
-held_by_walk asks j k s typed text same none no_watch h =
+pub held_by_walk : (asks : Bool) (j k : Walk) (s : Points) (typed : List (Option (List ℕ))) (text : List ℕ) (ps : List Part) → j ≡ k → s.breakpoints ≡ [] → s.watches ≡ []
+    → (let u : Sight = record { walker = j; points = s } in IsSession asks u typed text ps) → IsSession asks (sight_at k) typed text ps
+held_by_walk asks j k s typed text ps same none no_watch h =
     let made : Sight = record { walker = j; points = s } in
     let a : made ≡ sight_at j =
     ap (λ (bs : List Breakpoint). let u : Sight = record { walker = j; points = record { breakpoints = bs; watches = s.watches } } in u) none
     ∙ ap (λ (xs : List Watch). let u : Sight = record { walker = j; points = record { breakpoints = []; watches = xs } } in u) no_watch in
-    subst (λ (u : Sight). IsSession asks u typed text) (a ∙ ap sight_at same) h
+    subst (λ (u : Sight). IsSession asks u typed text ps) (a ∙ ap sight_at same) h

@@ -13,12 +13,17 @@ use Rattle.mx_walk.specs.Positions.{steps_in, steps_of}
 use Rattle.mx_walk.specs.Walks.{Walk}
 use Rattle.mx_walk.proofs.Made.{after_both}
 
-pub same_walk : (j k : Walk) → j.boot ≡ k.boot → j.records ≡ k.records → j.here ≡ k.here → j.last ≡ k.last → j ≡ k
+-- a walk, but for its marks
+abbrev pub unmarked : Walk → Walk
+unmarked k = record k { marks = [] }
+
+abbrev made_of : World → List Record → Position → Position → Walk
+made_of boot records here last = record { boot = boot; records = records; here = here; last = last; marks = [] }
+
+pub same_walk : (j k : Walk) → j.boot ≡ k.boot → j.records ≡ k.records → j.here ≡ k.here → j.last ≡ k.last → unmarked j ≡ unmarked k
 same_walk j k boot records here last =
-    let a : j ≡ record j { boot = k.boot } = ap (λ (w : World). record j { boot = w }) boot in
-    let b : record j { boot = k.boot } ≡ record k { here = j.here; last = j.last } = ap (λ (rs : List Record). let r : Walk = record { boot = k.boot; records = rs; here = j.here; last = j.last } in r) records in
-    let c : record k { here = j.here; last = j.last } ≡ record k { last = j.last } = ap (λ (p : Position). let r : Walk = record k { here = p; last = j.last } in r) here in
-    a ∙ b ∙ c ∙ ap (λ (p : Position). record k { last = p }) last
+    ap (λ (w : World). made_of w j.records j.here j.last) boot ∙ ap (λ (rs : List Record). made_of k.boot rs j.here j.last) records
+    ∙ ap (λ (p : Position). made_of k.boot k.records p j.last) here ∙ ap (λ (p : Position). made_of k.boot k.records k.here p) last
 
 -- the steps that a record has
 pub steps_are : (a : ℕ) (x : Recorded) → steps_of a (steps_in x) ≡ steps_before a x

@@ -4,7 +4,7 @@ use Rattle.mx_machine.specs.declared.events.Event.{Event}
 use Rattle.mx_machine.specs.declared.history.Record.{Record}
 use Rattle.mx_walk.specs.declared.positions.Position.{Position}
 use Rattle.mx_walk.specs.declared.progress.Part.{Part}
-use Rattle.mx_walk.specs.Parts.{shown_to, walk_between, walk_shown}
+use Rattle.mx_walk.specs.Parts.{shown_to, shown_way, walk_between, walk_shown}
 use Rattle.mx_walk.specs.Positions.{IsPosition, IsUpTo, event_below, next_position, position_before, steps_in}
 use Rattle.mx_walk.specs.Seeking.{IsFirstMarked, IsLastMarked, IsPassed, is_marked}
 use Rattle.mx_walk.specs.Walks.{Walk, first, world_here}
@@ -25,7 +25,7 @@ abbrev pub steps_made : ℕ → Record → Position
 steps_made n x = record { records = n; steps = steps_in x.event }
 
 abbrev pub record_shown : Walk → ℕ → Record → List Part
-record_shown k n x = shown_to k (steps_made n x) ++ walk_between k.records (steps_made n x) (below n)
+record_shown k n x = shown_to k (steps_made n x) ++ shown_way k (steps_made n x) (below n)
 
 abbrev pub why_shown_by : Walk → ℕ → Option Record → List Part
 why_shown_by k n None = []
@@ -39,7 +39,7 @@ why_shown k = why_shown_by k (k.here.records - 1) (record_above k.records k.here
 -- from below the event from p to q that it meets: back above it; and below it again, unless it is the step at a
 -- breakpoint
 abbrev pub halt_shown : Walk → Points → Position → Position → List Part
-halt_shown k s p q = shown_to (record k { here = q }) p ++ (if is_break k s p (event_below k.records p) then [] else walk_between k.records p q)
+halt_shown k s p q = shown_way k q p ++ (if is_break k s p (event_below k.records p) then [] else shown_way k p q)
 
 -- from a position on: to the first event that is looked for, and to the halt by it; or to the last position
 abbrev pub IsSearchShown : Walk → Points → Position → List Part → Type 0
@@ -50,8 +50,8 @@ IsSearchShown k s from ps =
 
 -- past the first event, which leads to p; and on from there, unless it changed watched bytes
 abbrev pub IsShownAfter : Walk → Points → Position → Bool → List Part → Type 0
-IsShownAfter k s p true ps = ps ≡ walk_between k.records k.here p
-IsShownAfter k s p false ps = (more : List Part) × (ps ≡ walk_between k.records k.here p ++ more) × IsSearchShown k s p more
+IsShownAfter k s p true ps = ps ≡ shown_to k p
+IsShownAfter k s p false ps = (more : List Part) × (ps ≡ shown_to k p ++ more) × IsSearchShown k s p more
 
 abbrev pub IsShownFrom : Walk → Points → Option (ℕ × Event) → List Part → Type 0
 IsShownFrom k s None ps = ps ≡ []
@@ -64,7 +64,7 @@ IsNextShown k s ps = IsShownFrom k s (next_made k) ps
 -- so that changed bytes are seen
 
 abbrev pub return_shown : Walk → Position → Position → List Part
-return_shown k p q = walk_between k.records p q ++ shown_to (record k { here = q }) p
+return_shown k p q = shown_way k p q ++ shown_way k q p
 
 abbrev pub IsLastShown : Walk → Points → List Part → Type 0
 IsLastShown k s ps =

@@ -5,6 +5,7 @@ ghost use Rattle.mx_app_step.specs.Traces.{step_of};
 ghost use Rattle.mx_machine.specs.History.{events_of_history, world_after_events};
 ghost use Rattle.mx_machine.specs.World.{World};
 ghost use Rattle.mx_machine.specs.declared.history.Record.{Record};
+ghost use Rattle.mx_walk.specs.declared.progress.Part.{Part};
 ghost use Rattle.mx_walk.specs.Walks.{Walk};
 ghost use Rattle.mx_app_look.specs.Above.{step_above};
 ghost use Rattle.mx_app_look.specs.Sessions.{IsBegun, IsSession, begun_text, sight_at};
@@ -15,9 +16,10 @@ use mx_walk::{one_last, positions_replay};
 /// lines that are typed.
 pub fn one_session()
     ensures { (boot : World) (records : List Record) (j k : Walk) (asks : Bool)
-        (typed : List (Option (List ℕ))) (s t : List ℕ) → IsBegun boot records j
-        → IsBegun boot records k → IsSession asks (sight_at j) typed s
-        → IsSession asks (sight_at k) typed t → begun_text asks j ++ s ≡ begun_text asks k ++ t }
+        (typed : List (Option (List ℕ))) (s t : List ℕ) (ps qs : List Part)
+        → IsBegun boot records j → IsBegun boot records k
+        → IsSession asks (sight_at j) typed s ps → IsSession asks (sight_at k) typed t qs
+        → begun_text asks j ++ s ≡ begun_text asks k ++ t }
 {
     one_last();
 }

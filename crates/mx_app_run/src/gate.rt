@@ -88,7 +88,8 @@ impl<'a, R, P: SharedProgress> RunGate<'a, R, P> {
 
     /// Whether nothing is to come from outside: all ticks and all calls are made.
     fn is_past_all(&self) -> bool {
-        self.rounds.load(Ordering::SeqCst) >= self.plan.ticks && !self.has_calls.load(Ordering::SeqCst)
+        self.rounds.load(Ordering::SeqCst) >= self.plan.ticks
+            && !self.has_calls.load(Ordering::SeqCst)
     }
 
     /// Whether an actor is the outsider, and has asked.

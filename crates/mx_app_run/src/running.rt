@@ -35,11 +35,7 @@ struct RunPlace<'a, T, P> {
 }
 
 /// Drives a machine that was just booted, until it is at rest after its ticks and calls, or its history is full.
-fn drive_blank<
-    M: Naming + Send + Sync,
-    T: Threads + Wait + Clock + Sync,
-    P: SharedProgress + Sync,
->(
+fn drive_blank<M: Naming + Send + Sync, T: Threads + Wait + Clock + Sync, P: SharedProgress + Sync>(
     place: &RunPlace<'_, T, P>,
     blank: Blank,
     seats: Vec<ActorSeat>,

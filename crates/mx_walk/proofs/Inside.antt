@@ -1,5 +1,5 @@
 -- A search within the steps of one record.
-use Rattle.std.proofs.Common.{◌≡◌, ◌∙◌, ◌<◌, ◌≤◌, ℕ, suc, ◌+◌, ◌-◌, Bool, true, false, List, [], ◌∷◌, ◌++◌, length, get_or, Option, Some, None, refl, ap, sym, subst, inl, inr, arith}
+use Rattle.std.proofs.Common.{◌≡◌, ◌∙◌, ◌<◌, ◌≤◌, ℕ, suc, ◌+◌, ◌-◌, Bool, true, false, cond, nat_lt, List, [], ◌∷◌, ◌++◌, drop, length, get_or, Option, Some, None, refl, ap, sym, subst, inl, inr, arith}
 use Rattle.std.specs.Option.{MatchOption}
 use Rattle.mx_machine.specs.declared.events.Event.{Event}
 use Rattle.mx_machine.specs.declared.events.Event.TheVariants as event
@@ -8,7 +8,7 @@ use Rattle.mx_machine.specs.History.{world_after_events}
 use Rattle.mx_machine.specs.World.{World}
 use Rattle.mx_machine.specs.Machine.{MachineState, world_of}
 use Rattle.mx_walk.specs.declared.positions.Position.{Position}
-use Rattle.mx_walk.specs.Positions.{HasMade, IsAbove, IsAt, IsBlocked, IsPosition, IsRefused, IsStuck, IsUpTo, event_below, events_above, next_position, steps_in, steps_of, world_at}
+use Rattle.mx_walk.specs.Positions.{HasMade, IsAbove, IsAt, IsBlocked, IsPosition, IsRefused, IsStuck, IsUpTo, event_below, events_above, next_by, next_position, steps_in, steps_of, world_at}
 use Rattle.mx_walk.specs.Seeking.{HasCome, NoneMarked, is_marked}
 use Rattle.mx_walk.proofs.Along.{any_record, at, halted_in, more_above, steps_on}
 use Rattle.mx_walk.proofs.Made.{replicate_both}
@@ -72,14 +72,28 @@ module _ (f : World → ℕ × Event → World → Bool) (boot : World) (records
           | inr h ↦ inr (subst (λ c. IsBlocked boot records (at k c)) stays h.1)
         ]
 
+-- the next position is of the same record, or of the next one
+by_choice : (p : Position) (b : Bool) → (cond b (at p.records (p.steps + 1)) (at (p.records + 1) 0)).records ≤ p.records + 1
+by_choice p true = omega arith
+by_choice p false = omega arith
+
+next_by_records : (p : Position) (xs : List Record) → (next_by p xs).records ≤ p.records + 1
+next_by_records p [] = omega arith
+next_by_records p (x ∷ xs) = by_choice p (nat_lt p.steps (steps_in x.event))
+
+next_records : (records : List Record) (p : Position) → (next_position records p).records ≤ p.records + 1
+unfolding next_position
+next_records records p = next_by_records p (drop p.records records)
+
 -- one event, which may be one of its steps
 pub by_event : (f : World → ℕ × Event → World → Bool) (boot : World) (records : List Record) (p to : Position) (n : MachineState) (o : Option (Position × Bool)) → IsPosition records p → IsPosition records to → IsAbove p to
     → MatchOption o (IsStuck boot records p × IsAt boot records p n)
     (λ gone. (x : ℕ × Event) × (event_below records p ≡ Some x) × (gone.0 ≡ next_position records p) × IsAt boot records gone.0 n × (gone.1 ≡ is_marked f (world_at boot records p) x))
-    → MatchOption o (IsStuck boot records p × IsAt boot records p n) (λ gone. HasCome f boot records p gone.0 gone.1 × IsAt boot records gone.0 n × IsUpTo gone.0 to)
+    → MatchOption o (IsStuck boot records p × IsAt boot records p n) (λ gone. HasCome f boot records p gone.0 gone.1 × IsAt boot records gone.0 n × IsUpTo gone.0 to × (gone.0.records ≤ p.records + 1))
 by_event f boot records p to n None h g lt s = s
 by_event f boot records p to n (Some gone) h g lt s = (
   subst (λ (q : Position). HasCome f boot records p q gone.1) (sym s.2) (come_by f boot records p s.0 h s.1 gone.1 s.4),
   s.3,
   subst (λ (q : Position). IsUpTo q to) (sym s.2) (next_up_to records p to s.0 h g s.1 (up_to_of p to lt) (not_itself p to lt)),
+  subst (λ (q : Position). q.records ≤ p.records + 1) (sym s.2) (next_records records p),
 )

@@ -1,7 +1,7 @@
 -- What is shown of a work, one part more.
-use Rattle.std.proofs.Common.{◌≡◌, ◌∙◌, ◌≤◌, ℕ, ◌+◌, ◌-◌, List, [], ◌∷◌, ◌++◌, append_assoc, map, inl, inr, ap, sym, arith}
+use Rattle.std.proofs.Common.{◌≡◌, ◌∙◌, ◌≤◌, ℕ, zero, suc, ◌+◌, ◌-◌, List, [], ◌∷◌, ◌++◌, append_assoc, map, inl, inr, refl, ap, sym, arith}
 use Rattle.std.specs.List.{range_with_len}
-use Rattle.std.proofs.lemmas.List.{append-nil}
+use Rattle.std.proofs.lemmas.List.{append-nil, map-append}
 use Rattle.std.proofs.lemmas.List.FromFn.{map-range_with_len_more}
 use Rattle.mx_walk.specs.declared.positions.Position.{Position}
 use Rattle.mx_walk.specs.Positions.{IsUpTo}
@@ -34,6 +34,26 @@ next_between all len m n before now then le same shown more =
     ∙ ap (λ (l : List Part). l ++ part_after all n ∷ []) shown ∙ append_assoc before (parts_between all m n) (part_after all n ∷ [])
     ∙ ap (λ (l : List Part). before ++ l) (sym (map-range_with_len_more (part_after all) m (n - m) n place))
     ∙ ap (λ i. before ++ map (part_after all) (range_with_len m i)) one
+
+range_joined : (a n b m k : ℕ) → a + n ≡ b → n + m ≡ k → range_with_len a n ++ range_with_len b m ≡ range_with_len a k
+range_joined a zero b m k e f =
+    let first : b ≡ a = omega (arith, e) in
+    let long : m ≡ k = omega (arith, f) in
+    ap (λ i. range_with_len i m) first ∙ ap (λ i. range_with_len a i) long
+range_joined a (suc n) b m k e f =
+    let long : suc (n + m) ≡ k = omega (arith, f) in
+    ap (λ (xs : List ℕ). a ∷ xs) (range_joined (a + 1) n b m (n + m) (omega (arith, e)) refl) ∙ ap (λ i. range_with_len a i) long
+
+-- what is between two places, and then between the second and a third
+pub joined : (all m n k : ℕ) → m ≤ n → n ≤ k → parts_between all m n ++ parts_between all n k ≡ parts_between all m k
+joined all m n k le ge =
+    sym (map-append (part_after all) (range_with_len m (n - m)) (range_with_len n (k - n)))
+    ∙ ap (λ (is : List ℕ). map (part_after all) is) (range_joined m (n - m) n (k - n) (k - m) (omega (arith, le)) (omega (arith, le, ge)))
+
+pub then_between : (all m n k : ℕ) (before now then : List Part) → m ≤ n → n ≤ k → now ≡ before ++ parts_between all m n → then ≡ now ++ parts_between all n k → then ≡ before ++ parts_between all m k
+then_between all m n k before now then le ge shown more =
+    more ∙ ap (λ (l : List Part). l ++ parts_between all n k) shown ∙ append_assoc before (parts_between all m n) (parts_between all n k)
+    ∙ ap (λ (l : List Part). before ++ l) (joined all m n k le ge)
 
 -- a walk is never above where it began
 pub after_place : (p q : Position) (k : ℕ) → IsUpTo p q → q.records ≡ k → p.records ≤ k

@@ -30,6 +30,10 @@ walk_shown records p = parts_shown (length records) p.records
 abbrev pub shown_to : Walk → Position → List Part
 shown_to k to = walk_between k.records (start_to k to) to
 
+-- and on its way from one position to another
+abbrev pub shown_way : Walk → Position → Position → List Part
+shown_way k p q = shown_to (record k { here = p }) q
+
 -- what was shown, and perhaps more after it
 abbrev pub HasGrown : List Part → List Part → Type 0
 HasGrown before after = (more : List Part) × (after ≡ before ++ more)

@@ -239,10 +239,12 @@ impl Walker {
             last,
             checkpoints,
         } = self;
+        let above = records.as_slice();
+        let stored = checkpoints.as_slice();
         let origin = Origin {
             config: &config,
-            records: records.as_slice(),
-            checkpoints: checkpoints.as_slice(),
+            records: above,
+            checkpoints: stored,
         };
         let (mut machine, from) = machine_above(alloc, machine, origin, here, to)?;
         go_on(&mut machine, records.as_slice(), from, to, progress);
@@ -272,7 +274,13 @@ impl Walker {
             from: self.here,
             to: self.last,
         };
-        match seek(&mut self.machine, self.records.as_slice(), way, mark, progress) {
+        match seek(
+            &mut self.machine,
+            self.records.as_slice(),
+            way,
+            mark,
+            progress,
+        ) {
             Sought::Found(here) => {
                 self.here = here;
                 true

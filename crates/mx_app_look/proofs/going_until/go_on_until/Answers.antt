@@ -5,7 +5,7 @@ use Rattle.mx_app_look.proofs.Meeting.{goes_by, goes_on, halts_here, appends_it}
 use Rattle.mx_app_look.proofs.going_until.go_on_until.Goals as goal
 
 pub bounds-records-above : goal.bounds-records-above
-bounds-records-above c =
+bounds-records-above g c =
     let k = c.args.walker in
     let few = c.last-last.ensures.is.position.above in
     let lt = c.loop-above-test.true in
@@ -13,7 +13,7 @@ bounds-records-above c =
     omega (arith, few, lt, same)
 
 pub returns-then-happens-clause-walker : goal.returns-then-happens-clause-walker
-returns-then-happens-clause-walker c =
+returns-then-happens-clause-walker g c =
     let k = c.args.walker in
     let inv = c.loop-above.invariant in
     let lt : c.loop-above.above < k.last.records = subst (λ (p : Position). c.loop-above.above < p.records) c.last-last.ensures.last c.loop-above-test.true in
@@ -22,7 +22,7 @@ returns-then-happens-clause-walker c =
     c.in_ok-walker.ensures.step inv.none (sym c.happens.ensures ∙ c.if-happens.true) c.in_ok-walker.walker c.in_ok-walker.ensures.walker
 
 pub returns-then-happens-clause-text : goal.returns-then-happens-clause-text
-returns-then-happens-clause-text c =
+returns-then-happens-clause-text g c =
     let k = c.args.walker in
     let inv = c.loop-above.invariant in
     let lt : c.loop-above.above < k.last.records = subst (λ (p : Position). c.loop-above.above < p.records) c.last-last.ensures.last c.loop-above-test.true in
@@ -31,7 +31,7 @@ returns-then-happens-clause-text c =
     c.in_ok-walker.ensures.step inv.none (sym c.happens.ensures ∙ c.if-happens.true) c.loop-above.out.items c.args.out.now.items c.push_record.new.out.items inv.nothing c.in_ok-push_record.ensures
 
 pub loop-above-preserved : goal.loop-above-preserved
-loop-above-preserved c =
+loop-above-preserved g c =
     let k = c.args.walker in
     let inv = c.loop-above.invariant in
     let lt : c.loop-above.above < k.last.records = subst (λ (p : Position). c.loop-above.above < p.records) c.last-last.ensures.last c.loop-above-test.true in

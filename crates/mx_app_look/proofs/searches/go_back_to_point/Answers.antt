@@ -11,7 +11,7 @@ use Rattle.mx_app_look.proofs.Marked.{Marks, both_are}
 use Rattle.mx_app_look.proofs.searches.go_back_to_point.Goals as goal
 
 pub returns-then-not-found-clause-halt : goal.returns-then-not-found-clause-halt
-returns-then-not-found-clause-halt c =
+returns-then-not-found-clause-halt g c =
     let k = c.args.walker in
     let s = c.args.points.now in
     let m = c.in_ok-mark.mark in
@@ -20,7 +20,7 @@ returns-then-not-found-clause-halt c =
     no_last_halt k s c.in_ok-walker.walker _ n.0 (subst (λ (f : Marks). IsPassed f k.boot k.records first k.here) same n.1) c.in_ok-not_met.ensures
 
 pub go_and_compare-requires-clause-position : goal.go_and_compare-requires-clause-position
-go_and_compare-requires-clause-position c =
+go_and_compare-requires-clause-position g c =
     let j = c.in_ok-walker.walker in
     let p = c.here-halt.result in
     let below : event_below j.records p ≡ Some (c.in-Some.next.actor, c.in-Some.next.event) = ap (λ (rs : List Record). event_below rs p) (sym c.records.ensures) ∙ c.in-Some.ensures.0 in
@@ -28,7 +28,7 @@ go_and_compare-requires-clause-position c =
     (is_position_too j.records p (c.in-Some.next.actor, c.in-Some.next.event) c.here-halt.ensures.position below)
 
 pub go_and_compare-requires-clause-early : goal.go_and_compare-requires-clause-early
-go_and_compare-requires-clause-early c =
+go_and_compare-requires-clause-early g c =
     let k = c.args.walker in
     let s = c.args.points.now in
     let j = c.in_ok-walker.walker in
@@ -45,7 +45,7 @@ go_and_compare-requires-clause-early c =
     (c.in-Some.ensures.1 ∙ ap (λ (rs : List Record). next_position rs p) c.records.ensures ∙ ap (λ (q : Position). next_position j.records q) c.here-halt.ensures.here)
 
 pub unreachable-requires : goal.unreachable-requires
-unreachable-requires c =
+unreachable-requires g c =
     let k = c.args.walker in
     let s = c.args.points.now in
     let j = c.in_ok-walker.walker in
@@ -59,7 +59,7 @@ unreachable-requires c =
     some_below k s j c.in_ok-walker.ensures.same position l found (subst (λ (q : Position). event_below j.records q ≡ None) c.here-halt.ensures.here none)
 
 pub returns-clause-halt : goal.returns-clause-halt
-returns-clause-halt c =
+returns-clause-halt g c =
     let k = c.args.walker in
     let s = c.args.points.now in
     let j = c.in_ok-walker.walker in

@@ -12,7 +12,7 @@ use Rattle.mx_app_look.proofs.Marked.{Marks, both_are}
 use Rattle.mx_app_look.proofs.searches.go_on_from.Goals as goal
 
 pub returns-then-not-seek-clause-halt : goal.returns-then-not-seek-clause-halt
-returns-then-not-seek-clause-halt c =
+returns-then-not-seek-clause-halt g c =
     let k = c.args.walker in
     let s = c.args.points.now in
     let m = c.in_ok-mark.mark in
@@ -21,7 +21,7 @@ returns-then-not-seek-clause-halt c =
     halts_nowhere k s c.walker-2.inside.here _ (ap (λ (w : Walk). w.here) c.walker-2.view_is ∙ n.0) (subst (λ (f : Marks). IsPassed f k.boot k.records k.here k.last) same n.1) c.in_ok-not_met.ensures
 
 pub halt_by-requires-clause-position : goal.halt_by-requires-clause-position
-halt_by-requires-clause-position c =
+halt_by-requires-clause-position g c =
     let k = c.args.walker in
     let j = c.seek.new.self in
     let m = c.in_ok-mark.mark in
@@ -36,7 +36,7 @@ halt_by-requires-clause-position c =
     subst (λ (p : Position). IsPosition j.records p) (sym (c.in-Some.ensures.0 ∙ ap (λ (rs : List Record). position_before rs q) c.records.ensures)) b.position
 
 pub unreachable-requires : goal.unreachable-requires
-unreachable-requires c =
+unreachable-requires g c =
     let k = c.args.walker in
     let j = c.seek.new.self in
     let m = c.in_ok-mark.mark in
@@ -46,7 +46,7 @@ unreachable-requires c =
     not_first f k.boot k.records k.here j.here found (sym c.here.ensures.here ∙ c.in-None.ensures)
 
 pub returns-clause-halt : goal.returns-clause-halt
-returns-clause-halt c =
+returns-clause-halt g c =
     let k = c.args.walker in
     let s = c.args.points.now in
     let j = c.seek.new.self in

@@ -14,18 +14,18 @@ use Rattle.mx_app_look.proofs.Marked.{Marks, bytes_are}
 use Rattle.mx_app_look.proofs.searches.go_on_past.Goals as goal
 
 pub go_and_compare-requires-clause-position : goal.go_and_compare-requires-clause-position
-go_and_compare-requires-clause-position c =
+go_and_compare-requires-clause-position g c =
     let k = c.args.walker in
     subst (λ (p : Position). IsPosition k.records p) (sym c.requires.position) (is_position_too k.records k.here (c.args.next.actor, c.args.next.event) c.requires.here c.requires.below)
 
 pub go_and_compare-requires-clause-early : goal.go_and_compare-requires-clause-early
-go_and_compare-requires-clause-early c =
+go_and_compare-requires-clause-early g c =
     let k = c.args.walker in
     subst (λ (p : Position). IsUpTo p k.last) (sym c.requires.position)
     (next_up_to k.records k.here k.last (c.args.next.actor, c.args.next.event) c.requires.here c.requires.last c.requires.below (up_to_of k.here k.last c.requires.early) (not_itself k.here k.last c.requires.early))
 
 pub returns-then-is_met-clause-halt : goal.returns-then-is_met-clause-halt
-returns-then-is_met-clause-halt c =
+returns-then-is_met-clause-halt g c =
     let k = c.args.walker in
     let s = c.args.points.now in
     let j = c.in_ok-walker.walker in
@@ -40,7 +40,7 @@ returns-then-is_met-clause-halt c =
     halts_after_one k s j x c.args.next.position _ c.requires.here c.requires.below c.requires.position c.in_ok-walker.ensures.walker (sym met ∙ c.if-is_met.true) c.in_ok-walker.ensures.changes
 
 pub returns-clause-halt : goal.returns-clause-halt
-returns-clause-halt c =
+returns-clause-halt g c =
     let k = c.args.walker in
     let s = c.args.points.now in
     let j = c.in_ok-walker.walker in

@@ -17,7 +17,7 @@ text_is k records n x same some here few =
     why_is k (n - 1) (get_or records (n - 1) x) one read
 
 pub returns-clause-text : goal.returns-clause-text
-returns-clause-text c =
+returns-clause-text g c =
     let k = c.args.walker in
     let n = c.here-here.result.records in
     let here : n ≡ k.here.records = ap (λ p. p.records) c.here-here.ensures.here in

@@ -1,0 +1,275 @@
+-- What requests show.
+use Rattle.std.proofs.Common.{◌≡◌, ◌∙◌, ◌≤◌, ◌<◌, ℕ, suc, ◌+◌, ◌-◌, eqb, leb, ltb, cond, Bool, true, false, List, [], ◌∷◌, ◌++◌, append_assoc, Option, Some, None, Result, Ok, Err, IfErr, IfOk, OnOk, drop, get_or, length, map, slice_get, refl, ap, sym, subst, inl, inr, arith}
+use Rattle.std.specs.List.{range_with_len}
+use Rattle.std.proofs.lemmas.Bool.{cases_lt, eq-eqb, le-leb, lt-ltb, ne_eqb}
+use Rattle.std.proofs.lemmas.List.{append-nil}
+use Rattle.mx_machine.specs.declared.events.Event.{Event}
+use Rattle.mx_machine.specs.declared.history.Record.{Record}
+use Rattle.mx_walk.specs.declared.positions.Position.{Position}
+use Rattle.mx_walk.specs.declared.progress.Part.{Part}
+use Rattle.mx_walk.specs.Parts.{HasGrown, part_after, parts_between, shown_to, shown_way, walk_between, walk_shown}
+use Rattle.mx_walk.specs.Positions.{IsPosition, IsUpTo, event_below, first_steps, is_up_to, next_position, position_before, steps_in}
+use Rattle.mx_walk.specs.Seeking.{IsFirstMarked, IsLastMarked, IsPassed, is_marked}
+use Rattle.mx_walk.specs.Walks.{Walk, first, mark_above, start_to, world_here}
+use Rattle.mx_walk.proofs.PartsShown.{joined}
+use Rattle.mx_app_look.specs.declared.points.Points.{Points}
+use Rattle.mx_app_look.specs.Above.{record_above}
+use Rattle.mx_app_look.specs.Marks.{changes_watched, is_looked_for}
+use Rattle.mx_app_look.specs.Searches.{is_break, next_made}
+use Rattle.mx_app_look.specs.Shows.{IsLastShown, IsNextShown, IsSearchShown, IsShownAfter, IsShownFrom, halt_shown, record_shown, return_shown, steps_made, why_shown, why_shown_by}
+use Rattle.mx_app_look.specs.Until.{below}
+use Rattle.mx_walk.proofs.Along.{up_trans}
+use Rattle.mx_app_look.proofs.Coming.{gone}
+use Rattle.mx_app_look.proofs.Moving.{made_position, read_is, records_up_to, steps_by}
+
+-- ---- what was shown before, and after
+
+pub grown_none : (before : List Part) → HasGrown before before
+grown_none before = ([], sym (append-nil before))
+
+pub grown_same : (before after : List Part) → after ≡ before → HasGrown before after
+grown_same before after e = ([], e ∙ sym (append-nil before))
+
+pub grown_by : (before after ps : List Part) → after ≡ before ++ ps → HasGrown before after
+grown_by before after ps e = (ps, e)
+
+pub grown_more : (before now after : List Part) → HasGrown before now → HasGrown now after → HasGrown before after
+grown_more before now after a b = (a.0 ++ b.0, b.1 ∙ ap (λ (xs : List Part). xs ++ b.0) a.1 ∙ append_assoc before a.0 b.0)
+
+pub err_always : {A E : Type 0} (r : Result A E) (X : Type 0) → X → IfErr r (λ (e : E). X)
+err_always (Ok a) X h = tt
+err_always (Err e) X h = h
+
+pub err_weaker : {A E : Type 0} (r : Result A E) (X Y : Type 0) → (X → Y) → IfErr r (λ (e : E). X) → IfErr r (λ (e : E). Y)
+err_weaker (Ok a) X Y f h = tt
+err_weaker (Err e) X Y f h = f h
+
+pub ok_weaker : {A E : Type 0} (r : Result A E) (X Y : Type 0) → (X → Y) → OnOk r X → OnOk r Y
+ok_weaker (Ok a) X Y f h = f h
+ok_weaker (Err e) X Y f h = tt
+
+pub both_shown : (before now after ps qs : List Part) → now ≡ before ++ ps → after ≡ now ++ qs → after ≡ before ++ (ps ++ qs)
+both_shown before now after ps qs a b = b ∙ ap (λ (xs : List Part). xs ++ qs) a ∙ append_assoc before ps qs
+
+-- a list that was shown, of which this holds
+abbrev pub Shows : List Part → List Part → (List Part → Type 0) → Type 0
+Shows before after P = (ps : List Part) × (after ≡ before ++ ps) × P ps
+
+-- ---- a walk on
+
+pub is_up : (p q : Position) → IsUpTo p q → is_up_to p q ≡ true
+is_up p q (inl lt) =
+    let other : eqb p.records q.records ≡ false = ne_eqb p.records q.records (λ e. omega (arith, e, lt)) in
+    ap (λ b. cond b (leb p.steps q.steps) (ltb p.records q.records)) other ∙ lt-ltb p.records q.records lt
+is_up p q (inr h) =
+    ap (λ b. cond b (leb p.steps q.steps) (ltb p.records q.records)) (eq-eqb p.records q.records h.0) ∙ le-leb p.steps q.steps h.1
+
+pub on_shown : (k : Walk) (p : Position) → IsUpTo k.here p → shown_to k p ≡ walk_between k.records k.here p
+on_shown k p up = ap (λ b. walk_between k.records (let q : Position = cond b k.here (mark_above k.marks p) in q) p) (is_up k.here p up)
+
+none_between : (all n : ℕ) → parts_between all n n ≡ []
+none_between all n = let none : n - n ≡ 0 = omega arith in ap (λ i. map (part_after all) (range_with_len n i)) none
+
+-- within a record none is shown
+pub none_shown : (k : Walk) (p : Position) → IsUpTo k.here p → k.here.records ≡ p.records → shown_to k p ≡ []
+none_shown k p up same = on_shown k p up ∙ ap (λ i. parts_between (length k.records) i p.records) same ∙ none_between (length k.records) p.records
+
+pub here_shown : (k : Walk) → shown_to k k.here ≡ []
+here_shown k = let le : k.here.steps ≤ k.here.steps = omega arith in none_shown k k.here (inr (refl, le)) refl
+
+pub stays_shown : (k : Walk) (before : List Part) → before ≡ before ++ shown_to k k.here
+stays_shown k before = sym (append-nil before) ∙ ap (λ (ps : List Part). before ++ ps) (sym (here_shown k))
+
+-- ---- a record
+
+pub record_is_shown : (k w : Walk) (n : ℕ) (x : Record) (p : Position) (before now after : List Part) → p ≡ steps_made n x → w ≡ gone k p
+    → now ≡ before ++ shown_to k p → after ≡ now ++ shown_to w (below n) → after ≡ before ++ record_shown k n x
+record_is_shown k w n x p before now after there moved a b =
+    both_shown before now after (shown_to k p) (shown_to w (below n)) a b
+    ∙ ap (λ (v : Walk). before ++ (shown_to k p ++ shown_to v (below n))) moved
+    ∙ ap (λ (q : Position). before ++ (shown_to k q ++ shown_way k q (below n))) there
+
+-- and then within the next one
+pub then_none : (k w : Walk) (n : ℕ) (p : Position) (before now after ps : List Part) → n + 1 ≡ p.records → w ≡ gone k (below n) → now ≡ before ++ ps → after ≡ now ++ shown_to w p → after ≡ before ++ ps
+then_none k w n p before now after ps one moved a b =
+    let few : 0 ≤ p.steps = omega arith in
+    b ∙ ap (λ (v : Walk). now ++ shown_to v p) moved ∙ ap (λ (xs : List Part). now ++ xs) (none_shown (gone k (below n)) p (inr (one, few)) one) ∙ append-nil now ∙ a
+
+pub why_is_shown : (k : Walk) (m : ℕ) (x : Record) → k.here.records ≡ suc m → slice_get k.records m ≡ Some x → why_shown k ≡ record_shown k m x
+why_is_shown k m x e h =
+    let less : k.here.records - 1 ≡ m = omega (arith, e) in
+    ap (λ (o : Option Record). why_shown_by k (k.here.records - 1) o) (ap (record_above k.records) e ∙ h)
+    ∙ ap (λ i. record_shown k i x) less
+
+pub boot_shown : (k : Walk) (before : List Part) → k.here.records ≡ 0 → before ≡ before ++ why_shown k
+boot_shown k before e =
+    let none : why_shown k ≡ [] = ap (λ (o : Option Record). why_shown_by k (k.here.records - 1) o) (ap (record_above k.records) e) in
+    sym (append-nil before) ∙ ap (λ (ps : List Part). before ++ ps) (sym none)
+
+-- at an index of what was read
+pub shown_is_read : (k : Walk) (records : List Record) (n : ℕ) (x : Record) → records ≡ k.records → (n ≡ 0 → ⊥) → n ≡ k.here.records → k.here.records ≤ length k.records
+    → why_shown k ≡ record_shown k (n - 1) (get_or records (n - 1) x)
+shown_is_read k records n x same some here few =
+    let one : k.here.records ≡ suc (n - 1) = omega (arith, some, here) in
+    let lt : n - 1 < length k.records = omega (arith, few, one) in
+    let read : slice_get k.records (n - 1) ≡ Some (get_or records (n - 1) x) = read_is k.records (n - 1) x lt ∙ ap (λ (rs : List Record). Some (get_or rs (n - 1) x)) (sym same) in
+    why_is_shown k (n - 1) (get_or records (n - 1) x) one read
+
+-- ---- until: records from here on, as far as they are passed
+
+pub record On (k w : Walk) (n : ℕ) : Type 0 where
+  pub place : w.here.records ≡ n
+  pub position : IsPosition k.records w.here
+  pub late : IsUpTo w.here k.last
+  pub later : IsUpTo k.here w.here
+
+pub on_here : (k : Walk) (n : ℕ) → n ≡ k.here.records → IsPosition k.records k.here → IsUpTo k.here k.last → On k k n
+on_here k n same position early = record { place = sym same; position = position; late = early; later = let le : k.here.steps ≤ k.here.steps = omega arith in inr (refl, le) }
+
+module _ (k w : Walk) (records : List Record) (n : ℕ) (x : Record) (moved : w ≡ gone k w.here) (same : records ≡ w.records) (lt : n < k.last.records) (few : k.last.records ≤ length k.records) (on : On k w n) where
+  abbrev y : Record
+  y = get_or records n x
+
+  read : slice_get k.records n ≡ Some y
+  read = read_is k.records n x (omega (arith, lt, few)) ∙ ap (λ (rs : List Record). Some (get_or rs n x)) (sym (same ∙ ap (λ (j : Walk). j.records) moved))
+
+  up : IsUpTo w.here (steps_made n y)
+  up =
+      let inside = on.position.inside in
+      let most : first_steps (drop w.here.records k.records) ≡ steps_in y.event = ap (λ i. first_steps (drop i k.records)) on.place ∙ steps_by k.records n y read in
+      let le : w.here.steps ≤ steps_in y.event = omega (arith, inside, most) in inr (on.place, le)
+
+  begun : k.here.records ≤ n
+  begun = let le = records_up_to k.here w.here on.later in let e = on.place in omega (arith, le, e)
+
+  -- one more is passed
+  pub passed_one : (before now after : List Part) → now ≡ before ++ parts_between (length k.records) k.here.records n → after ≡ now ++ record_shown w n y → after ≡ before ++ parts_between (length k.records) k.here.records (n + 1)
+  passed_one before now after a b =
+      let all = length k.records in
+      let v : Walk = gone k w.here in
+      let none : shown_to v (steps_made n y) ≡ [] = none_shown v (steps_made n y) up on.place in
+      let less : n < n + 1 = omega arith in
+      let on : shown_way v (steps_made n y) (below n) ≡ parts_between all n (n + 1) = on_shown (gone v (steps_made n y)) (below n) (inl less) in
+      let one : record_shown w n y ≡ parts_between all n (n + 1) =
+      ap (λ (u : Walk). record_shown u n y) moved ∙ ap (λ (ps : List Part). ps ++ shown_way v (steps_made n y) (below n)) none ∙ on in
+      both_shown before now after (parts_between all k.here.records n) (record_shown w n y) a b
+      ∙ ap (λ (ps : List Part). before ++ (parts_between all k.here.records n ++ ps)) one
+      ∙ ap (λ (ps : List Part). before ++ ps) (joined all k.here.records n (n + 1) begun (omega arith))
+
+  on_by_one : (u : Walk) → u.here ≡ below n → On k u (n + 1)
+  on_by_one u at =
+      let start : On k (gone u (below n)) (n + 1) = record {
+        place = refl;
+        position = made_position k.records n y read;
+        late = elim (cases_lt (n + 1) k.last.records) [
+          | inl less ↦ inl less
+          | inr ge ↦ let last : n + 1 ≡ k.last.records = omega (arith, lt, ge) in let le : 0 ≤ k.last.steps = omega arith in inr (last, le)
+        ];
+        later = let le = begun in let less : k.here.records < n + 1 = omega (arith, le) in inl less;
+      } in
+      record {
+        place = ap (λ (p : Position). p.records) at;
+        position = subst (λ (p : Position). IsPosition k.records p) (sym at) start.position;
+        late = subst (λ (p : Position). IsUpTo p k.last) (sym at) start.late;
+        later = subst (λ (p : Position). IsUpTo k.here p) (sym at) start.later;
+      }
+
+  pub on_one_more : (u : Walk) → u ≡ record w { here = below n } → On k u (n + 1)
+  on_one_more u there = on_by_one u (ap (λ (j : Walk). j.here) there)
+
+-- all that is shown on the way to where it halts
+until_shown : (k : Walk) (p : Position) (n : ℕ) (before after : List Part) → IsUpTo k.here p → p.records ≡ n → after ≡ before ++ parts_between (length k.records) k.here.records n → after ≡ before ++ shown_to k p
+until_shown k p n before after up same a =
+    a ∙ ap (λ i. before ++ parts_between (length k.records) k.here.records i) (sym same) ∙ ap (λ (ps : List Part). before ++ ps) (sym (on_shown k p up))
+
+pub shown_until_here : (k u w : Walk) (p : Position) (n : ℕ) (before after : List Part) → u ≡ record w { here = below n } → u ≡ gone k p → On k u (n + 1) → after ≡ before ++ parts_between (length k.records) k.here.records (n + 1) → after ≡ before ++ shown_to k p
+shown_until_here k u w p n before after there halts on a =
+    let at : u.here ≡ p = ap (λ (j : Walk). j.here) halts in
+    until_shown k p (n + 1) before after (subst (λ (q : Position). IsUpTo k.here q) at on.later) (ap (λ (q : Position). q.records) (sym at) ∙ on.place) a
+
+-- to the last position
+pub shown_until_last : (k w : Walk) (p : Position) (n : ℕ) (before now after : List Part) → w ≡ gone k w.here → On k w n → (n < k.last.records → ⊥) → p ≡ k.last
+    → now ≡ before ++ parts_between (length k.records) k.here.records n → after ≡ now ++ shown_to w k.last → after ≡ before ++ shown_to k p
+shown_until_last k w p n before now after moved on over at a b =
+    let le = records_up_to w.here k.last on.late in
+    let place = on.place in
+    let end : w.here.records ≡ k.last.records = omega (arith, le, over, place) in
+    let none : shown_to w k.last ≡ [] = ap (λ (j : Walk). shown_to j k.last) moved ∙ none_shown (gone k w.here) k.last on.late end in
+    let all : after ≡ before ++ parts_between (length k.records) k.here.records n = b ∙ ap (λ (ps : List Part). now ++ ps) none ∙ append-nil now ∙ a in
+    until_shown k k.last n before after (up_trans k.here w.here k.last on.later on.late) (sym end ∙ on.place) all ∙ ap (λ (q : Position). before ++ shown_to k q) (sym at)
+
+-- ---- searches
+
+module _ (k : Walk) (s : Points) where
+  pub search_met : (j : Walk) (above : Position) (before now after : List Part) → j ≡ gone k j.here → IsPosition j.records j.here → IsUpTo j.here j.last
+      → IsFirstMarked (is_looked_for s) k.boot k.records k.here j.here → above ≡ position_before j.records j.here
+      → now ≡ before ++ walk_between k.records k.here j.here → after ≡ now ++ halt_shown j s above j.here → Shows before after (λ ps. IsSearchShown k s k.here ps)
+  search_met j above before now after moved position early found up a b =
+      let q = j.here in
+      let records : j.records ≡ k.records = ap (λ (w : Walk). w.records) moved in
+      let walked = walk_between k.records k.here q in
+      let halt : halt_shown j s above q ≡ halt_shown k s (position_before k.records q) q =
+      ap (λ (p : Position). halt_shown j s p q) (up ∙ ap (λ (xs : List Record). position_before xs q) records) ∙ ap (λ (w : Walk). halt_shown w s (position_before k.records q) q) moved in (
+        walked ++ halt_shown j s above q,
+        both_shown before now after walked (halt_shown j s above q) a b,
+        inl (
+          q,
+          subst (λ (xs : List Record). IsPosition xs q) records position,
+          subst (λ (l : Position). IsUpTo q l) (ap (λ (w : Walk). w.last) moved) early,
+          found,
+          ap (λ (ps : List Part). walked ++ ps) halt,
+        ),
+      )
+
+  pub search_passed : (p : Position) (before after : List Part) → p ≡ k.last → IsPassed (is_looked_for s) k.boot k.records k.here k.last
+      → after ≡ before ++ walk_between k.records k.here p → Shows before after (λ ps. IsSearchShown k s k.here ps)
+  search_passed p before after at passed a = (walk_between k.records k.here p, a, inr (passed, ap (λ (q : Position). walk_between k.records k.here q) at))
+
+  -- past the first event
+  pub shown_one : (next : Position) (before after : List Part) (b : Bool) → b ≡ true → after ≡ before ++ shown_to k next → Shows before after (λ ps. IsShownAfter k s next b ps)
+  shown_one next before after b met a = (shown_to k next, a, subst (λ c. IsShownAfter k s next c (shown_to k next)) (sym met) refl)
+
+  pub shown_further : (j : Walk) (next : Position) (before now after : List Part) (b : Bool) → b ≡ false → j ≡ gone k next → now ≡ before ++ shown_to k next
+      → Shows now after (λ ps. IsSearchShown j s j.here ps) → Shows before after (λ ps. IsShownAfter k s next b ps)
+  shown_further j next before now after b unmet moved a h =
+      let ps = shown_to k next ++ h.0 in
+      let on : IsSearchShown k s next h.0 = subst (λ (w : Walk). IsSearchShown w s w.here h.0) moved h.2 in
+      (ps, both_shown before now after (shown_to k next) h.0 a h.1, subst (λ c. IsShownAfter k s next c ps) (sym unmet) (h.0, refl, on))
+
+  pub next_shown : (x : ℕ × Event) (next : Position) (before after : List Part) → is_up_to k.last k.here ≡ false → event_below k.records k.here ≡ Some x → next ≡ next_position k.records k.here
+      → Shows before after (λ ps. IsShownAfter k s next (is_marked (changes_watched s) (world_here k) x) ps) → Shows before after (λ ps. IsNextShown k s ps)
+  next_shown x next before after isnt e there h =
+      let made : next_made k ≡ Some x = ap (λ b. let o : Option (ℕ × Event) = cond b None (event_below k.records k.here) in o) isnt ∙ e in
+      let on : IsShownAfter k s (next_position k.records k.here) (is_marked (changes_watched s) (world_here k) x) h.0 =
+      subst (λ (p : Position). IsShownAfter k s p (is_marked (changes_watched s) (world_here k) x) h.0) there h.2 in
+      (h.0, h.1, subst (λ (o : Option (ℕ × Event)). IsShownFrom k s o h.0) (sym made) on)
+
+  no_shown : (before : List Part) → next_made k ≡ None → Shows before before (λ ps. IsNextShown k s ps)
+  no_shown before none = ([], sym (append-nil before), subst (λ (o : Option (ℕ × Event)). IsShownFrom k s o []) (sym none) refl)
+
+  pub last_is_shown : (before : List Part) → is_up_to k.last k.here ≡ true → Shows before before (λ ps. IsNextShown k s ps)
+  last_is_shown before is = no_shown before (ap (λ b. let o : Option (ℕ × Event) = cond b None (event_below k.records k.here) in o) is)
+
+  pub end_is_shown : (before : List Part) → is_up_to k.last k.here ≡ false → event_below k.records k.here ≡ None → Shows before before (λ ps. IsNextShown k s ps)
+  end_is_shown before isnt none = no_shown before (ap (λ b. let o : Option (ℕ × Event) = cond b None (event_below k.records k.here) in o) isnt ∙ none)
+
+  -- back
+  abbrev back : Position → List Part
+  back p = walk_shown k.records k.here ++ shown_to k p
+
+  pub none_before : (p : Position) (before after : List Part) → p ≡ first → IsPassed (is_looked_for s) k.boot k.records first k.here → after ≡ before ++ back p → Shows before after (λ ps. IsLastShown k s ps)
+  none_before p before after at passed a = (back p, a, inr (passed, ap back at))
+
+  pub back_shown : (j l : Walk) (next : Position) (before now then after : List Part) → j ≡ gone k j.here → l ≡ gone j next → IsPosition j.records j.here → IsLastMarked (is_looked_for s) k.boot k.records j.here k.here
+      → next ≡ next_position j.records j.here → now ≡ before ++ back j.here → then ≡ now ++ shown_to j next → after ≡ then ++ shown_to l j.here → Shows before after (λ ps. IsLastShown k s ps)
+  back_shown j l next before now then after moved on position found there a b c =
+      let p = j.here in
+      let records : j.records ≡ k.records = ap (λ (w : Walk). w.records) moved in
+      let way : shown_to j next ≡ shown_way k p next = ap (λ (w : Walk). shown_to w next) moved in
+      let again : shown_to l p ≡ shown_way k next p = ap (λ (w : Walk). shown_to w p) (on ∙ ap (λ (w : Walk). gone w next) moved) in
+      let at : next ≡ next_position k.records p = there ∙ ap (λ (xs : List Record). next_position xs p) records in
+      let ends : after ≡ now ++ return_shown k p (next_position k.records p) =
+      both_shown now then after (shown_to j next) (shown_to l p) b c ∙ ap (λ (ps : List Part). now ++ (ps ++ shown_to l p)) way ∙ ap (λ (ps : List Part). now ++ (shown_way k p next ++ ps)) again
+      ∙ ap (λ (q : Position). now ++ return_shown k p q) at in
+      let rest = return_shown k p (next_position k.records p) in
+      (back p ++ rest, both_shown before now after (back p) rest a ends, inl (p, subst (λ (xs : List Record). IsPosition xs p) records position, found, refl))
