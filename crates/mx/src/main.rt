@@ -6,13 +6,7 @@
 //! link a program.
 #![tactic(auto)]
 
-pub use mx_app::{
-    BootError, Channels, CommandLine, CommandRequest, Complaint, Failure, FileError, FileWriter,
-    KeptFile, MemoryWriter, NamedFile, NamedFiles, NotingFiles, NotingReader, Reader, Replayed,
-    Terminals, as_named, assemble_file, command, db, dis_named, nm_named, one, one_named, perform,
-    perform_words, print_listing, print_names, print_one, replay, run, run_program, step,
-    step_saved, trace,
-};
+use mx_app::{Terminals, run_program};
 use std::io::IsTerminal;
 use std::process::ExitCode;
 

@@ -4,10 +4,10 @@ ghost use Rattle.std.specs.Prelude.{◌≡◌, ◌<◌, All, IfSome, length};
 
 use crate::Fault;
 use crate::booting::{boot_config, mark};
-use mx_app_step::{Machine, RuntimeFiles, Script, start};
+use mx_app_step::{RuntimeFiles, Script, start};
 use mx_cpus::{ActorSeat, Blank, Naming, Shared};
 use mx_exec::Outcome;
-use mx_machine::{Answer, Event, Held};
+use mx_machine::{Answer, Event, Held, Machine};
 use std::marker::Brand;
 use std::rt::Files;
 use std::sync::Wait;

@@ -3,8 +3,8 @@
 use crate::Fault;
 use crate::booting::mark;
 use crate::lone::{Turn, done_or, is_answered, is_turn};
-use mx_app_step::{Machine, RuntimeFiles, Script, start};
-use mx_machine::{Answer, Event};
+use mx_app_step::{RuntimeFiles, Script, start};
+use mx_machine::{Answer, Event, Machine};
 use mx_word::{Register, Size};
 use std::rt::Files;
 

@@ -7,7 +7,7 @@ use Rattle.mx_app_command.specs.declared.words.CommandRequest.{CommandRequest}
 use Rattle.mx_app_command.specs.declared.words.CommandRequest.TheVariants.{Look, Sweep, Turns}
 use Rattle.mx_app_command.specs.declared.words.RecordRange.{RecordRange}
 use Rattle.mx_app_db.specs.ScriptLine.{ScriptLine}
-use Rattle.mx_app_db.specs.DebugLine.{DebugLine}
+use Rattle.mx_app_db.specs.declared.script.DebugLine.{DebugLine}
 use Rattle.mx_app_failure.specs.declared.failure.Failure.{Failure as Kind}
 use Rattle.mx_machine.specs.Boot.{world_at_boot}
 use Rattle.mx_machine.specs.declared.history.Record.{Record}
@@ -20,7 +20,8 @@ use Rattle.mx_app_db.specs.Text.{saved_text}
 use Rattle.mx_app_db.specs.Config.{Config}
 use Rattle.mx_app_db.specs.Service.{Service}
 use Rattle.mx_app_db.specs.Report.{report_text}
-use Rattle.mx_app_db.specs.Course.{IsDebugScript, IsSaved, IsScript, TellsDebugScript, TellsSaved, TellsScript}
+use Rattle.mx_app_db.specs.Course.{IsSaved, IsScript, TellsSaved, TellsScript}
+use Rattle.mx_app_db.specs.DebugScript.{IsDebugScript, TellsDebugScript}
 use Rattle.mx_app_db.specs.Setup.{IsNotStarted, IsStart}
 use Rattle.mx_app_db.specs.Telling.{IsTold, IsUnsaved}
 use Rattle.mx_app_db.specs.Kept.{history_made}
@@ -40,25 +41,30 @@ use Rattle.mx_app_turns.specs.Turned.{MakesTurns}
 use Rattle.mx_turns.specs.declared.turns.Ending.{Ending}
 use Rattle.mx_walk.specs.Parts.{walk_shown}
 use Rattle.mx_walk.specs.Walks.{Walk}
+use Rattle.mx_app.specs.Deeds.{Deeds}
 use Rattle.mx_app.specs.Explained.{ExplainsConfig}
 use Rattle.mx_app.specs.Named.{Assembles, ShowsFile}
 use Rattle.mx_app.specs.declared.performing.Done.{Done}
 use Rattle.mx_app.specs.Requests.{Debugs, Draws, Explains, Looks, Performs, PerformsUntyped, Replays, SavesApart, Shows, Steps, Traces, saves_over, done_after_replay, done_after_sweep, done_after_turns, done_after_work}
 
 -- what a request asked for and wrote, and what is done of it
-abbrev pub Does : List Asked → List Asked → List Written → List Written → (List Asked → List Written → Type 0) → Type 0
-Does asked asked_now written written_now Done =
+abbrev pub AsksAndWrites : List Asked → List Asked → List Written → List Written → (List Asked → List Written → Type 0) → Type 0
+AsksAndWrites asked asked_now written written_now Done =
     (qs : List Asked) × (ws : List Written) × (asked_now ≡ asked ++ qs) × (written_now ≡ written ++ ws) × Done qs ws
 
 -- the same, with the lines that were typed, and the progress that was shown
-abbrev pub DoesTyped : List Asked → List Asked → List Written → List Written → List (Option (List ℕ)) → List (Option (List ℕ)) → List Part → List Part → (List Asked → List Written → List (Option (List ℕ)) → List Part → Type 0) → Type 0
-DoesTyped asked asked_now written written_now given given_now shown shown_now Done =
-    (qs : List Asked) × (ws : List Written) × (typed : List (Option (List ℕ))) × (ps : List Part)
-    × (asked_now ≡ asked ++ qs) × (written_now ≡ written ++ ws) × (given_now ≡ given ++ typed) × (shown_now ≡ shown ++ ps) × Done qs ws typed ps
+abbrev pub Grows : List Asked → List Asked → List Written → List Written → List (Option (List ℕ)) → List (Option (List ℕ)) → List Part → List Part → (Deeds → Type 0) → Type 0
+Grows asked asked_now written written_now given given_now shown shown_now Holds =
+    (did : Deeds) × (asked_now ≡ asked ++ did.asked) × (written_now ≡ written ++ did.written)
+    × (given_now ≡ given ++ did.typed) × (shown_now ≡ shown ++ did.shown) × Holds did
+
+-- a command that did nothing
+abbrev pub nothing_done : Deeds
+nothing_done = record { asked = []; written = []; typed = []; shown = [] }
 
 -- a request that takes no lines and shows no progress
 untyped : (request : CommandRequest) (asks : Bool) (qs : List Asked) (ws : List Written) (Prints : List ℕ → Type 0) (r : Result Done Kind)
-    → PerformsUntyped request qs ws Prints r → Performs request asks qs ws [] [] Prints r
+    → PerformsUntyped request qs ws Prints r → Performs request asks (record { asked = qs; written = ws; typed = []; shown = [] }) Prints r
 untyped (Look config log) asks qs ws Prints r h = absurd h
 untyped (Turns config log ticks events bound) asks qs ws Prints r h = absurd h
 untyped (Sweep config log fault bound from to strict save) asks qs ws Prints r h = absurd h
@@ -66,67 +72,73 @@ untyped request asks qs ws Prints r h = (refl, refl, h)
 
 -- what is done of the request that was asked for
 pub as_asked : {given : List (Option (List ℕ))} {shown : List Part} (asks : Bool) (asked now : List Asked) (files written : List Written) (Prints : List ℕ → Type 0) (r : Result Done Kind) (request known : CommandRequest) → request ≡ known
-    → Does asked now files written (λ qs ws. PerformsUntyped known qs ws Prints r)
-    → DoesTyped asked now files written given given shown shown (λ qs ws typed ps. Performs request asks qs ws typed ps Prints r)
+    → AsksAndWrites asked now files written (λ qs ws. PerformsUntyped known qs ws Prints r)
+    → Grows asked now files written given given shown shown (λ did. Performs request asks did Prints r)
 as_asked {given} {shown} asks asked now files written Prints r request known same done =
-    let d = subst (λ (x : CommandRequest). Does asked now files written (λ qs ws. PerformsUntyped x qs ws Prints r)) (sym same) done in
-    (d.0, d.1, [], [], d.2, d.3, sym (append-nil given), sym (append-nil shown), untyped request asks d.0 d.1 Prints r d.4)
+    let d = subst (λ (x : CommandRequest). AsksAndWrites asked now files written (λ qs ws. PerformsUntyped x qs ws Prints r)) (sym same) done in (
+      record { asked = d.0; written = d.1; typed = []; shown = [] },
+      d.2,
+      d.3,
+      sym (append-nil given),
+      sym (append-nil shown),
+      untyped request asks d.0 d.1 Prints r d.4,
+    )
 
 -- the same, if the list of what was shown stays
 pub as_run : (asked now : List Asked) (files written : List Written) (given : List (Option (List ℕ))) (shown later : List Part) (asks : Bool) (Prints : List ℕ → Type 0) (r : Result Done Kind) (request known : CommandRequest) → later ≡ shown → request ≡ known
-    → Does asked now files written (λ qs ws. PerformsUntyped known qs ws Prints r)
-    → DoesTyped asked now files written given given shown later (λ qs ws typed ps. Performs request asks qs ws typed ps Prints r)
+    → AsksAndWrites asked now files written (λ qs ws. PerformsUntyped known qs ws Prints r)
+    → Grows asked now files written given given shown later (λ did. Performs request asks did Prints r)
 as_run asked now files written given shown later asks Prints r request known same is done =
-    subst (λ (l : List Part). DoesTyped asked now files written given given shown l (λ qs ws typed ps. Performs request asks qs ws typed ps Prints r)) (sym same)
+    subst (λ (l : List Part). Grows asked now files written given given shown l (λ did. Performs request asks did Prints r)) (sym same)
     (as_asked {given = given} {shown = shown} asks asked now files written Prints r request known is done)
 
 -- and of one that takes lines or shows progress
 pub as_typed : (asked now : List Asked) (files written : List Written) (given typed : List (Option (List ℕ))) (shown later : List Part) (asks : Bool) (Prints : List ℕ → Type 0) (r : Result Done Kind) (request known : CommandRequest) → request ≡ known
-    → DoesTyped asked now files written given typed shown later (λ qs ws ls ps. Performs known asks qs ws ls ps Prints r)
-    → DoesTyped asked now files written given typed shown later (λ qs ws ls ps. Performs request asks qs ws ls ps Prints r)
+    → Grows asked now files written given typed shown later (λ did. Performs known asks did Prints r)
+    → Grows asked now files written given typed shown later (λ did. Performs request asks did Prints r)
 as_typed asked now files written given typed shown later asks Prints r request known same done =
-    subst (λ (x : CommandRequest). DoesTyped asked now files written given typed shown later (λ qs ws ls ps. Performs x asks qs ws ls ps Prints r)) (sym same) done
+    subst (λ (x : CommandRequest). Grows asked now files written given typed shown later (λ did. Performs x asks did Prints r)) (sym same) done
 
 -- a session was held, or its machine wasn't started
 pub looks : (asked now : List Asked) (files : List Written) (given given_now : List (Option (List ℕ))) (shown later : List Part) (config log : List ℕ) (asks : Bool) (x y : Option (List ℕ)) (d : Result (Unit {0}) Kind) (r : Result Done Kind)
-    → OnOk d ((qs : List Asked) × (c : Config) × (vs : List Service) × (records : List Record) × (k : Walk) × (typed : List (Option (List ℕ))) × (text : List ℕ)
-    × (now ≡ asked ++ qs) × (given_now ≡ given ++ typed) × IsWhole typed × (later ≡ shown ++ walk_shown k.records k.last) × IsStart IsSaved config log qs c vs records × IsBegun (world_at_boot c vs) records k
-    × IsSession asks (sight_at k) typed text × Appends x y (begun_text asks k ++ text))
+    → OnOk d ((qs : List Asked) × (c : Config) × (vs : List Service) × (records : List Record) × (k : Walk) × (typed : List (Option (List ℕ))) × (text : List ℕ) × (ps : List Part)
+    × (now ≡ asked ++ qs) × (given_now ≡ given ++ typed) × IsWhole typed × (later ≡ shown ++ (walk_shown k.records k.last ++ ps)) × IsStart IsSaved config log qs c vs records × IsBegun (world_at_boot c vs) records k
+    × IsSession asks (sight_at k) typed text ps × Appends x y (begun_text asks k ++ text))
     → IfErr d (λ f. (qs : List Asked) × (typed : List (Option (List ℕ))) × (ps : List Part) × (now ≡ asked ++ qs) × (given_now ≡ given ++ typed) × (later ≡ shown ++ ps) × HasFailed config log qs ps f)
     → r ≡ done_after_work d
-    → DoesTyped asked now files files given given_now shown later (λ qs ws typed ps. (e : Result (Unit {0}) Kind) × (ws ≡ []) × Looks config log asks qs typed ps (λ text. Appends x y text) e × (r ≡ done_after_work e))
+    → Grows asked now files files given given_now shown later (λ did. (e : Result (Unit {0}) Kind) × (did.written ≡ []) × Looks config log asks did.asked did.typed did.shown (λ text. Appends x y text) e × (r ≡ done_after_work e))
 looks asked now files given given_now shown later config log asks x y (Ok u) r p f e =
-    (p.0, [], p.5, walk_shown p.4.records p.4.last, p.7, sym (append-nil files), p.8, p.10, (Ok u, refl, (p.1, p.2, p.3, p.4, p.6, p.11, p.12, refl, p.9, p.13, p.14), e))
+    (record { asked = p.0; written = []; typed = p.5; shown = walk_shown p.4.records p.4.last ++ p.7 }, p.8, sym (append-nil files), p.9, p.11, (Ok u, refl, (p.1, p.2, p.3, p.4, p.6, p.7, p.12, p.13, refl, p.10, p.14, p.15), e))
 looks asked now files given given_now shown later config log asks x y (Err why) r p f e =
-    (f.0, [], f.1, f.2, f.3, sym (append-nil files), f.4, f.5, (Err why, refl, f.6, e))
+    (record { asked = f.0; written = []; typed = f.1; shown = f.2 }, f.3, sym (append-nil files), f.4, f.5, (Err why, refl, f.6, e))
 
 -- a text was assembled, and nothing printed
 pub assembled : (asked now : List Asked) (files written : List Written) (known : Option (List ℕ)) (text file : List ℕ) (d : Result (Unit {0}) Kind) (r : Result Done Kind)
     → (qs : List Asked) × (ws : List Written) × (now ≡ asked ++ qs) × (written ≡ files ++ ws) × Assembles text file qs ws d → r ≡ done_after_work d
-    → Does asked now files written (λ qs ws. (x : Result (Unit {0}) Kind) × Assembles text file qs ws x × Appends known known [] × (r ≡ done_after_work x))
+    → AsksAndWrites asked now files written (λ qs ws. (x : Result (Unit {0}) Kind) × Assembles text file qs ws x × Appends known known [] × (r ≡ done_after_work x))
 assembled asked now files written known text file d r p e = (p.0, p.1, p.2, p.3, (d, p.4, appends_nothing known, e))
 
 -- a machine was run, or it wasn't
 pub runs : (asked now : List Asked) (files written : List Written) (config log : List ℕ) (events : Option (List ℕ)) (ticks : ℕ) (x y : Option (List ℕ)) (d : Result Ending Kind) (r : Result Done Kind)
     → (qs : List Asked) × (ws : List Written) × (now ≡ asked ++ qs) × (written ≡ files ++ ws) × Runs config events log ticks qs ws (λ text. Appends x y text) d → r ≡ done_after_turns d
-    → Does asked now files written (λ qs ws. (e : Result Ending Kind) × Runs config events log ticks qs ws (λ text. Appends x y text) e × (r ≡ done_after_turns e))
+    → AsksAndWrites asked now files written (λ qs ws. (e : Result Ending Kind) × Runs config events log ticks qs ws (λ text. Appends x y text) e × (r ≡ done_after_turns e))
 runs asked now files written config log events ticks x y d r p e = (p.0, p.1, p.2, p.3, (d, p.4, e))
 
 -- turns were made, or they weren't
 pub turned : {given : List (Option (List ℕ))} (asked now : List Asked) (files written : List Written) (shown later : List Part) (config log : List ℕ) (events : Option (List ℕ)) (ticks bound : ℕ) (x y : Option (List ℕ)) (d : Result Ending Kind) (r : Result Done Kind)
     → (qs : List Asked) × (ws : List Written) × (ps : List Part) × (now ≡ asked ++ qs) × (written ≡ files ++ ws) × (later ≡ shown ++ ps) × MakesTurns config events log ticks bound qs ws ps (λ text. Appends x y text) d
     → r ≡ done_after_turns d
-    → DoesTyped asked now files written given given shown later (λ qs ws typed ps. (typed ≡ []) × (e : Result Ending Kind) × MakesTurns config events log ticks bound qs ws ps (λ text. Appends x y text) e × (r ≡ done_after_turns e))
+    → Grows asked now files written given given shown later (λ did. (did.typed ≡ []) × (e : Result Ending Kind) × MakesTurns config events log ticks bound did.asked did.written did.shown (λ text. Appends x y text) e × (r ≡ done_after_turns e))
 turned {given} asked now files written shown later config log events ticks bound x y d r p e =
-    (p.0, p.1, [], p.2, p.3, p.4, sym (append-nil given), p.5, (refl, d, p.6, e))
+    (record { asked = p.0; written = p.1; typed = []; shown = p.2 }, p.3, p.4, sym (append-nil given), p.5, (refl, d, p.6, e))
 
 -- a history was swept, or it wasn't
 pub swept : {given : List (Option (List ℕ))} (asked now : List Asked) (files written : List Written) (shown later : List Part) (config log fault : List ℕ) (save : Option (List ℕ)) (from to bound : ℕ) (strict : Bool) (x y : Option (List ℕ)) (d : Result Swept Kind) (r : Result Done Kind)
     → (qs : List Asked) × (ws : List Written) × (ps : List Part) × (now ≡ asked ++ qs) × (written ≡ files ++ ws) × (later ≡ shown ++ ps) × Sweeps config log fault save from to bound qs ws ps (λ text. Appends x y text) d
     → r ≡ done_after_sweep strict d
-    → DoesTyped asked now files written given given shown later (λ qs ws typed ps. (typed ≡ []) × (e : Result Swept Kind) × Sweeps config log fault save from to bound qs ws ps (λ text. Appends x y text) e × (r ≡ done_after_sweep strict e))
+    → Grows asked now files written given given shown later (λ did. (did.typed ≡ []) × (e : Result Swept Kind) × Sweeps config log fault save from to bound did.asked did.written did.shown (λ text. Appends x y text) e × (r ≡ done_after_sweep strict e))
 swept {given} asked now files written shown later config log fault save from to bound strict x y d r p e =
-    (p.0, p.1, [], p.2, p.3, p.4, sym (append-nil given), p.5, (refl, d, p.6, e))
+    (record { asked = p.0; written = p.1; typed = []; shown = p.2 }, p.3, p.4, sym (append-nil given), p.5, (refl, d, p.6, e))
 
 -- a script was done, and its history saved or not
 pub saves : (asked now : List Asked) (files written : List Written) (config script log : List ℕ) (numbered : Bool) (x y : Option (List ℕ)) (d : Result (Unit {0}) Kind)
@@ -140,20 +152,20 @@ pub saves : (asked now : List Asked) (files written : List Written) (config scri
     ⊎ ((c : Config) × (vs : List Service) × (said : List ScriptLine) × IsStart IsScript config script qs c vs said
     × (SparesProgram c log ws (λ text. Appends x y text) f
     ⊎ ((names_program c log ≡ false) × IsUnsaved log (saved_text c.rules (history_made (world_at_boot c vs) c.cpus said)) ws f)))))
-    → Does asked now files written (λ qs ws. SavesApart config script log numbered qs ws (λ text. Appends x y text) d)
+    → AsksAndWrites asked now files written (λ qs ws. SavesApart config script log numbered qs ws (λ text. Appends x y text) d)
 saves asked now files written config script log numbered x y (Ok u) apart p f =
     (p.0, kept log (saved_text p.1.rules (history_made (world_at_boot p.1 p.2) p.1.cpus p.3)) ∷ [], p.4, p.7, inr (apart, (p.1, p.2, p.3, p.5, p.6, refl, p.8)))
 saves asked now files written config script log numbered x y (Err why) apart p f = (f.0, f.1, f.2, f.3, inr (apart, f.4))
 
 pub saved : (asked now : List Asked) (files written : List Written) (config script log : List ℕ) (numbered : Bool) (x y : Option (List ℕ)) (d : Result (Unit {0}) Kind) (r : Result Done Kind)
     → (qs : List Asked) × (ws : List Written) × (now ≡ asked ++ qs) × (written ≡ files ++ ws) × SavesApart config script log numbered qs ws (λ text. Appends x y text) d → r ≡ done_after_work d
-    → Does asked now files written (λ qs ws. (e : Result (Unit {0}) Kind) × SavesApart config script log numbered qs ws (λ text. Appends x y text) e × (r ≡ done_after_work e))
+    → AsksAndWrites asked now files written (λ qs ws. (e : Result (Unit {0}) Kind) × SavesApart config script log numbered qs ws (λ text. Appends x y text) e × (r ≡ done_after_work e))
 saved asked now files written config script log numbered x y d r p e = (p.0, p.1, p.2, p.3, (d, p.4, e))
 
 -- `asked` and `files` before, `now` asked after; no file is written
 module _ (asked now : List Asked) (files : List Written) where
   abbrev WritesNone : (List Asked → List Written → Type 0) → Type 0
-  WritesNone Done = Does asked now files files Done
+  WritesNone Done = AsksAndWrites asked now files files Done
 
   pub shows : (Has : List ℕ → List ℕ → Type 0) (name : List ℕ) (Prints : List ℕ → Type 0) (d : Result (Unit {0}) Kind) (r : Result Done Kind)
       → (q : Asked) × (now ≡ asked ++ q ∷ []) × ShowsFile Has name q Prints d → r ≡ done_after_work d

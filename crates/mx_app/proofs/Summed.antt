@@ -17,13 +17,14 @@ use Rattle.mx_app_explain.specs.Sums.{machine_sums, sums_text}
 use Rattle.mx_app_explain.specs.declared.sums_fault.SumsFault.{SumsFault}
 use Rattle.mx_app_explain.specs.declared.sums_fault.SumsFault.TheVariants.{NameTaken}
 use Rattle.mx_app_explain.specs.declared.sums.PartSum.{PartSum}
+use Rattle.mx_app.specs.Deeds.{Deeds}
 use Rattle.mx_app.specs.Requests.{Performs}
 use Rattle.mx_app.specs.Summing.{ComparesSums, IsCompared, IsUnsummed, PerformsBy, PerformsCompared, PerformsSummed, WritesSums, by_request, names_file, writes_sums}
 use Rattle.mx_app.specs.declared.performing.Done.{Done}
 use Rattle.mx_app.specs.declared.summing.LineFailure.{LineFailure}
 use Rattle.mx_app.specs.declared.summing.LineFailure.TheVariants.{Request, Sums}
 use Rattle.mx_app_start.proofs.Appended.{appends_nothing}
-use Rattle.mx_app.proofs.Doing.{DoesTyped}
+use Rattle.mx_app.proofs.Doing.{Grows, nothing_done}
 
 -- files that were written in two steps
 written_on : (a b c ws xs : List Written) → b ≡ a ++ ws → c ≡ b ++ xs → c ≡ a ++ (ws ++ xs)
@@ -51,59 +52,57 @@ module _ (asked between now : List Asked) (config name : List ℕ) (slice sums :
 
 module _ (asks : Bool) (request : CommandRequest) (name config : List ℕ) (named : config ≡ first_name request) (asked : List Asked) (files : List Written) (given : List (Option (List ℕ))) (shown : List Part) where
   -- nothing but files that were asked for
-  abbrev Idles : List Asked → (List Asked → List Written → List (Option (List ℕ)) → List Part → Type 0) → Type 0
-  Idles now Done = DoesTyped asked now files files given given shown shown Done
+  abbrev Idles : List Asked → (Deeds → Type 0) → Type 0
+  Idles now Holds = Grows asked now files files given given shown shown Holds
 
   pub not_compared : (now : List Asked) (known : Option (List ℕ)) (f : LineFailure) (r : Result Done LineFailure)
       → (qs : List Asked) × (now ≡ asked ++ qs) × IsCompared config name qs (Err f) → r ≡ Err f
-      → Idles now (λ qs ws typed ps. PerformsCompared request name asks qs ws typed ps (λ text. Appends known known text) r)
+      → Idles now (λ did. PerformsCompared request name asks did (λ text. Appends known known text) r)
   not_compared now known f r p e =
-      (p.0, [], [], [], p.1, sym (append-nil files), sym (append-nil given), sym (append-nil shown), inl (f, (refl, refl, refl, appends_nothing known), subst (λ (x : List ℕ). IsCompared x name p.0 (Err f)) named p.2, e))
+      (record nothing_done { asked = p.0 }, p.1, sym (append-nil files), sym (append-nil given), sym (append-nil shown), inl (f, (refl, refl, refl, appends_nothing known), subst (λ (x : List ℕ). IsCompared x name p.0 (Err f)) named p.2, e))
 
   pub not_summed : (now : List Asked) (known : Option (List ℕ)) (f : Kind) (r : Result Done LineFailure)
       → (qs : List Asked) × (now ≡ asked ++ qs) × IsUnsummed config qs f → r ≡ Err (Request f)
-      → Idles now (λ qs ws typed ps. PerformsSummed request name asks qs ws typed ps (λ text. Appends known known text) r)
+      → Idles now (λ did. PerformsSummed request name asks did (λ text. Appends known known text) r)
   not_summed now known f r p e =
-      (p.0, [], [], [], p.1, sym (append-nil files), sym (append-nil given), sym (append-nil shown), inl (f, (refl, refl, refl, appends_nothing known), subst (λ (x : List ℕ). IsUnsummed x p.0 f) named p.2, e))
+      (record nothing_done { asked = p.0 }, p.1, sym (append-nil files), sym (append-nil given), sym (append-nil shown), inl (f, (refl, refl, refl, appends_nothing known), subst (λ (x : List ℕ). IsUnsummed x p.0 f) named p.2, e))
 
   module _ (between now : List Asked) (middle : List Written) (given_now : List (Option (List ℕ))) (later : List Part) (Prints : List ℕ → Type 0) (d : Result Done Kind) (r : Result Done LineFailure)
-      (done : DoesTyped between now files middle given given_now shown later (λ qs ws typed ps. Performs request asks qs ws typed ps Prints d)) where
+      (done : Grows between now files middle given given_now shown later (λ did. Performs request asks did Prints d)) where
+    -- what the request did, after the files that were asked for before it
+    abbrev did_after : List Asked → Deeds
+    did_after qs = record done.0 { asked = qs ++ done.0.asked }
+
     pub compared : (qs : List Asked) × (between ≡ asked ++ qs) × IsCompared config name qs (Ok tt) → r ≡ by_request d
-        → DoesTyped asked now files middle given given_now shown later (λ qs ws typed ps. PerformsCompared request name asks qs ws typed ps Prints r)
+        → Grows asked now files middle given given_now shown later (λ did. PerformsCompared request name asks did Prints r)
     compared p e =
-        (p.0 ++ done.0, done.1, done.2, done.3, asked_on asked between now p.0 done.0 p.1 done.4, done.5, done.6, done.7, inr (p.0, done.0, d, refl, subst (λ (x : List ℕ). IsCompared x name p.0 (Ok tt)) named p.2, done.8, e))
+        (did_after p.0, asked_on asked between now p.0 done.0.asked p.1 done.1, done.2, done.3, done.4, inr (p.0, done.0.asked, d, refl, subst (λ (x : List ℕ). IsCompared x name p.0 (Ok tt)) named p.2, done.5, e))
 
     abbrev IsSummed : List ℕ → Type 0
     IsSummed text = (qs : List Asked) × (c : Config) × (vs : List Service) × (between ≡ asked ++ qs) × IsSetup config qs c vs × (text ≡ sums_text (machine_sums c vs))
 
     pub failed_summed : (text : List ℕ) (f : Kind) → IsSummed text → d ≡ Err f → r ≡ Err (Request f)
-        → DoesTyped asked now files middle given given_now shown later (λ qs ws typed ps. PerformsSummed request name asks qs ws typed ps Prints r)
+        → Grows asked now files middle given given_now shown later (λ did. PerformsSummed request name asks did Prints r)
     failed_summed text f p failed e = (
-      p.0 ++ done.0,
-      done.1,
+      did_after p.0,
+      asked_on asked between now p.0 done.0.asked p.3 done.1,
       done.2,
       done.3,
-      asked_on asked between now p.0 done.0 p.3 done.4,
-      done.5,
-      done.6,
-      done.7,
-      inr (p.0, done.0, p.1, p.2, done.1, [], d, refl, sym (append-nil done.1), subst (λ (x : List ℕ). IsSetup x p.0 p.1 p.2) named p.4, done.8, rw failed (refl, e)),
+      done.4,
+      inr (p.0, done.0.asked, p.1, p.2, done.0.written, [], d, refl, sym (append-nil done.0.written), subst (λ (x : List ℕ). IsSetup x p.0 p.1 p.2) named p.4, done.5, rw failed (refl, e)),
     )
 
     pub summed : (text slice : List ℕ) → slice ≡ text → (written : List Written) (so : Done) (end : Result (Unit {0}) SumsFault) → IsSummed text → d ≡ Ok so
         → (w : Written) × (written ≡ middle ++ w ∷ []) × WritesSums name slice w end
         → (end ≡ Ok tt) × (r ≡ Ok so) ⊎ ((f : SumsFault) × (end ≡ Err f) × (r ≡ Err (Sums f)))
-        → DoesTyped asked now files written given given_now shown later (λ qs ws typed ps. PerformsSummed request name asks qs ws typed ps Prints r)
+        → Grows asked now files written given given_now shown later (λ did. PerformsSummed request name asks did Prints r)
     summed text slice same written so end p was w how = (
-      p.0 ++ done.0,
-      done.1 ++ w.0 ∷ [],
-      done.2,
+      record done.0 { asked = p.0 ++ done.0.asked; written = done.0.written ++ w.0 ∷ [] },
+      asked_on asked between now p.0 done.0.asked p.3 done.1,
+      written_on files middle written done.0.written (w.0 ∷ []) done.2 w.1,
       done.3,
-      asked_on asked between now p.0 done.0 p.3 done.4,
-      written_on files middle written done.1 (w.0 ∷ []) done.5 w.1,
-      done.6,
-      done.7,
-      inr (p.0, done.0, p.1, p.2, done.1, w.0 ∷ [], d, refl, refl, subst (λ (x : List ℕ). IsSetup x p.0 p.1 p.2) named p.4, done.8, rw was (w.0, refl, ending how)),
+      done.4,
+      inr (p.0, done.0.asked, p.1, p.2, done.0.written, w.0 ∷ [], d, refl, refl, subst (λ (x : List ℕ). IsSetup x p.0 p.1 p.2) named p.4, done.5, rw was (w.0, refl, ending how)),
     )
       where
         own : List ℕ
@@ -121,25 +120,21 @@ module _ (asks : Bool) (request : CommandRequest) (name config : List ℕ) (name
 
 module _ (asks : Bool) (request : CommandRequest) (asked now : List Asked) (files written : List Written) (given given_now : List (Option (List ℕ))) (shown later : List Part) (Prints : List ℕ → Type 0) (r : Result Done LineFailure) where
   abbrev DoesLine : Option (List ℕ) → Type 0
-  DoesLine sums = DoesTyped asked now files written given given_now shown later (λ qs ws typed ps. PerformsBy request sums asks qs ws typed ps Prints r)
-
-  pub without_sums : (d : Result Done Kind) → DoesTyped asked now files written given given_now shown later (λ qs ws typed ps. Performs request asks qs ws typed ps Prints d)
-      → r ≡ by_request d → (sums : Option (List ℕ)) → sums ≡ None → DoesLine sums
-  without_sums d done e sums none = subst DoesLine (sym none) (done.0, done.1, done.2, done.3, done.4, done.5, done.6, done.7, (d, done.8, e))
+  DoesLine sums = Grows asked now files written given given_now shown later (λ did. PerformsBy request sums asks did Prints r)
 
   pub with_summed : (name : List ℕ) → names_file request name ≡ false → writes_sums request ≡ true
-      → DoesTyped asked now files written given given_now shown later (λ qs ws typed ps. PerformsSummed request name asks qs ws typed ps Prints r)
+      → Grows asked now files written given given_now shown later (λ did. PerformsSummed request name asks did Prints r)
       → (sums : Option (List ℕ)) → sums ≡ Some name → DoesLine sums
-  with_summed name free writes done sums some = subst DoesLine (sym some) (done.0, done.1, done.2, done.3, done.4, done.5, done.6, done.7, inr (inl (free, writes, done.8)))
+  with_summed name free writes done sums some = subst DoesLine (sym some) (done.0, done.1, done.2, done.3, done.4, inr (inl (free, writes, done.5)))
 
   pub with_compared : (name : List ℕ) → names_file request name ≡ false → writes_sums request ≡ false
-      → DoesTyped asked now files written given given_now shown later (λ qs ws typed ps. PerformsCompared request name asks qs ws typed ps Prints r)
+      → Grows asked now files written given given_now shown later (λ did. PerformsCompared request name asks did Prints r)
       → (sums : Option (List ℕ)) → sums ≡ Some name → DoesLine sums
-  with_compared name free writes done sums some = subst DoesLine (sym some) (done.0, done.1, done.2, done.3, done.4, done.5, done.6, done.7, inr (inr (free, writes, done.8)))
+  with_compared name free writes done sums some = subst DoesLine (sym some) (done.0, done.1, done.2, done.3, done.4, inr (inr (free, writes, done.5)))
 
 pub with_taken : (asks : Bool) (request : CommandRequest) (asked : List Asked) (files : List Written) (given : List (Option (List ℕ))) (shown : List Part) (known : Option (List ℕ)) (r : Result Done LineFailure) (name : List ℕ)
     → names_file request name ≡ true → r ≡ Err (Sums NameTaken) → (sums : Option (List ℕ)) → sums ≡ Some name
     → DoesLine asks request asked asked files files given given shown shown (λ text. Appends known known text) r sums
 with_taken asks request asked files given shown known r name taken e sums some =
     subst (DoesLine asks request asked asked files files given given shown shown (λ text. Appends known known text) r) (sym some)
-    ([], [], [], [], sym (append-nil asked), sym (append-nil files), sym (append-nil given), sym (append-nil shown), inl (taken, refl, (refl, refl, refl, appends_nothing known), e))
+    (nothing_done, sym (append-nil asked), sym (append-nil files), sym (append-nil given), sym (append-nil shown), inl (taken, refl, (refl, refl, refl, appends_nothing known), e))

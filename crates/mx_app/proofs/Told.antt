@@ -5,7 +5,7 @@ use Rattle.std.specs.declared.alloc.Global.{Global}
 use Rattle.mx_app_explain.specs.declared.subject.Notes.{Notes}
 use Rattle.mx_app_command.specs.declared.words.CommandLine.{CommandLine}
 use Rattle.mx_app.specs.Noting.{Noted, noted_by, noted_in}
-use Rattle.mx_app.specs.Words.{IsTold, explained_line, explains}
+use Rattle.mx_app.specs.Words.{IsComplaintOf, explained_line, explains}
 use Rattle.mx_app.specs.declared.summing.LineFailure.{LineFailure}
 use Rattle.mx_app.specs.declared.complaint.Complaint.TheVariants.{Explained, Failed, Unexplained}
 
@@ -15,12 +15,12 @@ pub noted_same : (n : Notes) (last : Option (String Global)) (m u : Bool) (text 
     → noted_in n ≡ noted_by last m u text
 noted_same n last m u text a b d e = cc
 
-pub told_so : (line : CommandLine) (shows : Bool) (f : LineFailure) (n : Noted) (s : String Global) → explains line shows ≡ true
-    → string_bytes s ≡ explained_line line f n → IsTold line shows f n (Explained f s)
-told_so line shows f n s asked text = inr (inr (s, asked, refl, text))
+pub complaint_explained : (line : CommandLine) (shows : Bool) (f : LineFailure) (n : Noted) (s : String Global) → explains line shows ≡ true
+    → string_bytes s ≡ explained_line line f n → IsComplaintOf line shows f n (Explained f s)
+complaint_explained line shows f n s asked text = inr (inr (s, asked, refl, text))
 
-pub told_alone : (line : CommandLine) (shows : Bool) (f : LineFailure) (n : Noted) → explains line shows ≡ false → IsTold line shows f n (Failed f)
-told_alone line shows f n asked = inl (asked, refl)
+pub complaint_plain : (line : CommandLine) (shows : Bool) (f : LineFailure) (n : Noted) → explains line shows ≡ false → IsComplaintOf line shows f n (Failed f)
+complaint_plain line shows f n asked = inl (asked, refl)
 
-pub told_short : (line : CommandLine) (shows : Bool) (f : LineFailure) (n : Noted) → explains line shows ≡ true → IsTold line shows f n (Unexplained f)
-told_short line shows f n asked = inr (inl (asked, refl))
+pub complaint_unexplained : (line : CommandLine) (shows : Bool) (f : LineFailure) (n : Noted) → explains line shows ≡ true → IsComplaintOf line shows f n (Unexplained f)
+complaint_unexplained line shows f n asked = inr (inl (asked, refl))

@@ -1,4 +1,5 @@
 pub mod Asking
+pub mod Deeds
 pub mod Ending
 pub mod Explained
 pub mod Named

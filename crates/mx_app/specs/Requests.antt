@@ -5,7 +5,7 @@ use Rattle.mx_app_command.specs.declared.words.CommandRequest.{CommandRequest}
 use Rattle.mx_app_command.specs.declared.words.RecordRange.{RecordRange}
 use Rattle.mx_app_command.specs.declared.words.CommandRequest.TheVariants.{One, As, Dis, Nm, Explain, Step, Run, Turns, Sweep, Replay, Trace, Draw, Look, Db}
 use Rattle.mx_app_db.specs.ScriptLine.{ScriptLine}
-use Rattle.mx_app_db.specs.DebugLine.{DebugLine}
+use Rattle.mx_app_db.specs.declared.script.DebugLine.{DebugLine}
 use Rattle.mx_app_failure.specs.declared.failure.Failure.{Failure as Kind}
 use Rattle.mx_app_failure.specs.declared.failure.Failure.TheVariants.{File}
 use Rattle.mx_app_program.specs.One.{IsPrinted}
@@ -20,7 +20,8 @@ use Rattle.mx_app_db.specs.Config.{Config}
 use Rattle.mx_app_db.specs.Service.{Service}
 use Rattle.mx_app_db.specs.Report.{report_text}
 use Rattle.mx_app_start.specs.Programs.{SparesProgram, names_program}
-use Rattle.mx_app_db.specs.Course.{IsDebugScript, IsSaved, IsScript, TellsDebugScript, TellsSaved, TellsScript}
+use Rattle.mx_app_db.specs.Course.{IsSaved, IsScript, TellsSaved, TellsScript}
+use Rattle.mx_app_db.specs.DebugScript.{IsDebugScript, TellsDebugScript}
 use Rattle.mx_app_db.specs.Setup.{IsNotStarted, IsStart}
 use Rattle.mx_app_db.specs.Telling.{IsTold, IsUnsaved}
 use Rattle.mx_app_db.specs.Kept.{history_made}
@@ -42,6 +43,7 @@ use Rattle.mx_walk.specs.Parts.{walk_shown}
 use Rattle.mx_walk.specs.Walks.{Walk}
 use Rattle.mx_app_db.specs.DebugLines.{DebuggedWorld, debug_lines_made}
 use Rattle.mx_app_db.specs.Told.{debug_lines_text}
+use Rattle.mx_app.specs.Deeds.{Deeds}
 use Rattle.mx_app.specs.Explained.{ExplainsConfig}
 use Rattle.mx_app.specs.Named.{Assembles, ShowsFile}
 use Rattle.mx_app.specs.declared.performing.Done.{Done}
@@ -135,11 +137,13 @@ Draws config log range qs Prints (Ok how) =
 Draws config log range qs Prints (Err f) = IsTold IsSaved TellsSaved config log qs f
 
 -- a session over a history: what it prints is determined by the lines that are typed, which it takes up to `quit` or to
--- the end of the input; at its beginning it shows each record of the walk to the last position
+-- the end of the input; it shows each record of the walk to the last position, with which it begins, and then those of
+-- the lines' walks
 abbrev pub Looks : List ℕ → List ℕ → Bool → List Asked → List (Option (List ℕ)) → List Part → (List ℕ → Type 0) → Result (Unit {0}) Kind → Type 0
 Looks config log asks qs typed ps Prints (Ok u) =
-    (c : Config) × (vs : List Service) × (records : List Record) × (k : Walk) × (text : List ℕ) × IsStart IsSaved config log qs c vs records
-    × IsBegun (world_at_boot c vs) records k × (ps ≡ walk_shown k.records k.last) × IsWhole typed × IsSession asks (sight_at k) typed text
+    (c : Config) × (vs : List Service) × (records : List Record) × (k : Walk) × (text : List ℕ) × (after : List Part)
+    × IsStart IsSaved config log qs c vs records × IsBegun (world_at_boot c vs) records k
+    × (ps ≡ walk_shown k.records k.last ++ after) × IsWhole typed × IsSession asks (sight_at k) typed text after
     × Prints (begun_text asks k ++ text)
 Looks config log asks qs typed ps Prints (Err f) = HasFailed config log qs ps f
 
@@ -181,16 +185,17 @@ PerformsUntyped (Look config log) qs ws Prints r = ⊥
 PerformsUntyped (Db config script) qs ws Prints r =
     (d : Result (Unit {0}) Kind) × (ws ≡ []) × Debugs config.now script.now qs Prints d × (r ≡ done_after_work d)
 
--- WHAT IS DONE OF A REQUEST, by the files that were asked for and written, the lines that were typed, the progress that
--- was shown, what is printed, and how it ends. Only a session takes lines; it, turns and a sweep show progress. (What the
--- threads of a run show is no list, since they have no order.)
-abbrev pub Performs : CommandRequest → Bool → List Asked → List Written → List (Option (List ℕ)) → List Part → (List ℕ → Type 0) → Result Done Kind → Type 0
-Performs (Look config log) asks qs ws typed ps Prints r =
-    (d : Result (Unit {0}) Kind) × (ws ≡ []) × Looks config.now log.now asks qs typed ps Prints d × (r ≡ done_after_work d)
-Performs (Turns config log ticks events bound) asks qs ws typed ps Prints r =
-    (typed ≡ []) × (d : Result Ending Kind) × MakesTurns config.now (option_map (λ s. s.now) events) log.now ticks bound qs ws ps Prints d
+-- WHAT IS DONE OF A REQUEST, by what a command did, by what is printed, and by how it ends. Only a session takes lines;
+-- it, turns and a sweep show progress. (What the threads of a run show is no list, since they have no order.)
+abbrev pub Performs : CommandRequest → Bool → Deeds → (List ℕ → Type 0) → Result Done Kind → Type 0
+Performs (Look config log) asks did Prints r =
+    (d : Result (Unit {0}) Kind) × (did.written ≡ []) × Looks config.now log.now asks did.asked did.typed did.shown Prints d × (r ≡ done_after_work d)
+Performs (Turns config log ticks events bound) asks did Prints r =
+    (did.typed ≡ []) × (d : Result Ending Kind)
+    × MakesTurns config.now (option_map (λ s. s.now) events) log.now ticks bound did.asked did.written did.shown Prints d
     × (r ≡ done_after_turns d)
-Performs (Sweep config log fault bound from to strict save) asks qs ws typed ps Prints r =
-    (typed ≡ []) × (d : Result Swept Kind) × Sweeps config.now log.now fault.now (option_map (λ s. s.now) save) from to bound qs ws ps Prints d
+Performs (Sweep config log fault bound from to strict save) asks did Prints r =
+    (did.typed ≡ []) × (d : Result Swept Kind)
+    × Sweeps config.now log.now fault.now (option_map (λ s. s.now) save) from to bound did.asked did.written did.shown Prints d
     × (r ≡ done_after_sweep strict d)
-Performs request asks qs ws typed ps Prints r = (typed ≡ []) × (ps ≡ []) × PerformsUntyped request qs ws Prints r
+Performs request asks did Prints r = (did.typed ≡ []) × (did.shown ≡ []) × PerformsUntyped request did.asked did.written Prints r

@@ -14,13 +14,13 @@ use Rattle.mx_app_db.specs.Written.{Written, kept, unkept}
 use Rattle.mx_app_db.specs.Config.{Config}
 use Rattle.mx_app_db.specs.Service.{Service}
 use Rattle.mx_app_db.specs.Setup.{IsSetup, IsSetupFault}
-use Rattle.mx_walk.specs.declared.progress.Part.{Part}
 use Rattle.mx_app_explain.specs.SumsFaults.{fault_line, fault_status, unread_of, unwritten_of}
 use Rattle.mx_app_explain.specs.Sums.{first_other, machine_sums, sums_text}
 use Rattle.mx_app_explain.specs.declared.sums_fault.SumsFault.{SumsFault}
 use Rattle.mx_app_explain.specs.declared.sums_fault.SumsFault.TheVariants.{NameTaken, NoMemory, OtherMachine}
 use Rattle.mx_app_explain.specs.declared.sums.MachinePart.{MachinePart}
 use Rattle.mx_app_explain.specs.declared.sums.PartSum.{PartSum}
+use Rattle.mx_app.specs.Deeds.{Deeds}
 use Rattle.mx_app.specs.Requests.{Performs}
 use Rattle.mx_app.specs.declared.performing.Done.{Done}
 use Rattle.mx_app.specs.declared.summing.LineFailure.{LineFailure}
@@ -91,19 +91,19 @@ WritesSums name text w (Err f) = (kind : ErrorKind) × (w ≡ unkept name text k
 -- ---- the request, and the sums before or after it
 
 -- nothing was written, typed, shown or printed
-abbrev pub IsIdle : List Written → List (Option (List ℕ)) → List Part → (List ℕ → Type 0) → Type 0
-IsIdle ws typed ps Prints = (ws ≡ []) × (typed ≡ []) × (ps ≡ []) × Prints []
+abbrev pub IsIdle : Deeds → (List ℕ → Type 0) → Type 0
+IsIdle did Prints = (did.written ≡ []) × (did.typed ≡ []) × (did.shown ≡ []) × Prints []
 
 abbrev pub by_request : Result Done Kind → Result Done LineFailure
 by_request (Ok done) = Ok done
 by_request (Err f) = Err (Request f)
 
 -- the request is done of a machine that has the file's sums, and of no other
-abbrev pub PerformsCompared : CommandRequest → List ℕ → Bool → List Asked → List Written → List (Option (List ℕ)) → List Part → (List ℕ → Type 0) → Result Done LineFailure → Type 0
-PerformsCompared request name asks qs ws typed ps Prints r =
-    ((f : LineFailure) × IsIdle ws typed ps Prints × IsCompared (first_name request) name qs (Err f) × (r ≡ Err f))
-    ⊎ ((before after : List Asked) × (d : Result Done Kind) × (qs ≡ before ++ after) × IsCompared (first_name request) name before (Ok tt)
-    × Performs request asks after ws typed ps Prints d × (r ≡ by_request d))
+abbrev pub PerformsCompared : CommandRequest → List ℕ → Bool → Deeds → (List ℕ → Type 0) → Result Done LineFailure → Type 0
+PerformsCompared request name asks did Prints r =
+    ((f : LineFailure) × IsIdle did Prints × IsCompared (first_name request) name did.asked (Err f) × (r ≡ Err f))
+    ⊎ ((before after : List Asked) × (d : Result Done Kind) × (did.asked ≡ before ++ after) × IsCompared (first_name request) name before (Ok tt)
+    × Performs request asks (record did { asked = after }) Prints d × (r ≡ by_request d))
 
 -- what was written after a request, and how the line ends: the sums of this text if the request is done, and nothing if it failed
 abbrev pub IsWrittenAfter : List ℕ → List ℕ → List Written → Result Done Kind → Result Done LineFailure → Type 0
@@ -113,25 +113,25 @@ IsWrittenAfter name text ws (Ok done) r =
     × ((WritesSums name text w (Ok tt) × (r ≡ Ok done)) ⊎ ((f : SumsFault) × WritesSums name text w (Err f) × (r ≡ Err (Sums f))))
 
 -- the request is done of a machine that has sums, and then they are written
-abbrev pub PerformsSummed : CommandRequest → List ℕ → Bool → List Asked → List Written → List (Option (List ℕ)) → List Part → (List ℕ → Type 0) → Result Done LineFailure → Type 0
-PerformsSummed request name asks qs ws typed ps Prints r =
-    ((f : Kind) × IsIdle ws typed ps Prints × IsUnsummed (first_name request) qs f × (r ≡ Err (Request f)))
+abbrev pub PerformsSummed : CommandRequest → List ℕ → Bool → Deeds → (List ℕ → Type 0) → Result Done LineFailure → Type 0
+PerformsSummed request name asks did Prints r =
+    ((f : Kind) × IsIdle did Prints × IsUnsummed (first_name request) did.asked f × (r ≡ Err (Request f)))
     ⊎ ((before after : List Asked) × (c : Config) × (vs : List Service) × (first last : List Written) × (d : Result Done Kind)
-    × (qs ≡ before ++ after) × (ws ≡ first ++ last) × IsSetup (first_name request) before c vs
-    × Performs request asks after first typed ps Prints d × IsWrittenAfter name (sums_text (machine_sums c vs)) last d r)
+    × (did.asked ≡ before ++ after) × (did.written ≡ first ++ last) × IsSetup (first_name request) before c vs
+    × Performs request asks (record did { asked = after; written = first }) Prints d
+    × IsWrittenAfter name (sums_text (machine_sums c vs)) last d r)
 
 -- with a file of sums: another word may not name it
-abbrev pub PerformsWith : CommandRequest → List ℕ → Bool → List Asked → List Written → List (Option (List ℕ)) → List Part → (List ℕ → Type 0) → Result Done LineFailure → Type 0
-PerformsWith request name asks qs ws typed ps Prints r =
-    ((names_file request name ≡ true) × (qs ≡ []) × IsIdle ws typed ps Prints × (r ≡ Err (Sums NameTaken)))
-    ⊎ (((names_file request name ≡ false) × (writes_sums request ≡ true) × PerformsSummed request name asks qs ws typed ps Prints r)
-    ⊎ ((names_file request name ≡ false) × (writes_sums request ≡ false) × PerformsCompared request name asks qs ws typed ps Prints r))
+abbrev pub PerformsWith : CommandRequest → List ℕ → Bool → Deeds → (List ℕ → Type 0) → Result Done LineFailure → Type 0
+PerformsWith request name asks did Prints r =
+    ((names_file request name ≡ true) × (did.asked ≡ []) × IsIdle did Prints × (r ≡ Err (Sums NameTaken)))
+    ⊎ (((names_file request name ≡ false) × (writes_sums request ≡ true) × PerformsSummed request name asks did Prints r)
+    ⊎ ((names_file request name ≡ false) × (writes_sums request ≡ false) × PerformsCompared request name asks did Prints r))
 
-abbrev pub PerformsBy : CommandRequest → Option (List ℕ) → Bool → List Asked → List Written → List (Option (List ℕ)) → List Part → (List ℕ → Type 0) → Result Done LineFailure → Type 0
-PerformsBy request None asks qs ws typed ps Prints r =
-    (d : Result Done Kind) × Performs request asks qs ws typed ps Prints d × (r ≡ by_request d)
-PerformsBy request (Some name) asks qs ws typed ps Prints r = PerformsWith request name asks qs ws typed ps Prints r
+abbrev pub PerformsBy : CommandRequest → Option (List ℕ) → Bool → Deeds → (List ℕ → Type 0) → Result Done LineFailure → Type 0
+PerformsBy request None asks did Prints r = (d : Result Done Kind) × Performs request asks did Prints d × (r ≡ by_request d)
+PerformsBy request (Some name) asks did Prints r = PerformsWith request name asks did Prints r
 
 -- WHAT IS DONE OF A COMMAND LINE, by what its request does
-abbrev pub PerformsLine : CommandLine → Bool → List Asked → List Written → List (Option (List ℕ)) → List Part → (List ℕ → Type 0) → Result Done LineFailure → Type 0
-PerformsLine line asks qs ws typed ps Prints r = PerformsBy line.request (option_map (λ s. s.now) line.sums) asks qs ws typed ps Prints r
+abbrev pub PerformsLine : CommandLine → Bool → Deeds → (List ℕ → Type 0) → Result Done LineFailure → Type 0
+PerformsLine line asks did Prints r = PerformsBy line.request (option_map (λ s. s.now) line.sums) asks did Prints r

@@ -16,9 +16,7 @@ use Rattle.mx_app_command.specs.Words.{Asks, AsksForSilence, AsksForSums, AsksTo
 use Rattle.mx_app_failure.specs.declared.failure.Failure.{Failure as Kind}
 use Rattle.mx_app_failure.specs.declared.failure.Failure.TheVariants.{NotText, NoMemory}
 use Rattle.mx_app_failure.specs.Failure.{IsWanting}
-use Rattle.mx_app_db.specs.Asked.{Asked}
-use Rattle.mx_app_db.specs.Written.{Written}
-use Rattle.mx_walk.specs.declared.progress.Part.{Part}
+use Rattle.mx_app.specs.Deeds.{Deeds}
 use Rattle.mx_app.specs.Noting.{Noted}
 use Rattle.mx_app.specs.Requests.{with_status}
 use Rattle.mx_app.specs.Summing.{PerformsLine, line_failure_line, line_failure_status}
@@ -94,8 +92,8 @@ explained_line line (Request f) noted = explained line.request f noted.last note
 explained_line line (Sums f) noted = fault_explained (word_or_nothing (option_map (λ s. s.now) line.sums)) f
 
 -- a failure is told alone; or, if it is to be explained, with the line that explains it, unless there was no memory for this line
-abbrev pub IsTold : CommandLine → Bool → LineFailure → Noted → Complaint → Type 0
-IsTold line shows f noted c =
+abbrev pub IsComplaintOf : CommandLine → Bool → LineFailure → Noted → Complaint → Type 0
+IsComplaintOf line shows f noted c =
     ((explains line shows ≡ false) × (c ≡ Failed f))
     ⊎ ((explains line shows ≡ true) × (c ≡ Unexplained f))
     ⊎ ((s : String Global) × (explains line shows ≡ true) × (c ≡ Explained f s)
@@ -104,13 +102,13 @@ IsTold line shows f noted c =
 -- what comes of a request that is done, or of its failure
 abbrev pub IsAnswered : CommandLine → Bool → Result Done LineFailure → Noted → Result Done Complaint → Type 0
 IsAnswered line shows (Ok done) noted r = r ≡ Ok done
-IsAnswered line shows (Err f) noted r = (c : Complaint) × (r ≡ Err c) × IsTold line shows f noted c
+IsAnswered line shows (Err f) noted r = (c : Complaint) × (r ≡ Err c) × IsComplaintOf line shows f noted c
 
--- WHAT IS DONE OF WORDS: what the request does that they ask for; or, if something is wrong with them, no file is asked
--- for or written, and the mistake is answered
-abbrev pub IsPerformed : List (List ℕ) → Bool → Bool → List Asked → List Written → List (Option (List ℕ)) → List Part → Noted → (List ℕ → Type 0) → Result Done Complaint → Type 0
-IsPerformed texts asks shows qs ws typed ps noted Prints r =
+-- WHAT IS DONE OF WORDS: what the request does that they ask for; or, if something is wrong with them, nothing is asked
+-- for, written, typed or shown, and the mistake is answered
+abbrev pub IsPerformed : List (List ℕ) → Bool → Bool → Deeds → Noted → (List ℕ → Type 0) → Result Done Complaint → Type 0
+IsPerformed texts asks shows did noted Prints r =
     ((line : CommandLine) × (d : Result Done LineFailure) × Asks line.request (subcommand_of mx_grammar texts) × AsksToExplain line.explains (subcommand_of mx_grammar texts)
     × AsksForSilence line.silent (subcommand_of mx_grammar texts) × AsksForSums (option_map (λ s. s.now) line.sums) (subcommand_of mx_grammar texts) × (both_given (subcommand_of mx_grammar texts) ≡ false)
-    × PerformsLine line asks qs ws typed ps Prints d × IsAnswered line shows d noted r)
-    ⊎ ((m : Mistake) × IsMistake texts m × (qs ≡ []) × (ws ≡ []) × (typed ≡ []) × (ps ≡ []) × AnswersMistake m r)
+    × PerformsLine line asks did Prints d × IsAnswered line shows d noted r)
+    ⊎ ((m : Mistake) × IsMistake texts m × (did.asked ≡ []) × (did.written ≡ []) × (did.typed ≡ []) × (did.shown ≡ []) × AnswersMistake m r)

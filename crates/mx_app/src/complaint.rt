@@ -1,4 +1,4 @@
-//! What the program tells where it didn't do what its words ask for.
+//! What the program prints on standard error if it didn't do what its words ask for.
 
 ghost use Rattle.std.specs.Prelude.{◌≡◌};
 ghost use Rattle.mx_app.specs.Words.{complaint_status};

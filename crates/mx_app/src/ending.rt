@@ -1,11 +1,11 @@
-//! What a reader at a terminal gets beside a command's text.
+//! What a reader at a terminal gets in addition to a command's text.
 
 ghost use Rattle.std.specs.Prelude.{◌≡◌, IfErr, IfOk, None};
 ghost use Rattle.std.specs.Io.{WritesAtMost};
 ghost use Rattle.std.specs.Io.KnownBytes.{WriteAppends};
 ghost use Rattle.mx_app.specs.Ending.{last_taken, note, text_end};
 
-use mx_app_turns::Ending;
+use mx_turns::Ending;
 use std::io;
 use std::io::Write;
 

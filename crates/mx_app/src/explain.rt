@@ -5,9 +5,9 @@ ghost use Rattle.std.specs.Io.KnownBytes.{Appends};
 ghost use Rattle.mx_app_db.specs.Asked.{Asked};
 ghost use Rattle.mx_app.specs.Explained.{ExplainsConfig};
 
-use mx_app_db::{Reader, config_of, print_text};
 use mx_app_explain::services_text;
-use mx_app_failure::Failure;
+use mx_app_failure::{Failure, print_text};
+use mx_app_start::{Reader, config_of};
 use std::alloc::Global;
 use std::io::Write;
 

@@ -2,6 +2,7 @@
 #![tactic(auto)]
 
 mod asking;
+mod command_io;
 mod complaint;
 mod ending;
 mod explain;
@@ -13,22 +14,14 @@ mod summing;
 mod words;
 
 pub use asking::texts_asked;
+pub use command_io::CommandIo;
 pub use complaint::Complaint;
 pub use ending::{NotingOutput, PrintedText, Terminals};
 pub use explain::explain_named;
-pub use mx_app_command::{CommandLine, CommandRequest, Mistake, RecordRange, command};
-pub use mx_app_db::{
-    Channels, FileWriter, InputLines, KeptFile, LineReader, MemoryWriter, NamedFile, NamedFiles,
-    Reader, Replayed, db, replay, step, step_saved, trace,
-};
-pub use mx_app_draw::draw;
-pub use mx_app_failure::{BootError, Failure, FileError};
-pub use mx_app_look::look;
-pub use mx_app_program::{assemble_file, one, print_listing, print_names, print_one};
-pub use mx_app_run::run;
-pub use mx_app_start::{NoProgress, Progress};
-pub use mx_app_turns::{Ending, sweep, turns};
-pub use named::{as_named, dis_named, nm_named, one_named, step_apart};
+pub use mx_app_failure::Failure;
+pub use mx_app_start::NoProgress;
+pub use mx_turns::Ending;
+pub use named::{SavedScript, as_named, dis_named, nm_named, one_named, step_apart};
 pub use noting::{NotingFiles, NotingReader};
 pub use performing::{Done, perform};
 pub use program::run_program;

@@ -9,9 +9,10 @@ ghost use Rattle.mx_app_program.specs.Shown.{HasListing, HasNames, IsShown};
 ghost use Rattle.mx_app.specs.Named.{Assembles, ShowsFile};
 ghost use Rattle.mx_app.specs.Requests.{SavesApart, saves_over};
 
-use mx_app_db::{Channels, FileWriter, Reader, step_saved};
+use mx_app_db::step_saved;
 use mx_app_failure::Failure;
 use mx_app_program::{assemble_file, print_listing, print_names, print_one};
+use mx_app_start::{Channels, FileWriter, Reader};
 use std::alloc::Global;
 use std::io::Write;
 
@@ -32,7 +33,7 @@ pub fn one_named<R: Reader, W: Write>(
     print_one(alloc, bytes.as_slice(), steps, out)
 }
 
-/// Reads a text, assembles it, and writes the program's file. A text isn't written over: where both have
+/// Reads a text, assembles it, and writes the program's file. A text isn't written over: if both have
 /// one name, nothing is read or written. Two names of one file aren't seen to be one.
 pub fn as_named<R: Reader, F: FileWriter>(
     alloc: Global,
@@ -92,23 +93,38 @@ fn saves_over(config: &str, script: &str, log: &str) -> bool
     config == log || script == log
 }
 
+/// A script, with the file that its history is saved to.
+#[derive(Clone, Copy)]
+pub struct SavedScript<'a> {
+    pub config: &'a str,
+    pub script: &'a str,
+    /// The file of the history that the script makes.
+    pub log: &'a str,
+    /// Whether each answer is printed after the number of its line.
+    pub numbered: bool,
+}
+
 /// Does what a script says, and saves the history that it made. No file that is read is written over:
 /// if LOG has the name of CONFIG or SCRIPT, nothing is read or written. If it has that of a service's
 /// program, nothing is written or printed.
 pub fn step_apart<R: Reader + Drop, F: FileWriter + Drop, W: Write + Drop>(
     alloc: Global,
     channels: &mut Channels<R, F, W>,
-    config: &str,
-    script: &str,
-    log: &str,
-    numbered: bool,
+    saved: SavedScript<'_>,
 ) -> Result<(), Failure>
     ensures { (qs : List Asked) × (ws : List Written)
         × (R.asked channels.new.reader ≡ R.asked channels.old.reader ++ qs)
         × (F.written channels.new.files ≡ F.written channels.old.files ++ ws)
-        × SavesApart config.now script.now log.now numbered qs ws
+        × SavesApart saved.entry.config.now saved.entry.script.now saved.entry.log.now
+        saved.entry.numbered qs ws
         (λ text. Appends (W.contents channels.old.out) (W.contents channels.new.out) text) result }
 {
+    let SavedScript {
+        config,
+        script,
+        log,
+        numbered,
+    } = saved;
     if saves_over(config, script, log) {
         return Err(Failure::File);
     }

@@ -5,8 +5,8 @@ ghost use Rattle.std.specs.IoError.{error_kind};
 ghost use Rattle.mx_app_db.specs.Written.{kept, unkept};
 ghost use Rattle.mx_app.specs.Noting.{IsNoted, IsTextNoted, is_failed};
 
-use mx_app_db::{FileWriter, Reader};
 use mx_app_explain::Notes;
+use mx_app_start::{FileWriter, Reader};
 use std::alloc::Global;
 use std::io;
 
@@ -37,7 +37,7 @@ impl<R: Drop> NotingReader<R> {
         }
     }
 
-    /// The name of the file that was asked for last, where there was memory to note it.
+    /// The name of the file that was asked for last, if there was memory to note it.
     fn last(&self) -> Option<&str>
         ensures { option_map (λ s. s.now) result ≡ option_map string_bytes self.now.last }
     {
@@ -174,7 +174,10 @@ impl<F: FileWriter + Drop> FileWriter for NotingFiles<F> {
 }
 
 /// What both noted.
-pub fn noted<'a, R: Drop, F: Drop>(reader: &'a NotingReader<R>, files: &NotingFiles<F>) -> Notes<'a>
+pub fn notes_of<'a, R: Drop, F: Drop>(
+    reader: &'a NotingReader<R>,
+    files: &NotingFiles<F>,
+) -> Notes<'a>
     ensures last { option_map (λ s. s.now) result.last ≡ option_map string_bytes reader.now.last }
     ensures missed { result.is_missed ≡ reader.now.is_missed }
     ensures text { option_map (λ t. t.now) result.text ≡ option_map (λ t. t.items) reader.now.text }

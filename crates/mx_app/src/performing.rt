@@ -1,24 +1,22 @@
 //! Does what the program's words ask for.
 
-ghost use Rattle.std.specs.Prelude.{◌≡◌, ◌++◌, List, Option, ℕ};
-ghost use Rattle.std.specs.Io.KnownBytes.{Appends};
-ghost use Rattle.mx_app_db.specs.Asked.{Asked};
-ghost use Rattle.mx_app_db.specs.Written.{Written};
-ghost use Rattle.mx_walk.specs.declared.progress.Part.{Part as Parts};
+ghost use Rattle.std.specs.Prelude.{◌≡◌};
+ghost use Rattle.mx_app.specs.Deeds.{Does};
 ghost use Rattle.mx_app.specs.Requests.{Performs, done_after_replay, done_after_sweep, done_after_turns, done_after_work, with_status};
 
+use crate::command_io::CommandIo;
 use crate::explain::explain_named;
-use crate::named::{as_named, dis_named, nm_named, one_named, step_apart};
+use crate::named::{SavedScript, as_named, dis_named, nm_named, one_named, step_apart};
 use mx_app_command::{CommandRequest, RecordRange};
-use mx_app_db::{
-    Channels, FileWriter, HistoryPart, LineReader, Reader, Replayed, db, replay, step, trace,
-};
+use mx_app_db::{HistoryPart, Replayed, db, replay, step, trace};
 use mx_app_draw::draw;
 use mx_app_failure::Failure;
 use mx_app_look::{SessionNames, look};
 use mx_app_run::{RunWanted, run};
-use mx_app_start::{Progress, SharedProgress};
-use mx_app_turns::{Ending, SweepNames, SweepWanted, Swept, TurnsNames, TurnsWanted, sweep, turns};
+use mx_app_start::{FileWriter, LineReader, Reader, SharedProgress};
+use mx_app_turns::{SweepNames, SweepWanted, Swept, TurnsNames, TurnsWanted, sweep, turns};
+use mx_turns::Ending;
+use mx_walk::Progress;
 use std::alloc::Global;
 use std::io::Write;
 use std::sync::Wait;
@@ -94,33 +92,26 @@ fn done_after_sweep(done: Result<Swept, Failure>, strict: bool) -> Result<Done, 
 }
 
 /// Does what a request asks for, and answers the status to end with, and how turns or a run ended. The
-/// processors of `run` are threads;
-/// `look` answers the lines, and with `asks` prints the position before each; `progress` is shown how far turns,
-/// a run and a sweep are, or the walk at a session's beginning.
+/// processors of `run` are threads. `look` answers the typed lines. It shows its progress, and so do `run`,
+/// `turns` and `sweep`.
 pub fn perform<
     T: Threads + Wait + Clock + Sync,
     R: Reader + Drop,
     F: FileWriter + Drop,
     W: Write + Drop,
-    L: LineReader,
-    P: Progress + SharedProgress + Sync,
+    L: LineReader + Drop,
+    P: Progress + SharedProgress + Sync + Drop,
 >(
     rt: &T,
     alloc: Global,
-    channels: &mut Channels<R, F, W>,
-    lines: &mut L,
-    progress: &mut P,
-    asks: bool,
+    io: &mut CommandIo<R, F, W, L, P>,
     request: CommandRequest<'_>,
 ) -> Result<Done, Failure>
-    ensures { (qs : List Asked) × (ws : List Written) × (typed : List (Option (List ℕ))) × (ps : List Parts)
-        × (R.asked channels.new.reader ≡ R.asked channels.old.reader ++ qs)
-        × (F.written channels.new.files ≡ F.written channels.old.files ++ ws)
-        × (L.given lines.new ≡ L.given lines.old ++ typed)
-        × (P.shown progress.new ≡ P.shown progress.old ++ ps)
-        × Performs request.entry asks qs ws typed ps
-        (λ text. Appends (W.contents channels.old.out) (W.contents channels.new.out) text) result }
+    ensures asks { io.new.asks ≡ io.old.asks }
+    ensures done { Does io.old io.new R.asked F.written W.contents L.given P.shown
+        (λ did Prints. Performs request.entry io.old.asks did Prints result) }
 {
+    let channels = &mut io.channels;
     let reader = &mut channels.reader;
     let out = &mut channels.out;
     match request {
@@ -143,7 +134,13 @@ pub fn perform<
         } => match save {
             None => done_after_work(step(alloc, reader, config, script, numbered, out)),
             Some(log) => {
-                done_after_work(step_apart(alloc, channels, config, script, log, numbered))
+                let saved = SavedScript {
+                    config,
+                    script,
+                    log,
+                    numbered,
+                };
+                done_after_work(step_apart(alloc, channels, saved))
             }
         },
         CommandRequest::Run {
@@ -158,7 +155,7 @@ pub fn perform<
                 events,
                 ticks,
             };
-            done_after_turns(run(rt, alloc, channels, wanted, progress))
+            done_after_turns(run(rt, alloc, channels, wanted, &mut io.progress))
         }
         CommandRequest::Turns {
             config,
@@ -173,7 +170,8 @@ pub fn perform<
                 events,
             };
             let wanted = TurnsWanted { ticks, bound };
-            done_after_turns(turns(alloc, channels, names, wanted, progress))
+            let ending = turns(alloc, channels, names, wanted, &mut io.progress);
+            done_after_turns(ending)
         }
         CommandRequest::Sweep {
             config,
@@ -192,7 +190,8 @@ pub fn perform<
                 save,
             };
             let wanted = SweepWanted { from, to, bound };
-            done_after_sweep(sweep(alloc, channels, progress, names, wanted), strict)
+            let swept = sweep(alloc, channels, &mut io.progress, names, wanted);
+            done_after_sweep(swept, strict)
         }
         CommandRequest::Replay { config, log } => {
             done_after_replay(replay(alloc, reader, config, log, out))
@@ -219,7 +218,9 @@ pub fn perform<
         }
         CommandRequest::Look { config, log } => {
             let names = SessionNames { config, log };
-            done_after_work(look(alloc, reader, lines, progress, names, asks, out))
+            let lines = &mut io.lines;
+            let progress = &mut io.progress;
+            done_after_work(look(alloc, reader, lines, progress, names, io.asks, out))
         }
         CommandRequest::Db { config, script } => done_after_work(db(
             alloc, reader, config, script, out,

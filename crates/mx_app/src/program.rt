@@ -5,14 +5,15 @@ ghost use Rattle.std.specs.IoError.{error_kind};
 ghost use Rattle.mx_app.specs.Words.{words_failure_of};
 
 use crate::asking::{begin_with, texts_asked};
+use crate::command_io::CommandIo;
 use crate::complaint::Complaint;
 use crate::ending::{NotingOutput, PrintedText, Terminals};
 use crate::noting::{NotingFiles, NotingReader};
 use crate::performing::Done;
 use crate::words::perform_words;
-use mx_app_db::{Channels, InputLines, RuntimeFiles, RuntimeWriter};
 use mx_app_failure::Failure;
-use mx_app_start::{Progress, RuntimeProgress};
+use mx_app_start::{Channels, InputLines, RuntimeFiles, RuntimeProgress, RuntimeWriter};
+use mx_walk::Progress;
 use std::rt::{Env, Files};
 use std::sync::Wait;
 use std::thread::Threads;
@@ -69,7 +70,7 @@ fn help_reader(
     let _ = eprint!(rt; "{note}");
 }
 
-/// Does what the program's words ask for, and answers the status to end with, or what to tell.
+/// Does what the program's words ask for, and answers the status to end with, or why it isn't done.
 fn perform_arguments<R>(rt: &R, terminals: Terminals) -> Result<u8, Complaint>
 where
     R: Env + Files + Input + Print + Eprint + AllocGlobal + Threads + Wait + Clock + Sync,
@@ -77,32 +78,24 @@ where
     let arguments = arguments(rt)?;
     let texts = texts_asked(rt.alloc(), arguments.as_slice())?;
     let words = texts.as_slice();
-    let mut channels = Channels {
-        reader: NotingReader::new(RuntimeFiles::new(rt)),
-        files: NotingFiles::new(RuntimeWriter::new(rt)),
-        out: NotingOutput::new(io::writer(rt)),
-    };
-    let mut lines = InputLines::new(rt.reader());
     let is_session = begin_with(words, "look");
     let unit = if begin_with(words, "sweep") {
         "positions"
     } else {
         "records"
     };
-    let mut progress = RuntimeProgress::new(rt, terminals.err, unit);
-    let asks = terminals.input && terminals.out;
-    let shows = terminals.err;
-    let answer = perform_words(
-        rt,
-        rt.alloc(),
-        words,
-        &mut channels,
-        &mut lines,
-        &mut progress,
-        asks,
-        shows,
-    );
-    progress.clear();
+    let mut work = CommandIo {
+        channels: Channels {
+            reader: NotingReader::new(RuntimeFiles::new(rt)),
+            files: NotingFiles::new(RuntimeWriter::new(rt)),
+            out: NotingOutput::new(io::writer(rt)),
+        },
+        lines: InputLines::new(rt.reader()),
+        progress: RuntimeProgress::new(rt, terminals.err, unit),
+        asks: terminals.input && terminals.out,
+    };
+    let answer = perform_words(rt, rt.alloc(), words, &mut work, terminals.err);
+    work.progress.clear();
     let printed = match &answer {
         Ok(done) => printed_text(words, *done),
         Err(_) => PrintedText::Other,
@@ -111,14 +104,14 @@ where
     let last = if is_session {
         None
     } else {
-        channels.out.last()
+        work.channels.out.last()
     };
     help_reader(rt, terminals, printed, last);
     Ok(answer?.status)
 }
 
-/// Does what the program's words ask for with the files and the streams of the runtime; where it doesn't,
-/// it tells why on standard error. Answers the status to end with.
+/// Does what the program's words ask for with the files and the streams of the runtime; if it isn't done,
+/// prints why on standard error. Answers the status to end with.
 pub fn run_program<R>(rt: &R, terminals: Terminals) -> u8
 where
     R: Env + Files + Input + Print + Eprint + AllocGlobal + Threads + Wait + Clock + Sync,

@@ -1,26 +1,25 @@
 //! Does what a command line asks for, with the sums of its machine.
 
-ghost use Rattle.std.specs.Prelude.{◌≡◌, ◌++◌, ◌∷◌, [], IfErr, IfOk, List, Option, ℕ};
-ghost use Rattle.std.specs.Io.KnownBytes.{Appends};
+ghost use Rattle.std.specs.Prelude.{◌≡◌, ◌++◌, ◌∷◌, [], IfErr, IfOk, List};
 ghost use Rattle.mx_app_db.specs.Asked.{Asked};
 ghost use Rattle.mx_app_db.specs.Config.{Config};
 ghost use Rattle.mx_app_db.specs.Service.{Service};
 ghost use Rattle.mx_app_db.specs.Setup.{IsSetup};
-ghost use Rattle.mx_app_db.specs.Written.{Written, kept, unkept};
-ghost use Rattle.mx_walk.specs.declared.progress.Part.{Part as Parts};
+ghost use Rattle.mx_app_db.specs.Written.{Written};
 ghost use Rattle.mx_app_explain.specs.Sums.{machine_sums, sums_text};
-ghost use Rattle.mx_app.specs.Requests.{Performs};
+ghost use Rattle.mx_app.specs.Deeds.{Does};
 ghost use Rattle.mx_app.specs.Summing.{ComparesSums, IsCompared, IsUnsummed, PerformsCompared, PerformsLine, PerformsSummed, WritesSums, line_failure_status, names_file, writes_sums};
 
+use crate::command_io::CommandIo;
 use crate::performing::{Done, perform};
 use mx_app_command::{CommandLine, CommandRequest};
-use mx_app_db::{Channels, FileWriter, LineReader, Reader};
 use mx_app_explain::{
     PartSum, SumsFault, first_name, first_other, machine_sums, passed_sums_are_own, second_name,
     sums_text, unread, unwritten,
 };
 use mx_app_failure::Failure;
-use mx_app_start::{Progress, SharedProgress, setup_of};
+use mx_app_start::{FileWriter, LineReader, Reader, SharedProgress, setup_of};
+use mx_walk::Progress;
 use std::alloc::Global;
 use std::fmt;
 use std::io::Write;
@@ -207,28 +206,21 @@ fn perform_compared<
     R: Reader + Drop,
     F: FileWriter + Drop,
     W: Write + Drop,
-    L: LineReader,
-    P: Progress + SharedProgress + Sync,
+    L: LineReader + Drop,
+    P: Progress + SharedProgress + Sync + Drop,
 >(
     rt: &T,
     alloc: Global,
-    channels: &mut Channels<R, F, W>,
-    lines: &mut L,
-    progress: &mut P,
-    asks: bool,
+    io: &mut CommandIo<R, F, W, L, P>,
     request: CommandRequest<'_>,
     name: &str,
 ) -> Result<Done, LineFailure>
-    ensures { (qs : List Asked) × (ws : List Written) × (typed : List (Option (List ℕ))) × (ps : List Parts)
-        × (R.asked channels.new.reader ≡ R.asked channels.old.reader ++ qs)
-        × (F.written channels.new.files ≡ F.written channels.old.files ++ ws)
-        × (L.given lines.new ≡ L.given lines.old ++ typed)
-        × (P.shown progress.new ≡ P.shown progress.old ++ ps)
-        × PerformsCompared request.entry name.now asks qs ws typed ps
-        (λ text. Appends (W.contents channels.old.out) (W.contents channels.new.out) text) result }
+    ensures asks { io.new.asks ≡ io.old.asks }
+    ensures done { Does io.old io.new R.asked F.written W.contents L.given P.shown
+        (λ did Prints. PerformsCompared request.entry name.now io.old.asks did Prints result) }
 {
-    compare_named(alloc, &mut channels.reader, first_name(request), name)?;
-    let done = perform(rt, alloc, channels, lines, progress, asks, request)?;
+    compare_named(alloc, &mut io.channels.reader, first_name(request), name)?;
+    let done = perform(rt, alloc, io, request)?;
     Ok(done)
 }
 
@@ -238,29 +230,22 @@ fn perform_summed<
     R: Reader + Drop,
     F: FileWriter + Drop,
     W: Write + Drop,
-    L: LineReader,
-    P: Progress + SharedProgress + Sync,
+    L: LineReader + Drop,
+    P: Progress + SharedProgress + Sync + Drop,
 >(
     rt: &T,
     alloc: Global,
-    channels: &mut Channels<R, F, W>,
-    lines: &mut L,
-    progress: &mut P,
-    asks: bool,
+    io: &mut CommandIo<R, F, W, L, P>,
     request: CommandRequest<'_>,
     name: &str,
 ) -> Result<Done, LineFailure>
-    ensures { (qs : List Asked) × (ws : List Written) × (typed : List (Option (List ℕ))) × (ps : List Parts)
-        × (R.asked channels.new.reader ≡ R.asked channels.old.reader ++ qs)
-        × (F.written channels.new.files ≡ F.written channels.old.files ++ ws)
-        × (L.given lines.new ≡ L.given lines.old ++ typed)
-        × (P.shown progress.new ≡ P.shown progress.old ++ ps)
-        × PerformsSummed request.entry name.now asks qs ws typed ps
-        (λ text. Appends (W.contents channels.old.out) (W.contents channels.new.out) text) result }
+    ensures asks { io.new.asks ≡ io.old.asks }
+    ensures done { Does io.old io.new R.asked F.written W.contents L.given P.shown
+        (λ did Prints. PerformsSummed request.entry name.now io.old.asks did Prints result) }
 {
-    let text = sums_text_named(alloc, &mut channels.reader, first_name(request))?;
-    let done = perform(rt, alloc, channels, lines, progress, asks, request)?;
-    write_sums(alloc, &mut channels.files, name, text.as_slice())?;
+    let text = sums_text_named(alloc, &mut io.channels.reader, first_name(request))?;
+    let done = perform(rt, alloc, io, request)?;
+    write_sums(alloc, &mut io.channels.files, name, text.as_slice())?;
     Ok(done)
 }
 
@@ -271,38 +256,31 @@ pub fn perform_line<
     R: Reader + Drop,
     F: FileWriter + Drop,
     W: Write + Drop,
-    L: LineReader,
-    P: Progress + SharedProgress + Sync,
+    L: LineReader + Drop,
+    P: Progress + SharedProgress + Sync + Drop,
 >(
     rt: &T,
     alloc: Global,
-    channels: &mut Channels<R, F, W>,
-    lines: &mut L,
-    progress: &mut P,
-    asks: bool,
+    io: &mut CommandIo<R, F, W, L, P>,
     line: CommandLine<'_>,
 ) -> Result<Done, LineFailure>
-    ensures { (qs : List Asked) × (ws : List Written) × (typed : List (Option (List ℕ))) × (ps : List Parts)
-        × (R.asked channels.new.reader ≡ R.asked channels.old.reader ++ qs)
-        × (F.written channels.new.files ≡ F.written channels.old.files ++ ws)
-        × (L.given lines.new ≡ L.given lines.old ++ typed)
-        × (P.shown progress.new ≡ P.shown progress.old ++ ps)
-        × PerformsLine line.entry asks qs ws typed ps
-        (λ text. Appends (W.contents channels.old.out) (W.contents channels.new.out) text) result }
+    ensures asks { io.new.asks ≡ io.old.asks }
+    ensures done { Does io.old io.new R.asked F.written W.contents L.given P.shown
+        (λ did Prints. PerformsLine line.entry io.old.asks did Prints result) }
 {
     let request = line.request;
     match line.sums {
         None => {
-            let done = perform(rt, alloc, channels, lines, progress, asks, request)?;
+            let done = perform(rt, alloc, io, request)?;
             Ok(done)
         }
         Some(name) => {
             if names_file(request, name) {
                 Err(LineFailure::Sums(SumsFault::NameTaken))
             } else if writes_sums(request) {
-                perform_summed(rt, alloc, channels, lines, progress, asks, request, name)
+                perform_summed(rt, alloc, io, request, name)
             } else {
-                perform_compared(rt, alloc, channels, lines, progress, asks, request, name)
+                perform_compared(rt, alloc, io, request, name)
             }
         }
     }

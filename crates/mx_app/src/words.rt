@@ -1,25 +1,23 @@
 //! From the words of the command line to a status.
 
-ghost use Rattle.std.specs.Prelude.{◌≡◌, ◌++◌, IfErr, IfOk, List, Option, map, string_bytes, ℕ};
-ghost use Rattle.std.specs.Io.KnownBytes.{Appends};
+ghost use Rattle.std.specs.Prelude.{◌≡◌, IfErr, IfOk, map, string_bytes};
 ghost use Rattle.mx_app_failure.specs.Failure.{IsWanting};
-ghost use Rattle.mx_app_db.specs.Asked.{Asked};
-ghost use Rattle.mx_app_db.specs.Written.{Written};
-ghost use Rattle.mx_walk.specs.declared.progress.Part.{Part as Parts};
+ghost use Rattle.mx_app.specs.Deeds.{Does};
 ghost use Rattle.mx_app.specs.Noting.{noted_by, noted_in};
-ghost use Rattle.mx_app.specs.Words.{AnswersMistake, Explains, explained_line, explains, IsAnswered, IsPerformed, IsTold};
+ghost use Rattle.mx_app.specs.Words.{AnswersMistake, Explains, explained_line, explains, IsAnswered, IsComplaintOf, IsPerformed};
 
+use crate::command_io::CommandIo;
 use crate::complaint::Complaint;
-use crate::noting::{NotingFiles, NotingReader, noted};
+use crate::noting::{NotingFiles, NotingReader, notes_of};
 use crate::performing::Done;
 use crate::summing::{LineFailure, perform_line};
 use clap::Error;
 use clap::error::ErrorKind;
 use mx_app_command::{CommandLine, Mistake, command};
-use mx_app_db::{Channels, FileWriter, LineReader, Reader};
 use mx_app_explain::{Notes, explain_failure, explain_sums};
 use mx_app_failure::{Failure, print_text};
-use mx_app_start::{Progress, SharedProgress};
+use mx_app_start::{FileWriter, LineReader, Reader, SharedProgress};
+use mx_walk::Progress;
 use std::alloc::{AllocError, Global};
 use std::io::Write;
 use std::sync::Wait;
@@ -34,7 +32,7 @@ fn print_help<W: Write>(alloc: Global, error: &Error, out: &mut W) -> Result<(),
     print_text(text.as_bytes(), out)
 }
 
-/// Prints help where it was asked for; what is wrong with the words is a complaint.
+/// Prints help if it was asked for; what is wrong with the words is a complaint.
 fn explain<W: Write>(alloc: Global, error: Error, out: &mut W) -> Result<Done, Complaint>
     ensures { Explains error result }
 {
@@ -74,7 +72,8 @@ fn explained_line(
     failure: LineFailure,
     notes: Notes<'_>,
 ) -> Result<String, AllocError>
-    ensures { IfOk result (λ text. string_bytes text ≡ explained_line line.entry failure (noted_in notes.entry)) }
+    ensures { IfOk result (λ text. string_bytes text
+        ≡ explained_line line.entry failure (noted_in notes.entry)) }
 {
     match failure {
         LineFailure::Request(failure) => explain_failure(alloc, line.request, failure, notes),
@@ -85,16 +84,16 @@ fn explained_line(
     }
 }
 
-/// What is told of a failure, with what explains it if it is to be explained.
-#[tactic(auto, using(crate::proofs::Told::told_alone, crate::proofs::Told::told_short))]
-fn told<'a>(
+/// The complaint of a failure, with the line that explains it if that is asked for.
+#[tactic(auto, using(crate::proofs::Told::complaint_plain, crate::proofs::Told::complaint_unexplained))]
+fn complaint_of<'a>(
     alloc: Global,
     line: CommandLine<'a>,
     shows: bool,
     failure: LineFailure,
     notes: Notes<'a>,
 ) -> Complaint
-    ensures { IsTold line.entry shows failure (noted_in notes.entry) result }
+    ensures { IsComplaintOf line.entry shows failure (noted_in notes.entry) result }
 {
     if !explains(line, shows) {
         return Complaint::Failed(failure);
@@ -117,7 +116,7 @@ fn answer<'a>(
 {
     match done {
         Ok(done) => Ok(done),
-        Err(failure) => Err(told(alloc, line, shows, failure, notes)),
+        Err(failure) => Err(complaint_of(alloc, line, shows, failure, notes)),
     }
 }
 
@@ -129,39 +128,32 @@ pub fn perform_words<
     R: Reader + Drop,
     F: FileWriter + Drop,
     W: Write + Drop,
-    L: LineReader,
-    P: Progress + SharedProgress + Sync,
+    L: LineReader + Drop,
+    P: Progress + SharedProgress + Sync + Drop,
 >(
     rt: &T,
     alloc: Global,
     words: &'a [&'a str],
-    channels: &mut Channels<NotingReader<R>, NotingFiles<F>, W>,
-    lines: &mut L,
-    progress: &mut P,
-    asks: bool,
+    io: &mut CommandIo<NotingReader<R>, NotingFiles<F>, W, L, P>,
     shows: bool,
 ) -> Result<Done, Complaint>
-    ensures { (qs : List Asked) × (ws : List Written) × (typed : List (Option (List ℕ))) × (ps : List Parts)
-        × (R.asked channels.new.reader.reader ≡ R.asked channels.old.reader.reader ++ qs)
-        × (F.written channels.new.files.files ≡ F.written channels.old.files.files ++ ws)
-        × (L.given lines.new ≡ L.given lines.old ++ typed)
-        × (P.shown progress.new ≡ P.shown progress.old ++ ps)
-        × IsPerformed (map (λ s. s.now) words.now) asks shows qs ws typed ps
-        (noted_by channels.new.reader.last channels.new.reader.is_missed channels.new.files.is_unwritten
-        channels.new.reader.text)
-        (λ text. Appends (W.contents channels.old.out) (W.contents channels.new.out) text) result }
+    ensures asks { io.new.asks ≡ io.old.asks }
+    ensures done { Does io.old io.new (λ r. R.asked r.reader) (λ f. F.written f.files) W.contents
+        L.given P.shown (λ did Prints. IsPerformed (map (λ s. s.now) words.now) io.old.asks shows did
+        (noted_by io.new.channels.reader.last io.new.channels.reader.is_missed
+        io.new.channels.files.is_unwritten io.new.channels.reader.text) Prints result) }
 {
     match command(alloc, words) {
         Ok(line) => {
-            let done = perform_line(rt, alloc, channels, lines, progress, asks, line);
+            let done = perform_line(rt, alloc, io, line);
             answer(
                 alloc,
                 line,
                 shows,
                 done,
-                noted(&channels.reader, &channels.files),
+                notes_of(&io.channels.reader, &io.channels.files),
             )
         }
-        Err(mistake) => complain(alloc, mistake, &mut channels.out),
+        Err(mistake) => complain(alloc, mistake, &mut io.channels.out),
     }
 }

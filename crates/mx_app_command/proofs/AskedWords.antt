@@ -15,7 +15,7 @@ use Rattle.clap.specs.Faults.{defaults_fault, entered_fault, level_fault, settle
 use Rattle.clap.specs.Walk.{answers_to, finished, nothing_held, rows_after, settled, stop_after, walk, walk_from}
 use Rattle.clap.specs.declared.builder.value_parser.ValueParser.TheVariants.{Signed}
 use Rattle.clap.proofs.ValueTestLemmas.{accepts-Accepts}
-use Rattle.mx_app_command.specs.Words.{HasNumber, IsAsked, IsGiven, MayHaveNumber, MayHaveRange, following_shape, looking_shape, mx_grammar, number_after, of_one, of_two, one_shape, run_shape, step_shape, sweep_shape, turns_shape, wanted, wanted_number}
+use Rattle.mx_app_command.specs.Words.{HasNumber, IsAsked, IsGiven, MayHaveNumber, MayHaveRange, following_shape, looking_shape, mx_grammar, number_after, of_one, of_two, one_shape, run_shape, step_shape, sweep_shape, turns_shape, required_text, required_number}
 use Rattle.mx_app_command.proofs.Given.{IsOnly, SetsValue, all_found, has_wanted, no_fault, value_given, value_if_given}
 
 -- the grammar as a parse sees it: with the help flag, and each argument's place
@@ -64,8 +64,8 @@ number_of t passed =
 
 -- ---- the subcommands of texts
 
-wanted_sets : (id : Text) (n : ℕ) → SetsValue (with_index n (filled (wanted id)))
-wanted_sets id n = record { set = refl; least = omega arith; defaults = refl }
+required_sets : (id : Text) (n : ℕ) → SetsValue (with_index n (filled (required_text id)))
+required_sets id n = record { set = refl; least = omega arith; defaults = refl }
 
 -- a text's name is none that the three flags have
 abbrev IsOwn : Text → Type 0
@@ -75,9 +75,9 @@ one_text_given : (name first : Text) → IsOwn first → (words : List Text)
     → level_fault (whole_of (of_one name first)) [] nothing_held words false [] ≡ []
     → IsGiven first (rows_after (whole_of (of_one name first)).rules [] words)
 one_text_given name first own words fine =
-    let only : IsOnly (with_index 1 (filled (wanted first))) (whole_of (of_one name first)).rules =
+    let only : IsOnly (with_index 1 (filled (required_text first))) (whole_of (of_one name first)).rules =
     ((λ e. refl), ((λ e. absurd (true≢false (sym e ∙ own.0))), ((λ e. absurd (true≢false (sym e ∙ own.1))), ((λ e. absurd (true≢false (sym e ∙ own.2))), tt)))) in
-    ap is_some (value_given (with_index 1 (filled (wanted first))) (wanted_sets first 1) (whole_of (of_one name first)) only words refl (inl refl) refl fine).1
+    ap is_some (value_given (with_index 1 (filled (required_text first))) (required_sets first 1) (whole_of (of_one name first)) only words refl (inl refl) refl fine).1
 
 two_texts_given : (name first second : Text) → IsOwn first → IsOwn second → bytes_eq second first ≡ false → bytes_eq first second ≡ false
     → (words : List Text) → level_fault (whole_of (of_two name first second)) [] nothing_held words false [] ≡ []
@@ -85,13 +85,13 @@ two_texts_given : (name first second : Text) → IsOwn first → IsOwn second �
     × IsGiven second (rows_after (whole_of (of_two name first second)).rules [] words)
 two_texts_given name first second own other apart back words fine =
     let s = whole_of (of_two name first second) in
-    let a = with_index 1 (filled (wanted first)) in
-    let b = with_index 2 (filled (wanted second)) in
+    let a = with_index 1 (filled (required_text first)) in
+    let b = with_index 2 (filled (required_text second)) in
     let only_a : IsOnly a s.rules =
     ((λ e. refl), ((λ e. absurd (true≢false (sym e ∙ apart))), ((λ e. absurd (true≢false (sym e ∙ own.0))), ((λ e. absurd (true≢false (sym e ∙ own.1))), ((λ e. absurd (true≢false (sym e ∙ own.2))), tt))))) in
     let only_b : IsOnly b s.rules =
     ((λ e. absurd (true≢false (sym e ∙ back))), ((λ e. refl), ((λ e. absurd (true≢false (sym e ∙ other.0))), ((λ e. absurd (true≢false (sym e ∙ other.1))), ((λ e. absurd (true≢false (sym e ∙ other.2))), tt))))) in
-    (ap is_some (value_given a (wanted_sets first 1) s only_a words refl (inl refl) refl fine).1, ap is_some (value_given b (wanted_sets second 2) s only_b words refl (inr (inl refl)) refl fine).1)
+    (ap is_some (value_given a (required_sets first 1) s only_a words refl (inl refl) refl fine).1, ap is_some (value_given b (required_sets second 2) s only_b words refl (inr (inl refl)) refl fine).1)
 
 -- ---- `one`
 
@@ -99,10 +99,10 @@ abbrev one_whole : Shape
 one_whole = whole_of one_shape
 
 abbrev file_rule : Rule
-file_rule = with_index 1 (filled (wanted (codes "FILE")))
+file_rule = with_index 1 (filled (required_text (codes "FILE")))
 
 abbrev steps_rule : Rule
-steps_rule = with_index 2 (filled (wanted_number (codes "N")))
+steps_rule = with_index 2 (filled (required_number (codes "N")))
 
 steps_sets : SetsValue steps_rule
 steps_sets = record { set = refl; least = omega arith; defaults = refl }
@@ -116,7 +116,7 @@ only_steps = ((λ e. cc), ((λ e. refl), ((λ e. cc), ((λ e. cc), ((λ e. cc), 
 one_values : (words : List Text) → level_fault one_whole [] nothing_held words false [] ≡ []
     → IsGiven (codes "FILE") (rows_after one_whole.rules [] words) × ((n : ℕ) × HasNumber (codes "N") (rows_after one_whole.rules [] words) n)
 one_values words fine =
-    let file = value_given file_rule (wanted_sets (codes "FILE") 1) one_whole only_file words refl (inl refl) refl fine in
+    let file = value_given file_rule (required_sets (codes "FILE") 1) one_whole only_file words refl (inl refl) refl fine in
     let steps = value_given steps_rule steps_sets one_whole only_steps words refl (inr (inl refl)) refl fine in
     let number = number_of steps.0 (accepts-Accepts steps_rule.ignore_case (Signed (pos 0) (pos 4294967295)) steps.0 steps.3) in
     (ap is_some file.1, (number.0, (without_minus steps.0, steps.2, number.1)))
@@ -147,10 +147,10 @@ abbrev step_whole : Shape
 step_whole = whole_of step_shape
 
 abbrev config_rule : Rule
-config_rule = with_index 1 (filled (wanted (codes "CONFIG")))
+config_rule = with_index 1 (filled (required_text (codes "CONFIG")))
 
 abbrev script_rule : Rule
-script_rule = with_index 2 (filled (wanted (codes "SCRIPT")))
+script_rule = with_index 2 (filled (required_text (codes "SCRIPT")))
 
 only_config : IsOnly config_rule step_whole.rules
 only_config = ((λ e. refl), ((λ e. cc), ((λ e. cc), ((λ e. cc), ((λ e. cc), ((λ e. cc), ((λ e. cc), ((λ e. cc), tt))))))))
@@ -160,15 +160,15 @@ only_script = ((λ e. cc), ((λ e. refl), ((λ e. cc), ((λ e. cc), ((λ e. cc),
 
 step_fits : Fits step_whole
 step_fits words fine =
-    let config = value_given config_rule (wanted_sets (codes "CONFIG") 1) step_whole only_config words refl (inl refl) refl fine in
-    let script = value_given script_rule (wanted_sets (codes "SCRIPT") 2) step_whole only_script words refl (inr (inl refl)) refl fine in
+    let config = value_given config_rule (required_sets (codes "CONFIG") 1) step_whole only_config words refl (inl refl) refl fine in
+    let script = value_given script_rule (required_sets (codes "SCRIPT") 2) step_whole only_script words refl (inr (inl refl)) refl fine in
     ((λ e. (ap is_some config.1, inr (inl (ap is_some script.1, inl refl)))), (λ e. absurd (true≢false e)))
 
 abbrev run_whole : Shape
 run_whole = whole_of run_shape
 
 abbrev log_rule : Rule
-log_rule = with_index 2 (filled (wanted (codes "LOG")))
+log_rule = with_index 2 (filled (required_text (codes "LOG")))
 
 abbrev ticks_rule : Rule
 ticks_rule = with_index 3 (filled (number_after (codes "ticks") (codes "T")))
@@ -199,8 +199,8 @@ number_if_given s long id n only words fine =
 
 run_fits : Fits run_whole
 run_fits words fine =
-    let config = value_given config_rule (wanted_sets (codes "CONFIG") 1) run_whole only_run_config words refl (inl refl) refl fine in
-    let log = value_given log_rule (wanted_sets (codes "LOG") 2) run_whole only_log words refl (inr (inl refl)) refl fine in
+    let config = value_given config_rule (required_sets (codes "CONFIG") 1) run_whole only_run_config words refl (inl refl) refl fine in
+    let log = value_given log_rule (required_sets (codes "LOG") 2) run_whole only_log words refl (inr (inl refl)) refl fine in
     ((λ e. (ap is_some config.1, inr (inr (ap is_some log.1, inl (refl, number_if_given run_whole (codes "ticks") (codes "T") 3 only_ticks words fine))))), (λ e. absurd (true≢false e)))
 
 abbrev turns_whole : Shape
@@ -223,8 +223,8 @@ only_bound = ((λ e. cc), ((λ e. cc), ((λ e. cc), ((λ e. cc), ((λ e. refl), 
 
 turns_fits : Fits turns_whole
 turns_fits words fine =
-    let config = value_given config_rule (wanted_sets (codes "CONFIG") 1) turns_whole only_turns_config words refl (inl refl) refl fine in
-    let log = value_given log_rule (wanted_sets (codes "LOG") 2) turns_whole only_turns_log words refl (inr (inl refl)) refl fine in
+    let config = value_given config_rule (required_sets (codes "CONFIG") 1) turns_whole only_turns_config words refl (inl refl) refl fine in
+    let log = value_given log_rule (required_sets (codes "LOG") 2) turns_whole only_turns_log words refl (inr (inl refl)) refl fine in
     let ticks = number_if_given turns_whole (codes "ticks") (codes "T") 3 only_turns_ticks words fine in
     let bound = number_if_given turns_whole (codes "turns") (codes "N") 5 only_bound words fine in
     ((λ e. (ap is_some config.1, inr (inr (ap is_some log.1, inr (inr (inr (inl (refl, (ticks, bound))))))))), (λ e. absurd (true≢false e)))
@@ -233,7 +233,7 @@ abbrev sweep_whole : Shape
 sweep_whole = whole_of sweep_shape
 
 abbrev fault_rule : Rule
-fault_rule = with_index 3 (filled (wanted (codes "FAULT")))
+fault_rule = with_index 3 (filled (required_text (codes "FAULT")))
 
 only_sweep_config : IsOnly config_rule sweep_whole.rules
 only_sweep_config = ((λ e. refl), ((λ e. cc), ((λ e. cc), ((λ e. cc), ((λ e. cc), ((λ e. cc), ((λ e. cc), ((λ e. cc), ((λ e. cc), ((λ e. cc), ((λ e. cc), ((λ e. cc), tt))))))))))))
@@ -255,9 +255,9 @@ only_sweep_to = ((λ e. cc), ((λ e. cc), ((λ e. cc), ((λ e. cc), ((λ e. cc),
 
 sweep_fits : Fits sweep_whole
 sweep_fits words fine =
-    let config = value_given config_rule (wanted_sets (codes "CONFIG") 1) sweep_whole only_sweep_config words refl (inl refl) refl fine in
-    let log = value_given log_rule (wanted_sets (codes "LOG") 2) sweep_whole only_sweep_log words refl (inr (inl refl)) refl fine in
-    let fault = value_given fault_rule (wanted_sets (codes "FAULT") 3) sweep_whole only_sweep_fault words refl (inr (inr (inl refl))) refl fine in
+    let config = value_given config_rule (required_sets (codes "CONFIG") 1) sweep_whole only_sweep_config words refl (inl refl) refl fine in
+    let log = value_given log_rule (required_sets (codes "LOG") 2) sweep_whole only_sweep_log words refl (inr (inl refl)) refl fine in
+    let fault = value_given fault_rule (required_sets (codes "FAULT") 3) sweep_whole only_sweep_fault words refl (inr (inr (inl refl))) refl fine in
     let bound = number_if_given sweep_whole (codes "turns") (codes "N") 4 only_sweep_bound words fine in
     let from = number_if_given sweep_whole (codes "from") (codes "A") 5 only_sweep_from words fine in
     let to = number_if_given sweep_whole (codes "to") (codes "B") 6 only_sweep_to words fine in
@@ -277,8 +277,8 @@ following_values : (name : Text) (words : List Text) → level_fault (following_
     → IsGiven (codes "CONFIG") (rows_after (following_whole name).rules [] words) × IsGiven (codes "LOG") (rows_after (following_whole name).rules [] words)
 following_values name words fine =
     let s = following_whole name in
-    let config = value_given config_rule (wanted_sets (codes "CONFIG") 1) s (only_following_config name) words refl (inl refl) refl fine in
-    let log = value_given log_rule (wanted_sets (codes "LOG") 2) s (only_following_log name) words refl (inr (inl refl)) refl fine in
+    let config = value_given config_rule (required_sets (codes "CONFIG") 1) s (only_following_config name) words refl (inl refl) refl fine in
+    let log = value_given log_rule (required_sets (codes "LOG") 2) s (only_following_log name) words refl (inr (inl refl)) refl fine in
     (ap is_some config.1, ap is_some log.1)
 
 replay_fits : Fits (following_whole (codes "replay"))
@@ -313,8 +313,8 @@ Looks rows = IsGiven (codes "CONFIG") rows × IsGiven (codes "LOG") rows × MayH
 looking_values : (name : Text) (words : List Text) → level_fault (looking_whole name) [] nothing_held words false [] ≡ [] → Looks (rows_after (looking_whole name).rules [] words)
 looking_values name words fine =
     let s = looking_whole name in
-    let config = value_given config_rule (wanted_sets (codes "CONFIG") 1) s (only_looking_config name) words refl (inl refl) refl fine in
-    let log = value_given log_rule (wanted_sets (codes "LOG") 2) s (only_looking_log name) words refl (inr (inl refl)) refl fine in
+    let config = value_given config_rule (required_sets (codes "CONFIG") 1) s (only_looking_config name) words refl (inl refl) refl fine in
+    let log = value_given log_rule (required_sets (codes "LOG") 2) s (only_looking_log name) words refl (inr (inl refl)) refl fine in
     let from = number_if_given s (codes "from") (codes "A") 3 (only_from name) words fine in
     let to = number_if_given s (codes "to") (codes "B") 4 (only_to name) words fine in
     (ap is_some config.1, ap is_some log.1, (from, to))

@@ -16,12 +16,12 @@ use Rattle.mx_app_command.specs.declared.words.CommandRequest.TheVariants.{One, 
 -- ---- the grammar
 
 -- an argument that has to be given, once
-abbrev pub wanted : Text → Rule
-wanted id = record (new_rule id) { required = true; action = Some Set }
+abbrev pub required_text : Text → Rule
+required_text id = record (new_rule id) { required = true; action = Some Set }
 
 -- the same, where the text is a number of 32 bits
-abbrev pub wanted_number : Text → Rule
-wanted_number id = record (wanted id) { parser = Some (Signed (pos 0) (pos 4294967295)) }
+abbrev pub required_number : Text → Rule
+required_number id = record (required_text id) { parser = Some (Signed (pos 0) (pos 4294967295)) }
 
 -- an argument that may be given once, after a long name
 abbrev pub after_name : Text → Text → Rule
@@ -41,10 +41,10 @@ subcommand name arguments = record (new_shape name) { rules = arguments ++ flag 
 
 -- a subcommand of one text, and of two, by its name and theirs
 abbrev pub of_one : Text → Text → Shape
-of_one name first = subcommand name (wanted first ∷ [])
+of_one name first = subcommand name (required_text first ∷ [])
 
 abbrev pub of_two : Text → Text → Text → Shape
-of_two name first second = subcommand name (wanted first ∷ wanted second ∷ [])
+of_two name first second = subcommand name (required_text first ∷ required_text second ∷ [])
 
 -- `--sums SUMS`: the file of a machine's sums
 abbrev pub sums_rule : Rule
@@ -52,7 +52,7 @@ sums_rule = after_name (codes "sums") (codes "SUMS")
 
 -- `NAME CONFIG LOG --sums SUMS`, what follows a history
 abbrev pub following_shape : Text → Shape
-following_shape name = subcommand name (wanted (codes "CONFIG") ∷ wanted (codes "LOG") ∷ sums_rule ∷ [])
+following_shape name = subcommand name (required_text (codes "CONFIG") ∷ required_text (codes "LOG") ∷ sums_rule ∷ [])
 
 -- none of its arguments is its subcommands' too
 abbrev pub IsLocal : Command → Type 0
@@ -60,36 +60,36 @@ IsLocal c = (out-Command c).has_globals ≡ false
 
 -- `one FILE N`
 abbrev pub one_shape : Shape
-one_shape = subcommand (codes "one") (wanted (codes "FILE") ∷ wanted_number (codes "N") ∷ [])
+one_shape = subcommand (codes "one") (required_text (codes "FILE") ∷ required_number (codes "N") ∷ [])
 
 -- `step CONFIG SCRIPT --save LOG --numbered --sums SUMS`
 abbrev pub step_shape : Shape
-step_shape = subcommand (codes "step") (wanted (codes "CONFIG") ∷ wanted (codes "SCRIPT") ∷ after_name (codes "save") (codes "LOG") ∷ flag (codes "numbered") ∷ sums_rule ∷ [])
+step_shape = subcommand (codes "step") (required_text (codes "CONFIG") ∷ required_text (codes "SCRIPT") ∷ after_name (codes "save") (codes "LOG") ∷ flag (codes "numbered") ∷ sums_rule ∷ [])
 
 -- `run CONFIG LOG --ticks T --events EVENTS --sums SUMS`
 abbrev pub run_shape : Shape
 run_shape =
     subcommand (codes "run")
-    (wanted (codes "CONFIG") ∷ wanted (codes "LOG") ∷ number_after (codes "ticks") (codes "T") ∷ after_name (codes "events") (codes "EVENTS") ∷ sums_rule ∷ [])
+    (required_text (codes "CONFIG") ∷ required_text (codes "LOG") ∷ number_after (codes "ticks") (codes "T") ∷ after_name (codes "events") (codes "EVENTS") ∷ sums_rule ∷ [])
 
 -- `turns CONFIG LOG --ticks T --events EVENTS --turns N --sums SUMS`; that only one of ticks and events is given, `Mistakes` has
 abbrev pub turns_shape : Shape
 turns_shape =
     subcommand (codes "turns")
-    (wanted (codes "CONFIG") ∷ wanted (codes "LOG") ∷ number_after (codes "ticks") (codes "T") ∷ after_name (codes "events") (codes "EVENTS") ∷ number_after (codes "turns") (codes "N") ∷ sums_rule ∷ [])
+    (required_text (codes "CONFIG") ∷ required_text (codes "LOG") ∷ number_after (codes "ticks") (codes "T") ∷ after_name (codes "events") (codes "EVENTS") ∷ number_after (codes "turns") (codes "N") ∷ sums_rule ∷ [])
 
 -- `sweep CONFIG LOG FAULT --turns N --from A --to B --strict --save FILE --sums SUMS`
 abbrev pub sweep_shape : Shape
 sweep_shape =
     subcommand (codes "sweep")
-    (wanted (codes "CONFIG") ∷ wanted (codes "LOG") ∷ wanted (codes "FAULT") ∷ number_after (codes "turns") (codes "N") ∷ number_after (codes "from") (codes "A")
+    (required_text (codes "CONFIG") ∷ required_text (codes "LOG") ∷ required_text (codes "FAULT") ∷ number_after (codes "turns") (codes "N") ∷ number_after (codes "from") (codes "A")
     ∷ number_after (codes "to") (codes "B") ∷ flag (codes "strict") ∷ after_name (codes "save") (codes "FILE") ∷ sums_rule ∷ [])
 
 -- `NAME CONFIG LOG --from A --to B --sums SUMS`, what is told of a history's records
 abbrev pub looking_shape : Text → Shape
 looking_shape name =
     subcommand name
-    (wanted (codes "CONFIG") ∷ wanted (codes "LOG") ∷ number_after (codes "from") (codes "A") ∷ number_after (codes "to") (codes "B") ∷ sums_rule ∷ [])
+    (required_text (codes "CONFIG") ∷ required_text (codes "LOG") ∷ number_after (codes "from") (codes "A") ∷ number_after (codes "to") (codes "B") ∷ sums_rule ∷ [])
 
 -- one of the subcommands is wanted
 abbrev pub top_app : App

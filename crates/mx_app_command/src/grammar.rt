@@ -2,14 +2,14 @@
 
 ghost use Rattle.std.specs.Prelude.{◌≡◌, IfOk, false, fold, map};
 ghost use Rattle.clap.specs.Words.{app_of, rule_of, shape_of, with_subcommand};
-ghost use Rattle.mx_app_command.specs.Words.{IsLocal, after_name, flag, machine_app, mx_grammar, number_after, program_app, top_app, wanted, wanted_number};
+ghost use Rattle.mx_app_command.specs.Words.{IsLocal, after_name, flag, machine_app, mx_grammar, number_after, program_app, top_app, required_text, required_number};
 ghost use Rattle.mx_app_command.specs.Tables.{rule_of_argument, shape_of_subcommand};
 
 use crate::help::Example;
 use clap::{Arg, ArgAction, Command};
 use std::alloc::{AllocError, Global};
 
-/// What an argument is, and where it stands.
+/// What an argument is, and its place.
 #[derive(Clone, Copy)]
 enum ArgumentForm<'a> {
     /// A text that has to be given, in its place.
@@ -90,7 +90,7 @@ const LOG: CommandArgument<'static> = CommandArgument {
     form: ArgumentForm::Text,
 };
 
-/// Where what happened is kept.
+/// The file that a script's history is written to.
 const SAVED: CommandArgument<'static> = CommandArgument {
     name: "LOG",
     help: "Writes the history that the script made to the file LOG",
@@ -104,7 +104,7 @@ const NUMBERED: CommandArgument<'static> = CommandArgument {
     form: ArgumentForm::Flag,
 };
 
-/// Where what happens is kept.
+/// The file that a history is written to.
 const RECORDED: CommandArgument<'static> = CommandArgument {
     name: "LOG",
     help: "The file to write the history to",
@@ -174,21 +174,21 @@ const STRICT: CommandArgument<'static> = CommandArgument {
     form: ArgumentForm::Flag,
 };
 
-/// Where the history with the fault is kept.
+/// The file that the history with the fault is written to.
 const SAVED_FAULT: CommandArgument<'static> = CommandArgument {
     name: "FILE",
     help: "Writes the history of the last position's run, with the fault, to FILE",
     form: ArgumentForm::After("save"),
 };
 
-/// The first record that is told or drawn.
+/// The first record that is printed or drawn.
 const FROM: CommandArgument<'static> = CommandArgument {
     name: "A",
     help: "The first record that is shown, 1 by default; records are counted from 1",
     form: ArgumentForm::NumberAfter("from"),
 };
 
-/// The last record that is told or drawn.
+/// The last record that is printed or drawn.
 const TO: CommandArgument<'static> = CommandArgument {
     name: "B",
     help: "The last record that is shown, the history's last by default",
@@ -202,7 +202,7 @@ const COMMANDS: CommandArgument<'static> = CommandArgument {
     form: ArgumentForm::Text,
 };
 
-/// Where the sums of the machine are kept.
+/// The file of the machine's sums.
 const WRITTEN_SUMS: CommandArgument<'static> = CommandArgument {
     name: "SUMS",
     help: "Writes SHA-256 sums of the configuration and of each program to SUMS",
@@ -364,19 +364,19 @@ static HISTORY_COMMANDS: [Subcommand<'static>; 5] = [
 ];
 
 /// A text that has to be given, in its place.
-fn wanted<'a>(alloc: Global, name: &'a str) -> Arg<'a>
-    ensures rule { rule_of result ≡ wanted name.entry.now }
+fn required_text<'a>(alloc: Global, name: &'a str) -> Arg<'a>
+    ensures rule { rule_of result ≡ required_text name.entry.now }
     ensures local { result.global ≡ false }
 {
     Arg::new(alloc, name).action(ArgAction::Set).required(true)
 }
 
 /// A number of 32 bits that has to be given, in its place.
-fn wanted_number<'a>(alloc: Global, name: &'a str) -> Arg<'a>
-    ensures rule { rule_of result ≡ wanted_number name.entry.now }
+fn required_number<'a>(alloc: Global, name: &'a str) -> Arg<'a>
+    ensures rule { rule_of result ≡ required_number name.entry.now }
     ensures local { result.global ≡ false }
 {
-    wanted(alloc, name).value_parser(clap::value_parser!(u32))
+    required_text(alloc, name).value_parser(clap::value_parser!(u32))
 }
 
 /// A text that may be given, after a long name.
@@ -410,8 +410,8 @@ fn argument_of<'a>(alloc: Global, argument: &CommandArgument<'a>) -> Arg<'a>
 {
     let name = argument.name;
     let arg = match argument.form {
-        ArgumentForm::Text => wanted(alloc, name),
-        ArgumentForm::Number => wanted_number(alloc, name),
+        ArgumentForm::Text => required_text(alloc, name),
+        ArgumentForm::Number => required_number(alloc, name),
         ArgumentForm::After(long) => after_name(alloc, long, name),
         ArgumentForm::Flag => flag(alloc, name),
         ArgumentForm::NumberAfter(long) => number_after(alloc, long, name),
@@ -420,7 +420,7 @@ fn argument_of<'a>(alloc: Global, argument: &CommandArgument<'a>) -> Arg<'a>
 }
 
 /// A subcommand with its arguments and its help.
-fn made<'a>(alloc: Global, subcommand: &Subcommand<'a>) -> Result<Command<'a>, AllocError>
+fn command_of<'a>(alloc: Global, subcommand: &Subcommand<'a>) -> Result<Command<'a>, AllocError>
     ensures shape { IfOk result (λ c. shape_of c ≡ shape_of_subcommand subcommand.now) }
     ensures local { IfOk result IsLocal }
 {
@@ -442,7 +442,7 @@ fn with_one<'a>(
     ensures { IfOk result (λ c. app_of c ≡ with_subcommand (app_of line.entry)
         (shape_of_subcommand subcommand.now)) }
 {
-    line.subcommand(made(alloc, subcommand)?)
+    line.subcommand(command_of(alloc, subcommand)?)
 }
 
 /// Adds subcommands in turn.
@@ -466,7 +466,7 @@ const MORE_HELP: &str =
 If one fails, a second line says what was wanted: at a terminal, or with --explain.
 --no-explain leaves it out.";
 
-/// What `mx --version` prints beside the name.
+/// What `mx --version` prints after the name.
 const VERSION: &str = "0.1";
 
 /// The program without its subcommands.

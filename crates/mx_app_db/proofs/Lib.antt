@@ -1,3 +1,4 @@
+pub mod Apart
 pub mod Worlds
 pub mod Made
 pub mod Printed

@@ -1,20 +1,22 @@
 -- What a line does, from what its function answers.
-use Rattle.std.proofs.Common.{◌≡◌, ◌∙◌, ◌<◌, ◌+◌, ℕ, List, [], ◌∷◌, ◌++◌, length, get_or, take, Result, Ok, Err, OnOk, sym, ap, refl}
-use Rattle.std.proofs.lemmas.List.{take_more}
-use Rattle.mx_boot.specs.declared.address_word.AddressWord.{AddressWord}
-use Rattle.mx_boot.specs.declared.debug.DebugLine.{DebugLine}
-use Rattle.mx_boot.specs.declared.debug.DebugLine.TheVariants.{Plain, Break, Clear, Go, Registers, RegistersOf, Memory, MemoryOf, Messages, LastMessages}
+use Rattle.std.proofs.Common.{◌≡◌, ◌∙◌, ℕ, List, Result, Ok, Err, OnOk, sym, ap, refl}
+use Rattle.mx_app_db.specs.declared.looks.Look.{Look}
+use Rattle.mx_app_db.specs.declared.script.DebugLine.{DebugLine}
+use Rattle.mx_app_db.specs.declared.script.DebugLine.TheVariants.{Plain, Break, Clear, Go, Show}
 use Rattle.mx_boot.specs.declared.place.CodePlace.{CodePlace}
 use Rattle.mx_boot.specs.declared.scripts.ScriptLine.{ScriptLine}
 use Rattle.mx_machine.specs.History.{BootAndHistory, replay}
 use Rattle.mx_machine.specs.World.{World, held_by}
 use Rattle.mx_app_step.specs.Machine.{MachineState, world_of}
 use Rattle.mx_print_answers.specs.declared.said.Said.{Said}
+use Rattle.mx_app_step.specs.Driving.{Driven, driven}
 use Rattle.mx_app_step.specs.Lines.{line_made}
 use Rattle.mx_print_answers.specs.Breakpoint.{Breakpoint}
 use Rattle.mx_print_answers.specs.declared.refused.Refused.{Refused as Kind}
 use Rattle.mx_app_db.specs.Places.{place_found, breakpoints_after_break, breakpoints_after_clear}
-use Rattle.mx_app_db.specs.DebugLines.{DebuggedWorld, world_after_go, debug_line_made, debug_lines_made}
+use Rattle.mx_app_db.specs.DebugLines.{DebuggedWorld, world_after_go, debug_line_kept, debug_line_made}
+use Rattle.mx_app_db.specs.DebugPerformed.{debug_does}
+use Rattle.mx_app_db.specs.declared.lines.DebugPerformer.{DebugPerformer}
 
 -- a world and breakpoints
 abbrev pub both : World → List Breakpoint → DebuggedWorld
@@ -38,29 +40,9 @@ pub gone_made : (other : ℕ) (w u : World) (points : List Breakpoint) (c k : �
 unfolding debug_line_made
 gone_made other w u points c k h = ap (λ (v : World). both v points) h
 
-pub registers_made : (other : ℕ) (d : DebuggedWorld) (c : ℕ) → debug_line_made other d (Registers c) ≡ d
+pub shown_made : (other : ℕ) (d : DebuggedWorld) (l : Look) → debug_line_made other d (Show l) ≡ d
 unfolding debug_line_made
-registers_made other d c = refl
-
-pub registers_of_made : (other : ℕ) (d : DebuggedWorld) (s : ℕ) → debug_line_made other d (RegistersOf s) ≡ d
-unfolding debug_line_made
-registers_of_made other d s = refl
-
-pub memory_made : (other : ℕ) (d : DebuggedWorld) (c : ℕ) (a : AddressWord) (n : ℕ) → debug_line_made other d (Memory c a n) ≡ d
-unfolding debug_line_made
-memory_made other d c a n = refl
-
-pub memory_of_made : (other : ℕ) (d : DebuggedWorld) (s : ℕ) (a : AddressWord) (n : ℕ) → debug_line_made other d (MemoryOf s a n) ≡ d
-unfolding debug_line_made
-memory_of_made other d s a n = refl
-
-pub messages_made : (other : ℕ) (d : DebuggedWorld) → debug_line_made other d Messages ≡ d
-unfolding debug_line_made
-messages_made other d = refl
-
-pub last_messages_made : (other : ℕ) (d : DebuggedWorld) (n : ℕ) → debug_line_made other d (LastMessages n) ≡ d
-unfolding debug_line_made
-last_messages_made other d n = refl
+shown_made other d l = refl
 
 -- ---- by what a match has found
 
@@ -83,17 +65,10 @@ pub always : {A E : Type 0} (P : Type 0) (r : Result A E) → P → OnOk r P
 always P (Ok a) h = h
 always P (Err e) h = tt
 
--- ---- one line more of a list
+-- ---- where it drives a machine
 
-lines_more : (other : ℕ) (d : DebuggedWorld) (ls : List DebugLine) (l : DebugLine) → debug_lines_made other d (ls ++ l ∷ []) ≡ debug_line_made other (debug_lines_made other d ls) l
-lines_more other d [] l = refl
-lines_more other d (k ∷ ls) l = lines_more other (debug_line_made other d k) ls l
-
-pub next_made : (other : ℕ) (d e f : DebuggedWorld) (ls : List DebugLine) (i : ℕ) (x : DebugLine) → i < length ls → x ≡ get_or ls i x → debug_lines_made other d (take i ls) ≡ e → debug_line_made other e x ≡ f
-    → debug_lines_made other d (take (i + 1) ls) ≡ f
-next_made other d e f ls i x less is so_far h =
-    ap (debug_lines_made other d) (take_more ls i x less)
-    ∙ lines_more other d (take i ls) (get_or ls i x)
-    ∙ ap (λ (y : DebuggedWorld). debug_line_made other y (get_or ls i x)) so_far
-    ∙ ap (debug_line_made other e) (sym is)
-    ∙ h
+pub performed : (other : ℕ) (m u : MachineState) (points new : List Breakpoint) (l : DebugLine) → u.kernel ≡ debug_line_kept m.kernel (world_of m) other l
+    → debug_line_made other (both (world_of m) points) l ≡ both (world_of u) new → debug_does other (driven m (record { debugger = points })) l ≡ driven u (record { debugger = new })
+performed other m u points new l kept made =
+    let with : DebuggedWorld → BootAndHistory → Driven DebugPerformer = λ e k. record { world = e.world; kernel = k; own = record { debugger = e.points } } in
+    ap (with (debug_line_made other (both (world_of m) points) l)) (sym kept) ∙ ap (λ (e : DebuggedWorld). with e u.kernel) made

@@ -1,15 +1,17 @@
 -- What is printed where a debugger's script drives a machine.
-use Rattle.std.proofs.Common.{◌≡◌, ◌∙◌, ℕ, List, [], ◌++◌, Option, ap, subst}
-use Rattle.std.proofs.KnownBytes.{Appends-trans}
+use Rattle.std.proofs.Common.{◌≡◌, ◌∙◌, ℕ, ◌+◌, false, List, [], ◌∷◌, ◌++◌, Option, ap, refl, subst}
 use Rattle.std.specs.Io.KnownBytes.{Appends}
 use Rattle.mx_app_step.specs.Config.{Config}
 use Rattle.mx_app_step.specs.Service.{Service}
-use Rattle.mx_boot.specs.declared.debug.DebugLine.{DebugLine}
+use Rattle.mx_app_db.specs.declared.script.DebugLine.{DebugLine}
 use Rattle.mx_app_step.specs.Report.{report_text}
 use Rattle.mx_machine.specs.Boot.{world_at_boot}
 use Rattle.mx_machine.specs.World.{World}
 use Rattle.mx_app_db.specs.DebugLines.{DebuggedWorld, debug_lines_made}
-use Rattle.mx_app_db.specs.Told.{debug_lines_text}
+use Rattle.mx_app_step.specs.Driving.{Driven, lines_done, lines_told}
+use Rattle.mx_app_db.specs.DebugPerformed.{debug_does, debug_tells, debugged}
+use Rattle.mx_app_db.specs.declared.lines.DebugPerformer.{DebugPerformer}
+use Rattle.mx_app_db.specs.Told.{debug_line_text, debug_lines_text}
 use Rattle.mx_app_db.proofs.Made.{both}
 
 -- the report on where lines lead
@@ -20,11 +22,23 @@ report_on d = report_text d.world.table d.world.services
 abbrev pub text_of : ℕ → DebuggedWorld → List DebugLine → List ℕ
 text_of other d lines = debug_lines_text other d lines ++ report_on (debug_lines_made other d lines)
 
-pub lines_printed : (x y z : Option (List ℕ)) (w v : World) (other : ℕ) (lines : List DebugLine) → Appends x y (debug_lines_text other (both w []) lines)
-    → v ≡ (debug_lines_made other (both w []) lines).world → Appends y z (report_text v.table v.services) → Appends x z (text_of other (both w []) lines)
-lines_printed x y z w v other lines a world b =
-    Appends-trans x y z (debug_lines_text other (both w []) lines) (report_on (debug_lines_made other (both w []) lines)) a
-    (subst (λ (u : World). Appends y z (report_text u.table u.services)) world b)
+-- ---- from what lines do that drive a machine
+
+made_all : (other : ℕ) (ls : List DebugLine) (d : Driven DebugPerformer) → debugged (lines_done (debug_does other) d ls) ≡ debug_lines_made other (debugged d) ls
+made_all other [] d = refl
+made_all other (l ∷ ls) d = made_all other ls (debug_does other d l)
+
+told_all : (other n : ℕ) (ls : List DebugLine) (d : Driven DebugPerformer) → lines_told (debug_does other) (debug_tells other) false n d ls ≡ debug_lines_text other (debugged d) ls
+told_all other n [] d = refl
+told_all other n (l ∷ ls) d = ap (λ (t : List ℕ). debug_line_text other (debugged d) l ++ t) (told_all other (n + 1) ls (debug_does other d l))
+
+pub debug_reported : (x z : Option (List ℕ)) (d : Driven DebugPerformer) (other : ℕ) (ls : List DebugLine)
+    → (let e = lines_done (debug_does other) d ls in Appends x z (lines_told (debug_does other) (debug_tells other) false 1 d ls ++ report_text e.world.table e.world.services))
+    → Appends x z (text_of other (debugged d) ls)
+debug_reported x z d other ls h =
+    subst (λ (t : List ℕ). Appends x z t)
+    (ap (λ (e : DebuggedWorld). lines_told (debug_does other) (debug_tells other) false 1 d ls ++ report_on e) (made_all other ls d)
+    ∙ ap (λ (t : List ℕ). t ++ report_on (debug_lines_made other (debugged d) ls)) (told_all other 1 ls d)) h
 
 pub booted_printed : (x z : Option (List ℕ)) (c : Config) (vs : List Service) (w : World) (other : ℕ) (said lines : List DebugLine)
     → w ≡ world_at_boot c vs → other ≡ c.cpus → lines ≡ said → Appends x z (text_of other (both w []) lines) → Appends x z (text_of c.cpus (both (world_at_boot c vs) []) said)

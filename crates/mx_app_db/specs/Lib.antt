@@ -1,8 +1,11 @@
 pub mod Places
 pub mod Going
-pub mod DebugLines
 pub mod LastMessages
+pub mod Looks
+pub mod DebugScript
+pub mod DebugLines
 pub mod Told
+pub mod DebugPerformed
 pub use Rattle.mx_app_step.specs.Asked
 pub use Rattle.mx_app_step.specs.Setup
 pub use Rattle.mx_app_step.specs.Telling
@@ -19,6 +22,5 @@ pub use Rattle.mx_app_step.specs.Numbered
 pub use Rattle.mx_app_step.specs.Records
 pub use Rattle.mx_app_step.specs.Traces
 pub use Rattle.mx_app_step.specs.declared.records.Replayed
-pub use Rattle.mx_boot.specs.declared.debug.DebugLine
 pub use Rattle.mx_boot.specs.declared.scripts.ScriptLine
 pub use Rattle.mx_print_answers.specs.Said

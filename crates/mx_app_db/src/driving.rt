@@ -1,79 +1,26 @@
 //! The command `mx db`: it runs a debugger's script, and prints what each line gives and then the report.
 
-ghost use Rattle.std.specs.Prelude.{◌≡◌, ◌<◌, ◌++◌, List, [], IfErr, OnOk};
+ghost use Rattle.std.specs.Prelude.{◌≡◌, ◌++◌, List, [], IfErr, OnOk};
 ghost use Rattle.std.specs.Io.KnownBytes.{Appends};
-ghost use Rattle.mx_app_step.specs.Failure.{IsWanting};
-ghost use Rattle.mx_app_step.specs.Machine.{world_of};
 ghost use Rattle.mx_app_step.specs.Report.{report_text};
 ghost use Rattle.mx_app_step.specs.Service.{Service};
-ghost use Rattle.mx_boot.specs.declared.debug.DebugLine.{DebugLine as Line};
+ghost use Rattle.mx_app_db.specs.declared.script.DebugLine.{DebugLine as Line};
 ghost use Rattle.mx_app_step.specs.Config.{Config};
 ghost use Rattle.mx_app_step.specs.Asked.{Asked};
-ghost use Rattle.mx_app_step.specs.Course.{IsDebugScript, TellsDebugScript};
+ghost use Rattle.mx_app_db.specs.DebugScript.{IsDebugScript, TellsDebugScript};
 ghost use Rattle.mx_app_step.specs.Setup.{IsStart};
 ghost use Rattle.mx_app_step.specs.Telling.{IsTold};
 ghost use Rattle.mx_machine.specs.Boot.{world_at_boot};
-ghost use Rattle.mx_machine.specs.World.{actors};
 ghost use Rattle.mx_app_db.specs.DebugLines.{DebuggedWorld, debug_lines_made};
 ghost use Rattle.mx_app_db.specs.Told.{debug_lines_text};
 
-use crate::lines::perform_debug_lines;
-use mx_app_step::{
-    DebugScript, Failure, Machine, Reader, pieces_join, print_report, print_text, start,
-};
-use mx_boot::DebugLine;
+use crate::lines::DebugPerformer;
+use crate::script::DebugScript;
+use mx_app_start::{Failure, Reader, start};
+use mx_app_step::{Lines, print_lines};
+use mx_print_answers::Debugger;
 use std::alloc::Global;
 use std::io::Write;
-
-/// Performs these lines on a machine that has no breakpoints yet, and prints the answer to each. If memory
-/// runs out, it still prints the answers so far. If a write fails, it writes nothing more.
-fn print_said<W: Write>(
-    alloc: Global,
-    machine: &mut Machine,
-    other: u8,
-    lines: &[DebugLine],
-    out: &mut W,
-) -> Result<(), Failure>
-    requires { other < actors (world_of machine.old) }
-    ensures err { IfErr result IsWanting }
-    ensures world { OnOk result (world_of machine.new
-        ≡ (debug_lines_made other (record { world = world_of machine.old; points = [] })
-        lines.now).world) }
-    ensures printed { OnOk result (Appends (W.contents out.old) (W.contents out.new)
-        (debug_lines_text other (record { world = world_of machine.old; points = [] }) lines.now)) }
-{
-    pieces_join();
-    let mut text = String::new(alloc);
-    let done = perform_debug_lines(machine, other, lines, &mut text, out);
-    if let Err(Failure::File) = done {
-        return done;
-    }
-    // Also if memory ran out: what was made before is printed.
-    print_text(text.as_bytes(), out)?;
-    done?;
-    Ok(())
-}
-
-/// Performs these lines on a machine that has no breakpoints yet, prints the answer to each, and then prints
-/// the report.
-fn print_lines<W: Write>(
-    alloc: Global,
-    machine: &mut Machine,
-    other: u8,
-    lines: &[DebugLine],
-    out: &mut W,
-) -> Result<(), Failure>
-    requires { other < actors (world_of machine.old) }
-    ensures err { IfErr result IsWanting }
-    ensures printed { OnOk result
-        (let d : DebuggedWorld = record { world = world_of machine.old; points = [] } in
-        let e = debug_lines_made other d lines.now in
-        Appends (W.contents out.old) (W.contents out.new) (debug_lines_text other d lines.now
-        ++ report_text e.world.table e.world.services)) }
-{
-    print_said(alloc, machine, other, lines, out)?;
-    print_report(alloc, machine, out)
-}
 
 /// Boots a machine from the file named `config`, performs the lines of the debugger's script in the file
 /// named `script`, prints the answer to each line, and then the report. After a failure it promises nothing
@@ -98,6 +45,13 @@ pub fn db<R: Reader, W: Write>(
         × IsTold IsDebugScript TellsDebugScript config.now script.now qs f) }
 {
     let mut started = start::<DebugScript, R>(alloc, reader, config, script)?;
-    let lines = started.lines.as_slice();
-    print_lines(alloc, &mut started.machine, started.other, lines, out)
+    let mut performer = DebugPerformer {
+        debugger: Debugger::new(),
+    };
+    let lines = Lines {
+        lines: started.lines.as_slice(),
+        other: started.other,
+        numbered: false,
+    };
+    print_lines(alloc, &mut performer, &mut started.machine, &lines, out)
 }

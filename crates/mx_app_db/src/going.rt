@@ -6,8 +6,7 @@ ghost use Rattle.mx_machine.specs.World.{actors, held_by};
 ghost use Rattle.mx_app_db.specs.Going.{HasGone, IsStuck};
 ghost use Rattle.mx_app_db.specs.DebugLines.{world_after_go};
 
-use mx_app_step::{Machine, Out, Tool};
-use mx_machine::Refusal;
+use mx_machine::{Machine, Out, Refusal, Tool};
 use mx_print_answers::{Debugger, Halt, HaltCause};
 use mx_proc::Slot;
 

@@ -7,9 +7,9 @@ ghost use Rattle.mx_machine.specs.History.{replay};
 ghost use Rattle.mx_proc.specs.EndpointNumbers.{slot_of};
 ghost use Rattle.mx_app_db.specs.LastMessages.{if_of, is_of, kept_line, kept_words, last_lines, last_of, recorded, spaced, words_seen};
 
-use mx_app_step::Machine;
 use mx_look_facts::{Glance, SlotGlance, slot_in};
-use mx_print_answers::{Debugger, Kernel, push_delivery};
+use mx_machine::{Kernel, Machine};
+use mx_print_answers::{Debugger, push_delivery};
 use mx_proc::{Delivery, KEPT_DELIVERIES, slot_of};
 use std::alloc::AllocError;
 use std::fmt::Write;

@@ -7,8 +7,8 @@ ghost use Rattle.mx_app_db.specs.Places.{address_of_place, place_found, breakpoi
 
 use mx_aout::Program;
 use mx_boot::CodePlace;
-use mx_machine::Refusal;
-use mx_print_answers::{DebugError, Debugger, Kernel, Refused};
+use mx_machine::{Kernel, Refusal};
+use mx_print_answers::{DebugError, Debugger, Refused};
 use mx_proc::Slot;
 
 /// The address that a place of a script names in a program: an address names itself, and a symbol its
@@ -28,7 +28,7 @@ fn address_of(program: &Program, place: &CodePlace) -> Result<u32, DebugError>
 fn find_place(kernel: &Kernel, slot: u32, place: &CodePlace) -> Result<(Slot, u32), Refused>
     ensures { result ≡ place_found (replay kernel.now).services slot place.now }
 {
-    kernel.opened();
+    kernel.facts();
     let Some(service) = kernel.services().get(slot as usize) else {
         return Err(Refused::ByMachine(Refusal::NoService));
     };

@@ -20,10 +20,10 @@ use crate::document::push_drawing;
 use crate::scene::{DrawnPart, scene_of};
 use crate::seeing::last_drawn;
 use mx_app_step::{
-    Failure, History, HistoryPart, Machine, Reader, Record, Replayed, first_records, print_text,
-    start,
+    Failure, History, HistoryPart, Reader, Replayed, first_records, print_text, start,
 };
 use mx_look_picture::{Scene, picture};
+use mx_machine::{Machine, Record};
 use std::alloc::Global;
 use std::io::Write;
 

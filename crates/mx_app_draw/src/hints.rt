@@ -10,8 +10,8 @@ ghost use Rattle.mx_app_draw.specs.Hints.{step_line, kept_hint, on_processor, st
 
 use crate::shown::push_shown;
 use crate::texts::push_standing;
-use mx_look_facts::slot_in;
-use mx_look_picture::{Hint, Scene, Standing, Step};
+use mx_look_facts::{Step, slot_in};
+use mx_look_picture::{Hint, Scene, Standing};
 use mx_look_trace::{
     push_change, push_console_line, push_delivery, push_fault_line, push_head, push_kept,
 };

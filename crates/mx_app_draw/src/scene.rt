@@ -8,9 +8,9 @@ ghost use Rattle.mx_look_picture.specs.Picture.{IsDrawable};
 ghost use Rattle.mx_app_draw.specs.Scenes.{IsHistoryScene, refused_line, told_number};
 
 use crate::seeing::see_records;
-use mx_app_step::{Machine, Record, lines_above};
+use mx_app_step::lines_above;
 use mx_look_picture::Scene;
-use mx_machine::Refusal;
+use mx_machine::{Machine, Record, Refusal};
 use std::alloc::{AllocError, Global};
 
 /// A number as one of 32 bits: of a larger one, the largest of these.

@@ -11,9 +11,9 @@ ghost use Rattle.mx_machine.specs.declared.history.Record.{Record as Noted};
 ghost use Rattle.mx_machine.specs.World.{actors};
 ghost use Rattle.mx_app_draw.specs.Scenes.{IsSeen, drawn_of, last_drawn};
 
-use mx_app_step::{Machine, Record, look_record, resting_step};
-use mx_look_picture::{Glance, Step};
-use mx_machine::{Refusal, actors_stay};
+use mx_app_step::{look_record, resting_step};
+use mx_look_facts::{Glance, Step};
+use mx_machine::{Machine, Record, Refusal, actors_stay};
 use std::alloc::{AllocError, Global};
 
 /// The most records that are drawn.

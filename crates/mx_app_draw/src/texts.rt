@@ -3,7 +3,8 @@
 ghost use Rattle.std.specs.Prelude.{◌≡◌, ◌++◌, OnOk};
 ghost use Rattle.mx_app_draw.specs.Texts.{counted, span_text, title_text, who_text, standing_text, two_digits, call_name, kernel_name, deed_word, deed_text, refused_text, key_text, text_words};
 
-use mx_look_picture::{Deed, Item, Manner, Scene, Standing, Step, Text};
+use mx_look_facts::Step;
+use mx_look_picture::{Deed, Item, Manner, Scene, Standing, Text};
 use mx_look_trace::{push_doing, push_hex, push_signed, request_name};
 use mx_print_report::{push_decimal, push_name};
 use std::alloc::AllocError;

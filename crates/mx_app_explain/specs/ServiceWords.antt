@@ -1,5 +1,5 @@
 -- What a configuration's services may do, in words (our own). The names of traps and of kernel calls are those of a trace.
-use Rattle.std.specs.Prelude.{ℕ, ◌+◌, ◌==◌, if◌then◌else◌, List, [], ◌∷◌, ◌++◌, codes, length}
+use Rattle.std.specs.Prelude.{ℕ, ◌+◌, ◌==◌, if◌then◌else◌, List, [], ◌∷◌, ◌++◌, codes, length, Option, Some, None, slice_get}
 use Rattle.std.specs.List.{flat_map, range_with_len}
 use Rattle.std.specs.Fmt.{decimal}
 use Rattle.mx_word.specs.Bits.{has_bit}
@@ -7,10 +7,10 @@ use Rattle.mx_machine.specs.declared.config.Config.{Config}
 use Rattle.mx_machine.specs.declared.config.ServiceLine.{ServiceLine}
 use Rattle.mx_proc.specs.declared.process.Terms.{Terms}
 use Rattle.mx_proc.specs.declared.windows.Rules.{Rules}
-use Rattle.mx_proc.specs.declared.windows.Rules.TheVariants.{Lenient, Strict}
 use Rattle.mx_print_report.specs.Report.{name_bytes}
 use Rattle.mx_look_trace.specs.Trace.{call_text}
-use Rattle.mx_look_trace.specs.KernelCalls.{request_name}
+use Rattle.mx_kcall.specs.Rows.{calls, is_there, name_of}
+use Rattle.mx_kcall.specs.declared.rows.CallRow.{CallRow}
 
 -- a word after a space, if a mask has a bit
 abbrev pub word_if : ℕ → ℕ → List ℕ → List ℕ
@@ -34,17 +34,16 @@ trap_if traps n = word_if traps n (call_text n)
 abbrev pub trap_words : ℕ → List ℕ
 trap_words traps = flat_map (trap_if traps) (range_with_len 1 4)
 
--- KERNEL CALLS: bit n allows the one of type 600 hex plus n
-unfoldable pub call_if : ℕ → ℕ → List ℕ
-call_if calls n = word_if calls n (request_name (0x600 + n))
+-- KERNEL CALLS: bit n allows that of row n, if the rules have it
+abbrev pub row_if : Rules → ℕ → ℕ → Option CallRow → List ℕ
+row_if rules mask n None = []
+row_if rules mask n (Some row) = if is_there rules row then word_if mask n (name_of row) else []
 
--- by the lenient rules there is no GRANT, which is the last
-abbrev pub call_count : Rules → ℕ
-call_count Lenient = 8
-call_count Strict = 9
+unfoldable pub call_if : Rules → ℕ → ℕ → List ℕ
+call_if rules mask n = row_if rules mask n (slice_get calls n)
 
 abbrev pub call_words : Rules → ℕ → List ℕ
-call_words rules calls = flat_map (call_if calls) (range_with_len 0 (call_count rules))
+call_words rules mask = flat_map (call_if rules mask) (range_with_len 0 (length calls))
 
 -- RECEIVERS: bit s allows to send to slot s, which has the name of its service
 unfoldable pub receiver_if : ℕ → ℕ → List ℕ → List ℕ

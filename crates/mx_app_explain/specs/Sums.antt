@@ -13,13 +13,17 @@ use Rattle.mx_app_explain.specs.declared.sums.MachinePart.{MachinePart}
 use Rattle.mx_app_explain.specs.declared.sums.MachinePart.TheVariants.{Configuration, Service}
 use Rattle.mx_app_explain.specs.declared.sums.PartSum.{PartSum}
 
+-- the sum of what a configuration says
+abbrev pub configuration_sum : Config → PartSum
+configuration_sum c = record { part = Configuration; digest = sha256 (items_text c) }
+
 -- the sum of a service's program is that of the file that is written of it, in the short form
 abbrev pub program_sum : Served → PartSum
 program_sum v = record { part = Service v.name; digest = sha256 (short_file v.program) }
 
 -- THE SUMS OF A MACHINE, by its configuration and its services
 abbrev pub machine_sums : Config → List Served → List PartSum
-machine_sums c vs = record { part = Configuration; digest = sha256 (items_text c) } ∷ map program_sum vs
+machine_sums c vs = configuration_sum c ∷ map program_sum vs
 
 -- ---- as text
 

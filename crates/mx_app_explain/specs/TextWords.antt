@@ -25,12 +25,12 @@ is_blank b = b == 32 || (b == 9 || b == 13)
 abbrev pub spaced_byte : ℕ → List ℕ
 spaced_byte b = if is_mark b then 32 ∷ b ∷ 32 ∷ [] else (if is_blank b then 32 ∷ [] else b ∷ [])
 
-abbrev pub spaced : List ℕ → List ℕ
-spaced line = flat_map spaced_byte (before_first (is_byte 59) line)
+abbrev pub with_spaces : List ℕ → List ℕ
+with_spaces line = flat_map spaced_byte (before_first (is_byte 59) line)
 
 -- THE WORDS of a line, up to its comment
 abbrev pub words_in : List ℕ → List (List ℕ)
-words_in line = fields (spaced line)
+words_in line = fields (with_spaces line)
 
 -- ---- what a word is
 

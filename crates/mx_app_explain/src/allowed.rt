@@ -1,16 +1,16 @@
 //! What a service's masks allow.
 
 ghost use Rattle.std.specs.Prelude.{◌≡◌, ◌<◌, ◌≤◌, ◌++◌, OnOk, length};
-ghost use Rattle.mx_app_explain.specs.ServiceWords.{call_count, call_if, call_words, none_since, or_none, receiver_if, receiver_words, trap_if, trap_words};
+ghost use Rattle.mx_app_explain.specs.ServiceWords.{call_if, call_words, none_since, or_none, receiver_if, receiver_words, trap_if, trap_words};
 
-use mx_look_trace::{push_call, request_name};
-use mx_machine::{Name, Rules, ServiceLine};
+use mx_kcall::{CALLS, is_there};
+use mx_look_trace::push_call;
+use mx_machine::ServiceLine;
 use mx_print_report::push_name;
+use mx_proc::Rules;
+use mx_text::Name;
 use mx_word::has_bit;
 use std::alloc::AllocError;
-
-/// The type of the first kernel call. Kernel call n, whose bit is n, has this type plus n.
-const FIRST_CALL: u32 = 0x600;
 
 /// Appends a trap's name after a space, if its bit is set.
 #[tactic(auto, unfolding(crate::specs::ServiceWords::trap_if))]
@@ -35,36 +35,28 @@ fn push_traps(out: &mut Vec<u8>, traps: u32) -> Result<(), AllocError>
     Ok(())
 }
 
-/// Appends a kernel call's name after a space, if its bit is set.
+/// Appends the name of the kernel call of a bit after a space, if the bit is set and the rules have the call.
 #[tactic(auto, unfolding(crate::specs::ServiceWords::call_if))]
-fn push_call_if(out: &mut Vec<u8>, calls: u32, bit: u32) -> Result<(), AllocError>
+fn push_call_if(out: &mut Vec<u8>, rules: Rules, calls: u32, bit: u32) -> Result<(), AllocError>
     requires { bit < 32 }
-    ensures { OnOk result (out.new.items ≡ out.old.items ++ call_if calls bit) }
+    ensures { OnOk result (out.new.items ≡ out.old.items ++ call_if rules calls bit) }
 {
-    if has_bit(calls, bit) {
+    let Some(row) = CALLS.get(bit as usize) else {
+        return Ok(());
+    };
+    if is_there(rules, row) && has_bit(calls, bit) {
         out.push(b' ')?;
-        out.extend_from_slice(request_name(FIRST_CALL + bit))?;
+        out.extend_from_slice(row.name())?;
     }
     Ok(())
-}
-
-/// How many kernel calls there are: GRANT is the last, and by the lenient rules there is none.
-fn call_count(rules: Rules) -> u32
-    ensures count { result ≡ call_count rules }
-    ensures few { result ≤ 9 }
-{
-    match rules {
-        Rules::Lenient => 8,
-        Rules::Strict => 9,
-    }
 }
 
 /// Appends the kernel calls that a mask allows.
 fn push_calls(out: &mut Vec<u8>, calls: u32, rules: Rules) -> Result<(), AllocError>
     ensures { OnOk result (out.new.items ≡ out.old.items ++ call_words rules calls) }
 {
-    for bit in 0..call_count(rules) {
-        push_call_if(out, calls, bit)?;
+    for bit in 0..CALLS.len() as u32 {
+        push_call_if(out, rules, calls, bit)?;
     }
     Ok(())
 }

@@ -1,4 +1,4 @@
-//! A machine's sums beside a text of sums.
+//! A machine's sums, compared with a text of sums.
 
 ghost use Rattle.std.specs.Prelude.{◌≡◌, IfOk, List, None, option_map, ℕ};
 ghost use Rattle.mx_app_explain.specs.Sums.{after_line, first_other, sum_line, sums_text};
@@ -13,7 +13,8 @@ fn after_line<'a>(
     sum: &PartSum,
     text: &'a [u8],
 ) -> Result<Option<&'a [u8]>, AllocError>
-    ensures { IfOk result (λ rest. option_map (λ r. r.now) rest ≡ after_line (sum_line sum.now) text.entry.now) }
+    ensures { IfOk result (λ rest. option_map (λ r. r.now) rest
+        ≡ after_line (sum_line sum.now) text.entry.now) }
 {
     let mut line = Vec::new(alloc);
     push_sum_line(alloc, &mut line, sum)?;
@@ -50,5 +51,6 @@ pub fn own_sums_pass()
 
 /// Law: a machine that passes by a text has the sums of this text.
 pub fn passed_sums_are_own()
-    ensures { (sums : List PartSum) (text : List ℕ) → first_other sums text ≡ None → text ≡ sums_text sums }
+    ensures { (sums : List PartSum) (text : List ℕ) → first_other sums text ≡ None
+        → text ≡ sums_text sums }
 {}

@@ -124,7 +124,8 @@ fn after_service(line: &[u8]) -> Result<(u32, &[u8]), Place>
 
 /// The fault of a line of which so much was read: at the end, if a word is left.
 fn fault_after(read: Result<(u32, &[u8]), Place>, end: Place) -> Option<Place>
-    ensures { MatchResult read.entry (λ p. result ≡ end_fault end (fields p.1.now)) (λ e. result ≡ Some e) }
+    ensures { MatchResult read.entry (λ p. result ≡ end_fault end (fields p.1.now))
+        (λ e. result ≡ Some e) }
 {
     match read {
         Ok((_, rest)) => match next_field(rest) {

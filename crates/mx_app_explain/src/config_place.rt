@@ -98,7 +98,7 @@ impl Place {
     }
 
     /// What is wanted here.
-    pub fn wanted(self) -> &'static str
+    pub fn wanted_text(self) -> &'static str
         ensures { result.now ≡ wanted_at self }
     {
         match self {

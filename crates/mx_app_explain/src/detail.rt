@@ -17,7 +17,7 @@ use std::{fmt, str};
 /// Where in a line something was wanted.
 #[derive(Clone, Copy, Debug, PartialEq, Eq)]
 pub enum Label<'a> {
-    /// It isn't said.
+    /// It isn't printed.
     Nowhere,
     /// As the value of this name.
     Value(&'static str),
@@ -139,7 +139,7 @@ fn place_detail(line: &[u8], place: Place) -> Detail<'_>
 {
     Detail {
         label: place_label(line, place),
-        wanted: place.wanted(),
+        wanted: place.wanted_text(),
         found: found_at(word_after(line, place.words_before())),
     }
 }

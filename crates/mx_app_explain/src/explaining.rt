@@ -9,10 +9,11 @@ use crate::detail::{Detail, Label, config_detail, line_below};
 use crate::found_word::FoundWord;
 use crate::subject::{Notes, Subject, subject_of};
 use crate::text_advice::advice_on;
-use crate::text_words::spaced;
+use crate::text_words::with_spaces;
 use crate::wanted::wanted_of;
 use mx_app_command::CommandRequest;
-use mx_app_failure::{BootError, Failure};
+use mx_app_failure::Failure;
+use mx_text::BootError;
 use std::alloc::{AllocError, Global};
 use std::fmt;
 
@@ -39,12 +40,13 @@ impl fmt::Display for Explanation<'_> {
 /// The line at fault of a text for the assembler, with its words between spaces; empty if the failure is no
 /// such line's, or the text isn't known.
 fn faulty_words(alloc: Global, failure: Failure, text: Option<&[u8]>) -> Result<Vec<u8>, AllocError>
-    ensures { IfOk result (λ line. fields line.items ≡ faulty_words failure (option_map (λ t. t.now) text.entry)) }
+    ensures { IfOk result (λ line. fields line.items
+        ≡ faulty_words failure (option_map (λ t. t.now) text.entry)) }
 {
     match (failure, text) {
         (Failure::Faulty(fault), Some(text)) => {
             match line_below(text, fault.line.saturating_sub(1)) {
-                Some(line) => spaced(alloc, line),
+                Some(line) => with_spaces(alloc, line),
                 None => Ok(Vec::new(alloc)),
             }
         }

@@ -6,8 +6,10 @@ ghost use Rattle.std.specs.List.{flat_map};
 ghost use Rattle.mx_app_explain.specs.Items.{items_text, machine_items, mask_items, name_word, rules_number, service_items, term_items};
 
 use mx_boot::before_byte;
-use mx_machine::{Config, Name, Rules, ServiceLine, Terms};
+use mx_machine::{Config, ServiceLine};
 use mx_print_report::push_decimal;
+use mx_proc::{Rules, Terms};
+use mx_text::Name;
 use std::alloc::{AllocError, Global};
 
 /// The bytes of a name without those that pad it.

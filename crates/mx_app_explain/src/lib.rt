@@ -2,8 +2,9 @@
 //! failure.
 //!
 //! `mx explain` prints what the masks of a configuration allow: `services_text` names each bit, by the names
-//! that a trace has. The second line of a failure says which file it is about, by the word that has its name,
-//! and what was wanted. Of a line of a configuration or of a text for the assembler it says the word at fault.
+//! that a trace has. The second line of a failure names the file that it is about, by the word that has its
+//! name, and what was wanted. Of a line of a configuration or of a text for the assembler it has the word at
+//! fault.
 //!
 //! The sums of a machine are SHA-256 of what its configuration says, and of each service's program. They are
 //! written beside a history, a line each, as `sha256sum` prints it.

@@ -4,8 +4,9 @@ ghost use Rattle.std.specs.Prelude.{◌≡◌, ◌++◌, IfOk, OnOk};
 ghost use Rattle.mx_app_explain.specs.ServiceWords.{head_words, mask_words, service_line, service_lines, services_text, term_words};
 
 use crate::allowed::{push_allowed_calls, push_allowed_receivers, push_allowed_traps};
-use mx_machine::{Config, ServiceLine, Terms};
+use mx_machine::{Config, ServiceLine};
 use mx_print_report::{push_decimal, push_name};
+use mx_proc::Terms;
 use std::alloc::{AllocError, Global};
 
 /// Appends a service's slot and name.

@@ -4,8 +4,10 @@ ghost use Rattle.std.specs.Prelude.{◌≡◌, option_map};
 ghost use Rattle.mx_app_explain.specs.Explaining.{asked_subject, file_subject, first_label, first_name, first_word, given_subject, is_run, last_word, misstated_subject, reads_one_program, refused_subject, second_label, second_name, second_word, subject_of, subject_told, writes_over, written_word};
 
 use crate::own_programs::writes_program;
+use mx_aout::FileError;
 use mx_app_command::CommandRequest;
-use mx_app_failure::{BootError, Failure, FileError};
+use mx_app_failure::Failure;
+use mx_text::BootError;
 use std::fmt;
 
 /// What a command noted of its files.
@@ -36,7 +38,7 @@ pub enum Subject<'a> {
     Memory,
 }
 
-/// As it stands in a line.
+/// As it is in a line.
 impl fmt::Display for Subject<'_> {
     ghost use Rattle.std.specs.Prelude.{Some};
     ghost use Rattle.mx_app_explain.specs.Explaining.{subject_told};

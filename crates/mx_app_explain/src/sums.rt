@@ -2,13 +2,13 @@
 
 ghost use Rattle.std.specs.Prelude.{◌≡◌, ◌++◌, ◌∷◌, [], IfOk, OnOk};
 ghost use Rattle.std.specs.List.{flat_map};
-ghost use Rattle.sha2.specs.Sha256.{sha256};
-ghost use Rattle.mx_app_explain.specs.Items.{items_text};
-ghost use Rattle.mx_app_explain.specs.Sums.{machine_sums, part_word, program_sum, sum_line, sums_text};
+ghost use Rattle.mx_app_explain.specs.Sums.{configuration_sum, machine_sums, part_word, program_sum, sum_line, sums_text};
 
 use crate::items::{items_text, name_word};
 use mx_aout::write;
-use mx_machine::{Config, Name, Service};
+use mx_kcall::Service;
+use mx_machine::Config;
+use mx_text::Name;
 use mx_word::NoMemory;
 use sha2::{Digest, Sha256};
 use std::alloc::{AllocError, Global};
@@ -42,7 +42,7 @@ fn program_sum(alloc: Global, service: &Service) -> Result<PartSum, NoMemory>
 
 /// The sum of what a configuration says.
 fn configuration_sum(alloc: Global, config: &Config) -> Result<PartSum, AllocError>
-    ensures { IfOk result (λ sum. sum ≡ record { part = MachinePart.Configuration; digest = sha256 (items_text config.now) }) }
+    ensures { IfOk result (λ sum. sum ≡ configuration_sum config.now) }
 {
     let text = items_text(alloc, config)?;
     Ok(PartSum {

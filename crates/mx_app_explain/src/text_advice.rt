@@ -276,7 +276,8 @@ fn data_name(word: &[u8]) -> Option<&'static str>
 
 /// This assembler's name, or another one.
 fn name_or(name: Option<&'static str>, other: Option<&'static str>) -> Option<&'static str>
-    ensures { option_map (λ s. s.now) result ≡ name_or (option_map (λ s. s.now) name.entry) (option_map (λ s. s.now) other.entry) }
+    ensures { option_map (λ s. s.now) result
+        ≡ name_or (option_map (λ s. s.now) name.entry) (option_map (λ s. s.now) other.entry) }
 {
     match name {
         Some(name) => Some(name),
@@ -344,7 +345,7 @@ fn plain_advice<'a>(problem: Problem) -> Advice<'a>
     }
 }
 
-/// Advice on a byte that begins no token. A text may have any bytes, so nothing is said of a word beside one.
+/// Advice on a byte that begins no token. A text may have any bytes, so there is no advice on a word next to one.
 fn byte_advice(line: &[u8]) -> Advice<'_>
     ensures { (result.wanted.now, option_map (λ w. w.now) result.word)
         ≡ byte_advice (fields line.now) }

@@ -2,7 +2,7 @@
 
 ghost use Rattle.std.specs.Prelude.{◌≡◌, ◌++◌, IfOk, OnOk};
 ghost use Rattle.std.specs.List.{flat_map, list_any};
-ghost use Rattle.mx_app_explain.specs.TextWords.{begins_with_digit, is_bad_number, is_blank, is_capital, is_close, is_equals, is_free_word, is_long_name, is_mark, is_mark_word, is_number, is_odd_byte, is_open, is_quote, is_reserved, is_size, spaced, spaced_byte};
+ghost use Rattle.mx_app_explain.specs.TextWords.{begins_with_digit, is_bad_number, is_blank, is_capital, is_close, is_equals, is_free_word, is_long_name, is_mark, is_mark_word, is_number, is_odd_byte, is_open, is_quote, is_reserved, is_size, with_spaces, spaced_byte};
 
 use crate::found_word::byte_at;
 use mx_boot::before_byte;
@@ -47,8 +47,8 @@ fn push_spaced(out: &mut Vec<u8>, byte: u8) -> Result<(), AllocError>
 
 /// A line up to its comment, with its words between spaces.
 #[tactic(auto, using(crate::proofs::Spaced::spaced_more))]
-pub(crate) fn spaced(alloc: Global, line: &[u8]) -> Result<Vec<u8>, AllocError>
-    ensures { IfOk result (λ found. found.items ≡ spaced line.now) }
+pub(crate) fn with_spaces(alloc: Global, line: &[u8]) -> Result<Vec<u8>, AllocError>
+    ensures { IfOk result (λ found. found.items ≡ with_spaces line.now) }
 {
     let mut out = Vec::new(alloc);
     let said = before_byte(line, b';');

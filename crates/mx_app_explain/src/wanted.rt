@@ -6,9 +6,11 @@ ghost use Rattle.mx_app_explain.specs.Explaining.{file_wanted, lines_wanted, rec
 
 use crate::own_programs::writes_program;
 use crate::subject::{Notes, is_run, reads_one_program, writes_over};
+use mx_aout::FileError;
 use mx_app_command::CommandRequest;
-use mx_app_failure::{BootError, Failure, FileError};
+use mx_app_failure::Failure;
 use mx_asm::Problem;
+use mx_text::BootError;
 
 /// What is wanted of memory.
 const MORE: &str = "more of it";

@@ -44,7 +44,7 @@ impl Failure {
     }
 }
 
-/// The name of a problem, as it stands in the line of a failure: `BadByte`, for example.
+/// The name of a problem, as it is in the line of a failure: `BadByte`, for example.
 fn problem_name(problem: Problem) -> &'static str
     ensures { result.now ≡ problem_name problem }
 {

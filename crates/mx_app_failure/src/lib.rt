@@ -8,6 +8,4 @@ mod failure;
 mod printing;
 
 pub use failure::Failure;
-pub use mx_aout::FileError;
-pub use mx_text::BootError;
 pub use printing::print_text;

@@ -13,6 +13,7 @@ pub mod Moves
 pub mod Slots
 pub mod Showing
 pub mod Seeking
+pub mod Shows
 pub mod Above
 pub mod Happenings
 pub mod Until

@@ -16,11 +16,12 @@ use Rattle.mx_machine.specs.declared.history.Record.{Record}
 use Rattle.mx_machine.specs.World.{World}
 use Rattle.mx_walk.specs.declared.positions.Position.{Position}
 use Rattle.mx_walk.specs.declared.progress.Part.{Part}
-use Rattle.mx_walk.specs.Parts.{walk_shown}
+use Rattle.mx_walk.specs.Parts.{HasGrown, walk_shown}
 use Rattle.mx_walk.specs.Walks.{IsLast, Walk, first}
 use Rattle.mx_app_look.specs.declared.sight.Sight.{Sight}
 use Rattle.mx_app_look.specs.Answers.{IsMade}
 use Rattle.mx_app_look.specs.Places.{place_text, position_text}
+use Rattle.mx_app_look.specs.Shows.{IsShown}
 
 -- ---- one line
 
@@ -60,20 +61,21 @@ is_over (Some l ∷ xs) = if ends l then is_nothing xs else is_over xs
 abbrev pub IsWhole : List (Option (List ℕ)) → Type 0
 IsWhole xs = (is_over xs ≡ true) ⊎ (length xs ≡ 2 ^ 64 - 1)
 
--- ---- THE SESSION: what it prints
+-- ---- THE SESSION: what it prints, and the progress that it shows
 
 -- at the end of the input, so that what follows begins a line
 abbrev pub end_text : Bool → List ℕ
 end_text asks = if asks then codes "\n" else []
 
--- the answers, each followed by what asks for the next line
-abbrev pub IsSession : Bool → Sight → List (Option (List ℕ)) → List ℕ → Type 0
-IsSession asks s [] text = text ≡ []
-IsSession asks s (None ∷ xs) text = text ≡ end_text asks
-IsSession asks s (Some l ∷ xs) text =
-    ((ends l ≡ true) × (text ≡ []))
-    ⊎ ((ends l ≡ false) × ((u : Sight) × (answer : List ℕ) × (rest : List ℕ) × IsAnswered s l u answer × IsSession asks u xs rest
-    × (text ≡ (answer ++ prompt_text asks u.walker) ++ rest)))
+-- the answers, each followed by what asks for the next line; and the progress that is shown meanwhile
+abbrev pub IsSession : Bool → Sight → List (Option (List ℕ)) → List ℕ → List Part → Type 0
+IsSession asks s [] text ps = (text ≡ []) × (ps ≡ [])
+IsSession asks s (None ∷ xs) text ps = (text ≡ end_text asks) × (ps ≡ [])
+IsSession asks s (Some l ∷ xs) text ps =
+    ((ends l ≡ true) × (text ≡ []) × (ps ≡ []))
+    ⊎ ((ends l ≡ false) × ((u : Sight) × (answer : List ℕ) × (rest : List ℕ) × (now : List Part) × (later : List Part)
+    × IsAnswered s l u answer × IsShown s l now × IsSession asks u xs rest later
+    × (text ≡ (answer ++ prompt_text asks u.walker) ++ rest) × (ps ≡ now ++ later)))
 
 -- with nothing to halt at
 abbrev pub sight_at : Walk → Sight
@@ -90,10 +92,10 @@ pub record IsBegun (w : World) (xs : List Record) (k : Walk) : Type 0 where
   pub here : k.here ≡ first
   pub last : IsLast w xs k.last
 
--- a session has failed for this, after this was shown: no machine was started, and nothing was; or one was, its walk was
--- shown up to the last position, and it can't be printed, or memory is out
+-- a session has failed for this, after this was shown: no machine was started, and nothing was; or one was, its first
+-- walk was shown up to the last position, and then later ones, and it can't be printed, or memory is out
 abbrev pub HasFailed : List ℕ → List ℕ → List Asked → List Part → Failure → Type 0
 HasFailed config log qs ps f =
     ((ps ≡ []) × IsNotStarted IsSaved TellsSaved config log qs f)
     ⊎ ((c : Config) × (vs : List Service) × (records : List Record) × (last : Position) × IsStart IsSaved config log qs c vs records
-    × IsLast (world_at_boot c vs) records last × (ps ≡ walk_shown records last) × IsWanting f)
+    × IsLast (world_at_boot c vs) records last × HasGrown (walk_shown records last) ps × IsWanting f)

@@ -1,18 +1,20 @@
 //! Answers to the lines that are typed.
 
 ghost use Rattle.std.specs.Prelude.{◌≡◌, ◌++◌, IfErr, IfOk, List, MatchOption, OnOk, true, false, ℕ};
-ghost use Rattle.std.specs.Io.KnownBytes.{Appends};
 ghost use Rattle.mx_app_step.specs.Failure.{IsWanting};
 ghost use Rattle.mx_app_look.specs.declared.request.Request.TheVariants as requests;
+ghost use Rattle.mx_walk.specs.declared.progress.Part.{Part as Parts};
+ghost use Rattle.mx_walk.specs.Parts.{HasGrown, shown_to};
 ghost use Rattle.mx_walk.specs.Positions.{IsPosition, IsUpTo};
 ghost use Rattle.mx_app_look.specs.declared.sight.Sight.{Sight as Seen};
 ghost use Rattle.mx_app_look.specs.Above.{why_text};
-ghost use Rattle.mx_app_look.specs.Answers.{IsMade, after, help_text, processes_text, request_text};
+ghost use Rattle.mx_app_look.specs.Answers.{IsMade, after, help_text, processes_text, request_text, to_of};
 ghost use Rattle.mx_app_look.specs.Showing.{shown_text};
 ghost use Rattle.mx_print_answers.specs.Messages.{delivery_lines};
 ghost use Rattle.mx_walk.specs.Walks.{world_here};
 ghost use Rattle.mx_app_look.specs.Places.{place_text};
 ghost use Rattle.mx_app_look.specs.Sessions.{IsAnswered, IsAnsweredBy, ends, is_quit, prompt_text};
+ghost use Rattle.mx_app_look.specs.Shows.{IsRequestShown, IsShown, IsShownBy, why_shown};
 
 use crate::going_until::go_until;
 use crate::moves::{back_from, can_go, forward_from, position_asked, steps_back, steps_on};
@@ -25,10 +27,9 @@ use crate::shown::Shown;
 use crate::sight::{Sight, say};
 use crate::verb::push_unknown;
 use crate::world_texts::{push_deliveries, push_processes, push_why};
-use mx_app_step::{Failure, print_text};
-use mx_walk::{Position, Walker};
+use mx_app_failure::Failure;
+use mx_walk::{Position, Progress, Walker};
 use std::alloc::{AllocError, Global};
-use std::io::Write;
 
 /// What `help` prints.
 const HELP: &str =
@@ -38,35 +39,47 @@ const HELP: &str =
 const NO_POSITION: &str = "refused 63 NoPosition\n";
 
 /// Goes to a position, and answers where that is.
-fn go_to(alloc: Global, sight: Sight, to: Position) -> Result<(Sight, Vec<u8>), Failure>
+fn go_to<P: Progress>(
+    alloc: Global,
+    sight: Sight,
+    to: Position,
+    progress: &mut P,
+) -> Result<(Sight, Vec<u8>), Failure>
     requires position { IsPosition sight.walker.records to }
     requires early { IsUpTo to sight.walker.last }
     ensures err { IfErr result IsWanting }
     ensures sight { IfOk result (λ r. r.0
         ≡ record sight { walker = record sight.walker { here = to } }) }
     ensures text { IfOk result (λ r. r.1.items ≡ place_text (record sight.walker { here = to })) }
+    ensures shown { OnOk result (P.shown progress.new
+        ≡ P.shown progress.old ++ shown_to sight.walker to) }
+    ensures grown { IfErr result (λ _. HasGrown (P.shown progress.old) (P.shown progress.new)) }
 {
     let Sight { walker, points } = sight;
     let mut text = Vec::new(alloc);
-    let mut walker = walker.go_to(alloc, to)?;
+    let mut walker = walker.go_to(alloc, to, progress)?;
     push_place(alloc, &mut text, &mut walker)?;
     Ok((Sight { walker, points }, text))
 }
 
 /// Goes to the position that is asked for, if the walker can come there.
-fn go_to_asked(
+fn go_to_asked<P: Progress>(
     alloc: Global,
     sight: Sight,
     asked: PositionWord,
+    progress: &mut P,
 ) -> Result<(Sight, Vec<u8>), Failure>
     ensures err { IfErr result IsWanting }
     ensures sight { IfOk result (λ r. r.0
         ≡ record sight { walker = after sight.walker (requests.GoTo asked) }) }
     ensures text { IfOk result (λ r. r.1.items ≡ request_text sight.walker (requests.GoTo asked)) }
+    ensures shown { OnOk result (P.shown progress.new ≡ P.shown progress.old
+        ++ shown_to sight.walker (to_of sight.walker (requests.GoTo asked))) }
+    ensures grown { IfErr result (λ _. HasGrown (P.shown progress.old) (P.shown progress.new)) }
 {
     let to = position_asked(&sight.walker, asked);
     if can_go(&sight.walker, to) {
-        return go_to(alloc, sight, to);
+        return go_to(alloc, sight, to, progress);
     }
     say(alloc, sight, NO_POSITION)
 }
@@ -85,14 +98,21 @@ fn show_place(alloc: Global, sight: Sight) -> Result<(Sight, Vec<u8>), Failure>
 }
 
 /// Answers what the record above did.
-fn show_why(alloc: Global, sight: Sight) -> Result<(Sight, Vec<u8>), Failure>
+fn show_why<P: Progress>(
+    alloc: Global,
+    sight: Sight,
+    progress: &mut P,
+) -> Result<(Sight, Vec<u8>), Failure>
     ensures err { IfErr result IsWanting }
     ensures same { IfOk result (λ r. r.0 ≡ sight) }
     ensures text { IfOk result (λ r. r.1.items ≡ why_text sight.walker) }
+    ensures shown { OnOk result (P.shown progress.new
+        ≡ P.shown progress.old ++ why_shown sight.walker) }
+    ensures grown { IfErr result (λ _. HasGrown (P.shown progress.old) (P.shown progress.new)) }
 {
     let Sight { walker, points } = sight;
     let mut text = Vec::new(alloc);
-    let walker = push_why(alloc, &mut text, walker)?;
+    let walker = push_why(alloc, &mut text, walker, progress)?;
     Ok((Sight { walker, points }, text))
 }
 
@@ -131,38 +151,42 @@ fn show(alloc: Global, sight: Sight, shown: &Shown) -> Result<(Sight, Vec<u8>), 
 }
 
 /// Does what a request asks for, and answers what it prints. What is refused changes nothing.
-pub(crate) fn perform(
+pub(crate) fn perform<P: Progress>(
     alloc: Global,
     sight: Sight,
     request: Request,
+    progress: &mut P,
 ) -> Result<(Sight, Vec<u8>), Failure>
     ensures err { IfErr result IsWanting }
     ensures made { IfOk result (λ r. IsMade sight request r.0 r.1.items) }
+    ensures shown { OnOk result ((ps : List Parts)
+        × (P.shown progress.new ≡ P.shown progress.old ++ ps) × IsRequestShown sight request ps) }
+    ensures grown { IfErr result (λ _. HasGrown (P.shown progress.old) (P.shown progress.new)) }
 {
     match request {
         Request::Forward(count) => {
             let to = forward_from(&sight.walker, count);
-            go_to(alloc, sight, to)
+            go_to(alloc, sight, to, progress)
         }
         Request::Back(count) => {
             let to = back_from(&sight.walker, count);
-            go_to(alloc, sight, to)
+            go_to(alloc, sight, to, progress)
         }
         Request::Step(count) => {
             let to = steps_on(&sight.walker, count);
-            go_to(alloc, sight, to)
+            go_to(alloc, sight, to, progress)
         }
         Request::StepBack(count) => {
             let to = steps_back(&sight.walker, count);
-            go_to(alloc, sight, to)
+            go_to(alloc, sight, to, progress)
         }
-        Request::GoTo(asked) => go_to_asked(alloc, sight, asked),
+        Request::GoTo(asked) => go_to_asked(alloc, sight, asked, progress),
         Request::Point(request) => perform_point(alloc, sight, &request),
-        Request::Continue => go_on(alloc, sight),
-        Request::Reverse => go_back(alloc, sight),
-        Request::Until(happening) => go_until(alloc, sight, happening),
+        Request::Continue => go_on(alloc, sight, progress),
+        Request::Reverse => go_back(alloc, sight, progress),
+        Request::Until(happening) => go_until(alloc, sight, happening, progress),
         Request::Where => show_place(alloc, sight),
-        Request::Why => show_why(alloc, sight),
+        Request::Why => show_why(alloc, sight, progress),
         Request::Processes => show_processes(alloc, sight),
         Request::Messages => show_deliveries(alloc, sight),
         Request::Show(shown) => show(alloc, sight, &shown),
@@ -172,17 +196,21 @@ pub(crate) fn perform(
 }
 
 /// The answer to a line that doesn't end the session.
-fn answer(
+fn answer<P: Progress>(
     alloc: Global,
     sight: Sight,
     line: &[u8],
     request: Option<Request>,
+    progress: &mut P,
 ) -> Result<(Sight, Vec<u8>), Failure>
     ensures err { IfErr result IsWanting }
     ensures answered { IfOk result (λ r. IsAnsweredBy sight line.now request r.0 r.1.items) }
+    ensures shown { OnOk result ((ps : List Parts)
+        × (P.shown progress.new ≡ P.shown progress.old ++ ps) × IsShownBy sight request ps) }
+    ensures grown { IfErr result (λ _. HasGrown (P.shown progress.old) (P.shown progress.new)) }
 {
     match request {
-        Some(request) => perform(alloc, sight, request),
+        Some(request) => perform(alloc, sight, request, progress),
         None => {
             let mut text = Vec::new(alloc);
             push_unknown(&mut text, line)?;
@@ -212,26 +240,30 @@ fn is_quit(request: &Option<Request>) -> bool
     }
 }
 
-/// Answers a line and asks for the next, unless it ends the session.
-pub(crate) fn answer_line<W: Write>(
+/// The answer to a line, and what asks for the next; nothing if it ends the session. What is at a terminal of a
+/// walk's progress is gone.
+pub(crate) fn answer_line<P: Progress>(
     alloc: Global,
     sight: Sight,
     line: &[u8],
     asks: bool,
-    out: &mut W,
-) -> Result<Option<Sight>, Failure>
+    progress: &mut P,
+) -> Result<Option<(Sight, Vec<u8>)>, Failure>
     ensures err { IfErr result IsWanting }
     ensures answered { IfOk result (λ next. MatchOption next
-        ((ends line.now ≡ true) × (W.contents out.new ≡ W.contents out.old))
-        (λ (u : Seen). (ends line.now ≡ false) × ((text : List ℕ) × IsAnswered sight line.now u text
-        × Appends (W.contents out.old) (W.contents out.new) (text ++ prompt_text asks u.walker)))) }
+        ((ends line.now ≡ true) × (P.shown progress.new ≡ P.shown progress.old))
+        (λ r. (ends line.now ≡ false) × ((text : List ℕ) × (ps : List Parts)
+        × IsAnswered sight line.now r.0 text × IsShown sight line.now ps
+        × (r.1.items ≡ text ++ prompt_text asks r.0.walker)
+        × (P.shown progress.new ≡ P.shown progress.old ++ ps)))) }
+    ensures grown { IfErr result (λ _. HasGrown (P.shown progress.old) (P.shown progress.new)) }
 {
     let request = request_of(line);
     if is_quit(&request) {
         return Ok(None);
     }
-    let (sight, mut text) = answer(alloc, sight, line, request)?;
+    let (sight, mut text) = answer(alloc, sight, line, request, progress)?;
     push_prompt(&mut text, asks, &sight.walker)?;
-    print_text(text.as_slice(), out)?;
-    Ok(Some(sight))
+    progress.clear();
+    Ok(Some((sight, text)))
 }

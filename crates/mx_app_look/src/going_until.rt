@@ -2,18 +2,20 @@
 
 ghost use Rattle.std.specs.Prelude.{◌≡◌, ◌++◌, IfErr, IfOk, OnOk, true};
 ghost use Rattle.mx_app_step.specs.Failure.{IsWanting};
+ghost use Rattle.mx_walk.specs.Parts.{HasGrown, shown_to};
 ghost use Rattle.mx_app_look.specs.declared.request.Request.TheVariants as requests;
-ghost use Rattle.mx_app_look.specs.Answers.{after, request_text};
+ghost use Rattle.mx_app_look.specs.Answers.{after, request_text, to_of};
 ghost use Rattle.mx_app_look.specs.Until.{has_service, has_slots, until_halt};
 
 use crate::happening::{Happening, happens};
 use crate::places::push_place;
 use crate::sight::{Sight, say};
 use crate::slots::slot_asked;
-use crate::world_texts::see_record;
-use mx_app_step::{Failure, resting_step};
+use crate::world_texts::{Placed, see_record};
+use mx_app_failure::Failure;
+use mx_app_step::resting_step;
 use mx_look_trace::push_record;
-use mx_walk::Walker;
+use mx_walk::{Progress, Walker};
 use mx_word::NoMemory;
 use std::alloc::Global;
 
@@ -42,16 +44,20 @@ fn has_slots(walker: &Walker, happening: Happening) -> bool
 
 /// Goes on to right below the first record in which it happens, and appends what that record did; to the
 /// last position if there is none. Takes no memory but for the text.
-fn go_on_until(
+fn go_on_until<P: Progress>(
     alloc: Global,
     walker: Walker,
     happening: Happening,
     out: &mut Vec<u8>,
+    progress: &mut P,
 ) -> Result<Walker, NoMemory>
     ensures walker { IfOk result (λ w. w
         ≡ record walker { here = (until_halt walker happening).0 }) }
     ensures text { OnOk result (out.new.items
         ≡ out.old.items ++ (until_halt walker happening).1) }
+    ensures shown { OnOk result (P.shown progress.new
+        ≡ P.shown progress.old ++ shown_to walker (until_halt walker happening).0) }
+    ensures grown { IfErr result (λ _. HasGrown (P.shown progress.old) (P.shown progress.new)) }
 {
     let last = walker.last();
     let from = walker.here().records;
@@ -59,47 +65,60 @@ fn go_on_until(
     let mut walker = walker;
     for above in from..last.records {
         let entry = walker.records()[above];
-        walker = see_record(alloc, walker, above, entry, &mut step)?;
+        let placed = Placed { above, entry };
+        walker = see_record(alloc, walker, placed, &mut step, progress)?;
         if happens(happening, &step) {
             push_record(out, &step)?;
             return Ok(walker);
         }
     }
     out.extend_from_slice(b"not met\n")?;
-    walker.go_to(alloc, last)
+    walker.go_to(alloc, last, progress)
 }
 
 /// Goes on to right below the first record in which it happens, and answers what that record did, and the
 /// place.
-fn go_on_to(alloc: Global, sight: Sight, happening: Happening) -> Result<(Sight, Vec<u8>), Failure>
+fn go_on_to<P: Progress>(
+    alloc: Global,
+    sight: Sight,
+    happening: Happening,
+    progress: &mut P,
+) -> Result<(Sight, Vec<u8>), Failure>
     requires { has_slots sight.walker happening ≡ true }
     ensures err { IfErr result IsWanting }
     ensures sight { IfOk result (λ r. r.0
         ≡ record sight { walker = after sight.walker (requests.Until happening) }) }
     ensures text { IfOk result (λ r. r.1.items
         ≡ request_text sight.walker (requests.Until happening)) }
+    ensures shown { OnOk result (P.shown progress.new ≡ P.shown progress.old
+        ++ shown_to sight.walker (to_of sight.walker (requests.Until happening))) }
+    ensures grown { IfErr result (λ _. HasGrown (P.shown progress.old) (P.shown progress.new)) }
 {
     let Sight { walker, points } = sight;
     let mut text = Vec::new(alloc);
-    let mut walker = go_on_until(alloc, walker, happening, &mut text)?;
+    let mut walker = go_on_until(alloc, walker, happening, &mut text, progress)?;
     push_place(alloc, &mut text, &mut walker)?;
     Ok((Sight { walker, points }, text))
 }
 
 /// The same, if each slot has a service that it is about.
-pub(crate) fn go_until(
+pub(crate) fn go_until<P: Progress>(
     alloc: Global,
     sight: Sight,
     happening: Happening,
+    progress: &mut P,
 ) -> Result<(Sight, Vec<u8>), Failure>
     ensures err { IfErr result IsWanting }
     ensures sight { IfOk result (λ r. r.0
         ≡ record sight { walker = after sight.walker (requests.Until happening) }) }
     ensures text { IfOk result (λ r. r.1.items
         ≡ request_text sight.walker (requests.Until happening)) }
+    ensures shown { OnOk result (P.shown progress.new ≡ P.shown progress.old
+        ++ shown_to sight.walker (to_of sight.walker (requests.Until happening))) }
+    ensures grown { IfErr result (λ _. HasGrown (P.shown progress.old) (P.shown progress.new)) }
 {
     if has_slots(&sight.walker, happening) {
-        return go_on_to(alloc, sight, happening);
+        return go_on_to(alloc, sight, happening, progress);
     }
     say(alloc, sight, NO_SERVICE)
 }

@@ -6,8 +6,8 @@ ghost use Rattle.mx_look_facts.specs.Doings.{is_down, seen_is};
 ghost use Rattle.mx_look_facts.specs.Step.{slot_in};
 ghost use Rattle.mx_app_look.specs.Happenings.{calls, comes_from, dies, has_type, happens, is_delivered, called_by};
 
-use mx_look_facts::{CpuGlance, Delivery, Doing, Glance, Step, delivery_to, kernel_call, slot_in};
-use mx_proc::slot_of;
+use mx_look_facts::{CpuGlance, Doing, Glance, Step, delivery_to, kernel_call, slot_in};
+use mx_proc::{Delivery, slot_of};
 
 /// What `until` looks for in the records of a history.
 #[derive(Clone, Copy, Debug, PartialEq, Eq)]

@@ -12,10 +12,12 @@ ghost use Rattle.mx_app_look.specs.Places.{below_line, place_text, position_text
 
 use itoa::Buffer;
 use mx_aout::Symbol;
-use mx_app_step::{lines_above, refusal_line};
+use mx_app_step::refusal_line;
+use mx_boot::lines_above;
 use mx_exec::Image;
 use mx_look_code::push_code_line;
-use mx_look_trace::{Glance, push_event, push_who};
+use mx_look_facts::Glance;
+use mx_look_trace::{push_event, push_who};
 use mx_machine::{Event, Machine, Record, Refusal};
 use mx_print_answers::symbols_of;
 use mx_walk::{Position, Walker, next_event};

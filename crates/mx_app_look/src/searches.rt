@@ -1,17 +1,20 @@
 //! Searches: on to the next halt, and back to the last one.
 
-ghost use Rattle.std.specs.Prelude.{◌≡◌, IfOk, Some, string_bytes};
+ghost use Rattle.std.specs.Prelude.{◌≡◌, ◌++◌, IfErr, IfOk, List, OnOk, Some, string_bytes};
 ghost use Rattle.mx_machine.specs.World.{World};
 ghost use Rattle.mx_walk.specs.Positions.{IsAbove, IsPosition, IsUpTo, event_below, next_position, position_before};
+ghost use Rattle.mx_walk.specs.declared.progress.Part.{Part as Parts};
+ghost use Rattle.mx_walk.specs.Parts.{HasGrown, shown_to};
 ghost use Rattle.mx_walk.specs.Seeking.{is_marked};
 ghost use Rattle.mx_walk.specs.Walks.{Walk, world_here};
 ghost use Rattle.mx_app_look.specs.Marks.{changes_watched};
 ghost use Rattle.mx_app_look.specs.Searches.{IsHalt, IsHaltAfter, IsLastHalt, IsNextHalt, changes_from, halt_by, is_break, not_met};
+ghost use Rattle.mx_app_look.specs.Shows.{IsLastShown, IsNextShown, IsSearchShown, IsShownAfter, halt_shown};
 
 use crate::changes::{all_bytes, push_changes};
 use crate::marks::{breaks_mark, bytes_mark, points_mark};
 use crate::points::Points;
-use mx_walk::{Mark, NextEvent, Position, Walker, is_up_to, next_event, position_before};
+use mx_walk::{Mark, NextEvent, Position, Progress, Walker, is_up_to, next_event, position_before};
 use mx_word::NoMemory;
 use std::alloc::{AllocError, Global};
 
@@ -38,20 +41,24 @@ fn is_at_break(alloc: Global, walker: &Walker, points: &Points) -> Result<bool, 
 }
 
 /// Goes to a position, and answers how the watched bytes changed on the way.
-fn go_and_compare(
+fn go_and_compare<P: Progress>(
     alloc: Global,
     walker: Walker,
     points: &Points,
     to: Position,
+    progress: &mut P,
 ) -> Result<(Walker, String), NoMemory>
     requires position { IsPosition walker.records to }
     requires early { IsUpTo to walker.last }
     ensures walker { IfOk result (λ r. r.0 ≡ record walker { here = to }) }
     ensures changes { IfOk result (λ r. string_bytes r.1
         ≡ changes_from walker points.now walker.here to) }
+    ensures shown { OnOk result (P.shown progress.new
+        ≡ P.shown progress.old ++ shown_to walker to) }
+    ensures grown { IfErr result (λ _. HasGrown (P.shown progress.old) (P.shown progress.new)) }
 {
     let seen = all_bytes(alloc, walker.machine(), points.watches.as_slice())?;
-    let walker = walker.go_to(alloc, to)?;
+    let walker = walker.go_to(alloc, to, progress)?;
     let mut changes = String::new(alloc);
     push_changes(alloc, &mut changes, walker.machine(), seen.as_slice())?;
     Ok((walker, changes))
@@ -59,49 +66,63 @@ fn go_and_compare(
 
 /// Goes back from right below an event that is looked for to right above it, and halts there if it is the
 /// step at a breakpoint; else below it again.
-fn halt_by(
+fn halt_by<P: Progress>(
     alloc: Global,
     walker: Walker,
     points: &Points,
     above: Position,
+    progress: &mut P,
 ) -> Result<(Walker, String), NoMemory>
     requires position { IsPosition walker.records above }
     requires early { IsUpTo above walker.last }
     ensures walker { IfOk result (λ r. r.0 ≡ record walker { here = r.0.here }) }
     ensures halt { IfOk result (λ r. (r.0.here, string_bytes r.1)
         ≡ halt_by walker points.now above walker.here) }
+    ensures shown { OnOk result (P.shown progress.new
+        ≡ P.shown progress.old ++ halt_shown walker points.now above walker.here) }
+    ensures grown { IfErr result (λ _. HasGrown (P.shown progress.old) (P.shown progress.new)) }
 {
     let below = walker.here();
-    let walker = walker.go_to(alloc, above)?;
+    let walker = walker.go_to(alloc, above, progress)?;
     if is_at_break(alloc, &walker, points)? {
         return Ok((walker, String::new(alloc)));
     }
-    go_and_compare(alloc, walker, points, below)
+    go_and_compare(alloc, walker, points, below, progress)
 }
 
 /// Goes on to the first event that is looked for, and halts there; at the last position if there is none.
-fn go_on_from(alloc: Global, walker: Walker, points: &Points) -> Result<(Walker, String), NoMemory>
+fn go_on_from<P: Progress>(
+    alloc: Global,
+    walker: Walker,
+    points: &Points,
+    progress: &mut P,
+) -> Result<(Walker, String), NoMemory>
     ensures walker { IfOk result (λ r. r.0 ≡ record walker { here = r.0.here }) }
     ensures halt { IfOk result (λ r. IsHalt walker points.now walker.here
         (r.0.here, string_bytes r.1)) }
+    ensures shown { OnOk result ((ps : List Parts)
+        × (P.shown progress.new ≡ P.shown progress.old ++ ps)
+        × IsSearchShown walker points.now walker.here ps) }
+    ensures grown { IfErr result (λ _. HasGrown (P.shown progress.old) (P.shown progress.new)) }
 {
     let mut walker = walker;
     let mut mark = points_mark(alloc, points)?;
-    if !walker.seek(&mut mark) {
+    if !walker.seek(&mut mark, progress) {
         return Ok((walker, not_met(alloc)?));
     }
     match position_before(walker.records(), walker.here()) {
-        Some(above) => halt_by(alloc, walker, points, above),
+        Some(above) => halt_by(alloc, walker, points, above, progress),
         None => unreachable!(),
     }
 }
 
 /// Makes the event below, of which the watched bytes count and no breakpoint; goes on if it changed none.
-fn go_on_past(
+fn go_on_past<P: Progress>(
     alloc: Global,
     walker: Walker,
     points: &Points,
     next: NextEvent,
+    progress: &mut P,
 ) -> Result<(Walker, String), NoMemory>
     requires below { event_below walker.records walker.here ≡ Some (next.actor, next.event) }
     requires position { next.position ≡ next_position walker.records walker.here }
@@ -112,55 +133,70 @@ fn go_on_past(
     ensures halt { IfOk result (λ r. IsHaltAfter walker points.now next.position
         (is_marked (changes_watched points.now) (world_here walker) (next.actor, next.event))
         (r.0.here, string_bytes r.1)) }
+    ensures shown { OnOk result ((ps : List Parts)
+        × (P.shown progress.new ≡ P.shown progress.old ++ ps)
+        × IsShownAfter walker points.now next.position
+        (is_marked (changes_watched points.now) (world_here walker) (next.actor, next.event)) ps) }
+    ensures grown { IfErr result (λ _. HasGrown (P.shown progress.old) (P.shown progress.new)) }
 {
     let mut bytes = bytes_mark(alloc, points)?;
     bytes.look(walker.machine(), next.actor, next.event);
-    let (walker, changes) = go_and_compare(alloc, walker, points, next.position)?;
+    let (walker, changes) = go_and_compare(alloc, walker, points, next.position, progress)?;
     if bytes.is_met(walker.machine()) {
         return Ok((walker, changes));
     }
-    go_on_from(alloc, walker, points)
+    go_on_from(alloc, walker, points, progress)
 }
 
 /// Goes on to right below the next event that changes watched bytes, or to the next position whose event
 /// below is the step at a breakpoint; else to the last position. Answers what is printed before the place.
-pub fn go_on_to_point(
+pub fn go_on_to_point<P: Progress>(
     alloc: Global,
     walker: Walker,
     points: &Points,
+    progress: &mut P,
 ) -> Result<(Walker, String), NoMemory>
     ensures walker { IfOk result (λ r. r.0 ≡ record walker { here = r.0.here }) }
     ensures halt { IfOk result (λ r. IsNextHalt walker points.now (r.0.here, string_bytes r.1)) }
+    ensures shown { OnOk result ((ps : List Parts)
+        × (P.shown progress.new ≡ P.shown progress.old ++ ps)
+        × IsNextShown walker points.now ps) }
+    ensures grown { IfErr result (λ _. HasGrown (P.shown progress.old) (P.shown progress.new)) }
 {
     if is_up_to(walker.last(), walker.here()) {
         return Ok((walker, not_met(alloc)?));
     }
     match next_event(walker.records(), walker.here()) {
-        Some(next) => go_on_past(alloc, walker, points, next),
+        Some(next) => go_on_past(alloc, walker, points, next, progress),
         None => Ok((walker, not_met(alloc)?)),
     }
 }
 
 /// Goes back to right above the last event that changes watched bytes or is the step at a breakpoint; else
 /// to the first position. Answers what is printed before the place. Takes memory to boot the machine again.
-pub fn go_back_to_point(
+pub fn go_back_to_point<P: Progress>(
     alloc: Global,
     walker: Walker,
     points: &Points,
+    progress: &mut P,
 ) -> Result<(Walker, String), NoMemory>
     ensures walker { IfOk result (λ r. r.0 ≡ record walker { here = r.0.here }) }
     ensures halt { IfOk result (λ r. IsLastHalt walker points.now (r.0.here, string_bytes r.1)) }
+    ensures shown { OnOk result ((ps : List Parts)
+        × (P.shown progress.new ≡ P.shown progress.old ++ ps)
+        × IsLastShown walker points.now ps) }
+    ensures grown { IfErr result (λ _. HasGrown (P.shown progress.old) (P.shown progress.new)) }
 {
     let mut mark = points_mark(alloc, points)?;
-    let (walker, found) = walker.seek_back(alloc, &mut mark)?;
+    let (walker, found) = walker.seek_back(alloc, &mut mark, progress)?;
     if !found {
         return Ok((walker, not_met(alloc)?));
     }
     let halt = walker.here();
     match next_event(walker.records(), halt) {
         Some(next) => {
-            let (walker, changes) = go_and_compare(alloc, walker, points, next.position)?;
-            Ok((walker.go_to(alloc, halt)?, changes))
+            let (walker, changes) = go_and_compare(alloc, walker, points, next.position, progress)?;
+            Ok((walker.go_to(alloc, halt, progress)?, changes))
         }
         None => unreachable!(),
     }

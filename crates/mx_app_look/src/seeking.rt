@@ -1,9 +1,12 @@
 //! Requests about what a search halts at, and the searches.
 
-ghost use Rattle.std.specs.Prelude.{◌≡◌, ◌++◌, IfErr, IfOk, OnOk, string_bytes};
+ghost use Rattle.std.specs.Prelude.{◌≡◌, ◌++◌, IfErr, IfOk, List, OnOk, string_bytes};
 ghost use Rattle.mx_app_step.specs.Failure.{IsWanting};
+ghost use Rattle.mx_walk.specs.declared.progress.Part.{Part as Parts};
+ghost use Rattle.mx_walk.specs.Parts.{HasGrown};
 ghost use Rattle.mx_app_look.specs.Places.{place_text};
 ghost use Rattle.mx_app_look.specs.Seeking.{IsGoneBack, IsGoneOn, breaks_after, point_made, point_text, points_after, watches_after};
+ghost use Rattle.mx_app_look.specs.Shows.{IsLastShown, IsNextShown};
 
 use crate::places::push_place;
 use crate::point_request::PointRequest;
@@ -11,10 +14,10 @@ use crate::points::Points;
 use crate::searches::{go_back_to_point, go_on_to_point};
 use crate::sight::Sight;
 use crate::slots::{address_here, slot_asked};
-use mx_app_step::Failure;
+use mx_app_failure::Failure;
 use mx_boot::AddressWord;
 use mx_print_answers::{Refused, push_done};
-use mx_walk::Walker;
+use mx_walk::{Progress, Walker};
 use std::alloc::{AllocError, Global};
 
 /// Sets a breakpoint. Refuses if there is no such slot or symbol, or if it would be the 65th breakpoint, and
@@ -128,21 +131,37 @@ fn show_halt(
 }
 
 /// Goes on to the next halt.
-pub(crate) fn go_on(alloc: Global, sight: Sight) -> Result<(Sight, Vec<u8>), Failure>
+pub(crate) fn go_on<P: Progress>(
+    alloc: Global,
+    sight: Sight,
+    progress: &mut P,
+) -> Result<(Sight, Vec<u8>), Failure>
     ensures err { IfErr result IsWanting }
     ensures halted { IfOk result (λ r. IsGoneOn sight r.0 r.1.items) }
+    ensures shown { OnOk result ((ps : List Parts)
+        × (P.shown progress.new ≡ P.shown progress.old ++ ps)
+        × IsNextShown sight.walker sight.points ps) }
+    ensures grown { IfErr result (λ _. HasGrown (P.shown progress.old) (P.shown progress.new)) }
 {
     let Sight { walker, points } = sight;
-    let (walker, found) = go_on_to_point(alloc, walker, &points)?;
+    let (walker, found) = go_on_to_point(alloc, walker, &points, progress)?;
     show_halt(alloc, walker, points, found)
 }
 
 /// Goes back to the last halt.
-pub(crate) fn go_back(alloc: Global, sight: Sight) -> Result<(Sight, Vec<u8>), Failure>
+pub(crate) fn go_back<P: Progress>(
+    alloc: Global,
+    sight: Sight,
+    progress: &mut P,
+) -> Result<(Sight, Vec<u8>), Failure>
     ensures err { IfErr result IsWanting }
     ensures halted { IfOk result (λ r. IsGoneBack sight r.0 r.1.items) }
+    ensures shown { OnOk result ((ps : List Parts)
+        × (P.shown progress.new ≡ P.shown progress.old ++ ps)
+        × IsLastShown sight.walker sight.points ps) }
+    ensures grown { IfErr result (λ _. HasGrown (P.shown progress.old) (P.shown progress.new)) }
 {
     let Sight { walker, points } = sight;
-    let (walker, found) = go_back_to_point(alloc, walker, &points)?;
+    let (walker, found) = go_back_to_point(alloc, walker, &points, progress)?;
     show_halt(alloc, walker, points, found)
 }

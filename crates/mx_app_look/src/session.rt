@@ -11,7 +11,7 @@ ghost use Rattle.mx_app_step.specs.Setup.{IsStart};
 ghost use Rattle.mx_machine.specs.Boot.{world_at_boot};
 ghost use Rattle.mx_machine.specs.declared.history.Record.{Record as Noted};
 ghost use Rattle.mx_walk.specs.declared.progress.Part.{Part as Parts};
-ghost use Rattle.mx_walk.specs.Parts.{walk_shown};
+ghost use Rattle.mx_walk.specs.Parts.{HasGrown, walk_shown};
 ghost use Rattle.mx_walk.specs.Walks.{Walk};
 ghost use Rattle.mx_app_look.specs.Sessions.{HasFailed, IsBegun, IsSession, IsWhole, begun_text, end_text, sight_at};
 
@@ -19,9 +19,8 @@ use crate::answering::{answer_line, push_prompt};
 use crate::places::push_place;
 use crate::points::Points;
 use crate::sight::Sight;
-use mx_app_step::{
-    Failure, History, LineReader, Reader, Started, print_text, records_are_of_actors, start,
-};
+use mx_app_failure::{Failure, print_text};
+use mx_app_step::{History, LineReader, Reader, Started, records_are_of_actors, start};
 use mx_walk::{Progress, Walker};
 use std::alloc::Global;
 use std::io::Write;
@@ -54,29 +53,42 @@ fn print_end<W: Write>(asks: bool, out: &mut W) -> Result<(), Failure>
     print_text(end.as_bytes(), out)
 }
 
-/// Answers lines up to one that ends the session, or to the end of the input. No session reaches the count.
-fn converse<L: LineReader, W: Write>(
-    alloc: Global,
+/// A session: what it has in hand, and whether it asks for each line.
+#[derive(Drop)]
+struct Session {
     sight: Sight,
-    lines: &mut L,
     asks: bool,
+}
+
+/// Answers lines up to one that ends the session, or to the end of the input. No session reaches the count.
+fn converse<L: LineReader, P: Progress, W: Write>(
+    alloc: Global,
+    session: Session,
+    lines: &mut L,
+    progress: &mut P,
     out: &mut W,
 ) -> Result<(), Failure>
     ensures err { IfErr result (λ f. IsWanting f × ((typed : List (Option (List ℕ)))
-        × (L.given lines.new ≡ L.given lines.old ++ typed))) }
+        × (L.given lines.new ≡ L.given lines.old ++ typed))
+        × HasGrown (P.shown progress.old) (P.shown progress.new)) }
     ensures printed { OnOk result ((typed : List (Option (List ℕ))) × (text : List ℕ)
-        × (L.given lines.new ≡ L.given lines.old ++ typed) × IsWhole typed
-        × IsSession asks sight typed text
+        × (ps : List Parts) × (L.given lines.new ≡ L.given lines.old ++ typed) × IsWhole typed
+        × IsSession session.asks session.sight typed text ps
+        × (P.shown progress.new ≡ P.shown progress.old ++ ps)
         × Appends (W.contents out.old) (W.contents out.new) text) }
 {
+    let Session { sight, asks } = session;
     let mut sight = sight;
     let mut line = Vec::new(alloc);
     for _ in 0..u64::MAX {
         if !lines.next(&mut line)? {
             return print_end(asks, out);
         }
-        match answer_line(alloc, sight, line.as_slice(), asks, out)? {
-            Some(next) => sight = next,
+        match answer_line(alloc, sight, line.as_slice(), asks, progress)? {
+            Some((next, text)) => {
+                print_text(text.as_slice(), out)?;
+                sight = next;
+            }
             None => return Ok(()),
         }
     }
@@ -93,8 +105,8 @@ pub struct SessionNames<'a> {
 /// Starts the machine of a saved history, and answers the lines that are typed: requests to go forward and
 /// back in the history, and to show what is there. It takes lines up to `quit` or to the end of the input, and
 /// none after that. With `asks` it prints the position before each line. A session's text is a function of the
-/// configuration, the programs, the history and the lines. At the beginning it walks the history once;
-/// `progress` is shown each record of that walk.
+/// configuration, the programs, the history and the lines. At the beginning it walks the history once.
+/// `progress` is shown each record of that walk and of each later one.
 pub fn look<R: Reader, L: LineReader, P: Progress, W: Write>(
     alloc: Global,
     reader: &mut R,
@@ -106,12 +118,12 @@ pub fn look<R: Reader, L: LineReader, P: Progress, W: Write>(
 ) -> Result<(), Failure>
     ensures printed { OnOk result ((qs : List Asked) × (c : Configured) × (vs : List Service)
         × (records : List Noted) × (k : Walk) × (typed : List (Option (List ℕ))) × (text : List ℕ)
-        × (R.asked reader.new ≡ R.asked reader.old ++ qs)
+        × (ps : List Parts) × (R.asked reader.new ≡ R.asked reader.old ++ qs)
         × (L.given lines.new ≡ L.given lines.old ++ typed) × IsWhole typed
-        × (P.shown progress.new ≡ P.shown progress.old ++ walk_shown k.records k.last)
+        × (P.shown progress.new ≡ P.shown progress.old ++ (walk_shown k.records k.last ++ ps))
         × IsStart IsSaved names.entry.config.now names.entry.log.now qs c vs records
         × IsBegun (world_at_boot c vs) records k
-        × IsSession asks (sight_at k) typed text
+        × IsSession asks (sight_at k) typed text ps
         × Appends (W.contents out.old) (W.contents out.new) (begun_text asks k ++ text)) }
     ensures fault { IfErr result (λ f. (qs : List Asked) × (typed : List (Option (List ℕ)))
         × (ps : List Parts) × (R.asked reader.new ≡ R.asked reader.old ++ qs)
@@ -133,5 +145,5 @@ pub fn look<R: Reader, L: LineReader, P: Progress, W: Write>(
         walker,
         points: Points::new(),
     };
-    converse(alloc, sight, lines, asks, out)
+    converse(alloc, Session { sight, asks }, lines, progress, out)
 }

@@ -4,7 +4,7 @@ ghost use Rattle.std.specs.Prelude.{◌≡◌, IfErr, IfOk};
 ghost use Rattle.mx_app_step.specs.Failure.{IsWanting};
 
 use crate::points::Points;
-use mx_app_step::Failure;
+use mx_app_failure::Failure;
 use mx_walk::Walker;
 use std::alloc::Global;
 

@@ -6,7 +6,8 @@ ghost use Rattle.mx_walk.specs.Walks.{world_here};
 ghost use Rattle.mx_app_look.specs.Slots.{or_not_here, slot_asked, slot_next};
 
 use mx_boot::AddressWord;
-use mx_print_answers::{DebugError, Refused, address_asked, slot_named};
+use mx_debug::DebugError;
+use mx_print_answers::{Refused, address_asked, slot_named};
 use mx_proc::Slot;
 use mx_walk::Walker;
 

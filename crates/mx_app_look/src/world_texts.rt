@@ -4,47 +4,64 @@ ghost use Rattle.std.specs.Prelude.{◌≡◌, ◌++◌, ◌+◌, ◌≤◌, IfO
 ghost use Rattle.mx_app_step.specs.Failure.{IsWanting};
 ghost use Rattle.mx_look_trace.specs.Trace.{record_text};
 ghost use Rattle.mx_print_answers.specs.Messages.{delivery_lines};
+ghost use Rattle.mx_walk.specs.Parts.{HasGrown};
 ghost use Rattle.mx_walk.specs.Walks.{world_here};
 ghost use Rattle.mx_app_look.specs.Above.{step_above, why_text};
 ghost use Rattle.mx_app_look.specs.Answers.{line_end, processes_text};
+ghost use Rattle.mx_app_look.specs.Shows.{record_shown, why_shown};
 ghost use Rattle.mx_app_look.specs.Until.{below};
 
-use mx_app_step::{Failure, report, resting_step};
-use mx_look_trace::{Step, push_record};
+use mx_app_failure::Failure;
+use mx_app_step::resting_step;
+use mx_boot::report;
+use mx_look_facts::Step;
+use mx_look_trace::push_record;
 use mx_machine::Record;
 use mx_print_answers::push_messages;
-use mx_walk::{Position, Walker, steps_in};
+use mx_walk::{Position, Progress, Walker, steps_in};
 use mx_word::NoMemory;
 use std::alloc::{AllocError, Global};
 
 /// A record's number is one of 32 bits.
 const NUMBERS: usize = 1 << 32;
 
-/// Goes to right below record `above + 1`, and fills a step with it: the machine is looked at after the
-/// record's steps, and after its own event. Takes memory only to go back.
-pub(crate) fn see_record(
+/// A record of a history, and how many are above it.
+#[derive(Clone, Copy)]
+pub(crate) struct Placed {
+    pub above: usize,
+    pub entry: Record,
+}
+
+/// Goes to right below a record, and fills a step with it: the machine is looked at after the record's steps,
+/// and after its own event. Takes memory only to go back.
+pub(crate) fn see_record<P: Progress>(
     alloc: Global,
     walker: Walker,
-    above: usize,
-    entry: Record,
+    placed: Placed,
     step: &mut Step,
+    progress: &mut P,
 ) -> Result<Walker, NoMemory>
-    requires there { above + 1 ≤ walker.last.records }
-    requires entry { slice_get walker.records above ≡ Some entry }
-    ensures walker { IfOk result (λ w. w ≡ record walker { here = below above }) }
-    ensures step { OnOk result (step.new ≡ step_above walker.boot walker.records above entry) }
+    requires there { placed.above + 1 ≤ walker.last.records }
+    requires entry { slice_get walker.records placed.above ≡ Some placed.entry }
+    ensures walker { IfOk result (λ w. w ≡ record walker { here = below placed.above }) }
+    ensures step { OnOk result (step.new
+        ≡ step_above walker.boot walker.records placed.above placed.entry) }
+    ensures shown { OnOk result (P.shown progress.new
+        ≡ P.shown progress.old ++ record_shown walker placed.above placed.entry) }
+    ensures grown { IfErr result (λ _. HasGrown (P.shown progress.old) (P.shown progress.new)) }
 {
+    let Placed { above, entry } = placed;
     let begun = Position {
         records: above,
         steps: steps_in(entry.event),
     };
-    let walker = walker.go_to(alloc, begun)?;
+    let walker = walker.go_to(alloc, begun, progress)?;
     step.before.look(walker.machine());
     let made = Position {
         records: above + 1,
         steps: 0,
     };
-    let walker = walker.go_to(alloc, made)?;
+    let walker = walker.go_to(alloc, made, progress)?;
     step.after.look(walker.machine());
     step.number = ((above + 1) % NUMBERS) as u32;
     step.actor = entry.actor;
@@ -52,33 +69,43 @@ pub(crate) fn see_record(
     Ok(walker)
 }
 
-/// Appends what record `above + 1` did, and goes back to where the walker was.
-fn push_record_above(
+/// Appends what a record did, and goes back to where the walker was.
+fn push_record_above<P: Progress>(
     alloc: Global,
     out: &mut Vec<u8>,
     walker: Walker,
-    above: usize,
-    entry: Record,
+    placed: Placed,
+    progress: &mut P,
 ) -> Result<Walker, Failure>
-    requires there { above + 1 ≤ walker.here.records }
-    requires entry { slice_get walker.records above ≡ Some entry }
+    requires there { placed.above + 1 ≡ walker.here.records }
+    requires entry { slice_get walker.records placed.above ≡ Some placed.entry }
     ensures err { IfErr result IsWanting }
     ensures same { IfOk result (λ w. w ≡ walker) }
     ensures text { OnOk result (out.new.items ≡ out.old.items
-        ++ record_text (step_above walker.boot walker.records above entry)) }
+        ++ record_text (step_above walker.boot walker.records placed.above placed.entry)) }
+    ensures shown { OnOk result (P.shown progress.new
+        ≡ P.shown progress.old ++ record_shown walker placed.above placed.entry) }
+    ensures grown { IfErr result (λ _. HasGrown (P.shown progress.old) (P.shown progress.new)) }
 {
     let here = walker.here();
     let mut step = resting_step(walker.machine());
-    let walker = see_record(alloc, walker, above, entry, &mut step)?;
+    let walker = see_record(alloc, walker, placed, &mut step, progress)?;
     push_record(out, &step)?;
-    Ok(walker.go_to(alloc, here)?)
+    Ok(walker.go_to(alloc, here, progress)?)
 }
 
 /// Appends what the record above did, or that the machine booted. The walker is where it was.
-pub(crate) fn push_why(alloc: Global, out: &mut Vec<u8>, walker: Walker) -> Result<Walker, Failure>
+pub(crate) fn push_why<P: Progress>(
+    alloc: Global,
+    out: &mut Vec<u8>,
+    walker: Walker,
+    progress: &mut P,
+) -> Result<Walker, Failure>
     ensures err { IfErr result IsWanting }
     ensures same { IfOk result (λ w. w ≡ walker) }
     ensures text { OnOk result (out.new.items ≡ out.old.items ++ why_text walker) }
+    ensures shown { OnOk result (P.shown progress.new ≡ P.shown progress.old ++ why_shown walker) }
+    ensures grown { IfErr result (λ _. HasGrown (P.shown progress.old) (P.shown progress.new)) }
 {
     let here = walker.here();
     if here.records == 0 {
@@ -87,7 +114,7 @@ pub(crate) fn push_why(alloc: Global, out: &mut Vec<u8>, walker: Walker) -> Resu
     }
     let above = here.records - 1;
     let entry = walker.records()[above];
-    push_record_above(alloc, out, walker, above, entry)
+    push_record_above(alloc, out, walker, Placed { above, entry }, progress)
 }
 
 /// The line feed that a text's last line wants.

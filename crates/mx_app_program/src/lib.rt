@@ -15,7 +15,5 @@ pub use error::AroundError;
 pub use going::{Journey, around};
 pub use laws::{code_keeps, listing_keeps};
 pub use listing::{print_listing, print_names};
-pub use mx_aout::FileError;
-pub use mx_app_failure::Failure;
 pub use report::print_one;
 pub use running::one;

@@ -6,12 +6,11 @@ ghost use Rattle.mx_text.specs.Lines.{lines};
 ghost use Rattle.mx_boot.specs.Reading.{AreLinesRead, TellsUnread};
 ghost use Rattle.mx_app_run.specs.Calls.{call_line, call_of_event, call_of_fields, tick_of, ticks_of};
 
-use mx_app_step::BootError;
 use mx_app_turns::outside_event_of;
 use mx_boot::{ReadsLine, only_count, read_lines, verb_named};
 use mx_cpus::OutsideCall;
 use mx_machine::Event;
-use mx_text::next_field;
+use mx_text::{BootError, next_field};
 use std::alloc::Global;
 
 /// How many actors that are no processors a file of outside events wants: the first one makes ticks and respawns, and

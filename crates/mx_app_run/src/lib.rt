@@ -9,10 +9,8 @@ mod running;
 pub use calls::outside_calls;
 pub use gate::{RunGate, RunPlan};
 pub use laws::{replay_again, run_again};
-pub use mx_app_start::{NoProgress, Part, Progress, SharedProgress};
-pub use mx_app_step::{
-    Channels, Failure, FileWriter, KeptFile, MemoryWriter, NamedFile, NamedFiles, Reader, Replayed,
-    replay, report, saved_text, setup_of,
-};
+pub use mx_app_start::{Channels, MemoryWriter, NamedFile, NamedFiles, NoProgress, setup_of};
+pub use mx_app_step::{Replayed, replay};
+pub use mx_boot::{report, saved_text};
 pub use mx_turns::Ending;
 pub use running::{RunWanted, run};

@@ -9,15 +9,14 @@ ghost use Rattle.mx_app_run.specs.Run.{EndsDriven, IsCalled, IsNotCalled, IsRun,
 
 use crate::calls::{outside_calls, ticks_of};
 use crate::gate::{RunGate, RunPlan};
-use mx_app_start::{Progress, SharedProgress};
-use mx_app_step::{
-    Channels, Config, Failure, FileWriter, Reader, names_program, print_kernel_report, setup_of,
-    text_of, write_history,
+use mx_app_failure::Failure;
+use mx_app_start::{
+    Channels, FileWriter, Progress, Reader, SharedProgress, names_program, setup_of, text_of,
 };
+use mx_app_step::{print_kernel_report, write_history};
 use mx_app_turns::writes_over;
-use mx_cpus::{
-    ActorSeat, Blank, Kernel, Naming, Outside, OutsideCall, Service, Shared, boot, drive_with,
-};
+use mx_cpus::{ActorSeat, Blank, Naming, Outside, OutsideCall, Shared, boot, drive_with};
+use mx_machine::{Config, Kernel, Service};
 use mx_turns::Ending;
 use mx_word::NoMemory;
 use std::alloc::Global;
@@ -83,7 +82,7 @@ fn run_machine<T: Threads + Wait + Clock + Sync, P: SharedProgress + Sync>(
 {
     let (blank, seats) = boot(place.alloc, config, &mut services)?;
     let kernel = drive_blank::<Brand, T, P>(place, blank, seats, config.log, outside)?;
-    kernel.opened();
+    kernel.facts();
     Ok(kernel)
 }
 

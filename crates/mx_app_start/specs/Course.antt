@@ -4,10 +4,8 @@ use Rattle.mx_text.specs.Lines.{lines}
 use Rattle.mx_text.specs.declared.error.BootError.{BootError}
 use Rattle.mx_boot.specs.Config.{Config}
 use Rattle.mx_boot.specs.declared.scripts.ScriptLine.{ScriptLine}
-use Rattle.mx_boot.specs.declared.debug.DebugLine.{DebugLine}
 use Rattle.mx_boot.specs.Reading.{AreLinesRead, TellsUnread}
 use Rattle.mx_boot.specs.Script.{script_line}
-use Rattle.mx_boot.specs.Debug.{debug_line}
 use Rattle.mx_machine.specs.declared.history.Record.{Record}
 use Rattle.mx_machine.specs.Rules.{Rules}
 use Rattle.mx_boot.specs.Log.{IsHistory, TellsHistoryFault}
@@ -17,12 +15,6 @@ IsScript text read config said = AreLinesRead script_line (lines text) said × (
 
 abbrev pub TellsScript : List ℕ → Config → BootError → Type 0
 TellsScript text config e = TellsUnread script_line (lines text) e
-
-abbrev pub IsDebugScript : List ℕ → Config → Config → List DebugLine → Type 0
-IsDebugScript text read config said = AreLinesRead debug_line (lines text) said × (config ≡ read)
-
-abbrev pub TellsDebugScript : List ℕ → Config → BootError → Type 0
-TellsDebugScript text config e = TellsUnread debug_line (lines text) e
 
 -- by the machine's actors; it boots by the rules that the text says, whatever the configuration says
 abbrev pub IsSaved : List ℕ → Config → Config → List Record → Type 0

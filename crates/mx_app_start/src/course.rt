@@ -4,8 +4,9 @@ ghost use Rattle.std.specs.Prelude.{List, ℕ, IfOk, IfErr};
 ghost use Rattle.mx_text.specs.declared.error.BootError.{BootError};
 ghost use Rattle.mx_boot.specs.Config.{Config};
 
-use mx_boot::{BootError, Config, DebugLine, ScriptLine, debug_script, log, script};
-use mx_machine::Record;
+use mx_boot::{ScriptLine, log, script};
+use mx_machine::{Config, Record};
+use mx_text::BootError;
 use std::alloc::Global;
 
 /// A grammar of texts that drive a machine.
@@ -13,10 +14,10 @@ pub trait Course {
     /// What a line says.
     type Line;
 
-    /// The lines say this, beside a configuration, of the machine that another one boots.
+    /// With this configuration, the lines say this, and the machine boots by the second configuration.
     ghost IsSaid: { List ℕ → Config → Config → List Self.Line → Type 0 };
 
-    /// What may be told of a text: the first line at fault; or, where there is none, out of memory.
+    /// The errors that may be answered for a text: the first line at fault; or, if there is none, out of memory.
     ghost Tells: { List ℕ → Config → BootError → Type 0 };
 
     /// What the lines of a text say, or the first line at fault. The configuration becomes the one by
@@ -40,23 +41,6 @@ impl Course for Script {
 
     fn read(alloc: Global, text: &str, _config: &mut Config) -> Result<Vec<ScriptLine>, BootError> {
         script(alloc, text)
-    }
-}
-
-/// The lines of a debugger's script.
-pub struct DebugScript;
-
-impl Course for DebugScript {
-    ghost use Rattle.mx_app_start.specs.Course.{IsDebugScript, TellsDebugScript};
-
-    type Line = DebugLine;
-
-    ghost IsSaid = { IsDebugScript };
-
-    ghost Tells = { TellsDebugScript };
-
-    fn read(alloc: Global, text: &str, _config: &mut Config) -> Result<Vec<DebugLine>, BootError> {
-        debug_script(alloc, text)
     }
 }
 

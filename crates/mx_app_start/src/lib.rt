@@ -19,12 +19,10 @@ mod starting;
 mod writer;
 
 pub use channels::Channels;
-pub use course::{Course, DebugScript, History, Script};
+pub use course::{Course, History, Script};
 pub use lines::{InputLines, LineReader};
 pub use memory::{KeptFile, MemoryWriter};
-pub use mx_app_failure::{Failure, print_text};
-pub use mx_boot::{BootError, Config, DebugLine, ScriptLine, lines_above, report, saved_text};
-pub use mx_machine::{Event, Held, Machine, Out, Record, Recorded, Tool, at_stop};
+pub use mx_app_failure::Failure;
 pub use mx_walk::{Part, Progress};
 pub use named::{NamedFile, NamedFiles};
 pub use programs::names_program;

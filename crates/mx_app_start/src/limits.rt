@@ -13,7 +13,7 @@ const LONGEST_TEXT: u64 = 64 * 1024 * 1024;
 /// The longest header of a program's file.
 const LONGEST_HEADER: u64 = 48;
 
-/// Reads at most that many bytes more of a file, after those that are there.
+/// Reads at most `most` more bytes of a file, and appends them.
 fn read_more<F: Read + Drop>(file: F, most: u64, bytes: &mut Vec<u8>) -> io::Result<F> {
     let mut front = file.take(most);
     front.read_to_end(bytes)?;

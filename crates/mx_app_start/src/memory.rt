@@ -17,7 +17,7 @@ pub struct KeptFile {
     pub bytes: Vec<u8>,
 }
 
-/// Keeps the files that are written in a list, or refuses each.
+/// Holds the files that are written in a list, or refuses each.
 #[derive(Drop)]
 pub struct MemoryWriter {
     files: Vec<KeptFile>,
@@ -26,7 +26,7 @@ pub struct MemoryWriter {
 }
 
 impl MemoryWriter {
-    /// What keeps the files that are written, and has none yet.
+    /// What holds the files that are written, and has none yet.
     pub fn new(alloc: Global) -> MemoryWriter
         ensures files { result.files.items ≡ [] }
         ensures refusal { result.refusal ≡ None }
@@ -38,7 +38,7 @@ impl MemoryWriter {
         }
     }
 
-    /// What keeps no file, and answers each with an error of this kind.
+    /// What refuses each file with an error of this kind.
     pub fn refusing(alloc: Global, kind: io::ErrorKind) -> MemoryWriter
         ensures files { result.files.items ≡ [] }
         ensures refusal { result.refusal ≡ Some kind }
@@ -57,7 +57,7 @@ impl MemoryWriter {
         self.files.as_slice()
     }
 
-    /// Keeps a file. A lack of memory changes nothing.
+    /// Adds a file to the list. A lack of memory changes nothing.
     fn keep(&mut self, alloc: Global, name: &str, bytes: &[u8]) -> Result<(), AllocError>
         ensures files { OnOk result (files_of self.new.files.items
             ≡ files_of self.old.files.items ++ (name.now, bytes.now) ∷ []) }
@@ -77,7 +77,7 @@ impl MemoryWriter {
 impl FileWriter for MemoryWriter {
     ghost written = { λ writer. written_in writer.writes.items };
 
-    /// Keeps the file, or refuses it; what is refused changes no file.
+    /// Adds the file to the list, or refuses it; what is refused changes no file.
     fn write(&mut self, alloc: Global, name: &str, bytes: &[u8]) -> io::Result<()>
         ensures kept { IfOk result (λ _. written_in self.new.writes.items
             ≡ written_in self.old.writes.items ++ kept name.now bytes.now ∷ []) }

@@ -55,7 +55,7 @@ impl<'a> NamedFiles<'a> {
 impl<'a> Reader for NamedFiles<'a> {
     ghost asked = { λ files. asked_in files.answers.items };
 
-    /// Answers the bytes that the list has; it is refused where the list has none of this name, or for
+    /// Answers the bytes that the list has; it is refused if the list has none of this name, or for
     /// lack of memory.
     fn read(&mut self, alloc: Global, name: &str) -> io::Result<Vec<u8>>
         ensures given { IfOk result (λ bytes. asked_in self.new.answers.items

@@ -3,7 +3,7 @@
 ghost use Rattle.std.specs.Prelude.{◌≡◌};
 ghost use Rattle.mx_app_start.specs.Programs.{names_program};
 
-use mx_boot::Config;
+use mx_machine::Config;
 
 /// Whether the program of one of a configuration's services is in the file of this name. Names are compared byte for
 /// byte, as the configuration has them; two names of one file aren't seen to be one.

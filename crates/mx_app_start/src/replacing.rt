@@ -9,7 +9,7 @@ use std::{fs, io};
 /// Where a file's new bytes go.
 #[derive(Drop)]
 enum Place {
-    /// Beside a regular file, which has these permissions, or beside no file.
+    /// Into a new file in the same folder, with the permissions of the regular file, if there is one.
     Beside(Option<Permissions>),
     /// Into the file itself: a device, a pipe, what a link leads to.
     Itself,
@@ -32,7 +32,7 @@ fn place_of(rt: &impl Files, name: &str) -> Place {
     }
 }
 
-/// The name beside a file's, for bytes that aren't whole yet.
+/// The name for bytes that aren't whole yet: the file's own, with `.part`.
 fn name_beside(alloc: Global, name: &str) -> Result<String, AllocError> {
     format!(in alloc; "{name}.part")
 }
@@ -59,9 +59,9 @@ fn fill_and_rename<R: Files>(
     fs::rename(rt, names.beside, names.whole)
 }
 
-/// Writes bytes to the file that has a name, in place of what it had. Where the file is regular or new and a
+/// Writes bytes to the file that has a name, in place of what it had. If the file is regular or new and a
 /// file of the name `NAME.part` can be made, it is written there first and then renamed, so no half of it is
-/// ever seen; what stands at `NAME.part` already isn't touched. Any other file is written in place.
+/// ever seen; a file that is at `NAME.part` already isn't touched. Any other file is written in place.
 pub(crate) fn replace_file<R: Files>(
     rt: &R,
     alloc: Global,

@@ -51,8 +51,8 @@ impl<'a, R: Files + AllocGlobal> Reader for RuntimeFiles<'a, R> {
 }
 
 /// Writes files of the runtime. A name is a path, relative to the directory that the program runs in. A
-/// regular file, and one that isn't there, gets its bytes whole or not at all where a file can be made
-/// beside it; any other file is written in place.
+/// regular file, and one that isn't there, gets its bytes whole or not at all if a file can be made
+/// in the same folder; any other file is written in place.
 #[derive(Drop)]
 pub struct RuntimeWriter<'a, R> {
     rt: &'a R,

@@ -7,8 +7,8 @@ ghost use Rattle.mx_app_start.specs.Setup.{AreServicesRead, IsConfigFault, IsCon
 use crate::reader::Reader;
 use mx_aout::read;
 use mx_app_failure::Failure;
-use mx_boot::{Config, ServiceLine, config};
-use mx_machine::Service;
+use mx_boot::config;
+use mx_machine::{Config, Service, ServiceLine};
 use std::alloc::Global;
 
 /// The text of a file.
@@ -79,7 +79,7 @@ pub fn config_of<R: Reader>(alloc: Global, reader: &mut R, name: &str) -> Result
 }
 
 /// The configuration of a file, and the services of its lines, whose programs' files are read in the
-/// order of the lines. A failure is the first fault of what was read; out of memory is told only where
+/// order of the lines. A failure is the first fault of what was read; out of memory is answered only if
 /// nothing above is at fault. No further file was asked for.
 pub fn setup_of<R: Reader>(
     alloc: Global,

@@ -13,8 +13,7 @@ use crate::course::Course;
 use crate::reader::Reader;
 use crate::setup::{setup_of, text_of};
 use mx_app_failure::Failure;
-use mx_boot::Config;
-use mx_machine::{Kernel, Machine, Service};
+use mx_machine::{Config, Kernel, Machine, Service};
 use mx_word::NoMemory;
 use std::alloc::Global;
 
@@ -46,7 +45,7 @@ fn boot(alloc: Global, config: &Config, services: Vec<Service>) -> Result<Machin
 
 /// Reads a configuration, the programs of its services in the order of their lines, and the text that
 /// drives the machine, each checked before the next is read; then boots the machine. Out of memory is
-/// told only where nothing that was read is at fault.
+/// answered only if nothing that was read is at fault.
 pub fn start<C: Course, R: Reader>(
     alloc: Global,
     reader: &mut R,

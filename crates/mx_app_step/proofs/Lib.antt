@@ -1,5 +1,6 @@
 pub mod PieceLemmas
-pub mod SteppingLemmas
+pub mod DrivingLemmas
+pub mod ScriptLemmas
 pub mod StepLemmas
 pub mod RecordLemmas
 pub mod ReplayLemmas

@@ -1,6 +1,8 @@
+pub mod Driving
 pub mod Kept
 pub mod Lines
 pub mod Numbered
+pub mod Performed
 pub mod Pieces
 pub mod Records
 pub mod Traces

@@ -14,11 +14,6 @@ abbrev pub numbered_lines : ℕ → List Said → List ℕ
 numbered_lines n [] = []
 numbered_lines n (s ∷ more) = numbered_line n s ++ numbered_lines (n + 1) more
 
--- the answer to line n
-abbrev pub answer_text : Bool → ℕ → Said → List ℕ
-answer_text true n s = numbered_line n s
-answer_text false n s = said_line s ++ codes "\n"
-
 -- ALL ANSWERS
 unfoldable pub answers_text : Bool → List Said → List ℕ
 answers_text true said = numbered_lines 1 said

@@ -1,6 +1,7 @@
 //! `mx step`, `mx replay` and `mx trace`: a machine driven by a script, or by a saved history.
 #![tactic(auto)]
 
+mod driving;
 mod laws;
 mod lines;
 mod printing;
@@ -9,16 +10,16 @@ mod saving;
 mod stepping;
 mod tracing;
 
+pub use driving::{Lines, Performs, print_lines};
 pub use laws::{parts_of_a_trace_join, records_are_of_actors};
 pub use lines::{perform_line, step};
+pub use mx_app_failure::{Failure, print_text};
 pub use mx_app_start::{
-    BootError, Channels, Config, DebugScript, Failure, FileWriter, History, InputLines, KeptFile,
-    LineReader, Machine, MemoryWriter, NamedFile, NamedFiles, Out, Reader, Record, RuntimeFiles,
-    RuntimeWriter, Script, ScriptLine, Started, Tool, config_of, lines_above, names_program,
-    print_text, report, saved_text, setup_of, start, text_of,
+    FileWriter, History, LineReader, Reader, RuntimeFiles, RuntimeWriter, Script, Started,
+    setup_of, start,
 };
-pub use mx_print_answers::Said;
-pub use printing::{pieces_join, print_kernel_report, print_piece, print_report};
+pub use mx_boot::{lines_above, report, saved_text};
+pub use printing::print_kernel_report;
 pub use records::{Replayed, perform_records, print_refusal, refusal_line, replay};
 pub use saving::{step_saved, write_history};
 pub use stepping::make_steps;

@@ -1,6 +1,6 @@
 //! What is printed of a machine.
 
-ghost use Rattle.std.specs.Prelude.{◌++◌, ℕ, List, Option, IfErr, OnOk, string_bytes};
+ghost use Rattle.std.specs.Prelude.{IfErr, OnOk, string_bytes};
 ghost use Rattle.std.specs.Io.KnownBytes.{Appends};
 ghost use Rattle.mx_app_start.specs.Failure.{IsWanting};
 ghost use Rattle.mx_app_start.specs.Machine.{world_of};
@@ -8,8 +8,9 @@ ghost use Rattle.mx_app_start.specs.Report.{report_text};
 ghost use Rattle.mx_machine.specs.History.{replay};
 ghost use Rattle.mx_app_step.specs.Pieces.{IsPrintedBut};
 
-use mx_app_start::{Failure, Machine, print_text, report};
-use mx_machine::Kernel;
+use mx_app_failure::{Failure, print_text};
+use mx_boot::report;
+use mx_machine::{Kernel, Machine};
 use std::alloc::Global;
 use std::io::Write;
 
@@ -18,7 +19,7 @@ const PIECE: usize = 1 << 16;
 
 /// Prints a text and empties it, if it is long. So a text that goes on is printed in pieces, and what is left
 /// at the end is still to be printed.
-pub fn print_piece<W: Write>(text: &mut String, out: &mut W) -> Result<(), Failure>
+pub(crate) fn print_piece<W: Write>(text: &mut String, out: &mut W) -> Result<(), Failure>
     ensures err { IfErr result IsWanting }
     ensures printed { OnOk result (IsPrintedBut (W.contents out.old) (W.contents out.new)
         (string_bytes text.new) (string_bytes text.old)) }
@@ -30,16 +31,6 @@ pub fn print_piece<W: Write>(text: &mut String, out: &mut W) -> Result<(), Failu
     text.clear();
     Ok(())
 }
-
-/// Law: a text that is printed in pieces may go on: a line comes to its end, and a piece is printed;
-/// or the end is.
-pub fn pieces_join()
-    ensures next { (x y z : Option (List ℕ)) (end left text line : List ℕ)
-        → IsPrintedBut x y end text
-        → IsPrintedBut y z left (end ++ line) → IsPrintedBut x z left (text ++ line) }
-    ensures rest { (x y z : Option (List ℕ)) (end text : List ℕ) → IsPrintedBut x y end text
-        → Appends y z end → Appends x z text }
-{}
 
 /// Prints the report on a kernel's processes, and flushes. After an error, which is memory or the output,
 /// a part of it may be printed.
@@ -57,7 +48,7 @@ pub fn print_kernel_report<W: Write>(
 }
 
 /// Prints the report on a machine's processes, as `print_kernel_report` does.
-pub fn print_report<W: Write>(alloc: Global, machine: &Machine, out: &mut W) -> Result<(), Failure>
+pub(crate) fn print_report<W: Write>(alloc: Global, machine: &Machine, out: &mut W) -> Result<(), Failure>
     ensures err { IfErr result IsWanting }
     ensures bytes { OnOk result (Appends (W.contents out.old) (W.contents out.new)
         (report_text (world_of machine.now).table (world_of machine.now).services)) }

@@ -19,8 +19,10 @@ ghost use Rattle.mx_app_step.specs.Records.{IsReplayPrinted, IsRefusedAt, refuse
 ghost use Rattle.mx_app_start.specs.Telling.{IsTold};
 
 use crate::printing::print_report;
-use mx_app_start::{Failure, History, Machine, Reader, Record, lines_above, print_text, start};
-use mx_machine::{Refusal, actors_stay};
+use mx_app_failure::{Failure, print_text};
+use mx_app_start::{History, Reader, start};
+use mx_boot::lines_above;
+use mx_machine::{Machine, Record, Refusal, actors_stay};
 use mx_print_answers::Said;
 use mx_walk::finish_record;
 use std::alloc::{AllocError, Global};

@@ -20,12 +20,12 @@ ghost use Rattle.mx_app_step.specs.Kept.{history_made, lines_kept, text_kept, Is
 ghost use Rattle.mx_app_step.specs.Lines.{lines_made};
 ghost use Rattle.mx_app_step.specs.Numbered.{answers_text};
 
-use crate::lines::print_said;
+use crate::driving::{Lines, print_said};
+use crate::lines::ScriptPerformer;
 use crate::printing::print_report;
-use mx_app_start::{
-    Channels, Failure, FileWriter, Reader, Script, ScriptLine, Started, names_program, saved_text,
-    start,
-};
+use mx_app_failure::Failure;
+use mx_app_start::{Channels, FileWriter, Reader, Script, Started, names_program, start};
+use mx_boot::{ScriptLine, saved_text};
 use mx_machine::Kernel;
 use std::alloc::Global;
 use std::io::Write;
@@ -74,13 +74,16 @@ fn perform_and_save<F: FileWriter, W: Write>(
         (lines_kept started.old.machine.kernel (world_of started.old.machine) started.old.other
         started.old.lines.items)) ws f) }
 {
-    let lines = started.lines.as_slice();
+    let lines = Lines {
+        lines: started.lines.as_slice(),
+        other: started.other,
+        numbered,
+    };
     print_said(
         alloc,
+        &mut ScriptPerformer,
         &mut started.machine,
-        started.other,
-        lines,
-        numbered,
+        &lines,
         out,
     )?;
     write_history(alloc, started.machine.kernel(), files, log)?;

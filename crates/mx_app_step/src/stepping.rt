@@ -8,9 +8,8 @@ ghost use Rattle.mx_app_start.specs.Machine.{world_of};
 ghost use Rattle.mx_app_step.specs.Kept.{kept_by};
 ghost use Rattle.mx_app_step.specs.Lines.{event_made, run_made, steps_made};
 
-use mx_app_start::{Event, Held, Machine, Out, Tool, at_stop};
 use mx_image::Stop;
-use mx_machine::Refusal;
+use mx_machine::{Event, Held, Machine, Out, Refusal, Tool, at_stop};
 use mx_print_answers::{Said, said_of};
 
 /// Makes that many steps, and notes what is said of them.

@@ -18,11 +18,11 @@ ghost use Rattle.mx_app_step.specs.Records.{IsFirstRefusal};
 ghost use Rattle.mx_app_step.specs.Traces.{IsTracePrinted, IsTraced, resting_step, step_of, told_of};
 
 use crate::records::{Replayed, print_refusal};
-use mx_app_start::{
-    Failure, History, Machine, Reader, Record, Recorded, lines_above, print_text, start,
-};
+use mx_app_failure::{Failure, print_text};
+use mx_app_start::{History, Reader, start};
+use mx_boot::lines_above;
 use mx_look_trace::{Glance, Step, push_record};
-use mx_machine::{Refusal, actors_stay};
+use mx_machine::{Machine, Record, Recorded, Refusal, actors_stay};
 use mx_walk::{make_event, make_steps, own_event, steps_in};
 use std::alloc::Global;
 use std::io::Write;

@@ -4,8 +4,7 @@ ghost use Rattle.std.specs.Prelude.{◌≡◌, ◌<◌, ◌≤◌, [], IfOk, len
 ghost use Rattle.mx_app_step.specs.Machine.{world_of};
 ghost use Rattle.mx_machine.specs.Boot.{world_at_boot};
 
-use mx_app_step::{Config, Machine};
-use mx_machine::Kernel;
+use mx_machine::{Config, Kernel, Machine};
 use mx_word::NoMemory;
 use std::alloc::Global;
 

@@ -6,10 +6,10 @@ ghost use Rattle.mx_text.specs.Lines.{lines};
 ghost use Rattle.mx_boot.specs.Reading.{AreLinesRead, TellsUnread};
 ghost use Rattle.mx_app_turns.specs.Events.{outside_event_of, outside_line};
 
-use mx_app_start::{BootError, Config, Course};
+use mx_app_start::Course;
 use mx_boot::{ReadsLine, Verb, only_count, read_lines, verb_named};
-use mx_text::next_field;
-use mx_turns::Event;
+use mx_machine::{Config, Event};
+use mx_text::{BootError, next_field};
 use std::alloc::Global;
 
 /// The outside event that a line names, if it begins with a verb and goes on like this: `line L`, `tick` or `kill E`.

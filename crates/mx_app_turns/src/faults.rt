@@ -5,8 +5,10 @@ ghost use Rattle.mx_app_step.specs.Machine.{world_of};
 ghost use Rattle.mx_machine.specs.World.{actors};
 ghost use Rattle.mx_app_turns.specs.Faults.{fault_kept, fault_made, line_now};
 
-use mx_app_step::{Machine, Said, ScriptLine, perform_line};
-use mx_machine::Refusal;
+use mx_app_step::perform_line;
+use mx_boot::ScriptLine;
+use mx_machine::{Machine, Refusal};
+use mx_print_answers::Said;
 
 /// A line of a fault.
 #[derive(Clone, Copy, Debug, PartialEq, Eq)]

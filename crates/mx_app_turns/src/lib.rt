@@ -20,7 +20,5 @@ pub use events::{OutsideEvents, outside_event_of, outside_events};
 pub use fault_files::fault_lines;
 pub use faults::FaultLine;
 pub use laws::{bound_is_not_met, turns_again};
-pub use mx_app_step::{Channels, Failure, FileWriter, Reader};
-pub use mx_turns::{Ending, Event};
 pub use sweeping::{SweepNames, SweepWanted, Swept, sweep};
 pub use turning::{TurnsNames, TurnsWanted, turns, writes_over};

@@ -8,8 +8,7 @@ ghost use Rattle.mx_app_turns.specs.Sweep.{are_alike, end_text, ending_word, kep
 ghost use Rattle.mx_app_turns.specs.Swept.{IsSwept};
 
 use crate::running::{Sweep, run_at};
-use mx_app_step::Machine;
-use mx_machine::{Kernel, Service};
+use mx_machine::{Kernel, Machine, Service};
 use mx_print_report::{Naming, push_console, push_count, push_process};
 use mx_proc::Table;
 use mx_text::next_line;
@@ -71,7 +70,7 @@ fn push_end(
     ensures { OnOk result (text.new.items ≡ text.old.items
         ++ end_text naming (replay kernel.now) ending) }
 {
-    kernel.opened();
+    kernel.facts();
     push_processes(text, naming, kernel.table(), kernel.services())?;
     text.extend_from_slice(b"  ")?;
     text.extend_from_slice(ending_word(ending))?;

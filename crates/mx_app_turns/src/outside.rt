@@ -3,8 +3,7 @@
 ghost use Rattle.std.specs.Prelude.{◌≡◌, ◌++◌, IfOk, OnOk};
 ghost use Rattle.mx_app_turns.specs.Sweep.{coming, outside_event};
 
-use mx_app_step::Record;
-use mx_machine::{Event, Recorded};
+use mx_machine::{Event, Record, Recorded};
 use std::alloc::{AllocError, Global};
 
 /// The outside event that a record has, if it is a line or a tick.

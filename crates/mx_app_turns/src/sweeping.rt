@@ -22,11 +22,12 @@ use crate::fault_files::fault_lines;
 use crate::faults::FaultLine;
 use crate::outcomes::{Outcome, outcome_at};
 use crate::running::Sweep;
-use mx_app_start::{Part, Progress};
-use mx_app_step::{
-    Channels, Config, Failure, FileWriter, History, Machine, Reader, Record, Started, lines_above,
-    names_program, perform_records, print_refusal, print_text, start, text_of, write_history,
-};
+use mx_app_failure::{Failure, print_text};
+use mx_app_start::{Channels, FileWriter, History, Reader, Started, names_program, start, text_of};
+use mx_app_step::{perform_records, print_refusal, write_history};
+use mx_boot::lines_above;
+use mx_machine::{Config, Machine, Record};
+use mx_walk::{Part, Progress};
 use std::alloc::Global;
 use std::io::Write;
 

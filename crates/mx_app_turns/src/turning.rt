@@ -13,13 +13,12 @@ ghost use Rattle.mx_app_step.specs.Written.{Written};
 ghost use Rattle.mx_app_turns.specs.Turned.{IsBegun, IsNotBegun, MakesTurns, writes_over};
 
 use crate::events::OutsideEvents;
-use mx_app_start::{Progress, start};
-use mx_app_step::{
-    Channels, Config, Failure, FileWriter, Machine, Reader, names_program, print_kernel_report,
-    setup_of, write_history,
-};
-use mx_machine::Kernel;
-use mx_turns::{Ending, Event, Outside, make_turns};
+use mx_app_failure::Failure;
+use mx_app_start::{Channels, FileWriter, Reader, names_program, setup_of, start};
+use mx_app_step::{print_kernel_report, write_history};
+use mx_machine::{Config, Event, Kernel, Machine};
+use mx_turns::{Ending, Outside, make_turns};
+use mx_walk::Progress;
 use std::alloc::Global;
 use std::io::Write;
 
@@ -150,7 +149,7 @@ pub fn turns<R: Reader + Drop, F: FileWriter + Drop, W: Write + Drop, P: Progres
     let ending = make_turns(&mut begun.machine, outside, bound, log, progress);
     progress.clear();
     let kernel = begun.machine.kernel();
-    kernel.opened();
+    kernel.facts();
     write_history(alloc, kernel, &mut channels.files, names.log)?;
     print_kernel_report(alloc, kernel, &mut channels.out)?;
     Ok(ending)

@@ -30,7 +30,7 @@ use Rattle.mx_encode.specs.Given.{OperandFits, ImmediateFits, WideImmediateFits,
 use Rattle.mx_insn_words.specs.declared.mnemonic.Mnemonic.{Mnemonic}
 use Rattle.mx_insn_words.specs.declared.mnemonic.Mnemonic.TheVariants as mnemonics
 use Rattle.mx_insn_words.specs.declared.mnemonic.Single.{Single}
-use Rattle.mx_insn_words.specs.declared.mnemonic.Single.TheVariants.{Mov, Test, Xchg, Lea, Movzx, Movsx, Push, Pop, Jmp, Call, Ret, Int, Cbw, Cwde, Cwd, Cdq, In, Out}
+use Rattle.mx_insn_words.specs.declared.mnemonic.Single.TheVariants.{Mov, Test, Xchg, Lea, Movzx, Movsx, Push, Jmp, Call, Ret, Int, Cbw, Cwde, Cwd, Cdq, In, Out}
 use Rattle.mx_insn_words.specs.declared.start.Prefix.{Prefix}
 use Rattle.mx_insn_words.specs.declared.start.Prefix.TheVariants.{Rep, Repe, Repne}
 use Rattle.mx_asm_statement.specs.declared.argument.Argument.{Argument}
@@ -53,7 +53,7 @@ use Rattle.mx_asm_statement.specs.SizedOperands.{statement_of_insn, memory_named
 use Rattle.mx_asm_statement.specs.Pairs.{pair_into_memory, operands_of}
 use Rattle.mx_asm_statement.specs.Operations.{unary, test, sized_factor, factor_of, product, shift_count_of, shift, double_shift, bit_test, bit_scan, set_condition_statement}
 use Rattle.mx_asm_statement.specs.Moves.{exchange, load_address_statement, extension_between, extension_parts, zero_extend, sign_extend}
-use Rattle.mx_asm_statement.specs.Stack.{statement_without_arguments, push, pop, return_of, interrupt, port_of, port_size_of, port_in, port_out}
+use Rattle.mx_asm_statement.specs.Stack.{statement_without_arguments, push, only_register, return_of, interrupt, port_of, port_size_of, port_in, port_out}
 use Rattle.mx_asm_statement.specs.Transfers.{jump, jump_if_statement, call, loop_statement}
 use Rattle.mx_asm_statement.specs.Statements.{IsCode, arithmetic_statement, move_statement, statement_for_single, statement_for, statement_after_prefix}
 
@@ -396,15 +396,6 @@ push_fits (arguments.Value v ∷ y ∷ ys) = tt
 push_fits (arguments.Register s r ∷ y ∷ ys) = tt
 push_fits (arguments.Memory n a ∷ y ∷ ys) = tt
 
-pop_fits : (xs : List Argument) → If StatementFits (pop xs)
-pop_fits [] = tt
-pop_fits (arguments.Register Dword r ∷ []) = says_fits (insns.Pop r) None None tt
-pop_fits (arguments.Register Dword r ∷ y ∷ ys) = tt
-pop_fits (arguments.Register Byte r ∷ ys) = tt
-pop_fits (arguments.Register Word r ∷ ys) = tt
-pop_fits (arguments.Memory n a ∷ ys) = tt
-pop_fits (arguments.Value v ∷ ys) = tt
-
 return_fits : (xs : List Argument) → If StatementFits (return_of xs)
 return_fits [] = says_fits (insns.Return 0) None None (lit< tt)
 return_fits (arguments.Value v ∷ []) = next (Within Word) StatementFits (number_in Word v) _ (number_fits Word v) (λ n h. says_fits (insns.Return n) None None h)
@@ -500,7 +491,6 @@ single_fits length Lea xs = load_fits xs
 single_fits length Movzx xs = zero_extend_fits xs
 single_fits length Movsx xs = sign_extend_fits xs
 single_fits length Push xs = push_fits xs
-single_fits length Pop xs = pop_fits xs
 single_fits length Jmp xs = jump_fits length xs
 single_fits length Call xs = call_fits xs
 single_fits length Ret xs = return_fits xs
@@ -511,6 +501,8 @@ single_fits length Cwd xs = alone_fits (insns.SpreadSign operand_sizes.Word) xs 
 single_fits length Cdq xs = alone_fits (insns.SpreadSign operand_sizes.Dword) xs tt
 single_fits length In xs = in_port xs
 single_fits length Out xs = out_port xs
+-- what has one register and no number, as POP
+single_fits length _ xs = each StatementFits (only_register xs) _ (λ r. says_fits _ None None tt)
 
 pub stated_fits : (length : JumpLength) (m : Mnemonic) (xs : List Argument) → If StatementFits (statement_for length m xs)
 stated_fits length (mnemonics.Arithmetic o) xs = arithmetic_fits o xs

@@ -1,6 +1,7 @@
 -- The stack, interrupts and ports: PUSH, POP, RET, INT, IN, OUT, and what has no operands.
 use Rattle.std.specs.Prelude.{Option, Some, None, List, [], ◌∷◌}
 use Rattle.mx_word.specs.declared.size.Size.TheVariants.{Byte, Word, Dword}
+use Rattle.mx_word.specs.declared.names.Register.{Register}
 use Rattle.mx_word.specs.declared.names.Register.TheVariants.{Eax, Edx}
 use Rattle.mx_insn.specs.declared.insn.Port.{Port}
 use Rattle.mx_insn.specs.declared.insn.Port.TheVariants as ports
@@ -29,9 +30,15 @@ push (x ∷ []) = do
   statement_of_insn (insns.Push spot.operand) None spot.displacement
 push _ = None
 
+-- the register of a form that has one dword register and nothing else
+abbrev pub only_register : List Argument → Option Register
+only_register (arguments.Register Dword r ∷ []) = Some r
+only_register _ = None
+
 abbrev pub pop : List Argument → Option Statement
-pop (arguments.Register Dword r ∷ []) = statement_of_insn (insns.Pop r) None None
-pop _ = None
+pop xs = do
+  r ← only_register xs
+  statement_of_insn (insns.Pop r) None None
 
 abbrev pub return_of : List Argument → Option Statement
 return_of [] = statement_of_insn (insns.Return 0) None None

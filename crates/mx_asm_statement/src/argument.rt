@@ -7,8 +7,8 @@ use crate::Value;
 use crate::item::Item;
 use crate::memory::{Address, address_of};
 use crate::value_items::value_of;
-use mx_insn::{Register, Size};
 use mx_lex::Mark;
+use mx_word::{Register, Size};
 
 /// What an operand is in a text: a register, a value, or a place in memory with its size word or
 /// without.

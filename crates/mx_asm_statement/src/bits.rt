@@ -5,7 +5,8 @@ ghost use Rattle.mx_asm_statement.specs.Operations.{double_shift, bit_test, bit_
 
 use crate::operations::count_of;
 use crate::{Argument, Statement, number_in, says, spot_beside, spot_of_size};
-use mx_insn::{BitScan, BitTest, DoubleShift, Insn, Size};
+use mx_insn::Insn;
+use mx_word::{BitScan, BitTest, DoubleShift, Size};
 
 fn double_shift_three(
     operation: DoubleShift,

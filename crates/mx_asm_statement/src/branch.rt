@@ -1,6 +1,7 @@
 //! Jumps, calls and loops of a text, whose target is a value.
 
-use mx_insn::{Condition, Loop};
+use mx_insn::Loop;
+use mx_word::Condition;
 
 /// How long the displacement of a jump is.
 #[derive(Clone, Copy)]

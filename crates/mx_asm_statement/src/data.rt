@@ -5,7 +5,7 @@ ghost use Rattle.mx_asm_statement.specs.Data.{data_value_in, data_of};
 
 use crate::number::number_in;
 use crate::{DataValues, Item, Statement, Value, split_at_comma, value_of};
-use mx_insn::Size;
+use mx_word::Size;
 use std::alloc::{AllocError, Global};
 
 /// The value of items, if it fits.

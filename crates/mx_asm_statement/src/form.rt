@@ -10,8 +10,9 @@ use crate::{
     Argument, JumpLength, Statement, call, exchange, jump, jump_if, load_address, looping,
     operands_of, says, sign_extend, zero_extend,
 };
-use mx_insn::{Arithmetic, Insn, OperandSize, Repeat};
+use mx_insn::{Insn, OperandSize, Repeat};
 use mx_insn_words::{Mnemonic, Prefix, Single};
+use mx_word::Arithmetic;
 
 fn arithmetic(operation: Arithmetic, arguments: &[Argument]) -> Option<Statement>
     ensures { result ≡ arithmetic_statement operation arguments.now }

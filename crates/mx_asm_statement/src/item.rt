@@ -3,9 +3,9 @@
 ghost use Rattle.std.specs.Prelude.{◌≡◌};
 ghost use Rattle.mx_asm_statement.specs.Items.{is_long};
 
-use mx_insn::{Register, Size};
 use mx_lex::Mark;
 use mx_text::Name;
+use mx_word::{Register, Size};
 
 /// A token, and what it is as a part of an operand.
 #[derive(Clone, Copy)]

@@ -9,8 +9,9 @@ ghost use Rattle.mx_asm_statement.specs.Addresses.{scale_of_number, displacement
 use crate::Value;
 use crate::item::Item;
 use crate::value_items::value_of;
-use mx_insn::{Index, Register, Scale, Size};
+use mx_insn::{Index, Scale};
 use mx_lex::Mark;
+use mx_word::{Register, Size};
 
 /// A place in memory: base + index * scale + value.
 #[derive(Clone, Copy)]

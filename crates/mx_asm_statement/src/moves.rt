@@ -6,7 +6,8 @@ ghost use Rattle.mx_asm_statement.specs.Moves.{exchange, load_address_statement,
 use crate::number::waiting;
 use crate::sized_operand::{memory_named, not_byte, says, spot_beside, spot_of};
 use crate::{Argument, Statement, Value};
-use mx_insn::{Extension, Insn, Operand, Register, Size};
+use mx_insn::{Extension, Insn, Operand};
+use mx_word::{Register, Size};
 
 fn exchange_two(first: Argument, second: Argument) -> Option<Statement>
     ensures { result ≡ exchange (first ∷ second ∷ []) }

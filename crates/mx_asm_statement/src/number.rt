@@ -5,7 +5,8 @@ ghost use Rattle.mx_word.specs.Word.{width};
 ghost use Rattle.mx_asm_statement.specs.Numbers.{number_in, value_waiting, immediate_in, names_no_other};
 
 use crate::Value;
-use mx_insn::{Immediate, Size};
+use mx_insn::Immediate;
+use mx_word::Size;
 
 /// The word of `size` bits of a value: its low bits if it is in -2^(w-1) to 2^w - 1, and 0 if it has a name,
 /// for which only 32 bits suffice.

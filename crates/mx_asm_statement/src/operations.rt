@@ -7,7 +7,8 @@ use crate::{
     Argument, Statement, Value, immediate_in, not_byte, number_in, says, spot_beside, spot_of,
     spot_of_size, waiting,
 };
-use mx_insn::{Condition, Count, Insn, Product, Register, Shift, Size, Unary, WideImmediate};
+use mx_insn::{Count, Insn, Product, WideImmediate};
+use mx_word::{Condition, Register, Shift, Size, Unary};
 
 /// The statement of INC, DEC, NOT or NEG with its arguments.
 pub fn unary(operation: Unary, arguments: &[Argument]) -> Option<Statement>

@@ -7,7 +7,8 @@ ghost use Rattle.mx_asm_statement.specs.Pairs.{pair_into_register, pair_into_mem
 use crate::number::{immediate_in, names_no_other, waiting};
 use crate::sized_operand::{SizedOperand, memory_named, spot_beside, spot_of};
 use crate::{Address, Argument, Value};
-use mx_insn::{Operand, Operands, Register, Size};
+use mx_insn::{Operand, Operands};
+use mx_word::{Register, Size};
 
 /// Two operands, and the values that are still to be put into their numbers.
 #[derive(Clone, Copy)]

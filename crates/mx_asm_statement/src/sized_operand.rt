@@ -5,7 +5,8 @@ ghost use Rattle.mx_asm_statement.specs.SizedOperands.{statement_of_insn, statem
 
 use crate::number::{names_no_other, number_in, waiting};
 use crate::{Address, Argument, Branch, Instruction, Statement, Value};
-use mx_insn::{Insn, Memory, Operand, OperandSize, Size};
+use mx_insn::{Insn, Memory, Operand, OperandSize};
+use mx_word::Size;
 
 /// A register or a place in memory, with its size, and the value that is still to be put into its
 /// displacement.

@@ -1,10 +1,11 @@
 //! Forms of the stack, interrupts and ports.
 
 ghost use Rattle.std.specs.Prelude.{◌≡◌, ◌∷◌, []};
-ghost use Rattle.mx_asm_statement.specs.Stack.{statement_without_arguments, push, pop, return_of, interrupt, port_of, port_size_of, port_in, port_out};
+ghost use Rattle.mx_asm_statement.specs.Stack.{statement_without_arguments, push, only_register, pop, return_of, interrupt, port_of, port_size_of, port_in, port_out};
 
 use crate::{Argument, Statement, number_in, says, spot_of_size, waiting};
-use mx_insn::{Insn, Port, PortSize, Register, Size};
+use mx_insn::{Insn, Port, PortSize};
+use mx_word::{Register, Size};
 
 /// The statement of an instruction that takes no arguments.
 pub fn alone(insn: Insn, arguments: &[Argument]) -> Option<Statement>
@@ -41,11 +42,12 @@ pub fn push(arguments: &[Argument]) -> Option<Statement>
     }
 }
 
-fn pop_one(first: Argument) -> Option<Statement>
-    ensures { result ≡ pop (first ∷ []) }
+/// The register of a form that has one dword register and nothing else.
+pub fn only_register(arguments: &[Argument]) -> Option<Register>
+    ensures { result ≡ only_register arguments.now }
 {
-    match first {
-        Argument::Register(Size::Dword, register) => says(Insn::Pop(register), None, None),
+    match arguments {
+        [Argument::Register(Size::Dword, register)] => Some(*register),
         _ => None,
     }
 }
@@ -54,10 +56,8 @@ fn pop_one(first: Argument) -> Option<Statement>
 pub fn pop(arguments: &[Argument]) -> Option<Statement>
     ensures { result ≡ pop arguments.now }
 {
-    match arguments {
-        [first] => pop_one(*first),
-        _ => None,
-    }
+    let register = only_register(arguments)?;
+    says(Insn::Pop(register), None, None)
 }
 
 fn return_one(first: Argument) -> Option<Statement>

@@ -5,7 +5,8 @@ ghost use Rattle.mx_asm_statement.specs.Transfers.{jump, jump_if_statement, call
 
 use crate::sized_operand::{goes, says, spot_of_size};
 use crate::{Argument, Branch, JumpLength, Statement};
-use mx_insn::{Condition, Insn, Loop, Size};
+use mx_insn::{Insn, Loop};
+use mx_word::{Condition, Size};
 
 fn jump_one(length: JumpLength, first: Argument) -> Option<Statement>
     ensures { result ≡ jump length (first ∷ []) }

@@ -1,7 +1,7 @@
 -- Each verb's word is that of no verb before it.
 use Rattle.std.proofs.Common.{◌≡◌, Some, refl}
 use Rattle.mx_boot.specs.declared.verb.Verb.{Verb}
-use Rattle.mx_boot.specs.declared.verb.Verb.TheVariants.{Step, Take, Back, Line, Tick, Kill, Respawn, Break, Clear, Go, Registers, Memory, Messages}
+use Rattle.mx_boot.specs.declared.verb.Verb.TheVariants.{Step, Take, Back, Line, Tick, Kill, Respawn}
 use Rattle.mx_boot.specs.Verbs.{verb_word, verb_of}
 
 pub verb_of-own : (v : Verb) → verb_of (verb_word v) ≡ Some v
@@ -13,9 +13,3 @@ verb_of-own Line = refl
 verb_of-own Tick = refl
 verb_of-own Kill = refl
 verb_of-own Respawn = refl
-verb_of-own Break = refl
-verb_of-own Clear = refl
-verb_of-own Go = refl
-verb_of-own Registers = refl
-verb_of-own Memory = refl
-verb_of-own Messages = refl

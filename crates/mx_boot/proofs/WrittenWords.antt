@@ -7,7 +7,7 @@ use Rattle.std.proofs.lemmas.List.Folds.{list_all-append}
 use Rattle.mx_text.specs.Lines.{lines, begun_by}
 use Rattle.mx_text.specs.Fields.{is_space, has_bytes, fields}
 use Rattle.mx_boot.specs.declared.verb.Verb.{Verb}
-use Rattle.mx_boot.specs.declared.verb.Verb.TheVariants.{Step, Take, Back, Line, Tick, Kill, Respawn, Break, Clear, Go, Registers, Memory, Messages}
+use Rattle.mx_boot.specs.declared.verb.Verb.TheVariants.{Step, Take, Back, Line, Tick, Kill, Respawn}
 use Rattle.mx_boot.specs.Verbs.{verb_word}
 use Rattle.mx_boot.specs.Words.{is_word_byte_of_script, is_field_word, AreWords, joined_words, lines_of_words}
 
@@ -103,9 +103,3 @@ verb_is_word Line = refl
 verb_is_word Tick = refl
 verb_is_word Kill = refl
 verb_is_word Respawn = refl
-verb_is_word Break = refl
-verb_is_word Clear = refl
-verb_is_word Go = refl
-verb_is_word Registers = refl
-verb_is_word Memory = refl
-verb_is_word Messages = refl

@@ -7,7 +7,7 @@ pub mod Reading
 pub mod Verbs
 pub mod Script
 pub mod Addresses
-pub mod Debug
+pub mod Places
 pub mod Words
 pub mod Text
 pub mod Log

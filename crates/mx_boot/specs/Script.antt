@@ -55,7 +55,6 @@ script_line_of verbs.Kill fs = do
 script_line_of verbs.Respawn fs = do
   s ← only_count fs
   Some (Respawn s)
-script_line_of _ fs = None
 
 -- what the fields after a verb are read as, by `rest`
 abbrev pub after_verb : {T : Type 0} → (Verb → List (List ℕ) → Option T) → List (List ℕ) → Option T

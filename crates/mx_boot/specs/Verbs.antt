@@ -2,7 +2,7 @@
 use Rattle.std.specs.Prelude.{ℕ, List, [], ◌∷◌, Option, codes, find}
 use Rattle.std.specs.Str.{bytes_eq}
 use Rattle.mx_boot.specs.declared.verb.Verb.{Verb}
-use Rattle.mx_boot.specs.declared.verb.Verb.TheVariants.{Step, Take, Back, Line, Tick, Kill, Respawn, Break, Clear, Go, Registers, Memory, Messages}
+use Rattle.mx_boot.specs.declared.verb.Verb.TheVariants.{Step, Take, Back, Line, Tick, Kill, Respawn}
 
 abbrev pub verb_word : Verb → List ℕ
 verb_word Step = codes "step"
@@ -12,15 +12,9 @@ verb_word Line = codes "line"
 verb_word Tick = codes "tick"
 verb_word Kill = codes "kill"
 verb_word Respawn = codes "respawn"
-verb_word Break = codes "break"
-verb_word Clear = codes "clear"
-verb_word Go = codes "go"
-verb_word Registers = codes "regs"
-verb_word Memory = codes "mem"
-verb_word Messages = codes "messages"
 
 abbrev pub verbs : List Verb
-verbs = Step ∷ Take ∷ Back ∷ Line ∷ Tick ∷ Kill ∷ Respawn ∷ Break ∷ Clear ∷ Go ∷ Registers ∷ Memory ∷ Messages ∷ []
+verbs = Step ∷ Take ∷ Back ∷ Line ∷ Tick ∷ Kill ∷ Respawn ∷ []
 
 -- the verb that a word is
 unfoldable pub verb_of : List ℕ → Option Verb

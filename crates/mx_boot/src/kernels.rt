@@ -54,7 +54,7 @@ pub fn saved_again(kernel: &Kernel, config: &Config)
         (saved_text kernel.now.boot.table.rules kernel.now.history) kernel.now.boot.table.rules
         kernel.now.history }
 {
-    kernel.opened();
+    kernel.facts();
     history_again();
 }
 
@@ -63,6 +63,6 @@ pub fn report(alloc: Global, kernel: &Kernel) -> Result<Vec<u8>, NoMemory>
     ensures { IfOk result (λ report. report.items
         ≡ report_text (replay kernel.now).table (replay kernel.now).services) }
 {
-    kernel.opened();
+    kernel.facts();
     report_of(alloc, kernel.table(), kernel.services())
 }

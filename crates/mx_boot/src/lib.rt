@@ -4,7 +4,6 @@
 
 mod address_word;
 mod comment;
-mod debug;
 mod draft;
 mod history_laws;
 mod item;
@@ -26,15 +25,14 @@ mod verb;
 
 pub use address_word::{AddressWord, address_named, symbol_name, word_number};
 pub use comment::before_byte;
-pub use debug::{DebugLine, debug_script};
 pub use history_laws::{history_again, one_history, one_text};
 pub use items::{before_comment, has_stray};
 pub use kernels::{report, save, saved_again, saved_text};
 pub use laws::{number_again, verb_again, words_again};
 pub use logs::{lines_above, log};
-pub use mx_machine::{Config, FileName, ServiceLine, ServiceLines};
+pub(crate) use mx_machine::Config;
 pub use mx_text::BootError;
-pub use numbers::{actor, count, only_actor, only_count};
+pub use numbers::{actor, actor_and_count, count, only_actor, only_count};
 pub use place::{CodePlace, SymbolName, place_named};
 pub use reading::config;
 pub use saving::{SaveFault, save_history};

@@ -14,7 +14,8 @@ ghost use Rattle.mx_boot.specs.Log.{recorded_of, record_by, record_line, is_ende
 
 use crate::history_laws::{history_again, one_history};
 use crate::{ReadsLine, Verb, actor, only_count, read_lines, verb_named};
-use mx_machine::{Config, Record, Recorded, Rules};
+use mx_machine::{Config, Record, Recorded};
+use mx_proc::Rules;
 use mx_text::{BootError, next_field, next_line};
 use std::alloc::Global;
 

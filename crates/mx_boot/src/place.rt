@@ -1,7 +1,7 @@
 //! Places in a program, as a debugger's script names them: by an address or a symbol.
 
 ghost use Rattle.std.specs.Prelude.{◌≡◌, ◌<◌, ◌≤◌, length, Some, None};
-ghost use Rattle.mx_boot.specs.Debug.{named_place, code_place_of};
+ghost use Rattle.mx_boot.specs.Places.{named_place, code_place_of};
 
 use crate::numbers::count;
 use arrayvec::ArrayVec;

@@ -10,7 +10,8 @@ ghost use Rattle.mx_boot.specs.Text.{event_words, record_words, history_text, ru
 use crate::sink::{Sink, SinkFault};
 use arrayvec::ArrayVec;
 use itoa::Buffer;
-use mx_machine::{Record, Recorded, Rules};
+use mx_machine::{Record, Recorded};
+use mx_proc::Rules;
 
 /// The sink has failed.
 #[derive(Clone, Copy, Debug, PartialEq, Eq)]

@@ -48,7 +48,6 @@ pub fn script_line_of(verb: Verb, rest: &[u8]) -> Option<ScriptLine>
         },
         Verb::Kill => Some(ScriptLine::Kill(only_count(rest)?)),
         Verb::Respawn => Some(ScriptLine::Respawn(only_count(rest)?)),
-        _ => None,
     }
 }
 

@@ -15,16 +15,10 @@ pub enum Verb {
     Tick,
     Kill,
     Respawn,
-    Break,
-    Clear,
-    Go,
-    Registers,
-    Memory,
-    Messages,
 }
 
 /// All verbs.
-const VERBS: [Verb; 13] = [
+const VERBS: [Verb; 7] = [
     Verb::Step,
     Verb::Take,
     Verb::Back,
@@ -32,12 +26,6 @@ const VERBS: [Verb; 13] = [
     Verb::Tick,
     Verb::Kill,
     Verb::Respawn,
-    Verb::Break,
-    Verb::Clear,
-    Verb::Go,
-    Verb::Registers,
-    Verb::Memory,
-    Verb::Messages,
 ];
 
 impl Verb {
@@ -53,12 +41,6 @@ impl Verb {
             Verb::Tick => b"tick",
             Verb::Kill => b"kill",
             Verb::Respawn => b"respawn",
-            Verb::Break => b"break",
-            Verb::Clear => b"clear",
-            Verb::Go => b"go",
-            Verb::Registers => b"regs",
-            Verb::Memory => b"mem",
-            Verb::Messages => b"messages",
         }
     }
 }

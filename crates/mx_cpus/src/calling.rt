@@ -115,7 +115,7 @@ pub(crate) fn make_calls<M: Naming, G: WatchingGate, R: Wait>(
         seat result.0 }
     ensures side { result.1.actor ≡ seat.actor }
 {
-    seat.opened();
+    seat.facts();
     let mut seat = seat;
     let mut side = side;
     for call in calls {

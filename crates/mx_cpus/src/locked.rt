@@ -84,7 +84,7 @@ impl<M: Naming> Locked<M> {
         requires table { seat.table ≡ M.table }
         ensures { IsRestCall M.boot seat result.0 result.1 }
     {
-        self.kernel.opened();
+        self.kernel.facts();
         (self.desk.note(seat), self.kernel.at_rest())
     }
 
@@ -94,7 +94,7 @@ impl<M: Naming> Locked<M> {
         ensures rest { IsRestCall M.boot seat result.0 result.1.at_rest }
         ensures records { result.1.records ≡ length result.0.seen }
     {
-        self.kernel.opened();
+        self.kernel.facts();
         let far = HowFar {
             records: self.kernel.history().len(),
             at_rest: self.kernel.at_rest(),
@@ -110,10 +110,10 @@ impl<M: Naming> Locked<M> {
     {
         // The seat sees the history first, also if the take is refused.
         let seat = self.desk.note(seat);
-        self.kernel.opened();
+        self.kernel.facts();
         match self.kernel.take(seat.actor()) {
             Ok(out) => {
-                self.kernel.opened();
+                self.kernel.facts();
                 let (seat, loan) = self.desk.lend(seat, out);
                 (seat, Ok(loan))
             }
@@ -133,7 +133,7 @@ impl<M: Naming> Locked<M> {
         // By the desk's contract this is what was lent, after the steps that it counts.
         let (seat, out) = self.desk.redeem(seat, loan);
         self.kernel.back(actor, out);
-        self.kernel.opened();
+        self.kernel.facts();
         (seat, self.kernel.history().len())
     }
 
@@ -147,11 +147,11 @@ impl<M: Naming> Locked<M> {
         actors_stay();
         // The seat sees the history first, also if the event is refused.
         let seat = self.desk.note(seat);
-        seat.opened();
-        self.kernel.opened();
+        seat.facts();
+        self.kernel.facts();
         match self.kernel.event(seat.actor(), event) {
             Ok(answer) => {
-                self.kernel.opened();
+                self.kernel.facts();
                 (self.desk.record(seat, recorded_as(event)), Ok(answer))
             }
             Err(refusal) => (seat, Err(refusal)),

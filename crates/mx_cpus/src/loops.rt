@@ -30,7 +30,7 @@ pub(crate) fn make_turns<M: Naming, G: WatchingGate, R: Wait>(
         seat result.0 }
     ensures side { result.1.actor ≡ seat.actor }
 {
-    seat.opened();
+    seat.facts();
     let mut seat = seat;
     let mut side = side;
     for _ in context.rt.forever() {
@@ -140,7 +140,7 @@ pub(crate) fn make_rounds<M: Naming, G: WatchingGate, R: Wait>(
         ticks seat result.0 }
     ensures side { result.1.actor ≡ seat.actor }
 {
-    seat.opened();
+    seat.facts();
     let mut seat = seat;
     let mut side = side;
     let mut left = ticks;

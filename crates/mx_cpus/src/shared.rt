@@ -55,7 +55,7 @@ impl<M: Naming> Shared<M> {
             let _seat = locked.show(seat);
         }
         let kernel = locked.into_kernel();
-        kernel.opened();
+        kernel.facts();
         kernel
     }
 

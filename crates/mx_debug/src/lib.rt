@@ -9,5 +9,4 @@ mod resuming;
 
 pub use error::DebugError;
 pub use halt::{Halt, HaltCause};
-pub use mx_machine::{Held, Kernel};
 pub use points::{Breakpoint, Debugger};

@@ -6,10 +6,8 @@ ghost use Rattle.mx_insn.specs.Spelling.{register, scale, base_of, index_of, sig
 ghost use Rattle.mx_decode.specs.Given.{Gives, number_at, displacement_at, immediate_at, sib_parts, base_field_parts, memory_field, operand_field, modrm_at, place_code, immediate_bound};
 
 use crate::DecodeFault;
-use mx_insn::{
-    ImmediateColumn, Index, Memory, ModRm, Operand, OperandSize, Register, Scale, Size, SizeMark,
-};
-use mx_word::signed;
+use mx_insn::{ImmediateColumn, Index, Memory, ModRm, Operand, OperandSize, Scale, SizeMark};
+use mx_word::{Register, Size, signed};
 
 #[inline(always)]
 pub fn register(field: u8) -> Register

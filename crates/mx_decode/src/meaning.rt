@@ -9,9 +9,10 @@ ghost use Rattle.mx_decode.specs.Given.{narrow_bound, shift_bound, parts_in, is_
 
 use crate::fields::register;
 use mx_insn::{
-    Arithmetic, Condition, Count, CountColumn, Extension, Immediate, Insn, Memory, Operand,
-    OperandSize, Operands, Pattern, Port, PortSize, Register, Repeat, Size, WideImmediate,
+    Count, CountColumn, Extension, Immediate, Insn, Memory, Operand, OperandSize, Operands,
+    Pattern, Port, PortSize, Repeat, WideImmediate,
 };
+use mx_word::{Arithmetic, Condition, Register, Size};
 
 /// What an instruction's bytes have besides the row: prefixes, fields and the immediate.
 #[derive(Clone, Copy)]

@@ -8,9 +8,10 @@ ghost use Rattle.mx_insn.specs.Spelling.{is_escaped};
 ghost use Rattle.mx_decode.specs.Map.{map_part, rows_in};
 
 use mx_insn::{
-    BitScan, BitTest, Comparison, CountColumn, DoubleShift, ImmediateColumn, Loop, ModRm,
-    OpcodeMap, Pattern, Plain, Product, Repeats, Row, Shift, SizeMark, Transfer, Unary,
+    Comparison, CountColumn, ImmediateColumn, Loop, ModRm, OpcodeMap, Pattern, Plain, Product,
+    Repeats, Row, SizeMark, Transfer,
 };
+use mx_word::{BitScan, BitTest, DoubleShift, Shift, Unary};
 
 macro_rules! row {
     ($escaped:literal $first:literal + $step:literal * $count:literal => $sizes:ident $repeats:ident $immediate:ident; $reg:expr; $pattern:expr) => {

@@ -100,12 +100,9 @@ each (insns.Move (operands.Immediate (operand.Register r) (immediate.Dword m))) 
 each (insns.Move (operands.Immediate (operand.Memory a) (immediate.Byte m))) = record { form = λ wide. refl; stays = λ s k. refl; held = λ long k h. refl }
 each (insns.Move (operands.Immediate (operand.Memory a) (immediate.Word m))) = record { form = λ wide. refl; stays = λ s k. refl; held = λ long k h. refl }
 each (insns.Move (operands.Immediate (operand.Memory a) (immediate.Dword m))) = record { form = λ wide. refl; stays = λ s k. refl; held = λ long k h. refl }
-each (insns.Test size o r) = record { form = λ wide. refl; stays = λ s k. refl; held = λ long k h. refl }
 each (insns.TestImmediate o (immediate.Byte m)) = record { form = λ wide. refl; stays = λ s k. refl; held = λ long k h. refl }
 each (insns.TestImmediate o (immediate.Word m)) = record { form = λ wide. refl; stays = λ s k. refl; held = λ long k h. refl }
 each (insns.TestImmediate o (immediate.Dword m)) = record { form = λ wide. refl; stays = λ s k. refl; held = λ long k h. refl }
-each (insns.Exchange size o r) = record { form = λ wide. refl; stays = λ s k. refl; held = λ long k h. refl }
-each (insns.LoadAddress size to m) = record { form = λ wide. refl; stays = λ s k. refl; held = λ long k h. refl }
 each (insns.Unary Inc Byte x) = record { form = λ wide. refl; stays = λ s k. refl; held = λ long k h. refl }
 each (insns.Unary Inc Word (operand.Register r)) = record { form = λ wide. refl; stays = λ s k. refl; held = λ long k h. refl }
 each (insns.Unary Inc Word (operand.Memory m)) = record { form = λ wide. refl; stays = λ s k. refl; held = λ long k h. refl }
@@ -118,40 +115,26 @@ each (insns.Unary Dec Dword (operand.Register r)) = record { form = λ wide. ref
 each (insns.Unary Dec Dword (operand.Memory m)) = record { form = λ wide. refl; stays = λ s k. refl; held = λ long k h. refl }
 each (insns.Unary Not size x) = record { form = λ wide. refl; stays = λ s k. refl; held = λ long k h. refl }
 each (insns.Unary Neg size x) = record { form = λ wide. refl; stays = λ s k. refl; held = λ long k h. refl }
-each (insns.Product o size x) = record { form = λ wide. refl; stays = λ s k. refl; held = λ long k h. refl }
-each (insns.Multiply size to from) = record { form = λ wide. refl; stays = λ s k. refl; held = λ long k h. refl }
 each (insns.MultiplyImmediate to from (wide_immediates.Word m)) = record { form = λ wide. same_place (shortens 16 m wide.immediate) _ _ _ refl refl; stays = λ s k. either_at (shortens 16 m s) _ _ k; held = λ long k h. refl }
 each (insns.MultiplyImmediate to from (wide_immediates.Dword m)) = record { form = λ wide. same_place (shortens 32 m wide.immediate) _ _ _ refl refl; stays = λ s k. either_at (shortens 32 m s) _ _ k; held = λ long k h. refl }
 each (insns.Shift o size x counts.Cl) = record { form = λ wide. refl; stays = λ s k. refl; held = λ long k h. refl }
 each (insns.Shift o size x (counts.Immediate m)) = record { form = λ wide. same_place (eqb m 1) _ _ _ refl refl; stays = λ s k. either_at (eqb m 1) _ _ k; held = λ long k h. none_of_two (eqb m 1) _ _ k refl refl }
 each (insns.DoubleShift o x r counts.Cl) = record { form = λ wide. refl; stays = λ s k. refl; held = λ long k h. refl }
 each (insns.DoubleShift o x r (counts.Immediate m)) = record { form = λ wide. refl; stays = λ s k. refl; held = λ long k h. refl }
-each (insns.BitTest o x m) = record { form = λ wide. refl; stays = λ s k. refl; held = λ long k h. refl }
-each (insns.BitTestRegister o r m) = record { form = λ wide. refl; stays = λ s k. refl; held = λ long k h. refl }
-each (insns.BitScan o to from) = record { form = λ wide. refl; stays = λ s k. refl; held = λ long k h. refl }
 each (insns.ZeroExtend ByteToWord to from) = record { form = λ wide. refl; stays = λ s k. refl; held = λ long k h. refl }
 each (insns.ZeroExtend ByteToDword to from) = record { form = λ wide. refl; stays = λ s k. refl; held = λ long k h. refl }
 each (insns.ZeroExtend WordToDword to from) = record { form = λ wide. refl; stays = λ s k. refl; held = λ long k h. refl }
 each (insns.SignExtend ByteToWord to from) = record { form = λ wide. refl; stays = λ s k. refl; held = λ long k h. refl }
 each (insns.SignExtend ByteToDword to from) = record { form = λ wide. refl; stays = λ s k. refl; held = λ long k h. refl }
 each (insns.SignExtend WordToDword to from) = record { form = λ wide. refl; stays = λ s k. refl; held = λ long k h. refl }
-each (insns.SetCondition c o) = record { form = λ wide. refl; stays = λ s k. refl; held = λ long k h. refl }
 each (insns.Push (operand.Register r)) = record { form = λ wide. refl; stays = λ s k. refl; held = λ long k h. refl }
 each (insns.Push (operand.Memory m)) = record { form = λ wide. refl; stays = λ s k. refl; held = λ long k h. refl }
 each (insns.PushImmediate m) = record { form = λ wide. same_place (shortens 32 m wide.immediate) _ _ _ refl refl; stays = λ s k. either_at (shortens 32 m s) _ _ k; held = λ long k h. refl }
-each (insns.Pop r) = record { form = λ wide. refl; stays = λ s k. refl; held = λ long k h. refl }
 each (insns.JumpIf c m) = record { form = λ wide. same_place (shortens 32 m wide.displacement) _ _ _ refl refl; stays = λ s k. refl; held = λ long k h. cc }
 each (insns.Jump m) = record { form = λ wide. same_place (shortens 32 m wide.displacement) _ _ _ refl refl; stays = λ s k. refl; held = λ long k h. cc }
 each (insns.Call m) = record { form = λ wide. refl; stays = λ s k. refl; held = λ long k h. cc }
-each (insns.JumpTo o) = record { form = λ wide. refl; stays = λ s k. refl; held = λ long k h. refl }
-each (insns.CallTo o) = record { form = λ wide. refl; stays = λ s k. refl; held = λ long k h. refl }
 each (insns.Loop o m) = record { form = λ wide. elim (is_short 32 m) as (λ b. stands (cond b (Some (bare (loop_row o) false 0 (short m))) None) ≡ b) [ true ↦ refl | false ↦ refl ]; stays = λ s k. looping_at (is_short 32 m) _ _ k; held = λ long k h. cc }
 each (insns.Return m) = record { form = λ wide. same_place (eqb m 0) _ _ _ refl refl; stays = λ s k. either_at (eqb m 0) _ _ k; held = λ long k h. none_of_two (eqb m 0) _ _ k refl refl }
-each (insns.Interrupt m) = record { form = λ wide. refl; stays = λ s k. refl; held = λ long k h. refl }
-each (insns.ExtendAccumulator size) = record { form = λ wide. refl; stays = λ s k. refl; held = λ long k h. refl }
-each (insns.SpreadSign size) = record { form = λ wide. refl; stays = λ s k. refl; held = λ long k h. refl }
-each (insns.Transfer o size repeated) = record { form = λ wide. refl; stays = λ s k. refl; held = λ long k h. refl }
-each (insns.Compare o size repeat) = record { form = λ wide. refl; stays = λ s k. refl; held = λ long k h. refl }
 each (insns.In port_sizes.Byte ports.Dx) = record { form = λ wide. refl; stays = λ s k. refl; held = λ long k h. refl }
 each (insns.In port_sizes.Dword ports.Dx) = record { form = λ wide. refl; stays = λ s k. refl; held = λ long k h. refl }
 each (insns.In port_sizes.Byte (ports.Immediate m)) = record { form = λ wide. refl; stays = λ s k. refl; held = λ long k h. refl }
@@ -160,4 +143,4 @@ each (insns.Out port_sizes.Byte ports.Dx) = record { form = λ wide. refl; stays
 each (insns.Out port_sizes.Dword ports.Dx) = record { form = λ wide. refl; stays = λ s k. refl; held = λ long k h. refl }
 each (insns.Out port_sizes.Byte (ports.Immediate m)) = record { form = λ wide. refl; stays = λ s k. refl; held = λ long k h. refl }
 each (insns.Out port_sizes.Dword (ports.Immediate m)) = record { form = λ wide. refl; stays = λ s k. refl; held = λ long k h. refl }
-each (insns.Plain o) = record { form = λ wide. refl; stays = λ s k. refl; held = λ long k h. refl }
+each _ = record { form = λ wide. refl; stays = λ s k. refl; held = λ long k h. refl }

@@ -54,10 +54,10 @@ use Rattle.mx_insn.specs.Spelling.{to_rm, row_size, allows_resized, allows_repea
 use Rattle.mx_encode.specs.declared.Wide.{Wide}
 use Rattle.mx_encode.specs.declared.fields.Number.TheVariants as numbers
 use Rattle.mx_encode.specs.Numbers.{arithmetic_number, is_word, is_short, shortens, short}
-use Rattle.mx_encode.specs.Choice.{Choice, bare, with_rm, choice, rep, arithmetic_immediate, arithmetic_choice, move_immediate, move_choice, test_choice, test_immediate, exchange_choice, unary_choice, product_choice, shift_choice, load_address, multiply_choice, multiply_immediate, zero_extension, sign_extension, set_condition, push_choice, push_immediate, pop_choice, jump_if, jump_choice, call_choice, jump_to, call_to, loop_choice, return_choice, interrupt_choice, extend_accumulator, spread_sign, transfer_choice, compare_choice, in_choice, out_choice, plain_choice, bit_test_choice, register_bit_test, bit_scan_choice, double_shift_choice}
+use Rattle.mx_encode.specs.Choice.{Choice, bare, with_rm, choice, rep, arithmetic_immediate, arithmetic_choice, move_immediate, move_choice, test_choice, test_immediate, exchange_choice, unary_choice, product_choice, shift_choice, load_address, multiply_choice, multiply_immediate, zero_extension, sign_extension, set_condition, push_choice, push_immediate, jump_if, jump_choice, call_choice, jump_to, call_to, loop_choice, return_choice, interrupt_choice, extend_accumulator, spread_sign, transfer_choice, compare_choice, in_choice, out_choice, plain_choice, bit_test_choice, register_bit_test, bit_scan_choice, double_shift_choice}
 use Rattle.mx_encode.specs.Given.{OperandFits, ImmediateFits, WideImmediateFits, OperandsFit, CountFits, PortFits, Fits}
 use Rattle.mx_encode.proofs.Digits.{register_below, register_again, arithmetic_below, arithmetic_again, condition_below, condition_again}
-use Rattle.mx_encode.proofs.Listed.{opcode_at, under_at, escaped_at, arithmetic_rm_reg, arithmetic_reg_rm, move_rm_reg, move_reg_rm, test_rm_reg, exchange_rm_reg, inc_rm, dec_rm, not_rm, neg_rm, product_rm, shift_immediate, shift_one, shift_cl, transfer_listed, compare_listed, loop_listed, plain_listed, bit_test_immediate, bit_test_register, bit_scan, double_shift_immediate, double_shift_cl}
+use Rattle.mx_encode.proofs.Listed.{opcode_at, under_at, escaped_at, listed_at, arithmetic_rm_reg, arithmetic_reg_rm, move_rm_reg, move_reg_rm, test_rm_reg, exchange_rm_reg, inc_rm, dec_rm, not_rm, neg_rm, product_rm, shift_immediate, shift_one, shift_cl, transfer_listed, compare_listed, loop_listed, plain_listed, bit_test_immediate, bit_test_register, bit_scan, double_shift_immediate, double_shift_cl}
 use Rattle.mx_encode.proofs.Suits.{reads_nothing, reads_byte, reads_word, reads_dword, reads_whole_word, reads_whole_dword, reads_short, Suits, sized_suits}
 
 -- a value that a byte stands for
@@ -232,10 +232,6 @@ push_immediate_suits n long small = by_mark 32 n long (bare push_signed_row fals
     (λ h. record { listed = (opcode_at 0x6A, lit< tt, refl); resized = refl; repeat = refl; number = lit< tt; rm = tt; value = n; reads = reads_short false Dword n h; means = refl })
     (record { listed = (opcode_at 0x68, lit< tt, refl); resized = refl; repeat = refl; number = lit< tt; rm = tt; value = n; reads = reads_dword false Dword n small; means = refl })
 
-pop_suits : (r : Register) → Suits (pop_choice r) (insns.Pop r)
-unfolding rows
-pop_suits r = record { listed = (opcode_at 0x58, lit< tt, refl); resized = refl; repeat = refl; number = register_below r; rm = tt; value = 0; reads = reads_nothing false Dword; means = rw (register_again r) refl }
-
 -- ---- jumps
 
 jump_if_suits : (c : Condition) (n : ℕ) (long : Bool) → n < 2 ^ 32 → Suits (jump_if c n long) (insns.JumpIf c n)
@@ -345,6 +341,7 @@ plain_suits o = record { listed = plain_listed o; resized = plain_wide o; repeat
 -- ---- every instruction
 
 pub choice_suits : (i : Insn) (wide : Wide) → Fits i → SuitsWhere (choice i wide) i
+unfolding rows
 choice_suits (insns.Arithmetic o x) wide fits = arithmetic_suits o x wide.immediate fits
 choice_suits (insns.Move x) wide fits = move_suits x fits
 choice_suits (insns.Test size o r) wide fits = test_suits size o r fits
@@ -365,7 +362,6 @@ choice_suits (insns.SignExtend e to from) wide fits = sign_extension_suits e to 
 choice_suits (insns.SetCondition c o) wide fits = condition_suits c o fits
 choice_suits (insns.Push o) wide fits = push_suits o fits
 choice_suits (insns.PushImmediate n) wide fits = push_immediate_suits n wide.immediate fits
-choice_suits (insns.Pop r) wide fits = pop_suits r
 choice_suits (insns.JumpIf c n) wide fits = jump_if_suits c n wide.displacement fits
 choice_suits (insns.Jump n) wide fits = jump_suits n wide.displacement fits
 choice_suits (insns.Call n) wide fits = call_suits n fits
@@ -381,3 +377,5 @@ choice_suits (insns.Compare o size repeat) wide fits = compare_suits o size repe
 choice_suits (insns.In size port) wide fits = in_suits size port fits
 choice_suits (insns.Out size port) wide fits = out_suits size port fits
 choice_suits (insns.Plain o) wide fits = plain_suits o
+-- a dword register in the opcode and nothing else, as POP
+choice_suits _ wide fits = record { listed = listed_at _ (lit< tt) refl; resized = refl; repeat = refl; number = register_below _; rm = tt; value = 0; reads = reads_nothing false Dword; means = rw register_again refl }

@@ -1,6 +1,6 @@
 -- Each row that is chosen stands in the table.
-use Rattle.std.proofs.Common.{ℕ, refl, lit<}
-use Rattle.std.specs.Prelude.{Bool, false, not, ◌&&◌, ◌==◌, Contains}
+use Rattle.std.proofs.Common.{◌≡◌, ℕ, ◌<◌, length, refl, lit<}
+use Rattle.std.specs.Prelude.{Bool, true, false, not, ◌&&◌, ◌==◌, Contains, slice_index_or}
 use Rattle.std.specs.List.{position_or_len}
 use Rattle.mx_word.specs.declared.size.Size.{Size}
 use Rattle.mx_word.specs.declared.size.Size.TheVariants.{Byte, Word, Dword}
@@ -40,6 +40,10 @@ abbrev pub is_under : ℕ → ModRm → Bool
 is_under n (Only m) = n == m
 is_under n _ = false
 
+abbrev pub same_map : Bool → Bool → Bool
+same_map true b = b
+same_map false b = not b
+
 -- the row of an opcode, of an opcode under /n, and of an opcode after 0F
 abbrev pub opcode_at : ℕ → ℕ
 opcode_at first = position_or_len (λ (r : Row). not r.escaped && (r.first == first)) rows
@@ -52,6 +56,13 @@ escaped_at first = position_or_len (λ (r : Row). r.escaped && (r.first == first
 
 abbrev pub escaped_under_at : ℕ → ℕ → ℕ
 escaped_under_at first n = position_or_len (λ (r : Row). r.escaped && ((r.first == first) && is_under n r.modrm)) rows
+
+-- of a row without a ModRM byte
+abbrev pub row_at : Row → ℕ
+row_at row = position_or_len (λ (r : Row). same_map r.escaped row.escaped && (r.first == row.first)) rows
+
+pub listed_at : (row : Row) → row_at row < length rows → slice_index_or rows (row_at row) row ≡ row → Contains rows row
+listed_at row lt e = (row_at row, lt, e)
 
 -- a row of bytes and the next, of words and dwords
 pair_listed : (size : Size) (first step count : ℕ) (repeats : Repeats) (modrm : ModRm) (immediate : ImmediateColumn) (pattern : Pattern) → Contains rows (sized Byte first step count repeats modrm immediate pattern) → Contains rows (sized Word first step count repeats modrm immediate pattern) → Contains rows (sized size first step count repeats modrm immediate pattern)

@@ -116,14 +116,12 @@ Fits (insns.MultiplyImmediate to from value) = OperandFits from × WideImmediate
 Fits (insns.Shift o size x count) = OperandFits x × CountFits count
 Fits (insns.DoubleShift o x r count) = OperandFits x × CountFits count
 Fits (insns.BitTest o x n) = OperandFits x × (n < 2 ^ 8)
-Fits (insns.BitTestRegister o r n) = Unit {0}
 Fits (insns.BitScan o to from) = OperandFits from
 Fits (insns.ZeroExtend e to from) = OperandFits from
 Fits (insns.SignExtend e to from) = OperandFits from
 Fits (insns.SetCondition c o) = OperandFits o
 Fits (insns.Push o) = OperandFits o
 Fits (insns.PushImmediate n) = n < 2 ^ 32
-Fits (insns.Pop r) = Unit {0}
 Fits (insns.JumpIf c n) = n < 2 ^ 32
 Fits (insns.Jump n) = n < 2 ^ 32
 Fits (insns.Call n) = n < 2 ^ 32
@@ -132,13 +130,9 @@ Fits (insns.CallTo o) = OperandFits o
 Fits (insns.Loop o n) = n < 2 ^ 32
 Fits (insns.Return n) = n < 2 ^ 16
 Fits (insns.Interrupt n) = n < 2 ^ 8
-Fits (insns.ExtendAccumulator size) = Unit {0}
-Fits (insns.SpreadSign size) = Unit {0}
-Fits (insns.Transfer o size repeated) = Unit {0}
-Fits (insns.Compare o size repeat) = Unit {0}
 Fits (insns.In size port) = PortFits port
 Fits (insns.Out size port) = PortFits port
-Fits (insns.Plain o) = Unit {0}
+Fits _ = Unit {0}
 
 -- ---- ModRM and SIB as the code holds them
 

@@ -7,7 +7,8 @@ ghost use Rattle.mx_encode.specs.Given.{laid, PortFits};
 
 use crate::fields::Number;
 use crate::forms::{Encoding, operand_size, sized_opcode};
-use mx_insn::{Comparison, OperandSize, Plain, Port, PortSize, Repeat, Size, Transfer};
+use mx_insn::{Comparison, OperandSize, Plain, Port, PortSize, Repeat, Transfer};
+use mx_word::Size;
 
 /// How CBW or CWDE is encoded.
 #[tactic(auto, using(crate::proofs::Sizes::size_again))]

@@ -7,7 +7,8 @@ ghost use Rattle.mx_encode.specs.Given.{laid, OperandFits, CountFits};
 
 use crate::fields::Number;
 use crate::forms::Encoding;
-use mx_insn::{BitScan, BitTest, Count, DoubleShift, Operand, Register};
+use mx_insn::{Count, Operand};
+use mx_word::{BitScan, BitTest, DoubleShift, Register};
 
 fn bit_test_number(operation: BitTest) -> u8
     ensures value { result ≡ bit_test_number operation }

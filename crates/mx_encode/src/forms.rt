@@ -6,7 +6,8 @@ ghost use Rattle.mx_insn.specs.Table.{sized_opcode};
 ghost use Rattle.mx_encode.specs.Numbers.{is_word};
 
 use crate::fields::{Number, Rm};
-use mx_insn::{OpcodeMap, Operand, OperandSize, Repeat, Size};
+use mx_insn::{OpcodeMap, Operand, OperandSize, Repeat};
+use mx_word::Size;
 
 /// An opcode and its prefixes, the operand that mod and rm name, and the immediate.
 #[derive(Clone, Copy)]

@@ -9,7 +9,8 @@ use crate::NoForm;
 use crate::fields::Number;
 use crate::forms::Encoding;
 use crate::numbers::{NumberForm, is_short, short, shortens};
-use mx_insn::{Condition, Loop, Operand, Size};
+use mx_insn::{Loop, Operand};
+use mx_word::{Condition, Size};
 
 /// How a Jcc is encoded, with 8 bits or with all.
 pub fn jump_if(condition: Condition, displacement: u32, form: NumberForm) -> Encoding

@@ -8,8 +8,8 @@ ghost use Rattle.mx_encode.specs.Numbers.{scale_number, arithmetic_number, is_sh
 ghost use Rattle.mx_encode.specs.Given.{is_wide};
 
 use crate::fields::Number;
-use mx_insn::{Arithmetic, Scale, Shift, Size};
-use mx_word::signed;
+use mx_insn::Scale;
+use mx_word::{Arithmetic, Shift, Size, signed};
 
 /// The form of an immediate, or of a displacement, if a byte with its sign extended is enough.
 #[derive(Clone, Copy)]

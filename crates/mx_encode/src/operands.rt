@@ -7,10 +7,8 @@ ghost use Rattle.mx_encode.specs.Given.{is_wide, laid, value_into, OperandFits, 
 use crate::fields::Number;
 use crate::forms::Encoding;
 use crate::numbers::{NumberForm, arithmetic_number, short, shortens};
-use mx_insn::{
-    Arithmetic, Extension, Immediate, Memory, Operand, OperandSize, Operands, Register, Size,
-    WideImmediate,
-};
+use mx_insn::{Extension, Immediate, Memory, Operand, OperandSize, Operands, WideImmediate};
+use mx_word::{Arithmetic, Register, Size};
 
 fn arithmetic_immediate(
     operation: Arithmetic,

@@ -10,7 +10,8 @@ ghost use Rattle.mx_encode.specs.Given.{is_wide, sib_seen, place_seen};
 
 use crate::fields::{Number, Rm, RmFields, Sib};
 use crate::numbers::{NumberForm, is_short, scale_number};
-use mx_insn::{Index, Memory, Operand, Register, Size};
+use mx_insn::{Index, Memory, Operand};
+use mx_word::{Register, Size};
 
 /// Without a base the base field is 101.
 fn base_number(base: Option<Register>) -> u8

@@ -8,7 +8,8 @@ ghost use Rattle.mx_encode.specs.Given.{is_wide, laid, step_form, OperandFits, C
 use crate::fields::Number;
 use crate::forms::Encoding;
 use crate::numbers::{NumberForm, shift_number, short, shortens};
-use mx_insn::{Condition, Count, Operand, OperandSize, Product, Register, Shift, Size, Unary};
+use mx_insn::{Count, Operand, OperandSize, Product};
+use mx_word::{Condition, Register, Shift, Size, Unary};
 
 /// INC or DEC, by the opcode for words and dwords in a register or else under /n of FE and FF.
 fn step(opcode: u8, reg: u8, size: Size, operand: Operand) -> Encoding

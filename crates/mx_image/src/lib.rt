@@ -7,6 +7,5 @@ mod runs;
 
 pub use joining::runs_join;
 pub use lasting::runs_last;
-pub use mx_exec::{Image, Outcome};
 pub use mx_exec_cache::Cache;
 pub use runs::{Runs, Stop, run_by_text, run_with};

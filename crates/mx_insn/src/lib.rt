@@ -9,7 +9,4 @@ pub use insn::{
     Comparison, Count, Extension, Immediate, Index, Insn, Loop, Memory, Operand, OperandSize,
     Operands, Plain, Port, PortSize, Product, Repeat, Scale, Transfer, WideImmediate,
 };
-pub use mx_word::{
-    Arithmetic, BitScan, BitTest, Condition, DoubleShift, Register, Shift, Size, Unary,
-};
 pub use row::{CountColumn, ImmediateColumn, ModRm, OpcodeMap, Pattern, Repeats, Row, SizeMark};

@@ -1,4 +1,5 @@
 pub mod Named
+pub mod Instructions
 pub mod Words
 pub mod Registers
 pub mod Numbers

@@ -29,8 +29,6 @@ use Rattle.mx_insn.specs.declared.insn.Transfer.{Transfer}
 use Rattle.mx_insn.specs.declared.insn.Transfer.TheVariants.{Movs, Stos, Lods}
 use Rattle.mx_insn.specs.declared.insn.Comparison.{Comparison}
 use Rattle.mx_insn.specs.declared.insn.Comparison.TheVariants.{Cmps, Scas}
-use Rattle.mx_insn_words.specs.declared.mnemonic.Single.{Single}
-use Rattle.mx_insn_words.specs.declared.mnemonic.Single.TheVariants as single
 use Rattle.mx_insn_words.specs.declared.mnemonic.Mnemonic.{Mnemonic}
 use Rattle.mx_insn_words.specs.declared.mnemonic.Mnemonic.TheVariants as mnemonics
 use Rattle.mx_insn_words.specs.declared.start.Prefix.{Prefix}
@@ -39,6 +37,7 @@ use Rattle.mx_insn_words.specs.declared.start.Directive.{Directive}
 use Rattle.mx_insn_words.specs.declared.start.Directive.TheVariants as directive
 use Rattle.mx_insn_words.specs.declared.start.WordStart.{WordStart}
 use Rattle.mx_insn_words.specs.declared.start.WordStart.TheVariants as starts
+use Rattle.mx_insn_words.specs.Instructions.{single_word}
 
 -- ---- mnemonics
 
@@ -110,26 +109,6 @@ plain_word plain.Clc = codes "clc"
 plain_word plain.Stc = codes "stc"
 plain_word plain.Cld = codes "cld"
 plain_word plain.Std = codes "std"
-
-abbrev pub single_word : Single → List ℕ
-single_word single.Mov = codes "mov"
-single_word single.Test = codes "test"
-single_word single.Xchg = codes "xchg"
-single_word single.Lea = codes "lea"
-single_word single.Movzx = codes "movzx"
-single_word single.Movsx = codes "movsx"
-single_word single.Push = codes "push"
-single_word single.Pop = codes "pop"
-single_word single.Jmp = codes "jmp"
-single_word single.Call = codes "call"
-single_word single.Ret = codes "ret"
-single_word single.Int = codes "int"
-single_word single.Cbw = codes "cbw"
-single_word single.Cwde = codes "cwde"
-single_word single.Cwd = codes "cwd"
-single_word single.Cdq = codes "cdq"
-single_word single.In = codes "in"
-single_word single.Out = codes "out"
 
 abbrev pub condition_word : Condition → List ℕ
 condition_word condition.Overflow = codes "o"

@@ -9,8 +9,6 @@ mod operand;
 mod registers;
 mod start;
 mod statement;
-mod table;
-mod words;
 mod written;
 
 pub use laws::{one_register_or_size, one_start};

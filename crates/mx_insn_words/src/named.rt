@@ -6,7 +6,7 @@ ghost use Rattle.mx_insn_words.specs.Named.{lookup, is_sorted};
 
 /// A word and what it names, a row of a table.
 pub struct Named<T> {
-    pub word: &'static [u8],
+    pub word: &'static str,
     pub value: T,
 }
 
@@ -15,7 +15,7 @@ pub fn find_word<T: Copy>(table: &'static [Named<T>], word: &[u8]) -> Option<T>
     requires { is_sorted table.now ≡ true }
     ensures { result ≡ lookup table.now word.now }
 {
-    match table.binary_search_by(|row| row.word.cmp(word)) {
+    match table.binary_search_by(|row| row.word.as_bytes().cmp(word)) {
         Ok(at) => Some(table[at].value),
         Err(_) => None,
     }

@@ -7,9 +7,10 @@ ghost use Rattle.mx_insn_words.specs.Operands.{scale_text, index_text, place_tex
 ghost use Rattle.mx_insn_words.specs.Statement.{operands_text};
 
 use crate::number::push_number;
-use crate::words;
+use crate::registers::{register_word, size_word};
 use crate::written::{Written, WrittenOperands};
 use mx_insn::{Index, Memory, Scale};
+use mx_word::Size;
 use std::alloc::AllocError;
 
 /// How a scale is written after its register.
@@ -27,7 +28,7 @@ fn scale(scale: Scale) -> &'static str
 fn push_index(out: &mut String, index: Index) -> Result<(), AllocError>
     ensures { OnOk result (string_bytes out.new ≡ string_bytes out.old ++ index_text index) }
 {
-    out.push_str(words::dword_register(index.register))?;
+    out.push_str(register_word(Size::Dword, index.register))?;
     out.push_str(scale(index.scale))
 }
 
@@ -48,10 +49,10 @@ fn push_place(out: &mut String, memory: Memory) -> Result<(), AllocError>
 {
     match (memory.base, memory.index) {
         (None, None) => return push_number(out, memory.displacement),
-        (Some(base), None) => out.push_str(words::dword_register(base))?,
+        (Some(base), None) => out.push_str(register_word(Size::Dword, base))?,
         (None, Some(index)) => push_index(out, index)?,
         (Some(base), Some(index)) => {
-            out.push_str(words::dword_register(base))?;
+            out.push_str(register_word(Size::Dword, base))?;
             out.push_str("+")?;
             push_index(out, index)?;
         }
@@ -71,9 +72,9 @@ fn push_operand(out: &mut String, operand: Written) -> Result<(), AllocError>
     ensures { OnOk result (string_bytes out.new ≡ string_bytes out.old ++ operand_text operand) }
 {
     match operand {
-        Written::Register(size, register) => out.push_str(words::register(size, register)),
+        Written::Register(size, register) => out.push_str(register_word(size, register)),
         Written::Memory(size, memory) => {
-            out.push_str(words::size(size))?;
+            out.push_str(size_word(size))?;
             out.push_str(" ")?;
             push_bracket(out, memory)
         }

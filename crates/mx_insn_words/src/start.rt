@@ -5,9 +5,10 @@ ghost use Rattle.mx_insn_words.specs.declared.mnemonic.Mnemonic.{Mnemonic};
 ghost use Rattle.mx_insn_words.specs.declared.start.WordStart.{WordStart};
 ghost use Rattle.mx_insn_words.specs.Words.{is_operation, start_word, word_of};
 
-use crate::mnemonic::Mnemonic;
-use crate::named::find_word;
-use crate::table::{OPERATIONS, OTHER_STARTS};
+use crate::mnemonic::{Mnemonic, OPERATIONS};
+use crate::named::{Named, find_word};
+use mx_insn::{Comparison, Transfer};
+use mx_word::{Condition, Size};
 
 /// What may come before a string instruction.
 #[derive(Clone, Copy, PartialEq, Eq)]
@@ -41,6 +42,115 @@ pub enum WordStart {
     Directive(Directive),
 }
 
+/// All else that begins a statement, byte for byte in order.
+macro_rules! other_starts {
+    ($use:ident $($start:ident)?) => {
+        $use! {
+            $($start)?
+            ".ascii" => Directive(Directive::Ascii),
+            ".bss" => Directive(Directive::Bss),
+            ".data" => Directive(Directive::Data),
+            ".data1" => Directive(Directive::Data1),
+            ".data2" => Directive(Directive::Data2),
+            ".data4" => Directive(Directive::Data4),
+            ".entry" => Directive(Directive::Entry),
+            ".sep" => Directive(Directive::Sep),
+            ".space" => Directive(Directive::Space),
+            ".stack" => Directive(Directive::Stack),
+            ".text" => Directive(Directive::Text),
+            "cmpsb" => Mnemonic(Mnemonic::Compare(Comparison::Cmps, Size::Byte)),
+            "cmpsd" => Mnemonic(Mnemonic::Compare(Comparison::Cmps, Size::Dword)),
+            "cmpsw" => Mnemonic(Mnemonic::Compare(Comparison::Cmps, Size::Word)),
+            "jb" => Mnemonic(Mnemonic::JumpIf(Condition::Below)),
+            "jbe" => Mnemonic(Mnemonic::JumpIf(Condition::BelowOrEqual)),
+            "jl" => Mnemonic(Mnemonic::JumpIf(Condition::Less)),
+            "jle" => Mnemonic(Mnemonic::JumpIf(Condition::LessOrEqual)),
+            "jnb" => Mnemonic(Mnemonic::JumpIf(Condition::NotBelow)),
+            "jnbe" => Mnemonic(Mnemonic::JumpIf(Condition::NotBelowOrEqual)),
+            "jnl" => Mnemonic(Mnemonic::JumpIf(Condition::NotLess)),
+            "jnle" => Mnemonic(Mnemonic::JumpIf(Condition::NotLessOrEqual)),
+            "jno" => Mnemonic(Mnemonic::JumpIf(Condition::NotOverflow)),
+            "jnp" => Mnemonic(Mnemonic::JumpIf(Condition::NotParity)),
+            "jns" => Mnemonic(Mnemonic::JumpIf(Condition::NotSign)),
+            "jnz" => Mnemonic(Mnemonic::JumpIf(Condition::NotZero)),
+            "jo" => Mnemonic(Mnemonic::JumpIf(Condition::Overflow)),
+            "jp" => Mnemonic(Mnemonic::JumpIf(Condition::Parity)),
+            "js" => Mnemonic(Mnemonic::JumpIf(Condition::Sign)),
+            "jz" => Mnemonic(Mnemonic::JumpIf(Condition::Zero)),
+            "lodsb" => Mnemonic(Mnemonic::Transfer(Transfer::Lods, Size::Byte)),
+            "lodsd" => Mnemonic(Mnemonic::Transfer(Transfer::Lods, Size::Dword)),
+            "lodsw" => Mnemonic(Mnemonic::Transfer(Transfer::Lods, Size::Word)),
+            "movsb" => Mnemonic(Mnemonic::Transfer(Transfer::Movs, Size::Byte)),
+            "movsd" => Mnemonic(Mnemonic::Transfer(Transfer::Movs, Size::Dword)),
+            "movsw" => Mnemonic(Mnemonic::Transfer(Transfer::Movs, Size::Word)),
+            "rep" => Repeat(Prefix::Rep),
+            "repe" => Repeat(Prefix::Repe),
+            "repne" => Repeat(Prefix::Repne),
+            "scasb" => Mnemonic(Mnemonic::Compare(Comparison::Scas, Size::Byte)),
+            "scasd" => Mnemonic(Mnemonic::Compare(Comparison::Scas, Size::Dword)),
+            "scasw" => Mnemonic(Mnemonic::Compare(Comparison::Scas, Size::Word)),
+            "setb" => Mnemonic(Mnemonic::SetCondition(Condition::Below)),
+            "setbe" => Mnemonic(Mnemonic::SetCondition(Condition::BelowOrEqual)),
+            "setl" => Mnemonic(Mnemonic::SetCondition(Condition::Less)),
+            "setle" => Mnemonic(Mnemonic::SetCondition(Condition::LessOrEqual)),
+            "setnb" => Mnemonic(Mnemonic::SetCondition(Condition::NotBelow)),
+            "setnbe" => Mnemonic(Mnemonic::SetCondition(Condition::NotBelowOrEqual)),
+            "setnl" => Mnemonic(Mnemonic::SetCondition(Condition::NotLess)),
+            "setnle" => Mnemonic(Mnemonic::SetCondition(Condition::NotLessOrEqual)),
+            "setno" => Mnemonic(Mnemonic::SetCondition(Condition::NotOverflow)),
+            "setnp" => Mnemonic(Mnemonic::SetCondition(Condition::NotParity)),
+            "setns" => Mnemonic(Mnemonic::SetCondition(Condition::NotSign)),
+            "setnz" => Mnemonic(Mnemonic::SetCondition(Condition::NotZero)),
+            "seto" => Mnemonic(Mnemonic::SetCondition(Condition::Overflow)),
+            "setp" => Mnemonic(Mnemonic::SetCondition(Condition::Parity)),
+            "sets" => Mnemonic(Mnemonic::SetCondition(Condition::Sign)),
+            "setz" => Mnemonic(Mnemonic::SetCondition(Condition::Zero)),
+            "stosb" => Mnemonic(Mnemonic::Transfer(Transfer::Stos, Size::Byte)),
+            "stosd" => Mnemonic(Mnemonic::Transfer(Transfer::Stos, Size::Dword)),
+            "stosw" => Mnemonic(Mnemonic::Transfer(Transfer::Stos, Size::Word)),
+        }
+    };
+}
+
+macro_rules! starts {
+    ($($word:literal => $kind:ident $value:tt,)*) => {
+        [$(WordStart::$kind $value,)*]
+    };
+}
+
+macro_rules! table {
+    ($($word:literal => $kind:ident $value:tt,)*) => {
+        [$(Named {
+            word: $word,
+            value: WordStart::$kind $value,
+        },)*]
+    };
+}
+
+macro_rules! word_in {
+    ($start:ident $($word:literal => $kind:ident $value:tt,)*) => {
+        match $start {
+            $(WordStart::$kind $value => $word,)*
+            _ => unreachable!(),
+        }
+    };
+}
+
+const OTHER_STARTS: &[WordStart] = &other_starts!(starts);
+
+const OTHER_COUNT: usize = OTHER_STARTS.len();
+
+/// What else begins a statement, each with its word.
+static OTHERS: [Named<WordStart>; OTHER_COUNT] = other_starts!(table);
+
+/// The word of what begins a statement and is no operation.
+pub fn other_word(start: WordStart) -> &'static str
+    requires { is_operation start ≡ false }
+    ensures { result.now ≡ start_word start }
+{
+    other_starts!(word_in start)
+}
+
 /// The operation that a word is.
 fn operation_named(word: &[u8]) -> Option<WordStart>
     ensures { MatchOption result ((x : WordStart) → is_operation x ≡ true
@@ -54,7 +164,7 @@ fn other_named(word: &[u8]) -> Option<WordStart>
     ensures { MatchOption result ((x : WordStart) → is_operation x ≡ false
         → word.now ≢ start_word x) (λ x. word.now ≡ start_word x) }
 {
-    find_word(&OTHER_STARTS, word)
+    find_word(&OTHERS, word)
 }
 
 /// The meaning of a word that begins a statement.

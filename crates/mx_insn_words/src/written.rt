@@ -1,15 +1,17 @@
-//! The operands of an instruction as they are printed.
+//! An instruction as it is printed: its mnemonic and its operands.
 
 ghost use Rattle.std.specs.Prelude.{◌≡◌, [], ◌∷◌};
 ghost use Rattle.mx_insn.specs.Sizes.{size_of_operands};
-ghost use Rattle.mx_insn_words.specs.Statement.{written_operand, written_pair, written_product, written_count, written_extension, written_accumulator, written_port, written_target, written_return, written_operands};
+ghost use Rattle.mx_insn_words.specs.Instructions.{mnemonic_of, extend_mnemonic, spread_mnemonic, written_operand, written_pair, written_product, written_count, written_extension, written_accumulator, written_port, written_target, written_return, written_operands};
 ghost use Rattle.mx_insn_words.specs.Listed.{written_list};
 
 use WrittenOperands::{Nothing, One, Three, Two};
+use crate::mnemonic::{Mnemonic, Single};
 use mx_insn::{
     Count, Extension, Immediate, Insn, Memory, Operand, OperandSize, Operands, Port, PortSize,
-    Register, Size, WideImmediate,
+    Product, WideImmediate,
 };
+use mx_word::{Register, Size};
 
 /// An operand as it is written.
 #[derive(Clone, Copy)]
@@ -28,6 +30,74 @@ pub enum WrittenOperands {
     One(Written),
     Two(Written, Written),
     Three(Written, Written, Written),
+}
+
+/// CBW or CWDE.
+fn extend(size: OperandSize) -> Mnemonic
+    ensures { result ≡ extend_mnemonic size }
+{
+    match size {
+        OperandSize::Word => Mnemonic::Single(Single::Cbw),
+        OperandSize::Dword => Mnemonic::Single(Single::Cwde),
+    }
+}
+
+/// CWD or CDQ.
+fn spread_sign(size: OperandSize) -> Mnemonic
+    ensures { result ≡ spread_mnemonic size }
+{
+    match size {
+        OperandSize::Word => Mnemonic::Single(Single::Cwd),
+        OperandSize::Dword => Mnemonic::Single(Single::Cdq),
+    }
+}
+
+/// What an instruction is called.
+pub fn mnemonic(insn: &Insn) -> Mnemonic
+    ensures { result ≡ mnemonic_of insn.now }
+{
+    match *insn {
+        Insn::Arithmetic { operation, .. } => Mnemonic::Arithmetic(operation),
+        Insn::Move(_) => Mnemonic::Single(Single::Mov),
+        Insn::Test { .. } | Insn::TestImmediate { .. } => Mnemonic::Single(Single::Test),
+        Insn::Exchange { .. } => Mnemonic::Single(Single::Xchg),
+        Insn::LoadAddress { .. } => Mnemonic::Single(Single::Lea),
+        Insn::Unary { operation, .. } => Mnemonic::Unary(operation),
+        Insn::Product { operation, .. } => Mnemonic::Product(operation),
+        Insn::Multiply { .. } | Insn::MultiplyImmediate { .. } => Mnemonic::Product(Product::Imul),
+        Insn::Shift { operation, .. } => Mnemonic::Shift(operation),
+        Insn::DoubleShift { operation, .. } => Mnemonic::DoubleShift(operation),
+        Insn::BitTest { operation, .. } | Insn::BitTestRegister { operation, .. } => {
+            Mnemonic::BitTest(operation)
+        }
+        Insn::BitScan { operation, .. } => Mnemonic::BitScan(operation),
+        Insn::ZeroExtend { .. } => Mnemonic::Single(Single::Movzx),
+        Insn::SignExtend { .. } => Mnemonic::Single(Single::Movsx),
+        Insn::SetCondition { condition, .. } => Mnemonic::SetCondition(condition),
+        Insn::Push(_) | Insn::PushImmediate(_) => Mnemonic::Single(Single::Push),
+        Insn::Pop(_) => Mnemonic::Single(Single::Pop),
+        Insn::JumpIf { condition, .. } => Mnemonic::JumpIf(condition),
+        Insn::Jump(_) | Insn::JumpTo(_) => Mnemonic::Single(Single::Jmp),
+        Insn::Call(_) | Insn::CallTo(_) => Mnemonic::Single(Single::Call),
+        Insn::Loop { operation, .. } => Mnemonic::Loop(operation),
+        Insn::Return(_) => Mnemonic::Single(Single::Ret),
+        Insn::Interrupt(_) => Mnemonic::Single(Single::Int),
+        Insn::ExtendAccumulator(size) => extend(size),
+        Insn::SpreadSign(size) => spread_sign(size),
+        Insn::Transfer {
+            operation,
+            size,
+            ..
+        } => Mnemonic::Transfer(operation, size),
+        Insn::Compare {
+            operation,
+            size,
+            ..
+        } => Mnemonic::Compare(operation, size),
+        Insn::In { .. } => Mnemonic::Single(Single::In),
+        Insn::Out { .. } => Mnemonic::Single(Single::Out),
+        Insn::Plain(operation) => Mnemonic::Plain(operation),
+    }
 }
 
 fn of_operand(size: Size, operand: Operand) -> Written

@@ -22,11 +22,8 @@ mod checks;
 
 pub use calls::{Call, Party, TrapAnswer};
 use checks::check;
-pub use mx_sched::{
-    Access, DeathCause, Delivery, Endpoint, Errno, MESSAGE_SIZE, Masks, Partner, Process,
-    ProcessAddress, Rules, SYSTEM, Slot, Source, Stale, State, Table, Terms, Window, endpoint_from,
-    enqueue, pick, slot_of,
-};
+use mx_proc::{Endpoint, Errno, Partner, Process, Slot, Source, State, Table, slot_of};
+pub use mx_sched::{enqueue, pick};
 use mx_word::Register;
 
 /// A process goes on with a result: it is put into EAX, and the process is queued.

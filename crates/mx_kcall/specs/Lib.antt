@@ -1,6 +1,9 @@
-pub mod Requests
 pub mod Windows
+pub mod Rows
+pub mod Requests
+pub mod Known
 pub mod Refusals
+pub mod Effects
 pub mod Serving
 pub mod Clock
 pub mod Ringing

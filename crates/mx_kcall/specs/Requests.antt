@@ -1,10 +1,13 @@
 -- Kernel calls as messages to SYSTEM, and their replies (our choice).
-use Rattle.std.specs.Prelude.{ℕ, ◌++◌, ◌==◌, List, drop, take, replicate, ◌&&◌, Option, Some, None, if◌then◌else◌}
+use Rattle.std.specs.Prelude.{ℕ, ◌++◌, List, drop, take, replicate, Option, Some, None, if◌then◌else◌}
 use Rattle.mx_word.specs.Word.{value_at, bytes_of}
 use Rattle.mx_respawn.specs.Proc.declared.windows.Rules.{Rules}
 use Rattle.mx_respawn.specs.Proc.EndpointNumbers.{system_endpoint}
 use Rattle.mx_respawn.specs.Proc.TableState.{TableState, buffer_at, memory_at}
-use Rattle.mx_kcall.specs.Windows.{is_strict}
+use Rattle.mx_kcall.specs.Rows.{is_there, row_of}
+use Rattle.mx_kcall.specs.declared.rows.CallName.{CallName}
+use Rattle.mx_kcall.specs.declared.rows.CallName.TheVariants as calls
+use Rattle.mx_kcall.specs.declared.rows.CallRow.{CallRow}
 use Rattle.mx_kcall.specs.declared.request.MessageWords.{MessageWords}
 use Rattle.mx_kcall.specs.declared.request.ReplyWords.{ReplyWords}
 use Rattle.mx_kcall.specs.declared.request.KernelCall.{KernelCall}
@@ -22,40 +25,33 @@ message_words_of bytes = record { kind = word_at bytes 4; p0 = word_at bytes 8; 
 unfoldable pub message_words_at : TableState → ℕ → MessageWords
 message_words_at w s = message_words_of (take 36 (drop (buffer_at w s) (memory_at w s)))
 
--- THE EIGHT CALLS by the type, with their words
-abbrev pub kernel_call_of : MessageWords → Option KernelCall
-kernel_call_of m =
-    if m.kind == 0x600 then Some Exit else
-    if m.kind == 0x601 then Some Times else
-    -- a delay, 0 cancels
-    if m.kind == 0x602 then Some (SetAlarm m.p0) else
-    -- 1 takes, 0 gives up; a line
-    if m.kind == 0x603 then Some (Irqctl m.p0 m.p1) else
-    -- 0 reads, 1 writes; a register; a value
-    if m.kind == 0x604 then Some (Devio m.p0 m.p1 m.p2) else
-    -- from, its address, to, its address, how many bytes
-    if m.kind == 0x605 then Some (Vircopy (record { source = record { endpoint = m.p0; offset = m.p1 }; target = record { endpoint = m.p2; offset = m.p3 }; count = m.p4 })) else
-    -- an endpoint
-    if m.kind == 0x606 then Some (Kill m.p0) else
-    -- a slot
-    if m.kind == 0x607 then Some (Whois m.p0) else
-    None
+-- THE CALLS by their names, with their words
+abbrev pub kernel_call_of : CallName → MessageWords → KernelCall
+kernel_call_of calls.Exit m = Exit
+kernel_call_of calls.Times m = Times
+-- a delay, 0 cancels
+kernel_call_of calls.SetAlarm m = SetAlarm m.p0
+-- 1 takes, 0 gives up; a line
+kernel_call_of calls.Irqctl m = Irqctl m.p0 m.p1
+-- 0 reads, 1 writes; a register; a value
+kernel_call_of calls.Devio m = Devio m.p0 m.p1 m.p2
+-- from, its address, to, its address, how many bytes
+kernel_call_of calls.Vircopy m = Vircopy (record { source = record { endpoint = m.p0; offset = m.p1 }; target = record { endpoint = m.p2; offset = m.p3 }; count = m.p4 })
+-- an endpoint
+kernel_call_of calls.Kill m = Kill m.p0
+-- a slot
+kernel_call_of calls.Whois m = Whois m.p0
+-- an endpoint, an address, how many bytes, an access
+kernel_call_of calls.Grant m = Grant (record { user = m.p0; place = m.p1; count = m.p2; access = m.p3 })
 
--- AND THE NINTH, under the strict rules: an endpoint, an address, how many bytes, an access
+-- the call of a row, if the rules have it
+abbrev pub kernel_call_by : Rules → Option CallRow → MessageWords → Option KernelCall
+kernel_call_by rules None m = None
+kernel_call_by rules (Some row) m = if is_there rules row then Some (kernel_call_of row.call m) else None
+
+-- THE CALL that words make under these rules
 abbrev pub kernel_call_under : Rules → MessageWords → Option KernelCall
-kernel_call_under rules m = if is_strict rules && (m.kind == 0x608) then Some (Grant (record { user = m.p0; place = m.p1; count = m.p2; access = m.p3 })) else kernel_call_of m
-
--- the bit of a call in the mask of calls
-abbrev pub bit_of : KernelCall → ℕ
-bit_of Exit = 0
-bit_of Times = 1
-bit_of (SetAlarm delay) = 2
-bit_of (Irqctl action line) = 3
-bit_of (Devio action register value) = 4
-bit_of (Vircopy copy) = 5
-bit_of (Kill endpoint) = 6
-bit_of (Whois slot) = 7
-bit_of (Grant grant) = 8
+kernel_call_under rules m = kernel_call_by rules (row_of m.kind) m
 
 -- no words
 abbrev pub no_reply_words : ReplyWords

@@ -4,8 +4,7 @@ use Rattle.mx_respawn.specs.Proc.declared.errors.Errno.{Errno}
 use Rattle.mx_respawn.specs.Proc.declared.process.DeathCause.TheVariants as cause
 use Rattle.mx_respawn.specs.Proc.EndpointNumbers.{slot_of}
 use Rattle.mx_respawn.specs.Proc.Errors.{errno_bits}
-use Rattle.mx_respawn.specs.Proc.TableState.{TableState, process_at, endpoint_of, with_message}
-use Rattle.mx_respawn.specs.Proc.Serving.{with_alarm, with_owner, with_window, with_device_register, with_console_byte, with_copy}
+use Rattle.mx_respawn.specs.Proc.TableState.{TableState, with_message}
 use Rattle.mx_respawn.specs.Calls.{goes_on}
 use Rattle.mx_respawn.specs.Death.{table_after_death}
 use Rattle.mx_kcall.specs.declared.request.ReplyWords.{ReplyWords}
@@ -13,6 +12,9 @@ use Rattle.mx_kcall.specs.declared.request.After.{After}
 use Rattle.mx_kcall.specs.declared.request.After.TheVariants.{Reply, Died}
 use Rattle.mx_kcall.specs.declared.request.KernelCall.{KernelCall}
 use Rattle.mx_kcall.specs.declared.request.KernelCall.TheVariants.{Exit, Times, SetAlarm, Irqctl, Devio, Vircopy, Kill, Whois, Grant}
+use Rattle.mx_kcall.specs.Effects.{Effect, table_after_effect}
+use Rattle.mx_kcall.specs.Effects.Effect.{Nothing, SetsAlarm, SetsOwner, WritesConsole, SetsRegister, Copies, Kills, SetsWindow}
+use Rattle.mx_kcall.specs.Known.{Known, known}
 use Rattle.mx_kcall.specs.Windows.{granted}
 use Rattle.mx_kcall.specs.Requests.{kernel_call_under, message_words_at, reply_bytes, no_reply_words}
 use Rattle.mx_kcall.specs.Refusals.{kernel_call_refusal}
@@ -26,26 +28,33 @@ abbrev pub ticks_left : ℕ → Option ℕ → ℕ
 ticks_left uptime None = 0
 ticks_left uptime (Some due) = due - uptime
 
--- WHAT EACH CALL CHANGES
-abbrev pub table_after_change : TableState → ℕ → KernelCall → TableState
-table_after_change w s Exit = w
-table_after_change w s Times = w
-table_after_change w s (SetAlarm delay) = with_alarm w s (due_after w.uptime delay)
-table_after_change w s (Irqctl action line) = with_owner w line (if action == 1 then Some s else None)
+-- WHAT EACH CALL DOES, by what it may know; most calls do nothing but reply
+abbrev pub effect_of : Known → ℕ → KernelCall → Effect
+effect_of k s (SetAlarm delay) = SetsAlarm (due_after k.uptime delay)
+effect_of k s (Irqctl action line) = SetsOwner line (if action == 1 then Some s else None)
 -- register 0 is the console
-table_after_change w s (Devio action register value) = if action == 0 then w else if register == 0 then with_console_byte w (value % 256) else with_device_register w register value
-table_after_change w s (Vircopy copy) = with_copy w (slot_of copy.source.endpoint) copy.source.offset (slot_of copy.target.endpoint) copy.target.offset copy.count
-table_after_change w s (Kill endpoint) = table_after_death w (slot_of endpoint) cause.Kill
-table_after_change w s (Whois slot) = w
-table_after_change w s (Grant grant) = with_window w s (slot_of grant.user) (granted grant.place grant.count grant.access)
+effect_of k s (Devio action register value) = if action == 0 then Nothing else if register == 0 then WritesConsole (value % 256) else SetsRegister register value
+effect_of k s (Vircopy copy) = Copies copy
+effect_of k s (Kill endpoint) = Kills (slot_of endpoint)
+effect_of k s (Grant grant) = SetsWindow (slot_of grant.user) (granted grant.place grant.count grant.access)
+effect_of k s _ = Nothing
 
--- THE WORDS OF EACH REPLY
+abbrev pub table_after_change : TableState → ℕ → KernelCall → TableState
+table_after_change w s r = table_after_effect w s (effect_of (known w s) s r)
+
+abbrev one_word : ℕ → ReplyWords
+one_word n = record { p0 = n; p1 = 0; p2 = 0 }
+
+-- THE WORDS OF EACH REPLY, by what the call may know; most replies have none
+abbrev pub reply_of : Known → KernelCall → ReplyWords
+reply_of k Times = record { p0 = k.uptime; p1 = k.steps % 2 ^ 32; p2 = k.steps / 2 ^ 32 }
+reply_of k (SetAlarm delay) = one_word (ticks_left k.uptime k.alarm)
+reply_of k (Devio action register value) = one_word (if action == 0 && not (register == 0) then slice_index k.registers register else 0)
+reply_of k (Whois slot) = one_word (k.endpoint slot)
+reply_of k _ = no_reply_words
+
 abbrev pub words_of_reply : TableState → ℕ → KernelCall → ReplyWords
-words_of_reply w s Times = record { p0 = w.uptime; p1 = (process_at w s).steps % 2 ^ 32; p2 = (process_at w s).steps / 2 ^ 32 }
-words_of_reply w s (SetAlarm delay) = record { p0 = ticks_left w.uptime (process_at w s).alarm; p1 = 0; p2 = 0 }
-words_of_reply w s (Devio action register value) = record { p0 = if action == 0 && not (register == 0) then slice_index w.devices.registers register else 0; p1 = 0; p2 = 0 }
-words_of_reply w s (Whois slot) = record { p0 = endpoint_of w slot; p1 = 0; p2 = 0 }
-words_of_reply w s _ = no_reply_words
+words_of_reply w s r = reply_of (known w s) r
 
 -- a caller that exits, or kills itself
 abbrev pub ends_caller : ℕ → KernelCall → Bool

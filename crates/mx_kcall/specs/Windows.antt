@@ -1,14 +1,11 @@
 -- Windows: what a process lets another copy out of its memory or into it (our choice).
-use Rattle.std.specs.Prelude.{ℕ, ◌+◌, ◌==◌, nat_le, not, ◌&&◌, Bool, true, false, Option, Some, None, if◌then◌else◌}
+use Rattle.std.specs.Prelude.{ℕ, ◌+◌, ◌==◌, nat_le, ◌&&◌, Bool, true, false, Option, Some, None, if◌then◌else◌}
 use Rattle.std.specs.Option.{option_map}
 use Rattle.mx_respawn.specs.Proc.declared.windows.Access.{Access}
 use Rattle.mx_respawn.specs.Proc.declared.windows.Access.TheVariants.{Read, Write, Both}
 use Rattle.mx_respawn.specs.Proc.declared.windows.Window.{Window}
 use Rattle.mx_respawn.specs.Proc.declared.windows.Rules.{Rules}
 use Rattle.mx_respawn.specs.Proc.declared.windows.Rules.TheVariants.{Lenient, Strict}
-use Rattle.mx_respawn.specs.Proc.EndpointNumbers.{slot_of}
-use Rattle.mx_respawn.specs.Proc.TableState.{TableState, window_of}
-use Rattle.mx_kcall.specs.declared.request.VirtualAddress.{VirtualAddress}
 
 -- rules 2
 abbrev pub is_strict : Rules → Bool
@@ -35,10 +32,6 @@ allows Both = λ access. allows_reading access && allows_writing access
 abbrev pub is_open : (Access → Bool) → Option Window → ℕ → ℕ → Bool
 is_open allows None at count = false
 is_open allows (Some window) at count = allows window.access && nat_le window.place at && nat_le (at + count) (window.place + window.count)
-
--- under the strict rules another's memory is barred to s but for an open window
-abbrev pub is_barred : TableState → (Access → Bool) → ℕ → VirtualAddress → ℕ → Bool
-is_barred w allows s at count = is_strict w.rules && not (slot_of at.endpoint == s) && not (is_open allows (window_of w (slot_of at.endpoint) s) at.offset count)
 
 -- the access of a grant's number; 0 is no access
 abbrev pub access_of : ℕ → Option Access

@@ -4,11 +4,12 @@ ghost use Rattle.std.specs.Prelude.{◌≡◌, ◌≢◌, ℕ, ◌+◌, ◌<◌,
 ghost use Rattle.mx_respawn.specs.Proc.Frame.{frame};
 ghost use Rattle.mx_respawn.specs.Proc.Sound.{NoneComesHome};
 ghost use Rattle.mx_respawn.specs.Proc.TableState.{process_at};
-ghost use Rattle.mx_kcall.specs.Refusals.{owner_of};
+ghost use Rattle.mx_kcall.specs.Known.{owner_of};
 ghost use Rattle.mx_kcall.specs.Clock.{is_due, table_after_line, table_after_tick};
 ghost use Rattle.mx_kcall.specs.Ringing.{table_after_ring_if_due};
 
-use mx_respawn::{Slot, Source, Table, notify};
+use mx_proc::{Slot, Source, Table};
+use mx_respawn::notify;
 
 /// Raises a line that has an owner: the owner has its bit, and is notified.
 pub fn raise(table: &mut Table, line: u8)

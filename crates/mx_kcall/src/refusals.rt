@@ -10,14 +10,16 @@ ghost use Rattle.mx_respawn.specs.Proc.States.{is_out};
 ghost use Rattle.mx_respawn.specs.Proc.TableState.{process_at, memory_at};
 ghost use Rattle.mx_respawn.specs.Proc.declared.errors.Errno.TheVariants.{BadEndpoint, Dead};
 ghost use Rattle.mx_respawn.specs.Checks.{first_error};
-ghost use Rattle.mx_kcall.specs.Refusals.{kernel_call_reasons, refusal_of_kernel_call, kernel_call_refusal, is_away, IsPermitted};
+ghost use Rattle.mx_kcall.specs.Known.{is_away, is_barred, known};
+ghost use Rattle.mx_kcall.specs.Refusals.{kernel_call_reasons, refusal_of_kernel_call, kernel_call_refusal, IsPermitted};
 ghost use Rattle.mx_kcall.specs.Requests.{kernel_call_under, message_words_at};
-ghost use Rattle.mx_kcall.specs.Windows.{allows, is_barred};
+ghost use Rattle.mx_kcall.specs.Windows.{allows};
 ghost use Rattle.mx_kcall.specs.declared.request.KernelCall.TheVariants as requests;
 
 use crate::request::{CopyRange, KernelCall, VirtualAddress, WindowGrant, request_under, words_at};
+use crate::rows::FIRST_CALL;
 use crate::windows::{is_strict, window_allows};
-use mx_respawn::{Access, Endpoint, Errno, Slot, Stale, State, Table};
+use mx_proc::{Access, Endpoint, Errno, Slot, Stale, State, Table};
 use mx_word::has_bit;
 
 /// The most bytes that one VIRCOPY copies.
@@ -64,7 +66,7 @@ fn holds(table: &Table, slot: Slot, at: u32, count: u32) -> bool
 fn is_barred(table: &Table, slot: Slot, access: Access, at: VirtualAddress, count: u32) -> bool
     requires slot { slot < length table.now.slots }
     requires endpoint { slot_of at.endpoint < length table.now.slots }
-    ensures { result ≡ is_barred table.now (allows access) slot at count }
+    ensures { result ≡ is_barred (known table.now slot) (allows access) slot at count }
 {
     let owner = table.slot_of(at.endpoint);
     is_strict(table.rules())
@@ -208,7 +210,6 @@ fn check_request(table: &Table, slot: Slot, request: KernelCall) -> Result<(), E
     ensures permitted { IfOk result (λ _. IsPermitted table.now request) }
 {
     match request {
-        KernelCall::Exit | KernelCall::Times | KernelCall::SetAlarm(_) => Ok(()),
         KernelCall::Irqctl { action, line } => check_irqctl(table, slot, action, line),
         KernelCall::Devio {
             action,
@@ -224,6 +225,7 @@ fn check_request(table: &Table, slot: Slot, request: KernelCall) -> Result<(), E
         KernelCall::Kill(endpoint) => check_kill(table, slot, endpoint),
         KernelCall::Whois(named) => check_whois(table, slot, named),
         KernelCall::Grant(grant) => check_grant(table, slot, grant),
+        _ => Ok(()),
     }
 }
 
@@ -239,11 +241,12 @@ pub(crate) fn check(table: &Table, slot: Slot) -> Result<KernelCall, Errno>
         ≡ Some e) }
     ensures permitted { IfOk result (λ r. IsPermitted table.now r) }
 {
-    let request = match request_under(table.rules(), words_at(table, slot)) {
+    let words = words_at(table, slot);
+    let request = match request_under(table.rules(), words) {
         Some(request) => request,
         None => return Err(Errno::BadRequest),
     };
-    if !has_bit(table.process(slot).masks.calls, request.bit()) {
+    if !has_bit(table.process(slot).terms.masks.calls, words.kind - FIRST_CALL) {
         return Err(Errno::Denied);
     }
     check_request(table, slot, request)?;

@@ -1,12 +1,12 @@
 //! Requests to the kernel and its replies, as bytes of a message and as values.
 
-ghost use Rattle.std.specs.Prelude.{◌≡◌, ◌+◌, ◌<◌, ◌≤◌, length};
+ghost use Rattle.std.specs.Prelude.{◌≡◌, ◌+◌, ◌<◌, ◌≤◌, IfSome, length};
 ghost use Rattle.mx_respawn.specs.Proc.Sound.{HasBuffer};
 ghost use Rattle.mx_respawn.specs.Proc.TableState.{process_at};
-ghost use Rattle.mx_kcall.specs.Requests.{word_at, message_words_of, message_words_at, kernel_call_of, bit_of, kernel_call_under, no_reply_words, reply_bytes};
+ghost use Rattle.mx_kcall.specs.Requests.{word_at, message_words_of, message_words_at, kernel_call_of, kernel_call_under, no_reply_words, reply_bytes};
 
-use crate::windows::is_strict;
-use mx_respawn::{Endpoint, MESSAGE_SIZE, Rules, SYSTEM, Slot, Table};
+use crate::rows::{CallName, FIRST_CALL, call_row, is_there};
+use mx_proc::{Endpoint, MESSAGE_SIZE, Rules, SYSTEM, Slot, Table};
 use mx_word::{Register, read_dword, write_dword};
 
 /// The type of a message to SYSTEM, and the first of its words.
@@ -137,24 +137,24 @@ pub(crate) fn words_at(table: &Table, slot: Slot) -> MessageWords
     words_of(&image.memory.message(image.register(Register::Ebx)))
 }
 
-/// The request that words make under any rules.
-fn request_of(words: MessageWords) -> Option<KernelCall>
-    ensures { result ≡ kernel_call_of words }
+/// The request of a call with these words.
+fn request_of(call: CallName, words: MessageWords) -> KernelCall
+    ensures { result ≡ kernel_call_of call words }
 {
-    let request = match words.kind {
-        0x600 => KernelCall::Exit,
-        0x601 => KernelCall::Times,
-        0x602 => KernelCall::SetAlarm(words.p0),
-        0x603 => KernelCall::Irqctl {
+    match call {
+        CallName::Exit => KernelCall::Exit,
+        CallName::Times => KernelCall::Times,
+        CallName::SetAlarm => KernelCall::SetAlarm(words.p0),
+        CallName::Irqctl => KernelCall::Irqctl {
             action: words.p0,
             line: words.p1,
         },
-        0x604 => KernelCall::Devio {
+        CallName::Devio => KernelCall::Devio {
             action: words.p0,
             register: words.p1,
             value: words.p2,
         },
-        0x605 => KernelCall::Vircopy(CopyRange {
+        CallName::Vircopy => KernelCall::Vircopy(CopyRange {
             source: VirtualAddress {
                 endpoint: words.p0,
                 offset: words.p1,
@@ -165,46 +165,27 @@ fn request_of(words: MessageWords) -> Option<KernelCall>
             },
             count: words.p4,
         }),
-        0x606 => KernelCall::Kill(words.p0),
-        0x607 => KernelCall::Whois(words.p0),
-        _ => return None,
-    };
-    Some(request)
-}
-
-/// The request that words make under these rules.
-pub(crate) fn request_under(rules: Rules, words: MessageWords) -> Option<KernelCall>
-    ensures { result ≡ kernel_call_under rules words }
-{
-    if is_strict(rules) && words.kind == 0x608 {
-        return Some(KernelCall::Grant(WindowGrant {
+        CallName::Kill => KernelCall::Kill(words.p0),
+        CallName::Whois => KernelCall::Whois(words.p0),
+        CallName::Grant => KernelCall::Grant(WindowGrant {
             user: words.p0,
             place: words.p1,
             count: words.p2,
             access: words.p3,
-        }));
+        }),
     }
-    request_of(words)
 }
 
-impl KernelCall {
-    /// Its bit in the mask of calls.
-    pub(crate) fn bit(self) -> u32
-        ensures value { result ≡ bit_of self }
-        ensures below { result < 9 }
-    {
-        match self {
-            KernelCall::Exit => 0,
-            KernelCall::Times => 1,
-            KernelCall::SetAlarm(_) => 2,
-            KernelCall::Irqctl { .. } => 3,
-            KernelCall::Devio { .. } => 4,
-            KernelCall::Vircopy(_) => 5,
-            KernelCall::Kill(_) => 6,
-            KernelCall::Whois(_) => 7,
-            KernelCall::Grant(_) => 8,
-        }
+/// The request that words make under these rules.
+pub(crate) fn request_under(rules: Rules, words: MessageWords) -> Option<KernelCall>
+    ensures value { result ≡ kernel_call_under rules words }
+    ensures place { IfSome result (λ _. (FIRST_CALL ≤ words.kind) × (words.kind < FIRST_CALL + 32)) }
+{
+    let row = call_row(words.kind)?;
+    if !is_there(rules, row) {
+        return None;
     }
+    Some(request_of(row.call, words))
 }
 
 /// The bytes of a reply.

@@ -13,7 +13,8 @@ ghost use Rattle.mx_kcall.specs.Serving.{due_after, ticks_left, table_after_chan
 use crate::refusals::check;
 use crate::request::{After, KernelCall, ReplyWords, VirtualAddress, reply_bytes};
 use crate::windows::window_of;
-use mx_respawn::{DeathCause, ProcessAddress, Slot, Table, die, go_on, slot_of};
+use mx_proc::{DeathCause, ProcessAddress, Slot, Table, slot_of};
+use mx_respawn::{die, go_on};
 
 /// When an alarm rings that is set for a delay; never if that is 0.
 fn due_after(uptime: u32, delay: u32) -> Option<u64>

@@ -5,7 +5,7 @@ ghost use Rattle.std.specs.Prelude.{◌≡◌};
 ghost use Rattle.mx_kcall.specs.Windows.{allows, is_open, is_strict, access_of, granted};
 
 use crate::request::WindowGrant;
-use mx_respawn::{Access, Rules, Window};
+use mx_proc::{Access, Rules, Window};
 
 /// Whether these are the rules under which windows are asked for.
 pub fn is_strict(rules: Rules) -> bool

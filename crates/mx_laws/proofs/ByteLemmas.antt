@@ -16,17 +16,19 @@ use Rattle.mx_ipc.specs.Checks.{first_error}
 use Rattle.mx_word.specs.Bits.{has_bit}
 use Rattle.mx_kcall.specs.declared.request.CopyRange.{CopyRange}
 use Rattle.mx_kcall.specs.declared.request.KernelCall.{KernelCall}
-use Rattle.mx_kcall.specs.declared.request.KernelCall.TheVariants.{Exit, Times, SetAlarm, Irqctl, Devio, Vircopy, Whois, Grant}
-use Rattle.mx_kcall.specs.declared.request.KernelCall.TheVariants as kernel_call
+use Rattle.mx_kcall.specs.declared.request.KernelCall.TheVariants.{Devio, Vircopy}
+use Rattle.mx_kcall.specs.Effects.Effect.{Nothing, SetsRegister, WritesConsole}
+use Rattle.mx_kcall.specs.Known.{is_away}
+use Rattle.mx_kcall.specs.Rows.{first_call}
 use Rattle.mx_kcall.specs.Calls.{trap_answer}
-use Rattle.mx_kcall.specs.Refusals.{is_away, kernel_call_reasons, kernel_call_refusal, kernel_call_refusal_by}
+use Rattle.mx_kcall.specs.Refusals.{kernel_call_reasons, kernel_call_refusal, kernel_call_refusal_by}
 use Rattle.mx_kcall.specs.Requests.{kernel_call_under, message_words_at}
 use Rattle.mx_kcall.specs.TrapAnswer.{TrapAnswer}
 use Rattle.mx_kcall.specs.Windows.{allows_reading, allows_writing, is_open, is_strict}
 use Rattle.mx_kcall.specs.TrapAnswer.TheVariants as trap_ends
 use Rattle.mx_machine.specs.Move.{is_doomed, table_after_coming_home}
 use Rattle.mx_machine.specs.World.{HeldProcess, held_by}
-use Rattle.mx_laws.specs.Entries.{IsInCopy, IsInside, IsOpenToWriting, IsThroughWindows, slot_on, copy_made, copy_at_back, copy_at_end, copy_at_trap, copy_by}
+use Rattle.mx_laws.specs.Entries.{IsInCopy, IsInside, IsOpenToWriting, IsThroughWindows, slot_on, copy_made, copy_at_back, copy_at_end, copy_at_trap, copy_by, copy_of_effect}
 use Rattle.mx_exec.specs.declared.image.Image.{Image}
 use Rattle.mx_exec.specs.Image.{blank}
 use Rattle.mx_mem.specs.Segment.{part, with_bytes_at}
@@ -232,9 +234,9 @@ record IsAllowed (t : TableState) (s : ℕ) (c : CopyMade) : Type 0 where
 part_whole : (xs : List ℕ) (at count : ℕ) → at + count ≤ length xs → length (part xs at count) ≡ count
 part_whole xs at count le = omega (arith, length-take count (drop at xs), length-drop at xs, le)
 
-copy_fits : (t : TableState) (s : ℕ) (c : CopyRange) → kernel_call_refusal_by t s (Some (Vircopy c)) ≡ None → IsAllowed t s (copy_made t c)
-copy_fits t s c e =
-    let h = none_holds ((not (has_bit (process_at t s).masks.calls 5), Denied) ∷ kernel_call_reasons t s (Vircopy c)) e in
+copy_fits : (t : TableState) (s bit : ℕ) (c : CopyRange) → kernel_call_refusal_by t s bit (Some (Vircopy c)) ≡ None → IsAllowed t s (copy_made t c)
+copy_fits t s bit c e =
+    let h = none_holds ((not (has_bit (process_at t s).terms.masks.calls bit), Denied) ∷ kernel_call_reasons t s (Vircopy c)) e in
     let from = c.source.endpoint in let to = c.target.endpoint in
     record {
       windows = λ strict. record {
@@ -250,23 +252,22 @@ abbrev the_copy : CopyMade → Option CopyMade → CopyMade
 the_copy d None = d
 the_copy d (Some c) = c
 
-copy_inside_by : (t : TableState) (s : ℕ) (r : Option KernelCall) (e : Option Errno) (c : CopyMade) → kernel_call_refusal_by t s r ≡ e → copy_by t r e ≡ Some c → IsAllowed t s c
-copy_inside_by t s None e c f g = cc
-copy_inside_by t s (Some Exit) e c f g = cc
-copy_inside_by t s (Some Times) e c f g = cc
-copy_inside_by t s (Some (SetAlarm delay)) e c f g = cc
-copy_inside_by t s (Some (Irqctl action line)) e c f g = cc
-copy_inside_by t s (Some (Devio action register value)) e c f g = cc
-copy_inside_by t s (Some (Vircopy copied)) (Some x) c f g = cc
-copy_inside_by t s (Some (Vircopy copied)) None c f g = subst (IsAllowed t s) (ap (the_copy c) g) (copy_fits t s copied f)
-copy_inside_by t s (Some (kernel_call.Kill n)) e c f g = cc
-copy_inside_by t s (Some (Whois slot)) e c f g = cc
-copy_inside_by t s (Some (Grant grant)) e c f g = cc
+copy_inside_by : (t : TableState) (s bit : ℕ) (r : Option KernelCall) (e : Option Errno) (c : CopyMade) → kernel_call_refusal_by t s bit r ≡ e → copy_by t s r e ≡ Some c → IsAllowed t s c
+copy_inside_by t s bit None e c f g = cc
+copy_inside_by t s bit (Some r) (Some x) c f g = cc
+copy_inside_by t s bit (Some (Vircopy copied)) None c f g = subst (IsAllowed t s) (ap (the_copy c) g) (copy_fits t s bit copied f)
+copy_inside_by t s bit (Some (Devio action register value)) None c f g = by_bools (action == 0) (register == 0) g
+  where
+    by_bools : (a b : Bool) → copy_of_effect t (cond a Nothing (cond b (WritesConsole (value % 256)) (SetsRegister register value))) ≡ Some c → IsAllowed t s c
+    by_bools true b k = cc
+    by_bools false true k = cc
+    by_bools false false k = cc
+copy_inside_by t s bit (Some _) None c f g = cc
 
 copy_inside_trap : (t : TableState) (s : ℕ) (x : TrapAnswer) (c : CopyMade) → copy_at_trap t s x ≡ Some c → IsAllowed t s c
 unfolding kernel_call_refusal
 copy_inside_trap t s trap_ends.Done c g = cc
-copy_inside_trap t s trap_ends.Kernel c g = copy_inside_by t s (kernel_call_under t.rules (message_words_at t s)) (kernel_call_refusal t s) c refl g
+copy_inside_trap t s trap_ends.Kernel c g = copy_inside_by t s ((message_words_at t s).kind - first_call) (kernel_call_under t.rules (message_words_at t s)) (kernel_call_refusal t s) c refl g
 
 copy_inside_end : (t : TableState) (s : ℕ) (b : Bool) (x : Stop) (c : CopyMade) → copy_at_end t s b x ≡ Some c → IsAllowed t s c
 copy_inside_end t s true x c g = cc

@@ -27,20 +27,22 @@ use Rattle.mx_ipc.specs.declared.calls.Party.{Party}
 use Rattle.mx_ipc.specs.declared.calls.Party.TheVariants.{Any, Hardware, Clock, System, Process as Named}
 use Rattle.mx_ipc.specs.Checks.{call_of, call_refusal, checks, first_error, is_notify, is_outside, party_of}
 use Rattle.mx_kcall.specs.declared.request.KernelCall.{KernelCall}
-use Rattle.mx_kcall.specs.declared.request.KernelCall.TheVariants.{Exit, Times, SetAlarm, Irqctl, Devio, Vircopy, Kill, Whois, Grant}
+use Rattle.mx_kcall.specs.Effects.{Effect}
+use Rattle.mx_kcall.specs.Effects.Effect.{Copies, Kills}
+use Rattle.mx_kcall.specs.Known.{known}
 use Rattle.mx_kcall.specs.declared.request.ReplyWords.{ReplyWords}
 use Rattle.mx_kcall.specs.Calls.{accepts, goes_on, hears, partner_of, trap_answer}
 use Rattle.mx_kcall.specs.Death.{callers, receivers, receives_from_alone, table_after_taking_out, waiting_for}
 use Rattle.mx_kcall.specs.Queueing.{table_after_queueing}
 use Rattle.mx_kcall.specs.Refusals.{kernel_call_refusal}
 use Rattle.mx_kcall.specs.Requests.{kernel_call_under, message_words_at, reply_bytes, no_reply_words}
-use Rattle.mx_kcall.specs.Serving.{ends_caller, words_of_reply}
+use Rattle.mx_kcall.specs.Serving.{effect_of, ends_caller, words_of_reply}
 use Rattle.mx_kcall.specs.TrapAnswer.{TrapAnswer}
 use Rattle.mx_kcall.specs.TrapAnswer.TheVariants as trap_ends
 use Rattle.mx_laws.specs.Diary.{Item}
 use Rattle.mx_laws.specs.Diary.Item.{Ran, Result, Message, Copy}
-use Rattle.mx_laws.specs.Items.{bytes_of_notice, items_of_call, items_of_change, items_of_checked_call, items_of_death, items_of_end_of_turn, items_of_freeing, items_of_kernel_call, items_of_notifying, items_of_receive, items_of_release, items_of_reply, items_of_send, items_of_sendrec, items_of_taking, items_of_trap, items_of_trap_by}
-use Rattle.mx_laws.specs.Entries.{CopyMade, copy_made, copy_at_end, copy_at_trap, copy_by, is_receiving, IsOfCopy}
+use Rattle.mx_laws.specs.Items.{bytes_of_notice, items_of_call, items_of_effect, items_of_checked_call, items_of_death, items_of_end_of_turn, items_of_freeing, items_of_kernel_call, items_of_notifying, items_of_receive, items_of_release, items_of_reply, items_of_send, items_of_sendrec, items_of_taking, items_of_trap, items_of_trap_by}
+use Rattle.mx_laws.specs.Entries.{CopyMade, copy_made, copy_at_end, copy_at_trap, copy_by, copy_of_effect, is_receiving, IsOfCopy}
 
 -- ---- items of several slots
 
@@ -364,22 +366,16 @@ death_each {w} {R} {M} h made s =
 reply_each : (R M : ℕ → Type 0) (made : Option CopyMade) (s n : ℕ) (a : ReplyWords) → R s → M s → Each (Goes R M made) (items_of_reply s n a)
 reply_each R M made s n a own heard = ((reply_long n a, heard), (own, tt))
 
-change_each : {w : TableState} {R M : ℕ → Type 0} → Scene w R M → (made : Option CopyMade) (r : KernelCall) → made ≡ copy_by w (Some r) None → Each (Goes R M made) (items_of_change w r)
-change_each h made Exit e = tt
-change_each h made Times e = tt
-change_each h made (SetAlarm delay) e = tt
-change_each h made (Irqctl action line) e = tt
-change_each h made (Devio action register value) e = tt
-change_each {w} h made (Vircopy c) e = (record { copy = copy_made w c; is_made = e; slot = refl; place = refl; same = refl }, tt)
-change_each h made (Kill n) e = death_each h made (n % 1024)
-change_each h made (Whois slot) e = tt
-change_each h made (Grant grant) e = tt
+effect_each : {w : TableState} {R M : ℕ → Type 0} → Scene w R M → (made : Option CopyMade) (e : Effect) → made ≡ copy_of_effect w e → Each (Goes R M made) (items_of_effect w e)
+effect_each {w} h made (Copies c) e = (record { copy = copy_made w c; is_made = e; slot = refl; place = refl; same = refl }, tt)
+effect_each h made (Kills s) e = death_each h made s
+effect_each h made _ e = tt
 
-kernel_call_each : {w : TableState} {R M : ℕ → Type 0} → Scene w R M → (made : Option CopyMade) (s : ℕ) (r : Option KernelCall) (e : Option Errno) → made ≡ copy_by w r e → R s → M s → Each (Goes R M made) (items_of_kernel_call w s r e)
+kernel_call_each : {w : TableState} {R M : ℕ → Type 0} → Scene w R M → (made : Option CopyMade) (s : ℕ) (r : Option KernelCall) (e : Option Errno) → made ≡ copy_by w s r e → R s → M s → Each (Goes R M made) (items_of_kernel_call w s r e)
 kernel_call_each {w} {R} {M} h made s r (Some e) f own heard = reply_each R M made s (errno_bits e) no_reply_words own heard
 kernel_call_each h made s None None f own heard = tt
 kernel_call_each {w} {R} {M} h made s (Some r) None f own heard =
-    each-case (Goes R M made) (ends_caller s r) _ _ (λ t. death_each h made s) (λ t. each-append (Goes R M made) (items_of_change w r) (items_of_reply s 0 (words_of_reply w s r)) (change_each h made r f) (reply_each R M made s 0 (words_of_reply w s r) own heard))
+    each-case (Goes R M made) (ends_caller s r) _ _ (λ t. death_each h made s) (λ t. each-append (Goes R M made) (items_of_effect w (effect_of (known w s) s r)) (items_of_reply s 0 (words_of_reply w s r)) (effect_each h made (effect_of (known w s) s r) f) (reply_each R M made s 0 (words_of_reply w s r) own heard))
 
 trap_each : {w : TableState} {R M : ℕ → Type 0} → Scene w R M → AreReady w → (s : ℕ) (x : TrapAnswer) → R s → M s → Each (Goes R M (copy_at_trap w s x)) (items_of_trap w s x)
 trap_each {w} h k s trap_ends.Done own heard = trap_by_each h k None s (call_of (process_at w s).image.regs.ecx) (process_at w s).image.regs.eax own heard

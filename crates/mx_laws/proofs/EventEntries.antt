@@ -71,7 +71,7 @@ abbrev readied : Process → Process
 readied p = record p { state = Ready }
 
 abbrev renewed : ℕ → Process → Process
-renewed level p = record p { state = Ready; level = level; ticks = p.quantum }
+renewed level p = record p { state = Ready; level = level; ticks = p.terms.quantum }
 
 first_scene : {w : TableState} {R M : ℕ → Type 0} → Scene w R M → (s : ℕ) → Scene (table_with_first w s) R M
 first_scene {w} h s = let x = readied (process_at w s) in like h (table_with_first w s) (λ p b. after_set Blocked w.slots s p x b (λ z. cc)) (λ p b. after_set Receives w.slots s p x b (λ z. cc)) refl

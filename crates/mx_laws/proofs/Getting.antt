@@ -26,16 +26,18 @@ use Rattle.mx_kcall.specs.Calls.{accepts, call_answer, hears, partner_of, trap_a
 use Rattle.mx_kcall.specs.Death.{table_after_taking_out, waiting_for}
 use Rattle.mx_kcall.specs.Refusals.{kernel_call_refusal}
 use Rattle.mx_kcall.specs.Requests.{kernel_call_under, message_words_at, no_reply_words, reply_bytes}
-use Rattle.mx_kcall.specs.Serving.{ends_caller, words_of_reply}
+use Rattle.mx_kcall.specs.Effects.{Effect}
+use Rattle.mx_kcall.specs.Effects.Effect.{Copies, Kills}
+use Rattle.mx_kcall.specs.Known.{known}
+use Rattle.mx_kcall.specs.Serving.{effect_of, ends_caller, words_of_reply}
 use Rattle.mx_kcall.specs.TrapAnswer.{TrapAnswer}
 use Rattle.mx_kcall.specs.TrapAnswer.TheVariants as trap_ends
 use Rattle.mx_kcall.specs.declared.request.KernelCall.{KernelCall}
-use Rattle.mx_kcall.specs.declared.request.KernelCall.TheVariants.{Exit, Times, SetAlarm, Irqctl, Devio, Vircopy, Kill, Whois, Grant}
 use Rattle.mx_kcall.specs.declared.request.ReplyWords.{ReplyWords}
 use Rattle.mx_laws.specs.Diary.{Item, items_for}
 use Rattle.mx_laws.specs.Diary.Item.{Ran, Result, Message, Copy}
 use Rattle.mx_laws.specs.Entries.{is_receiving}
-use Rattle.mx_laws.specs.Items.{bytes_of_notice, items_of_call, items_of_change, items_of_checked_call, items_of_death, items_of_freeing, items_of_kernel_call, items_of_notifying, items_of_receive, items_of_release, items_of_reply, items_of_send, items_of_sendrec, items_of_taking, items_of_trap, items_of_trap_by}
+use Rattle.mx_laws.specs.Items.{bytes_of_notice, items_of_call, items_of_effect, items_of_checked_call, items_of_death, items_of_freeing, items_of_kernel_call, items_of_notifying, items_of_receive, items_of_release, items_of_reply, items_of_send, items_of_sendrec, items_of_taking, items_of_trap, items_of_trap_by}
 use Rattle.mx_look_facts.specs.Going.{is_zero}
 use Rattle.mx_laws.specs.Made.{slot_to}
 use Rattle.mx_laws.specs.Told.{result_after, result_written}
@@ -299,20 +301,14 @@ freed_some q (p ∷ ps) r e = by_bool (p == q) (freed_some q ps)
 pub death_zero : (t : TableState) (s q : ℕ) → is_told_zero (items_for q (items_of_death t s)) ≡ false
 death_zero t s q = freed_some q (waiting_for (table_after_taking_out t s) s) None refl
 
-change_zero : (t : TableState) (r : KernelCall) (q : ℕ) → is_told_zero (items_for q (items_of_change t r)) ≡ false
-change_zero t Exit q = refl
-change_zero t Times q = refl
-change_zero t (SetAlarm delay) q = refl
-change_zero t (Irqctl action line) q = refl
-change_zero t (Devio action register value) q = refl
-change_zero t (Vircopy c) q = by_bool (c.target.endpoint % 1024 == q)
+effect_zero : (t : TableState) (e : Effect) (q : ℕ) → is_told_zero (items_for q (items_of_effect t e)) ≡ false
+effect_zero t (Copies c) q = by_bool (c.target.endpoint % 1024 == q)
   where
     by_bool : (b : Bool) → is_told_zero (cond b (Copy c.target.offset (part (memory_at t (c.source.endpoint % 1024)) c.source.offset c.count) ∷ []) []) ≡ false
     by_bool true = refl
     by_bool false = refl
-change_zero t (Kill e) q = death_zero t (e % 1024) q
-change_zero t (Whois slot) q = refl
-change_zero t (Grant grant) q = refl
+effect_zero t (Kills s) q = death_zero t s q
+effect_zero t _ q = refl
 
 reply_other : (s n : ℕ) (a : ReplyWords) (q : ℕ) → s ≢ q → items_for q (items_of_reply s n a) ≡ []
 reply_other s n a q m = ap (λ b. cond b (Message (reply_bytes n a) ∷ cond b (Result 0 ∷ []) []) (cond b (Result 0 ∷ []) [])) (ne_eqb s q m)
@@ -323,7 +319,7 @@ kernel_call_zero t s None None q m = refl
 kernel_call_zero t s (Some r) None q m = by_bool (ends_caller s r)
   where
     changed : List (ℕ × Item)
-    changed = items_of_change t r
+    changed = items_of_effect t (effect_of (known t s) s r)
 
     reply : List (ℕ × Item)
     reply = items_of_reply s 0 (words_of_reply t s r)
@@ -332,7 +328,7 @@ kernel_call_zero t s (Some r) None q m = by_bool (ends_caller s r)
     by_bool true = death_zero t s q
     by_bool false =
         ap is_told_zero (items_for-append q changed reply ∙ ap (λ l. items_for q changed ++ l) (reply_other s 0 (words_of_reply t s r) q m) ∙ append-nil (items_for q changed))
-        ∙ change_zero t r q
+        ∙ effect_zero t (effect_of (known t s) s r) q
 
 pub trap_got : (t : TableState) (s : ℕ) (x : TrapAnswer) (q : ℕ) → AreFew t → IsQueued t → (process_at t s).state ≡ Home → s ≢ q → IsGot t (items_of_trap t s x) (made_of_trap t s x) q
 trap_got t s trap_ends.Done q few queued home n = trap_by_got t s (call_of (process_at t s).image.regs.ecx) (process_at t s).image.regs.eax q few queued (home_few t s few home) n

@@ -15,7 +15,6 @@ use Rattle.mx_proc.specs.declared.process.State.{State}
 use Rattle.mx_proc.specs.Errors.{errno_bits}
 use Rattle.mx_proc.specs.Waits.{caller_of}
 use Rattle.mx_mem.specs.Segment.{part}
-use Rattle.mx_proc.specs.Serving.{with_console_byte, with_device_register}
 use Rattle.mx_proc.specs.TableState.{TableState, process_at, message_of, memory_at, table_after_delivery, pending_source, with_message}
 use Rattle.mx_ipc.specs.declared.calls.Call.{Call}
 use Rattle.mx_ipc.specs.declared.calls.Call.TheVariants as call
@@ -26,14 +25,16 @@ use Rattle.mx_kcall.specs.TrapAnswer.TheVariants as trap_ends
 use Rattle.mx_ipc.specs.Checks.{call_of, party_of, call_refusal}
 use Rattle.mx_kcall.specs.Calls.{accepts, goes_on, partner_of, trap_answer, table_after_taking, table_after_receive_by, table_after_receive, table_after_sendrec, table_after_notifying, table_after_checked_call, table_after_call_by, table_after_call, table_after_trap_by, table_after_trap}
 use Rattle.mx_kcall.specs.declared.request.KernelCall.{KernelCall}
-use Rattle.mx_kcall.specs.declared.request.KernelCall.TheVariants.{Exit, Times, SetAlarm, Irqctl, Devio, Vircopy, Kill, Whois, Grant}
+use Rattle.mx_kcall.specs.Effects.{Effect, table_after_effect}
+use Rattle.mx_kcall.specs.Effects.Effect.{SetsAlarm, Copies, Kills, SetsWindow}
+use Rattle.mx_kcall.specs.Known.{known}
 use Rattle.mx_kcall.specs.declared.request.ReplyWords.{ReplyWords}
 use Rattle.mx_kcall.specs.Requests.{kernel_call_under, message_words_at, reply_bytes, no_reply_words}
 use Rattle.mx_kcall.specs.Refusals.{kernel_call_refusal}
-use Rattle.mx_kcall.specs.Serving.{words_of_reply, table_after_change, ends_caller, table_after_reply, table_after_serving, table_after_kernel_call_by, table_after_kernel_call}
+use Rattle.mx_kcall.specs.Serving.{effect_of, words_of_reply, ends_caller, table_after_reply, table_after_serving, table_after_kernel_call_by, table_after_kernel_call}
 use Rattle.mx_machine.specs.Move.{table_after_trap_at_back, table_after_end_of_turn}
 use Rattle.mx_laws.specs.Diary.{play_all, images}
-use Rattle.mx_laws.specs.Items.{bytes_of_notice, items_of_taking, items_of_notifying, items_of_receive, items_of_sendrec, items_of_checked_call, items_of_call, items_of_trap_by, items_of_change, items_of_reply, items_of_serving, items_of_kernel_call, items_of_trap, items_of_end_of_turn}
+use Rattle.mx_laws.specs.Items.{bytes_of_notice, items_of_taking, items_of_notifying, items_of_receive, items_of_sendrec, items_of_checked_call, items_of_call, items_of_trap_by, items_of_effect, items_of_reply, items_of_serving, items_of_kernel_call, items_of_trap, items_of_end_of_turn}
 use Rattle.mx_laws.specs.Diary.Item.{Message, Copy}
 use Rattle.mx_laws.proofs.DiaryLemmas.{images-kept, play_all-append, one_given, by_case, queueing_images, goes_on_images, then_goes_on, delivery_images, notice_images, send_images, notifying_images, taking_from_images, death_images}
 
@@ -87,20 +88,12 @@ trap_by_images w s (Some c) n = call_by_images w s c (party_of w n) (call_refusa
 
 -- ---- kernel calls
 
-same_case : (b : Bool) (x y : TableState) (ms : List Image) → images x ≡ ms → images y ≡ ms → images (cond b x y) ≡ ms
-same_case true x y ms e f = e
-same_case false x y ms e f = f
-
-change_images : (w : TableState) (s : ℕ) (r : KernelCall) → images (table_after_change w s r) ≡ play_all (items_of_change w r) (images w)
-change_images w s Exit = refl
-change_images w s Times = refl
-change_images w s (SetAlarm delay) = images-kept w.slots s _ refl
-change_images w s (Irqctl action line) = refl
-change_images w s (Devio action register value) = same_case (action == 0) w _ (images w) refl (same_case (register == 0) (with_console_byte w (value % 256)) (with_device_register w register value) (images w) refl refl)
-change_images w s (Vircopy c) = one_given w (c.target.endpoint % 1024) (Copy c.target.offset (part (memory_at w (c.source.endpoint % 1024)) c.source.offset c.count)) _ refl
-change_images w s (Kill e) = death_images w (e % 1024) cause.Kill
-change_images w s (Whois slot) = refl
-change_images w s (Grant grant) = images-kept w.slots s _ refl
+effect_images : (w : TableState) (s : ℕ) (e : Effect) → images (table_after_effect w s e) ≡ play_all (items_of_effect w e) (images w)
+effect_images w s (SetsAlarm due) = images-kept w.slots s _ refl
+effect_images w s (Copies c) = one_given w (c.target.endpoint % 1024) (Copy c.target.offset (part (memory_at w (c.source.endpoint % 1024)) c.source.offset c.count)) _ refl
+effect_images w s (Kills d) = death_images w d cause.Kill
+effect_images w s (SetsWindow user window) = images-kept w.slots s _ refl
+effect_images w s _ = refl
 
 reply_images : (w : TableState) (s n : ℕ) (a : ReplyWords) → images (table_after_reply w s n a) ≡ play_all (items_of_reply s n a) (images w)
 unfolding table_after_reply
@@ -108,8 +101,10 @@ reply_images w s n a = then_goes_on w (with_message w s (reply_bytes n a)) ((s, 
 
 serving_images : (w : TableState) (s : ℕ) (r : KernelCall) → images (table_after_serving w s r) ≡ play_all (items_of_serving w s r) (images w)
 unfolding table_after_serving
-serving_images w s r = by_case (ends_caller s r) _ _ _ _ (images w) (death_images w s cause.Exit)
-    (reply_images (table_after_change w s r) s 0 (words_of_reply w s r) ∙ ap (play_all (items_of_reply s 0 (words_of_reply w s r))) (change_images w s r) ∙ sym (play_all-append (items_of_change w r) (items_of_reply s 0 (words_of_reply w s r)) (images w)))
+serving_images w s r =
+    let e = effect_of (known w s) s r in
+    by_case (ends_caller s r) _ _ _ _ (images w) (death_images w s cause.Exit)
+    (reply_images (table_after_effect w s e) s 0 (words_of_reply w s r) ∙ ap (play_all (items_of_reply s 0 (words_of_reply w s r))) (effect_images w s e) ∙ sym (play_all-append (items_of_effect w e) (items_of_reply s 0 (words_of_reply w s r)) (images w)))
 
 kernel_call_by_images : (w : TableState) (s : ℕ) (r : Option KernelCall) (e : Option Errno) → images (table_after_kernel_call_by w s r e) ≡ play_all (items_of_kernel_call w s r e) (images w)
 kernel_call_by_images w s r (Some e) = reply_images w s (errno_bits e) no_reply_words

@@ -1,6 +1,6 @@
 -- No event reads the recorded deliveries: whatever they are, it makes these deliveries, and all else is as without
 -- them.
-use Rattle.std.proofs.Common.{◌≡◌, ◌∙◌, ℕ, ◌%◌, ◌==◌, nat_lt, not, slice_get, Bool, true, false, cond, List, [], ◌∷◌, ◌++◌, Option, Some, None, refl, sym, ap}
+use Rattle.std.proofs.Common.{◌≡◌, ◌∙◌, ℕ, ◌-◌, ◌%◌, nat_lt, slice_get, Bool, true, false, cond, List, [], ◌∷◌, ◌++◌, Option, Some, None, refl, sym, ap}
 use Rattle.circular_buffer.specs.Buffer.{keep_last}
 use Rattle.mx_image.specs.declared.runs.Stop.{Stop}
 use Rattle.mx_image.specs.declared.runs.Stop.TheVariants.{Spent, Trap, Fault}
@@ -19,7 +19,7 @@ use Rattle.mx_proc.specs.declared.process.State.TheVariants.{Home, Ready, Out, D
 use Rattle.mx_proc.specs.Errors.{errno_bits}
 use Rattle.mx_proc.specs.Messages.{type_of}
 use Rattle.mx_proc.specs.Partners.{order_of_source}
-use Rattle.mx_proc.specs.Serving.{table_after_burial, table_after_forgetting, with_alarm, with_console_byte, with_device_register, with_line, with_tick}
+use Rattle.mx_proc.specs.Serving.{table_after_burial, table_after_forgetting, with_alarm, with_line, with_tick}
 use Rattle.mx_proc.specs.Queues.{first_ready}
 use Rattle.mx_proc.specs.States.{is_out, is_ready, is_sending}
 use Rattle.mx_proc.specs.TableState.{TableState, endpoint_of, message_of, pending_source, process_at, source_endpoint, table_after_block, table_after_delivery, table_after_dequeue, table_after_notice, table_after_unblock, table_with_first, table_with_last, with_message, with_pending, with_result, with_state}
@@ -28,21 +28,23 @@ use Rattle.mx_ipc.specs.declared.calls.Call.{Call}
 use Rattle.mx_ipc.specs.declared.calls.Call.TheVariants as call
 use Rattle.mx_ipc.specs.declared.calls.Party.{Party}
 use Rattle.mx_ipc.specs.declared.calls.Party.TheVariants.{Any, Hardware, Clock, System, Process as Named}
-use Rattle.mx_ipc.specs.Checks.{call_of, call_refusal, first_error, party_of}
-use Rattle.mx_word.specs.Bits.{has_bit}
+use Rattle.mx_ipc.specs.Checks.{call_of, call_refusal, party_of}
 use Rattle.mx_kcall.specs.Calls.{accepts, call_answer, goes_on, hears, partner_of, trap_answer, table_after_call, table_after_call_by, table_after_checked_call, table_after_notifying, table_after_receive, table_after_receive_by, table_after_release, table_after_send, table_after_sendrec, table_after_taking, table_after_taking_from, table_after_trap, table_after_trap_by}
 use Rattle.mx_kcall.specs.Clock.{due_slots, table_after_ring, table_after_rings, table_after_tick}
 use Rattle.mx_kcall.specs.Death.{table_after_death, table_after_freeing, table_after_freeing_all, table_after_taking_out, waiting_for}
 use Rattle.mx_kcall.specs.Queueing.{is_last_renewed, next_level, table_after_queueing}
-use Rattle.mx_kcall.specs.Refusals.{kernel_call_reasons, kernel_call_refusal, kernel_call_refusal_by, owner_of}
-use Rattle.mx_kcall.specs.Requests.{bit_of, kernel_call_under, message_words_at, no_reply_words, reply_bytes}
+use Rattle.mx_kcall.specs.Refusals.{kernel_call_refusal, kernel_call_refusal_by, owner_of}
+use Rattle.mx_kcall.specs.Requests.{kernel_call_under, message_words_at, no_reply_words, reply_bytes}
 use Rattle.mx_kcall.specs.Respawn.{table_after_respawn}
 use Rattle.mx_kcall.specs.Service.{Service}
-use Rattle.mx_kcall.specs.Serving.{ends_caller, table_after_change, table_after_kernel_call, table_after_kernel_call_by, table_after_reply, table_after_serving, words_of_reply}
+use Rattle.mx_kcall.specs.Effects.{Effect, table_after_effect}
+use Rattle.mx_kcall.specs.Effects.Effect.{Kills}
+use Rattle.mx_kcall.specs.Known.{known}
+use Rattle.mx_kcall.specs.Rows.{first_call}
+use Rattle.mx_kcall.specs.Serving.{effect_of, ends_caller, table_after_change, table_after_kernel_call, table_after_kernel_call_by, table_after_reply, table_after_serving, words_of_reply}
 use Rattle.mx_kcall.specs.TrapAnswer.{TrapAnswer}
 use Rattle.mx_kcall.specs.TrapAnswer.TheVariants as trap_ends
 use Rattle.mx_kcall.specs.declared.request.KernelCall.{KernelCall}
-use Rattle.mx_kcall.specs.declared.request.KernelCall.TheVariants.{Exit, Times, SetAlarm, Irqctl, Devio, Vircopy, Kill, Whois, Grant}
 use Rattle.mx_kcall.specs.declared.request.ReplyWords.{ReplyWords}
 use Rattle.mx_machine.specs.declared.events.Event.{Event}
 use Rattle.mx_machine.specs.declared.events.Event.TheVariants as event
@@ -288,41 +290,19 @@ death_kept t s why xs =
     ap (λ z. table_after_burial (table_after_forgetting (table_after_freeing_all z (waiting_for z s)) s) s why) (taking_out_kept t s xs)
     ∙ ap (λ z. table_after_burial (table_after_forgetting z s) s why) (freeing_kept (waiting_for left s) left xs)
 
-change_kept : (t : TableState) (s : ℕ) (r : KernelCall) (xs : List Delivery) → table_after_change (kept t xs) s r ≡ kept (table_after_change t s r) xs
-change_kept t s Exit xs = refl
-change_kept t s Times xs = refl
-change_kept t s (SetAlarm delay) xs = refl
-change_kept t s (Irqctl action line) xs = refl
-change_kept t s (Devio action register value) xs =
-    let console = with_console_byte t (value % 256) in
-    let device = with_device_register t register value in
-    quiet (action == 0) _ _ t (cond (register == 0) console device) xs refl (quiet (register == 0) _ _ console device xs refl refl)
-change_kept t s (Vircopy copied) xs = refl
-change_kept t s (Kill e) xs = death_kept t (e % 1024) cause.Kill xs
-change_kept t s (Whois slot) xs = refl
-change_kept t s (Grant grant) xs = refl
+effect_kept : (t : TableState) (s : ℕ) (e : Effect) (xs : List Delivery) → table_after_effect (kept t xs) s e ≡ kept (table_after_effect t s e) xs
+effect_kept t s (Kills d) xs = death_kept t d cause.Kill xs
+effect_kept t s _ xs = refl
 
 reply_kept : (t : TableState) (s n : ℕ) (a : ReplyWords) (xs : List Delivery) → table_after_reply (kept t xs) s n a ≡ kept (table_after_reply t s n a) xs
 unfolding table_after_reply
 reply_kept t s n a xs = goes_on_kept (with_message t s (reply_bytes n a)) s 0 xs
 
-words_kept : (t : TableState) (s : ℕ) (r : KernelCall) (xs : List Delivery) → words_of_reply (kept t xs) s r ≡ words_of_reply t s r
-words_kept t s Exit xs = refl
-words_kept t s Times xs = refl
-words_kept t s (SetAlarm delay) xs = refl
-words_kept t s (Irqctl action line) xs = refl
-words_kept t s (Devio action register value) xs = refl
-words_kept t s (Vircopy copied) xs = refl
-words_kept t s (Kill e) xs = refl
-words_kept t s (Whois slot) xs = refl
-words_kept t s (Grant grant) xs = refl
-
 serving_kept : (t : TableState) (s : ℕ) (r : KernelCall) (xs : List Delivery) → table_after_serving (kept t xs) s r ≡ kept (table_after_serving t s r) xs
 unfolding table_after_serving
 serving_kept t s r xs = quiet (ends_caller s r) _ _ (table_after_death t s cause.Exit) (table_after_reply (table_after_change t s r) s 0 (words_of_reply t s r)) xs
     (death_kept t s cause.Exit xs)
-    (ap (λ z. table_after_reply z s 0 (words_of_reply (kept t xs) s r)) (change_kept t s r xs)
-    ∙ ap (table_after_reply (kept (table_after_change t s r) xs) s 0) (words_kept t s r xs)
+    (ap (λ z. table_after_reply z s 0 (words_of_reply t s r)) (effect_kept t s (effect_of (known t s) s r) xs)
     ∙ reply_kept (table_after_change t s r) s 0 (words_of_reply t s r) xs)
 
 kernel_call_by_kept : (t : TableState) (s : ℕ) (r : Option KernelCall) (e : Option Errno) (xs : List Delivery) → table_after_kernel_call_by (kept t xs) s r e ≡ kept (table_after_kernel_call_by t s r e) xs
@@ -330,23 +310,9 @@ kernel_call_by_kept t s r (Some e) xs = reply_kept t s (errno_bits e) no_reply_w
 kernel_call_by_kept t s (Some r) None xs = serving_kept t s r xs
 kernel_call_by_kept t s None None xs = refl
 
-reasons_kept : (t : TableState) (s : ℕ) (r : KernelCall) (xs : List Delivery) → kernel_call_reasons (kept t xs) s r ≡ kernel_call_reasons t s r
-reasons_kept t s Exit xs = refl
-reasons_kept t s Times xs = refl
-reasons_kept t s (SetAlarm delay) xs = refl
-reasons_kept t s (Irqctl action line) xs = refl
-reasons_kept t s (Devio action register value) xs = refl
-reasons_kept t s (Vircopy copied) xs = refl
-reasons_kept t s (Kill e) xs = refl
-reasons_kept t s (Whois slot) xs = refl
-reasons_kept t s (Grant grant) xs = refl
-
-refusal_by_kept : (t : TableState) (s : ℕ) (r : Option KernelCall) (xs : List Delivery) → kernel_call_refusal_by (kept t xs) s r ≡ kernel_call_refusal_by t s r
-refusal_by_kept t s None xs = refl
-refusal_by_kept t s (Some r) xs = ap (λ z. first_error (check ∷ z)) (reasons_kept t s r xs)
-  where
-    check : Bool × Errno
-    check = (not (has_bit (process_at t s).masks.calls (bit_of r)), Denied)
+refusal_by_kept : (t : TableState) (s bit : ℕ) (r : Option KernelCall) (xs : List Delivery) → kernel_call_refusal_by (kept t xs) s bit r ≡ kernel_call_refusal_by t s bit r
+refusal_by_kept t s bit None xs = refl
+refusal_by_kept t s bit (Some r) xs = refl
 
 words_at_kept : (t : TableState) (s : ℕ) (xs : List Delivery) → message_words_at (kept t xs) s ≡ message_words_at t s
 unfolding message_words_at
@@ -355,12 +321,15 @@ words_at_kept t s xs = refl
 kernel_call_kept : (t : TableState) (s : ℕ) (xs : List Delivery) → table_after_kernel_call (kept t xs) s ≡ kept (table_after_kernel_call t s) xs
 unfolding table_after_kernel_call kernel_call_refusal
 kernel_call_kept t s xs =
-    ap (λ m. table_after_kernel_call_by (kept t xs) s (kernel_call_under t.rules m) (kernel_call_refusal_by (kept t xs) s (kernel_call_under t.rules m))) (words_at_kept t s xs)
-    ∙ ap (table_after_kernel_call_by (kept t xs) s asked) (refusal_by_kept t s asked xs)
-    ∙ kernel_call_by_kept t s asked (kernel_call_refusal_by t s asked) xs
+    ap (λ m. table_after_kernel_call_by (kept t xs) s (kernel_call_under t.rules m) (kernel_call_refusal_by (kept t xs) s (m.kind - first_call) (kernel_call_under t.rules m))) (words_at_kept t s xs)
+    ∙ ap (table_after_kernel_call_by (kept t xs) s asked) (refusal_by_kept t s bit asked xs)
+    ∙ kernel_call_by_kept t s asked (kernel_call_refusal_by t s bit asked) xs
   where
     asked : Option KernelCall
     asked = kernel_call_under t.rules (message_words_at t s)
+
+    bit : ℕ
+    bit = (message_words_at t s).kind - first_call
 
 -- ---- events
 

@@ -16,7 +16,7 @@ use Rattle.mx_proc.specs.declared.process.State.TheVariants.{Home, Ready, Out, D
 use Rattle.mx_proc.specs.Errors.{errno_bits}
 use Rattle.mx_proc.specs.Partners.{may_be}
 use Rattle.mx_proc.specs.Queues.{tally}
-use Rattle.mx_proc.specs.Serving.{with_alarm, with_console_byte, with_device_register, with_line, with_tick}
+use Rattle.mx_proc.specs.Serving.{with_alarm, with_line, with_tick}
 use Rattle.mx_proc.specs.States.{is_out, is_ready, is_sending}
 use Rattle.mx_proc.specs.TableState.{TableState, message_of, process_at, pending_source, table_after_block, table_after_delivery, table_after_dequeue, table_after_unblock, with_message, with_state}
 use Rattle.mx_proc.specs.Waits.{caller_of, sends_of, without_from}
@@ -31,17 +31,19 @@ use Rattle.mx_kcall.specs.Death.{callers, receivers, receives_from_alone, table_
 use Rattle.mx_kcall.specs.Queueing.{table_after_queueing}
 use Rattle.mx_kcall.specs.Refusals.{kernel_call_refusal}
 use Rattle.mx_kcall.specs.Requests.{kernel_call_under, message_words_at, reply_bytes, no_reply_words}
-use Rattle.mx_kcall.specs.Serving.{words_of_reply, table_after_change, ends_caller, table_after_reply, table_after_serving, table_after_kernel_call_by, table_after_kernel_call}
+use Rattle.mx_kcall.specs.Effects.{Effect, table_after_effect}
+use Rattle.mx_kcall.specs.Effects.Effect.{SetsAlarm, Copies, Kills, SetsWindow}
+use Rattle.mx_kcall.specs.Known.{known}
+use Rattle.mx_kcall.specs.Serving.{effect_of, words_of_reply, ends_caller, table_after_reply, table_after_serving, table_after_kernel_call_by, table_after_kernel_call}
 use Rattle.mx_kcall.specs.TrapAnswer.{TrapAnswer}
 use Rattle.mx_kcall.specs.TrapAnswer.TheVariants as trap_ends
 use Rattle.mx_kcall.specs.declared.request.KernelCall.{KernelCall}
-use Rattle.mx_kcall.specs.declared.request.KernelCall.TheVariants.{Exit, Times, SetAlarm, Irqctl, Devio, Vircopy, Kill, Whois, Grant}
 use Rattle.mx_kcall.specs.declared.request.ReplyWords.{ReplyWords}
 use Rattle.mx_machine.specs.Move.{table_after_kill, table_after_trap_at_back}
 use Rattle.mx_laws.specs.Diary.{Item}
 use Rattle.mx_laws.specs.Diary.Item.{Ran, Result, Message, Copy}
 use Rattle.mx_laws.specs.Diaries.{items_of_kill, items_of_line, items_of_rings}
-use Rattle.mx_laws.specs.Items.{items_of_call, items_of_change, items_of_checked_call, items_of_death, items_of_freeing, items_of_kernel_call, items_of_notifying, items_of_receive, items_of_reply, items_of_sendrec, items_of_serving, items_of_taking, items_of_trap, items_of_trap_by}
+use Rattle.mx_laws.specs.Items.{items_of_call, items_of_effect, items_of_checked_call, items_of_death, items_of_freeing, items_of_kernel_call, items_of_notifying, items_of_receive, items_of_reply, items_of_sendrec, items_of_serving, items_of_taking, items_of_trap, items_of_trap_by}
 use Rattle.mx_laws.proofs.Readies.{death_readies, delivery_readies, flag, goes_on_readies, idle_set, IsIdle, IsIdleIfAny, mark, mark-append, marked, notice_readies, notifying_readies, readies, readies-at, readies-kept, ready_of, send_readies, taking_from_readies, then_goes_on}
 
 -- ---- blocked sends
@@ -393,34 +395,19 @@ death_tells t s why q h within idle =
 quiet : (t u : TableState) (items : List (ℕ × Item)) (q : ℕ) → readies u ≡ readies t → gives q items ≡ false → Tells t u items q
 quiet t u items q same none within idle = ap (λ fs. flag fs q) same ∙ idle ∙ sym none
 
-either : (b : Bool) (x y : TableState) {fs : List Bool} → readies x ≡ fs → readies y ≡ fs → readies (cond b x y) ≡ fs
-either true x y e f = e
-either false x y e f = f
+effect_tells : (t : TableState) (s : ℕ) (e : Effect) (q : ℕ) → IsQueued t → Tells t (table_after_effect t s e) (items_of_effect t e) q
+effect_tells t s (SetsAlarm due) q h = quiet t (table_after_effect t s (SetsAlarm due)) [] q (readies-kept t.slots s _ refl) refl
+effect_tells t s (Copies c) q h = quiet t (table_after_effect t s (Copies c)) (items_of_effect t (Copies c)) q (readies-kept t.slots (c.target.endpoint % 1024) _ refl) (ap (λ z. z || false) (and_false (c.target.endpoint % 1024 == q)))
+effect_tells t s (Kills d) q h = death_tells t d cause.Kill q h
+effect_tells t s (SetsWindow user window) q h = quiet t (table_after_effect t s (SetsWindow user window)) [] q (readies-kept t.slots s _ refl) refl
+effect_tells t s e q h = quiet t (table_after_effect t s e) [] q refl refl
 
-device_readies : (t : TableState) (action register value : ℕ) → readies (cond (action == 0) t (cond (register == 0) (with_console_byte t (value % 256)) (with_device_register t register value))) ≡ readies t
-device_readies t action register value = either (action == 0) t _ refl (either (register == 0) (with_console_byte t (value % 256)) (with_device_register t register value) refl refl)
-
-change_tells : (t : TableState) (s : ℕ) (r : KernelCall) (q : ℕ) → IsQueued t → Tells t (table_after_change t s r) (items_of_change t r) q
-change_tells t s Exit q h = quiet t (table_after_change t s Exit) (items_of_change t Exit) q refl refl
-change_tells t s Times q h = quiet t (table_after_change t s Times) (items_of_change t Times) q refl refl
-change_tells t s (SetAlarm delay) q h = quiet t (table_after_change t s (SetAlarm delay)) (items_of_change t (SetAlarm delay)) q (readies-kept t.slots s _ refl) refl
-change_tells t s (Irqctl action line) q h = quiet t (table_after_change t s (Irqctl action line)) (items_of_change t (Irqctl action line)) q refl refl
-change_tells t s (Devio action register value) q h = quiet t (table_after_change t s (Devio action register value)) (items_of_change t (Devio action register value)) q (device_readies t action register value) refl
-change_tells t s (Vircopy c) q h = quiet t (table_after_change t s (Vircopy c)) (items_of_change t (Vircopy c)) q (readies-kept t.slots (c.target.endpoint % 1024) _ refl) (ap (λ z. z || false) (and_false (c.target.endpoint % 1024 == q)))
-change_tells t s (Kill e) q h = death_tells t (e % 1024) cause.Kill q h
-change_tells t s (Whois slot) q h = quiet t (table_after_change t s (Whois slot)) (items_of_change t (Whois slot)) q refl refl
-change_tells t s (Grant grant) q h = quiet t (table_after_change t s (Grant grant)) (items_of_change t (Grant grant)) q (readies-kept t.slots s _ refl) refl
-
-change_long : (t : TableState) (s : ℕ) (r : KernelCall) → length (readies (table_after_change t s r)) ≡ length (readies t)
-change_long t s Exit = refl
-change_long t s Times = refl
-change_long t s (SetAlarm delay) = ap length (readies-kept t.slots s _ refl)
-change_long t s (Irqctl action line) = refl
-change_long t s (Devio action register value) = ap length (device_readies t action register value)
-change_long t s (Vircopy c) = ap length (readies-kept t.slots (c.target.endpoint % 1024) _ refl)
-change_long t s (Kill e) = death_long t (e % 1024) cause.Kill
-change_long t s (Whois slot) = refl
-change_long t s (Grant grant) = ap length (readies-kept t.slots s _ refl)
+effect_long : (t : TableState) (s : ℕ) (e : Effect) → length (readies (table_after_effect t s e)) ≡ length (readies t)
+effect_long t s (SetsAlarm due) = ap length (readies-kept t.slots s _ refl)
+effect_long t s (Copies c) = ap length (readies-kept t.slots (c.target.endpoint % 1024) _ refl)
+effect_long t s (Kills d) = death_long t d cause.Kill
+effect_long t s (SetsWindow user window) = ap length (readies-kept t.slots s _ refl)
+effect_long t s _ = refl
 
 reply_readies : (t : TableState) (s n : ℕ) (a : ReplyWords) → readies (table_after_reply t s n a) ≡ slice_set (readies t) s true
 unfolding table_after_reply
@@ -453,8 +440,10 @@ by_bool_tells false t x y xs ys q h k = k
 
 serving_tells : (t : TableState) (s : ℕ) (r : KernelCall) (q : ℕ) → IsQueued t → Tells t (table_after_serving t s r) (items_of_serving t s r) q
 unfolding table_after_serving
-serving_tells t s r q h = by_bool_tells (ends_caller s r) t _ _ _ _ q (death_tells t s cause.Exit q h)
-    (reply_tells t (table_after_change t s r) (items_of_change t r) s 0 0 (words_of_reply t s r) (words_of_reply t s r) q (change_long t s r) (change_tells t s r q h))
+serving_tells t s r q h =
+    let e = effect_of (known t s) s r in
+    by_bool_tells (ends_caller s r) t _ _ _ _ q (death_tells t s cause.Exit q h)
+    (reply_tells t (table_after_effect t s e) (items_of_effect t e) s 0 0 (words_of_reply t s r) (words_of_reply t s r) q (effect_long t s e) (effect_tells t s e q h))
 
 kernel_call_tells : (t : TableState) (s : ℕ) (r : Option KernelCall) (e : Option Errno) (q : ℕ) → IsQueued t → Tells t (table_after_kernel_call_by t s r e) (items_of_kernel_call t s r e) q
 kernel_call_tells t s r (Some e) q h = reply_tells t t [] s (errno_bits e) (errno_bits e) no_reply_words no_reply_words q refl (quiet t t [] q refl refl)

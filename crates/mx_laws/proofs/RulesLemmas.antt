@@ -14,7 +14,7 @@ use Rattle.mx_proc.specs.declared.errors.Errno.{Errno}
 use Rattle.mx_proc.specs.declared.errors.Errno.TheVariants.{Denied, Dead}
 use Rattle.mx_proc.specs.Errors.{errno_bits}
 use Rattle.mx_proc.specs.Queues.{first_ready}
-use Rattle.mx_proc.specs.Serving.{with_alarm, with_console_byte, with_device_register, with_line, with_tick}
+use Rattle.mx_proc.specs.Serving.{with_alarm, with_line, with_tick}
 use Rattle.mx_proc.specs.States.{is_out, is_ready, is_sending}
 use Rattle.mx_proc.specs.Waits.{caller_of}
 use Rattle.mx_proc.specs.TableState.{TableState, pending_source, process_at, table_after_delivery, table_after_notice, table_after_unblock, with_message, with_result}
@@ -24,7 +24,6 @@ use Rattle.mx_ipc.specs.declared.calls.Party.{Party}
 use Rattle.mx_ipc.specs.declared.calls.Party.TheVariants.{Any, Hardware, Clock, System, Process as Named}
 use Rattle.mx_ipc.specs.Checks.{call_of, call_refusal, party_of}
 use Rattle.mx_kcall.specs.declared.request.KernelCall.{KernelCall}
-use Rattle.mx_kcall.specs.declared.request.KernelCall.TheVariants.{Exit, Times, SetAlarm, Irqctl, Devio, Vircopy, Kill as KillCall, Whois, Grant}
 use Rattle.mx_kcall.specs.declared.request.ReplyWords.{ReplyWords}
 use Rattle.mx_kcall.specs.Calls.{goes_on, partner_of, table_after_call, table_after_call_by, table_after_checked_call, table_after_notifying, table_after_receive, table_after_receive_by, table_after_release, table_after_send, table_after_sendrec, table_after_taking, table_after_taking_from, table_after_trap, table_after_trap_by, trap_answer}
 use Rattle.mx_kcall.specs.Clock.{due_slots, table_after_ring, table_after_rings, table_after_tick}
@@ -34,7 +33,10 @@ use Rattle.mx_kcall.specs.Refusals.{kernel_call_refusal, owner_of}
 use Rattle.mx_kcall.specs.Requests.{kernel_call_under, message_words_at, no_reply_words, reply_bytes}
 use Rattle.mx_kcall.specs.Respawn.{table_after_respawn}
 use Rattle.mx_kcall.specs.Service.{Service}
-use Rattle.mx_kcall.specs.Serving.{ends_caller, table_after_change, table_after_kernel_call, table_after_kernel_call_by, table_after_reply, table_after_serving, words_of_reply}
+use Rattle.mx_kcall.specs.Effects.{Effect, table_after_effect}
+use Rattle.mx_kcall.specs.Effects.Effect.{Kills}
+use Rattle.mx_kcall.specs.Known.{known}
+use Rattle.mx_kcall.specs.Serving.{effect_of, ends_caller, table_after_change, table_after_kernel_call, table_after_kernel_call_by, table_after_reply, table_after_serving, words_of_reply}
 use Rattle.mx_kcall.specs.TrapAnswer.{TrapAnswer}
 use Rattle.mx_kcall.specs.TrapAnswer.TheVariants as trap_ends
 use Rattle.mx_machine.specs.declared.events.Event.{Event}
@@ -157,16 +159,9 @@ death_keeps w s c = freeing_keeps (waiting_for (table_after_taking_out w s) s) (
 
 -- ---- kernel calls
 
-change_keeps : (w : TableState) (s : ℕ) (r : KernelCall) → Keep w (table_after_change w s r)
-change_keeps w s Exit = refl
-change_keeps w s Times = refl
-change_keeps w s (SetAlarm delay) = refl
-change_keeps w s (Irqctl action line) = refl
-change_keeps w s (Devio action register value) = by_case w (action == 0) w _ refl (by_case w (register == 0) (with_console_byte w (value % 256)) (with_device_register w register value) refl refl)
-change_keeps w s (Vircopy c) = refl
-change_keeps w s (KillCall e) = death_keeps w (e % 1024) cause.Kill
-change_keeps w s (Whois slot) = refl
-change_keeps w s (Grant grant) = refl
+effect_keeps : (w : TableState) (s : ℕ) (e : Effect) → Keep w (table_after_effect w s e)
+effect_keeps w s (Kills d) = death_keeps w d cause.Kill
+effect_keeps w s _ = refl
 
 reply_keeps : (w : TableState) (s n : ℕ) (a : ReplyWords) → Keep w (table_after_reply w s n a)
 unfolding table_after_reply
@@ -174,7 +169,7 @@ reply_keeps w s n a = goes_on_keeps (with_message w s (reply_bytes n a)) s 0
 
 serving_keeps : (w : TableState) (s : ℕ) (r : KernelCall) → Keep w (table_after_serving w s r)
 unfolding table_after_serving
-serving_keeps w s r = by_case w (ends_caller s r) _ _ (death_keeps w s cause.Exit) (reply_keeps (table_after_change w s r) s 0 (words_of_reply w s r) ∙ change_keeps w s r)
+serving_keeps w s r = by_case w (ends_caller s r) _ _ (death_keeps w s cause.Exit) (reply_keeps (table_after_change w s r) s 0 (words_of_reply w s r) ∙ effect_keeps w s (effect_of (known w s) s r))
 
 kernel_call_by_keeps : (w : TableState) (s : ℕ) (r : Option KernelCall) (e : Option Errno) → Keep w (table_after_kernel_call_by w s r e)
 kernel_call_by_keeps w s r (Some e) = reply_keeps w s (errno_bits e) no_reply_words

@@ -1,6 +1,6 @@
 -- Kernel calls of another process leave two tables that are the same but for one image so, unless they copy from it.
-use Rattle.std.proofs.Common.{◌≡◌, ◌∙◌, ℕ, zero, suc, ◌+◌, ◌/◌, ◌%◌, ◌^◌, ◌≤◌, ◌==◌, ◌&&◌, ◌||◌, nat_lt, Bool, true, false, cond, not, List, [], ◌∷◌, ◌++◌, length, take, drop, Option, Some, None, refl, sym, ap, subst, get_or, slice_set, arith, ◌⊎◌, inl, inr}
-use Rattle.std.specs.Prelude.{◌≢◌, nat_le, slice_index}
+use Rattle.std.proofs.Common.{◌≡◌, ◌∙◌, ℕ, zero, suc, ◌+◌, ◌-◌, ◌/◌, ◌%◌, ◌^◌, ◌≤◌, ◌==◌, ◌&&◌, ◌||◌, nat_lt, Bool, true, false, cond, not, List, [], ◌∷◌, ◌++◌, length, take, drop, Option, Some, None, refl, sym, ap, subst, get_or, slice_set, arith, ◌⊎◌, inl, inr}
+use Rattle.std.specs.Prelude.{◌≢◌, nat_le}
 use Rattle.std.proofs.lemmas.List.{length-take}
 use Rattle.std.proofs.lemmas.Bool.{leb-true, ne_eqb}
 use Rattle.circular_buffer.specs.Buffer.{keep_last}
@@ -13,21 +13,24 @@ use Rattle.mx_proc.specs.declared.devices.Devices.{Devices}
 use Rattle.mx_proc.specs.Errors.{errno_bits}
 use Rattle.mx_proc.specs.Endpoints.{names_slot, is_alive, is_current}
 use Rattle.mx_proc.specs.States.{is_down, is_out}
-use Rattle.mx_proc.specs.Serving.{with_alarm, with_copy}
+use Rattle.mx_proc.specs.Serving.{with_copy}
 use Rattle.mx_proc.specs.TableState.{TableState, process_at, with_process, memory_at, endpoint_of, window_of}
 use Rattle.mx_ipc.specs.Checks.{first_error}
 use Rattle.mx_word.specs.Bits.{has_bit}
 use Rattle.mx_kcall.specs.declared.request.KernelCall.{KernelCall}
-use Rattle.mx_kcall.specs.declared.request.KernelCall.TheVariants.{Exit, Times, SetAlarm, Irqctl, Devio, Vircopy, Kill, Whois, Grant}
+use Rattle.mx_kcall.specs.declared.request.KernelCall.TheVariants.{Devio, Vircopy}
 use Rattle.mx_kcall.specs.declared.request.CopyRange.{CopyRange}
-use Rattle.mx_kcall.specs.declared.request.WindowGrant.{WindowGrant}
 use Rattle.mx_kcall.specs.declared.request.ReplyWords.{ReplyWords}
 use Rattle.mx_kcall.specs.declared.request.MessageWords.{MessageWords}
-use Rattle.mx_kcall.specs.Requests.{kernel_call_under, message_words_at, message_words_of, bit_of, no_reply_words, reply_bytes}
-use Rattle.mx_kcall.specs.Refusals.{is_away, kernel_call_reasons, kernel_call_refusal_by, kernel_call_refusal}
-use Rattle.mx_kcall.specs.Serving.{table_after_change, words_of_reply, ends_caller, table_after_reply, table_after_serving, table_after_kernel_call_by, table_after_kernel_call, due_after, ticks_left}
+use Rattle.mx_kcall.specs.Requests.{kernel_call_under, message_words_at, message_words_of, no_reply_words, reply_bytes}
+use Rattle.mx_kcall.specs.Refusals.{kernel_call_reasons, kernel_call_refusal_by, kernel_call_refusal, reasons_of}
+use Rattle.mx_kcall.specs.Effects.{Effect, table_after_effect}
+use Rattle.mx_kcall.specs.Effects.Effect.{Nothing, SetsAlarm, SetsOwner, WritesConsole, SetsRegister, Copies, Kills, SetsWindow}
+use Rattle.mx_kcall.specs.Known.{Known, is_away, known, owner_of}
+use Rattle.mx_kcall.specs.Rows.{first_call}
+use Rattle.mx_kcall.specs.Serving.{effect_of, reply_of, table_after_change, words_of_reply, ends_caller, table_after_reply, table_after_serving, table_after_kernel_call_by, table_after_kernel_call}
 use Rattle.mx_laws.proofs.Twins.{is_slot, Twins}
-use Rattle.mx_kcall.specs.Windows.{allows_reading, allows_writing, granted, is_open, is_strict}
+use Rattle.mx_kcall.specs.Windows.{allows_reading, is_open, is_strict}
 use Rattle.mx_proc.specs.declared.windows.Rules.{Rules}
 use Rattle.mx_proc.specs.declared.windows.Window.{Window}
 use Rattle.mx_laws.specs.Apart.{CopyIsApart, IsClosedToReading, IsRefused}
@@ -48,6 +51,9 @@ alive_same {q} {w} {v} h = λ i e. (ap (λ f. f e && is_current w (e % 1024) (e 
 away_same : {q : ℕ} {w v : TableState} → Twins q w v → is_away w ≡ is_away v
 away_same h = λ i e. (ap (λ (p : Process). is_out p.state) (all_but_image_at h (e % 1024))) i
 
+abbrev down_at : TableState → ℕ → Bool
+down_at w t = is_down (process_at w t).state
+
 abbrev limit_at : TableState → ℕ → ℕ
 limit_at w s = length (memory_at w s)
 
@@ -64,71 +70,40 @@ windows_for w s d = window_of w d s
 windows_same : {q : ℕ} {w v : TableState} → Twins q w v → (s : ℕ) → windows_for w s ≡ windows_for v s
 windows_same h s = λ i d. (ap (λ (p : Process). get_or p.windows s None) (all_but_image_at h d)) i
 
--- what a copy's reasons read
-abbrev copy_reasons : ℕ → Rules → (ℕ → Option Window) → (ℕ → Bool) → (ℕ → Bool) → (ℕ → Bool) → (ℕ → ℕ) → CopyRange → List (Bool × Errno)
-copy_reasons s rules windows named alive away limit c =
-    (nat_lt 65536 c.count, Invalid)
-    ∷ (not (named c.source.endpoint), BadEndpoint)
-    ∷ (not (alive c.source.endpoint), Dead)
-    ∷ (not (named c.target.endpoint), BadEndpoint)
-    ∷ (not (alive c.target.endpoint), Dead)
-    ∷ (away c.source.endpoint || away c.target.endpoint, NotReady)
-    ∷ (is_strict rules && not (c.source.endpoint % 1024 == s) && not (is_open allows_reading (windows (c.source.endpoint % 1024)) c.source.offset c.count), NotPermitted)
-    ∷ (is_strict rules && not (c.target.endpoint % 1024 == s) && not (is_open allows_writing (windows (c.target.endpoint % 1024)) c.target.offset c.count), NotPermitted)
-    ∷ (not (nat_le (c.source.offset + c.count) (limit (c.source.endpoint % 1024))), BadAddress)
-    ∷ (not (nat_le (c.target.offset + c.count) (limit (c.target.endpoint % 1024))), BadAddress)
-    ∷ []
+downs_same : {q : ℕ} {w v : TableState} → Twins q w v → down_at w ≡ down_at v
+downs_same h = λ i t. (ap (λ (p : Process). is_down p.state) (all_but_image_at h t)) i
 
-abbrev kill_reasons : (ℕ → Bool) → (ℕ → Bool) → (ℕ → Bool) → ℕ → List (Bool × Errno)
-kill_reasons named alive away e = (not (named e), BadEndpoint) ∷ (not (alive e), Dead) ∷ (away e, NotReady) ∷ []
+endpoints_same : {q : ℕ} {w v : TableState} → Twins q w v → endpoint_of w ≡ endpoint_of v
+endpoints_same h = λ i t. (endpoint_same h t) i
 
-abbrev grant_reasons : (ℕ → Bool) → (ℕ → Bool) → (ℕ → ℕ) → ℕ → ℕ → WindowGrant → List (Bool × Errno)
-grant_reasons named alive limit own s grant =
-    (nat_lt 3 grant.access || (grant.user == own), Invalid)
-    ∷ (not (named grant.user), BadEndpoint)
-    ∷ (not (alive grant.user), Dead)
-    ∷ (not (grant.access == 0) && not (nat_le (grant.place + grant.count) (limit s)), BadAddress)
-    ∷ []
-
-reasons_same : {q : ℕ} {w v : TableState} → Twins q w v → (s : ℕ) (r : KernelCall) → kernel_call_reasons w s r ≡ kernel_call_reasons v s r
-reasons_same h s Exit = refl
-reasons_same h s Times = refl
-reasons_same h s (SetAlarm delay) = refl
-reasons_same h s (Irqctl action line) = ap (λ (x : TableState). kernel_call_reasons x s (Irqctl action line)) h.rest
-reasons_same h s (Devio action register value) = refl
-reasons_same {q} {w} {v} h s (Vircopy c) =
-    ap (λ f. copy_reasons s w.rules (windows_for w s) f (is_alive w) (is_away w) (limit_at w) c) (names_same h)
-    ∙ ap (λ f. copy_reasons s w.rules (windows_for w s) (names_slot v) f (is_away w) (limit_at w) c) (alive_same h)
-    ∙ ap (λ f. copy_reasons s w.rules (windows_for w s) (names_slot v) (is_alive v) f (limit_at w) c) (away_same h)
-    ∙ ap (λ f. copy_reasons s w.rules (windows_for w s) (names_slot v) (is_alive v) (is_away v) f c) (limits_same h)
-    ∙ ap (λ f. copy_reasons s w.rules f (names_slot v) (is_alive v) (is_away v) (limit_at v) c) (windows_same h s)
-    ∙ ap (λ r. copy_reasons s r (windows_for v s) (names_slot v) (is_alive v) (is_away v) (limit_at v) c) (rules_of h)
-reasons_same {q} {w} {v} h s (Kill e) =
-    ap (λ f. kill_reasons f (is_alive w) (is_away w) e) (names_same h)
-    ∙ ap (λ f. kill_reasons (names_slot v) f (is_away w) e) (alive_same h)
-    ∙ ap (λ f. kill_reasons (names_slot v) (is_alive v) f e) (away_same h)
-reasons_same {q} {w} {v} h s (Grant grant) =
-    ap (λ f. grant_reasons f (is_alive w) (limit_at w) (endpoint_of w s) s grant) (names_same h)
-    ∙ ap (λ f. grant_reasons (names_slot v) f (limit_at w) (endpoint_of w s) s grant) (alive_same h)
-    ∙ ap (λ f. grant_reasons (names_slot v) (is_alive v) f (endpoint_of w s) s grant) (limits_same h)
-    ∙ ap (λ own. grant_reasons (names_slot v) (is_alive v) (limit_at v) own s grant) (endpoint_same h s)
-reasons_same {q} {w} {v} h s (Whois slot) =
-    ap (λ n. (nat_le n slot, Invalid) ∷ (is_down (process_at w slot).state, Dead) ∷ []) (slots_of h)
-    ∙ ap (λ (p : Process). (nat_le (length v.slots) slot, Invalid) ∷ (is_down p.state, Dead) ∷ []) (all_but_image_at h slot)
+-- WHAT A CALL MAY KNOW is the same
+known_same : {q : ℕ} {w v : TableState} → Twins q w v → (s : ℕ) → known w s ≡ known v s
+known_same {q} {w} {v} h s = λ i. record {
+  rules = (rules_of h) i;
+  uptime = (uptime_of h) i;
+  used = (slots_of h) i;
+  steps = (ap (λ (p : Process). p.steps) (all_but_image_at h s)) i;
+  alarm = (ap (λ (p : Process). p.alarm) (all_but_image_at h s)) i;
+  owner = (ap owner_of h.rest) i;
+  registers = (ap (λ (d : Devices). d.registers) (devices_of h)) i;
+  named = (names_same h) i;
+  alive = (alive_same h) i;
+  away = (away_same h) i;
+  down = (downs_same h) i;
+  endpoint = (endpoints_same h) i;
+  limit = (limits_same h) i;
+  window = (windows_same h s) i;
+}
 
 message_words_same : {q : ℕ} {w v : TableState} → Twins q w v → (s : ℕ) → is_slot q s ≡ false → message_words_at w s ≡ message_words_at v s
 unfolding message_words_at
 message_words_same h s n = ap (λ (p : Process). message_words_of (take 36 (drop p.image.regs.ebx p.image.memory))) (other_at h s n)
 
-kernel_call_refusal_by_same : {q : ℕ} {w v : TableState} → Twins q w v → (s : ℕ) (r : Option KernelCall) → kernel_call_refusal_by w s r ≡ kernel_call_refusal_by v s r
-kernel_call_refusal_by_same h s None = refl
-kernel_call_refusal_by_same {q} {w} {v} h s (Some r) =
-    ap (λ (p : Process). first_error ((not (has_bit p.masks.calls (bit_of r)), Denied) ∷ kernel_call_reasons w s r)) (all_but_image_at h s)
-    ∙ ap (λ x. first_error ((not (has_bit (process_at v s).masks.calls (bit_of r)), Denied) ∷ x)) (reasons_same h s r)
-
-kernel_call_refusal_same : {q : ℕ} {w v : TableState} → Twins q w v → (s : ℕ) → is_slot q s ≡ false → kernel_call_refusal w s ≡ kernel_call_refusal v s
-unfolding kernel_call_refusal
-kernel_call_refusal_same {q} {w} {v} h s n = kernel_call_refusal_by_same h s (kernel_call_under w.rules (message_words_at w s)) ∙ ap (λ x. kernel_call_refusal_by v s (kernel_call_under w.rules x)) (message_words_same h s n) ∙ ap (λ r. kernel_call_refusal_by v s (kernel_call_under r (message_words_at v s))) (rules_of h)
+kernel_call_refusal_by_same : {q : ℕ} {w v : TableState} → Twins q w v → (s bit : ℕ) (r : Option KernelCall) → kernel_call_refusal_by w s bit r ≡ kernel_call_refusal_by v s bit r
+kernel_call_refusal_by_same h s bit None = refl
+kernel_call_refusal_by_same {q} {w} {v} h s bit (Some r) =
+    ap (λ (p : Process). first_error ((not (has_bit p.terms.masks.calls bit), Denied) ∷ kernel_call_reasons w s r)) (all_but_image_at h s)
+    ∙ ap (λ k. first_error ((not (has_bit (process_at v s).terms.masks.calls bit), Denied) ∷ reasons_of k s r)) (known_same h s)
 
 -- ---- what a copy that isn't refused knows
 
@@ -151,9 +126,9 @@ inside_of n k e = leb-true n k (true_of (nat_le n k) e)
     true_of true e = refl
     true_of false e = cc
 
-copy_fits : (w : TableState) (s : ℕ) (c : CopyRange) → kernel_call_refusal_by w s (Some (Vircopy c)) ≡ None → c.target.offset + c.count ≤ limit_at w (c.target.endpoint % 1024)
-copy_fits w s c e =
-    let h = none_holds ((not (has_bit (process_at w s).masks.calls 5), Denied) ∷ kernel_call_reasons w s (Vircopy c)) e in
+copy_fits : (w : TableState) (s bit : ℕ) (c : CopyRange) → kernel_call_refusal_by w s bit (Some (Vircopy c)) ≡ None → c.target.offset + c.count ≤ limit_at w (c.target.endpoint % 1024)
+copy_fits w s bit c e =
+    let h = none_holds ((not (has_bit (process_at w s).terms.masks.calls bit), Denied) ∷ kernel_call_reasons w s (Vircopy c)) e in
     inside_of (c.target.offset + c.count) (limit_at w (c.target.endpoint % 1024)) h.1.1.1.1.1.1.1.1.1.1.0
 
 -- a copy that isn't refused, under strict rules and of another's memory, reads through an open window
@@ -164,10 +139,10 @@ read_open true true x f e g = cc
 read_open false own x f e g = cc
 
 -- so where q grants none, its source is another
-source_is_other : (w : TableState) (q s : ℕ) (c : CopyRange) → is_slot q s ≡ false → kernel_call_refusal_by w s (Some (Vircopy c)) ≡ None → CopyIsApart q w s (Some (Vircopy c)) None → q ≢ c.source.endpoint % 1024
-source_is_other w q s c n e m g =
+source_is_other : (w : TableState) (q s bit : ℕ) (c : CopyRange) → is_slot q s ≡ false → kernel_call_refusal_by w s bit (Some (Vircopy c)) ≡ None → CopyIsApart q w s (Some (Vircopy c)) None → q ≢ c.source.endpoint % 1024
+source_is_other w q s bit c n e m g =
     let k = not_refused (m (sym g)) in
-    let h = none_holds ((not (has_bit (process_at w s).masks.calls 5), Denied) ∷ kernel_call_reasons w s (Vircopy c)) e in
+    let h = none_holds ((not (has_bit (process_at w s).terms.masks.calls bit), Denied) ∷ kernel_call_reasons w s (Vircopy c)) e in
     let owner = c.source.endpoint % 1024 in
     let own : (owner == s) ≡ false = ne_eqb owner s (λ z. is_not_itself q s n (g ∙ z)) in
     let reads = read_open (is_strict w.rules) (owner == s) (is_open allows_reading (window_of w owner s) c.source.offset c.count) h.1.1.1.1.1.1.1.0 k.0 own in
@@ -203,53 +178,59 @@ copy_twins {q} {w} {v} h from k to place count n le =
 device_twins : {q : ℕ} {w v : TableState} → Twins q w v → (f : Devices → Devices) → Twins q (record w { devices = f w.devices }) (record v { devices = f v.devices })
 device_twins {q} {w} {v} h f = redeviced h (f w.devices) (f v.devices) (ap f (devices_of h))
 
-change_twins : {q : ℕ} {w v : TableState} → Twins q w v → (s : ℕ) (r : KernelCall) → is_slot q s ≡ false → kernel_call_refusal_by w s (Some r) ≡ None → CopyIsApart q w s (Some r) None → Twins q (table_after_change w s r) (table_after_change v s r)
-change_twins h s Exit n e m = h
-change_twins h s Times n e m = h
-change_twins {q} {w} {v} h s (SetAlarm delay) n e m = subst (λ t. Twins q (with_alarm w s (due_after w.uptime delay)) (with_alarm v s (due_after t delay))) (uptime_of h) (alarm_twins h s (due_after w.uptime delay))
-change_twins h s (Irqctl action line) n e m = device_twins h (λ (d : Devices). let x : Devices = record d { owners = slice_set d.owners line (cond (action == 1) (Some s) None) } in x)
-change_twins h s (Devio action register value) n e m = by_test (action == 0) (action == 0) refl (λ t. h) (λ t. by_test (register == 0) (register == 0) refl
-    (λ u. device_twins h (λ (d : Devices). let x : Devices = record d { console = record { kept = keep_last 4096 (d.console.kept ++ (value % 256) ∷ []); count = d.console.count + 1 } } in x))
-    (λ u. device_twins h (λ (d : Devices). let x : Devices = record d { registers = slice_set d.registers register value } in x)))
-change_twins {q} {w} {v} h s (Vircopy c) n e m =
-    let from = c.source.endpoint % 1024 in copy_twins h from c.source.offset (c.target.endpoint % 1024) c.target.offset c.count (other_slot q from (source_is_other w q s c n e m)) (copy_fits w s c e)
-change_twins h s (Kill e) n x m = death_twins h (e % 1024) cause.Kill
-change_twins h s (Whois slot) n e m = h
-change_twins h s (Grant grant) n e m = quiet h s (λ (p : Process). let x : Process = record p { windows = slice_set p.windows (grant.user % 1024) (granted grant.place grant.count grant.access) } in x) (λ b p. refl) (λ p. refl) (λ p. refl)
+-- what is known of a copy that isn't refused, and is apart from q
+abbrev FitsApart : ℕ → TableState → Effect → Type 0
+FitsApart q w (Copies c) = (q ≢ c.source.endpoint % 1024) × (c.target.offset + c.count ≤ limit_at w (c.target.endpoint % 1024))
+FitsApart q w _ = Unit {0}
 
-reply_words_same : {q : ℕ} {w v : TableState} → Twins q w v → (s : ℕ) (r : KernelCall) → is_slot q s ≡ false → words_of_reply w s r ≡ words_of_reply v s r
-reply_words_same h s Exit n = refl
-reply_words_same {q} {w} {v} h s Times n =
-    ap (λ t. let x : ReplyWords = record { p0 = t; p1 = (process_at w s).steps % 2 ^ 32; p2 = (process_at w s).steps / 2 ^ 32 } in x) (uptime_of h)
-    ∙ ap (λ (p : Process). let x : ReplyWords = record { p0 = v.uptime; p1 = p.steps % 2 ^ 32; p2 = p.steps / 2 ^ 32 } in x) (all_but_image_at h s)
-reply_words_same {q} {w} {v} h s (SetAlarm delay) n =
-    ap (λ t. let x : ReplyWords = record { p0 = ticks_left t (process_at w s).alarm; p1 = 0; p2 = 0 } in x) (uptime_of h)
-    ∙ ap (λ (p : Process). let x : ReplyWords = record { p0 = ticks_left v.uptime p.alarm; p1 = 0; p2 = 0 } in x) (all_but_image_at h s)
-reply_words_same h s (Irqctl action line) n = refl
-reply_words_same h s (Devio action register value) n = ap (λ (d : Devices). let x : ReplyWords = record { p0 = cond (action == 0 && not (register == 0)) (slice_index d.registers register) 0; p1 = 0; p2 = 0 } in x) (devices_of h)
-reply_words_same h s (Vircopy c) n = refl
-reply_words_same h s (Kill e) n = refl
-reply_words_same h s (Grant grant) n = refl
-reply_words_same h s (Whois slot) n = ap (λ e. let x : ReplyWords = record { p0 = e; p1 = 0; p2 = 0 } in x) (endpoint_same h slot)
+fits_apart : (w : TableState) (q s bit : ℕ) (r : KernelCall) → is_slot q s ≡ false → kernel_call_refusal_by w s bit (Some r) ≡ None → CopyIsApart q w s (Some r) None → FitsApart q w (effect_of (known w s) s r)
+fits_apart w q s bit (Vircopy c) n e m = (source_is_other w q s bit c n e m, copy_fits w s bit c e)
+fits_apart w q s bit (Devio action register value) n e m = by_bools (action == 0) (register == 0)
+  where
+    by_bools : (a b : Bool) → FitsApart q w (cond a Nothing (cond b (WritesConsole (value % 256)) (SetsRegister register value)))
+    by_bools true b = tt
+    by_bools false true = tt
+    by_bools false false = tt
+fits_apart w q s bit _ n e m = tt
+
+effect_twins : {q : ℕ} {w v : TableState} → Twins q w v → (s : ℕ) (e : Effect) → FitsApart q w e → Twins q (table_after_effect w s e) (table_after_effect v s e)
+effect_twins h s Nothing k = h
+effect_twins h s (SetsAlarm due) k = alarm_twins h s due
+effect_twins h s (SetsOwner line owner) k = device_twins h (λ (d : Devices). let x : Devices = record d { owners = slice_set d.owners line owner } in x)
+effect_twins h s (WritesConsole byte) k = device_twins h (λ (d : Devices). let x : Devices = record d { console = record { kept = keep_last 4096 (d.console.kept ++ byte ∷ []); count = d.console.count + 1 } } in x)
+effect_twins h s (SetsRegister register value) k = device_twins h (λ (d : Devices). let x : Devices = record d { registers = slice_set d.registers register value } in x)
+effect_twins {q} h s (Copies c) k = let from = c.source.endpoint % 1024 in copy_twins h from c.source.offset (c.target.endpoint % 1024) c.target.offset c.count (other_slot q from k.0) k.1
+effect_twins h s (Kills d) k = death_twins h d cause.Kill
+effect_twins h s (SetsWindow user window) k = quiet h s (λ (p : Process). let x : Process = record p { windows = slice_set p.windows user window } in x) (λ b p. refl) (λ p. refl) (λ p. refl)
+
+change_twins : {q : ℕ} {w v : TableState} → Twins q w v → (s bit : ℕ) (r : KernelCall) → is_slot q s ≡ false → kernel_call_refusal_by w s bit (Some r) ≡ None → CopyIsApart q w s (Some r) None → Twins q (table_after_change w s r) (table_after_change v s r)
+change_twins {q} {w} {v} h s bit r n e m =
+    subst (λ (k : Known). Twins q (table_after_change w s r) (table_after_effect v s (effect_of k s r))) (known_same h s) (effect_twins h s (effect_of (known w s) s r) (fits_apart w q s bit r n e m))
+
+reply_words_same : {q : ℕ} {w v : TableState} → Twins q w v → (s : ℕ) (r : KernelCall) → words_of_reply w s r ≡ words_of_reply v s r
+reply_words_same h s r = ap (λ (k : Known). reply_of k r) (known_same h s)
 
 reply_twins : {q : ℕ} {w v : TableState} → Twins q w v → (s k : ℕ) (a : ReplyWords) → is_slot q s ≡ false → Twins q (table_after_reply w s k a) (table_after_reply v s k a)
 unfolding table_after_reply
 reply_twins h s k a n = goes_on_twins (message_other h s (reply_bytes k a) n) s 0
 
-serving_twins : {q : ℕ} {w v : TableState} → Twins q w v → (s : ℕ) (r : KernelCall) → is_slot q s ≡ false → kernel_call_refusal_by w s (Some r) ≡ None → CopyIsApart q w s (Some r) None → Twins q (table_after_serving w s r) (table_after_serving v s r)
+serving_twins : {q : ℕ} {w v : TableState} → Twins q w v → (s bit : ℕ) (r : KernelCall) → is_slot q s ≡ false → kernel_call_refusal_by w s bit (Some r) ≡ None → CopyIsApart q w s (Some r) None → Twins q (table_after_serving w s r) (table_after_serving v s r)
 unfolding table_after_serving
-serving_twins {q} {w} {v} h s r n e m = by_test (ends_caller s r) (ends_caller s r) refl (λ t. death_twins h s cause.Exit)
-    (λ t. subst (λ a. Twins q (table_after_reply (table_after_change w s r) s 0 (words_of_reply w s r)) (table_after_reply (table_after_change v s r) s 0 a)) (reply_words_same h s r n) (reply_twins (change_twins h s r n e m) s 0 (words_of_reply w s r) n))
+serving_twins {q} {w} {v} h s bit r n e m = by_test (ends_caller s r) (ends_caller s r) refl (λ t. death_twins h s cause.Exit)
+    (λ t. subst (λ a. Twins q (table_after_reply (table_after_change w s r) s 0 (words_of_reply w s r)) (table_after_reply (table_after_change v s r) s 0 a)) (reply_words_same h s r) (reply_twins (change_twins h s bit r n e m) s 0 (words_of_reply w s r) n))
 
-kernel_call_by_twins : {q : ℕ} {w v : TableState} → Twins q w v → (s : ℕ) (r : Option KernelCall) (e : Option Errno) → kernel_call_refusal_by w s r ≡ e → is_slot q s ≡ false → CopyIsApart q w s r e → Twins q (table_after_kernel_call_by w s r e) (table_after_kernel_call_by v s r e)
-kernel_call_by_twins h s r (Some e) is n m = reply_twins h s (errno_bits e) no_reply_words n
-kernel_call_by_twins h s None None is n m = h
-kernel_call_by_twins h s (Some r) None is n m = serving_twins h s r n is m
+kernel_call_by_twins : {q : ℕ} {w v : TableState} → Twins q w v → (s bit : ℕ) (r : Option KernelCall) (e : Option Errno) → kernel_call_refusal_by w s bit r ≡ e → is_slot q s ≡ false → CopyIsApart q w s r e → Twins q (table_after_kernel_call_by w s r e) (table_after_kernel_call_by v s r e)
+kernel_call_by_twins h s bit r (Some e) is n m = reply_twins h s (errno_bits e) no_reply_words n
+kernel_call_by_twins h s bit None None is n m = h
+kernel_call_by_twins h s bit (Some r) None is n m = serving_twins h s bit r n is m
 
 pub kernel_call_twins : {q : ℕ} {w v : TableState} → Twins q w v → (s : ℕ) → is_slot q s ≡ false → CopyIsApart q w s (kernel_call_under w.rules (message_words_at w s)) (kernel_call_refusal w s) → Twins q (table_after_kernel_call w s) (table_after_kernel_call v s)
 unfolding table_after_kernel_call kernel_call_refusal
 kernel_call_twins {q} {w} {v} h s n m =
-    let first = kernel_call_by_twins h s (kernel_call_under w.rules (message_words_at w s)) (kernel_call_refusal_by w s (kernel_call_under w.rules (message_words_at w s))) refl n m in
-    subst (λ (r : Rules). Twins q (table_after_kernel_call w s) (table_after_kernel_call_by v s (kernel_call_under r (message_words_at v s)) (kernel_call_refusal_by v s (kernel_call_under r (message_words_at v s))))) (rules_of h)
-    (subst (λ (x : MessageWords). Twins q (table_after_kernel_call w s) (table_after_kernel_call_by v s (kernel_call_under w.rules x) (kernel_call_refusal_by v s (kernel_call_under w.rules x)))) (message_words_same h s n)
-    (subst (λ e. Twins q (table_after_kernel_call w s) (table_after_kernel_call_by v s (kernel_call_under w.rules (message_words_at w s)) e)) (kernel_call_refusal_by_same h s (kernel_call_under w.rules (message_words_at w s))) first))
+    let words = message_words_at w s in
+    let bit = words.kind - first_call in
+    let asked = kernel_call_under w.rules words in
+    let first = kernel_call_by_twins h s bit asked (kernel_call_refusal_by w s bit asked) refl n m in
+    subst (λ (r : Rules). Twins q (table_after_kernel_call w s) (table_after_kernel_call_by v s (kernel_call_under r (message_words_at v s)) (kernel_call_refusal_by v s ((message_words_at v s).kind - first_call) (kernel_call_under r (message_words_at v s))))) (rules_of h)
+    (subst (λ (x : MessageWords). Twins q (table_after_kernel_call w s) (table_after_kernel_call_by v s (kernel_call_under w.rules x) (kernel_call_refusal_by v s (x.kind - first_call) (kernel_call_under w.rules x)))) (message_words_same h s n)
+    (subst (λ e. Twins q (table_after_kernel_call w s) (table_after_kernel_call_by v s asked e)) (kernel_call_refusal_by_same h s bit asked) first))

@@ -165,7 +165,7 @@ pending_twins h s place bit = quiet h s (λ (p : Process). let n : Process = rec
 -- ---- queues
 
 abbrev renewed_at : Bool → Process → Process
-renewed_at again p = record p { state = Ready; level = next_level p again; ticks = p.quantum }
+renewed_at again p = record p { state = Ready; level = next_level p again; ticks = p.terms.quantum }
 
 pub front_twins : {q : ℕ} {w v : TableState} → Twins q w v → (s : ℕ) → Twins q (table_with_first w s) (table_with_first v s)
 front_twins {q} {w} {v} h s =

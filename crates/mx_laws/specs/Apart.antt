@@ -7,7 +7,10 @@ use Rattle.mx_proc.specs.EndpointNumbers.{slot_of}
 use Rattle.mx_proc.specs.TableState.{TableState, process_at, window_of}
 use Rattle.mx_kcall.specs.declared.request.CopyRange.{CopyRange}
 use Rattle.mx_kcall.specs.declared.request.KernelCall.{KernelCall}
-use Rattle.mx_kcall.specs.declared.request.KernelCall.TheVariants.{Vircopy}
+use Rattle.mx_kcall.specs.Effects.{Effect}
+use Rattle.mx_kcall.specs.Effects.Effect.{Copies}
+use Rattle.mx_kcall.specs.Known.{known}
+use Rattle.mx_kcall.specs.Serving.{effect_of}
 use Rattle.mx_kcall.specs.Requests.{kernel_call_under, message_words_at}
 use Rattle.mx_kcall.specs.Refusals.{kernel_call_refusal}
 use Rattle.mx_kcall.specs.Windows.{allows_reading, is_open, is_strict}
@@ -34,10 +37,14 @@ IsRefused (Some x) = Unit {0}
 abbrev pub IsClosedToReading : ℕ → TableState → ℕ → CopyRange → Type 0
 IsClosedToReading q t s c = (is_strict t.rules ≡ true) × (is_open allows_reading (window_of t q s) c.source.offset c.count ≡ false)
 
--- a kernel call by s copies nothing from q: it isn't a copy from q, or it is refused, or q is closed to its reading
+-- what a kernel call of s does copies nothing from q: it isn't a copy from q, or it is refused, or q is closed to its reading
+abbrev pub EffectIsApart : ℕ → TableState → ℕ → Effect → Option Errno → Type 0
+EffectIsApart q t s (Copies c) refusal = slot_of c.source.endpoint ≡ q → IsRefused refusal ⊎ IsClosedToReading q t s c
+EffectIsApart q t s _ refusal = Unit {0}
+
 abbrev pub CopyIsApart : ℕ → TableState → ℕ → Option KernelCall → Option Errno → Type 0
-CopyIsApart q t s (Some (Vircopy c)) refusal = slot_of c.source.endpoint ≡ q → IsRefused refusal ⊎ IsClosedToReading q t s c
-CopyIsApart q t s _ refusal = Unit {0}
+CopyIsApart q t s None refusal = Unit {0}
+CopyIsApart q t s (Some r) refusal = EffectIsApart q t s (effect_of (known t s) s r) refusal
 
 -- a trap that takes no message of q, or a kernel call that can't copy from it
 abbrev pub TrapIsApart : ℕ → TableState → ℕ → TrapAnswer → Type 0

@@ -14,7 +14,10 @@ use Rattle.mx_proc.specs.declared.windows.Window.{Window}
 use Rattle.mx_proc.specs.TableState.{TableState, memory_at, process_at, window_of}
 use Rattle.mx_kcall.specs.declared.request.KernelCall.{KernelCall}
 use Rattle.mx_kcall.specs.declared.request.CopyRange.{CopyRange}
-use Rattle.mx_kcall.specs.declared.request.KernelCall.TheVariants.{Vircopy}
+use Rattle.mx_kcall.specs.Effects.{Effect}
+use Rattle.mx_kcall.specs.Effects.Effect.{Copies}
+use Rattle.mx_kcall.specs.Known.{known}
+use Rattle.mx_kcall.specs.Serving.{effect_of}
 use Rattle.mx_kcall.specs.Calls.{trap_answer}
 use Rattle.mx_kcall.specs.Refusals.{kernel_call_refusal}
 use Rattle.mx_kcall.specs.Requests.{kernel_call_under, message_words_at}
@@ -53,15 +56,20 @@ pub record CopyMade : Type 0 where
 abbrev pub copy_made : TableState → CopyRange → CopyMade
 copy_made t c = let from = slot_of c.source.endpoint in record { from = from; address = c.source.offset; to = slot_of c.target.endpoint; place = c.target.offset; count = c.count; bytes = part (memory_at t from) c.source.offset c.count }
 
--- a VIRCOPY that isn't refused
-abbrev pub copy_by : TableState → Option KernelCall → Option Errno → Option CopyMade
-copy_by t (Some (Vircopy c)) None = Some (copy_made t c)
-copy_by t _ _ = None
+-- by what a kernel call does
+abbrev pub copy_of_effect : TableState → Effect → Option CopyMade
+copy_of_effect t (Copies c) = Some (copy_made t c)
+copy_of_effect t _ = None
+
+-- by a kernel call of s, if it isn't refused
+abbrev pub copy_by : TableState → ℕ → Option KernelCall → Option Errno → Option CopyMade
+copy_by t s (Some r) None = copy_of_effect t (effect_of (known t s) s r)
+copy_by t s _ _ = None
 
 -- by the trap of s
 abbrev pub copy_at_trap : TableState → ℕ → TrapAnswer → Option CopyMade
 copy_at_trap t s trap_ends.Done = None
-copy_at_trap t s trap_ends.Kernel = copy_by t (kernel_call_under t.rules (message_words_at t s)) (kernel_call_refusal t s)
+copy_at_trap t s trap_ends.Kernel = copy_by t s (kernel_call_under t.rules (message_words_at t s)) (kernel_call_refusal t s)
 
 -- by the end of its turn
 abbrev pub copy_at_end : TableState → ℕ → Bool → Stop → Option CopyMade

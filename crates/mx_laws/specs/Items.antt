@@ -27,11 +27,13 @@ use Rattle.mx_ipc.specs.Checks.{call_of, party_of, call_refusal}
 use Rattle.mx_kcall.specs.Calls.{accepts, hears, goes_on, partner_of, trap_answer}
 use Rattle.mx_kcall.specs.Death.{table_after_taking_out, waiting_for}
 use Rattle.mx_kcall.specs.declared.request.KernelCall.{KernelCall}
-use Rattle.mx_kcall.specs.declared.request.KernelCall.TheVariants.{Vircopy, Kill}
+use Rattle.mx_kcall.specs.Effects.{Effect}
+use Rattle.mx_kcall.specs.Effects.Effect.{Copies, Kills}
+use Rattle.mx_kcall.specs.Known.{known}
 use Rattle.mx_kcall.specs.declared.request.ReplyWords.{ReplyWords}
 use Rattle.mx_kcall.specs.Requests.{kernel_call_under, message_words_at, reply_bytes, no_reply_words}
 use Rattle.mx_kcall.specs.Refusals.{kernel_call_refusal}
-use Rattle.mx_kcall.specs.Serving.{words_of_reply, ends_caller}
+use Rattle.mx_kcall.specs.Serving.{effect_of, words_of_reply, ends_caller}
 use Rattle.mx_laws.specs.Diary.{Item}
 use Rattle.mx_laws.specs.Diary.Item.{Result, Message, Copy}
 
@@ -96,11 +98,11 @@ items_of_trap_by w s (Some c) n = items_of_call w s c (party_of w n) (call_refus
 abbrev pub items_of_death : TableState → ℕ → List (ℕ × Item)
 items_of_death w s = items_of_freeing (waiting_for (table_after_taking_out w s) s)
 
--- what a kernel call writes for others: a copy, or a death
-abbrev pub items_of_change : TableState → KernelCall → List (ℕ × Item)
-items_of_change w (Vircopy c) = (slot_of c.target.endpoint, Copy c.target.offset (part (memory_at w (slot_of c.source.endpoint)) c.source.offset c.count)) ∷ []
-items_of_change w (Kill e) = items_of_death w (slot_of e)
-items_of_change w _ = []
+-- what a kernel call does that others see in their images: a copy, or a death
+abbrev pub items_of_effect : TableState → Effect → List (ℕ × Item)
+items_of_effect w (Copies c) = (slot_of c.target.endpoint, Copy c.target.offset (part (memory_at w (slot_of c.source.endpoint)) c.source.offset c.count)) ∷ []
+items_of_effect w (Kills s) = items_of_death w s
+items_of_effect w _ = []
 
 -- a reply: its bytes, and 0
 abbrev pub items_of_reply : ℕ → ℕ → ReplyWords → List (ℕ × Item)
@@ -108,7 +110,7 @@ items_of_reply s result a = (s, Message (reply_bytes result a)) ∷ (s, Result 0
 
 -- a kernel call that isn't refused: who ends itself has no reply
 abbrev pub items_of_serving : TableState → ℕ → KernelCall → List (ℕ × Item)
-items_of_serving w s r = if ends_caller s r then items_of_death w s else items_of_change w r ++ items_of_reply s 0 (words_of_reply w s r)
+items_of_serving w s r = if ends_caller s r then items_of_death w s else items_of_effect w (effect_of (known w s) s r) ++ items_of_reply s 0 (words_of_reply w s r)
 
 -- a kernel call; an error is in the reply
 abbrev pub items_of_kernel_call : TableState → ℕ → Option KernelCall → Option Errno → List (ℕ × Item)

@@ -43,7 +43,7 @@ pub fn lives_tell_images()
 pub fn kernels_tell_images(kernel: &Kernel)
     ensures { (s : ℕ) (v : Service) → KernelTellsImage kernel.now s v }
 {
-    kernel.opened();
+    kernel.facts();
     histories_replay();
 }
 
@@ -51,8 +51,8 @@ pub fn kernels_tell_images(kernel: &Kernel)
 pub fn kernels_agree(first: &Kernel, second: &Kernel)
     ensures { (s t : ℕ) (v u : Service) → KernelsAgree first.now second.now s t v u }
 {
-    first.opened();
-    second.opened();
+    first.facts();
+    second.facts();
     histories_replay();
 }
 

@@ -7,4 +7,3 @@ mod loading;
 pub use copying::{CopyFor, copy_image};
 pub use loading::{load, refill};
 pub use mx_aout::Program;
-pub use mx_exec::Image;

@@ -6,7 +6,8 @@ ghost use Rattle.mx_loan.specs.Seats.{HasMadeNoStep, IsAdvanced};
 
 use crate::shown::Shown;
 use mx_exec::Image;
-use mx_machine::{Held, Out, Stop, held_runs_join};
+use mx_image::Stop;
+use mx_machine::{Held, Out, held_runs_join};
 use std::marker::Model;
 
 /// A process that is lent to an actor. It can't be dropped or copied: only `Desk::redeem` ends it.
@@ -71,7 +72,7 @@ impl Loan {
 
     /// Law: a loan is what was lent, which had made no step, after a run of the steps that it counts.
     #[tactic(auto, using(crate::proofs::RunLemmas::advanced))]
-    pub fn opened(&self)
+    pub fn facts(&self)
         ensures run { IsRunOf self.now.lent self.now.out }
         ensures fresh { HasMadeNoStep self.now.lent }
         ensures steps { IsAdvanced self.now.lent self.now.out }

@@ -36,7 +36,7 @@ impl ActorSeat {
 
     /// Law: a seat's own records are all of its actor's that it has seen, and its actor is one of the
     /// table's.
-    pub fn opened(&self)
+    pub fn facts(&self)
         ensures mine { self.now.mine ≡ part_of self.now.seen self.now.actor }
         ensures actor { self.now.actor < self.now.table.words }
     {

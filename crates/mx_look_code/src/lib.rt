@@ -14,7 +14,6 @@ mod variables;
 pub use accesses::Access;
 pub use code::{code_part, push_code, push_code_line};
 pub use lines::push_code_lines;
-pub use mx_aout::Symbol;
 pub use mx_dis::Part;
 pub use nearest::nearest_symbol;
 pub use reasons::{FaultReason, fault_reason};

@@ -8,7 +8,7 @@ use mx_aout::Symbol;
 use mx_exec::Image;
 use std::alloc::AllocError;
 
-/// Appends the lines of at most that many instructions from an address on, up to where the code ends.
+/// Appends the lines of at most `count` instructions from an address on, up to the end of the code.
 pub fn push_code_lines(
     out: &mut String,
     symbols: &[Symbol],

@@ -87,7 +87,7 @@ fn push_row(
     push_dword(out, symbols, image, value)
 }
 
-/// Appends the rows of at most that many dwords from an address on, up to where memory ends.
+/// Appends the rows of at most `count` dwords from an address on, up to the end of memory.
 fn push_rows(
     out: &mut String,
     symbols: &[Symbol],
@@ -109,7 +109,7 @@ fn push_rows(
     Ok(())
 }
 
-/// Appends the rows of at most that many dwords of a process's stack, from ESP on: `00000ff8 00000005`. If a
+/// Appends the rows of at most `count` dwords of a process's stack, from ESP on: `00000ff8 00000005`. If a
 /// dword is an address that follows a call, the row has the line of the code there.
 pub fn push_stack(
     out: &mut String,

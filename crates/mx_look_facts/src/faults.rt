@@ -33,7 +33,7 @@ fn symbols_of(machine: &Machine, slot: Slot) -> &[Symbol]
     ensures { result.now ≡ symbols_by (slice_get (world_of machine.now).services slot) }
 {
     let kernel = machine.kernel();
-    kernel.opened();
+    kernel.facts();
     match kernel.services().get(slot as usize) {
         Some(service) => service.program.symbols.as_slice(),
         None => &[],
@@ -70,7 +70,7 @@ fn fault_by_stop(symbols: &[Symbol], image: &Image, stop: Stop) -> Option<FaultG
 fn fault_glance(machine: &Machine, cpu: u8) -> Option<FaultGlance>
     ensures { result ≡ fault_glance (world_of machine.now) cpu }
 {
-    match (machine.slot_on(cpu), machine.held(cpu)) {
+    match (machine.slot_on(cpu), machine.out(cpu)) {
         (Some(slot), Some(out)) => {
             fault_by_stop(symbols_of(machine, slot), &out.image, out.stop)
         }

@@ -61,7 +61,7 @@ fn held_glance(slot: Slot, out: &Out) -> CpuGlance
 fn cpu_glance(machine: &Machine, cpu: u8) -> Option<CpuGlance>
     ensures { result ≡ cpu_glance (world_of machine.now) cpu }
 {
-    match (machine.slot_on(cpu), machine.held(cpu)) {
+    match (machine.slot_on(cpu), machine.out(cpu)) {
         (Some(slot), Some(out)) => Some(held_glance(slot, out)),
         _ => None,
     }
@@ -103,7 +103,7 @@ impl Glance {
         look_at_cpus(&mut self.cpus, machine);
         look_at_faults(&mut self.faults, machine);
         let kernel = machine.kernel();
-        kernel.opened();
+        kernel.facts();
         let table = kernel.table();
         let console = &table.devices().console;
         let services = kernel.services();

@@ -40,7 +40,7 @@ fn glance_of_slot(table: &Table, slot: Slot, service: &Service) -> SlotGlance
     SlotGlance {
         name: service.name,
         endpoint: table.endpoint(slot),
-        traps: process.masks.traps,
+        traps: process.terms.masks.traps,
         doing: doing_of(table, slot, process.state),
         level: process.level,
         ticks: process.ticks,

@@ -16,7 +16,7 @@ mod strips;
 mod values;
 
 pub use drawing::picture;
-pub use mx_look_facts::{Glance, Step};
+pub(crate) use mx_look_facts::Glance;
 pub use scene_values::{Scene, Standing};
 pub use values::{
     Anchor, Arrow, ArrowKind, Bar, BarKind, Deed, Drawing, Hint, Item, Label, LabelKind, Manner,

@@ -7,8 +7,8 @@ ghost use Rattle.mx_look_picture.specs.Messages.{party_height, source_height, ar
 use crate::fates::{height_of, line_to, note};
 use crate::layout::{Spot, row};
 use crate::{ArrowKind, Hint, LabelKind, Text, Value};
-use mx_look_facts::{Delivery, DeliveryKind, Step, delivery_to, is_new_bit, slot_in};
-use mx_proc::slot_of;
+use mx_look_facts::{Step, delivery_to, is_new_bit, slot_in};
+use mx_proc::{Delivery, DeliveryKind, slot_of};
 use std::alloc::AllocError;
 
 /// How many sources a notification can have: HARDWARE, CLOCK, and 32 slots.

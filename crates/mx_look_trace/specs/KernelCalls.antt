@@ -1,51 +1,45 @@
--- Kernel calls, as a trace has them (our own): types, names, and how many words requests and replies have. A type has one
--- name by both rules; by the lenient ones GRANT is answered EBADREQUEST.
-use Rattle.std.specs.Prelude.{ℕ, ◌+◌, ◌-◌, ◌==◌, ◌&&◌, ◌||◌, nat_le, if◌then◌else◌, List, [], ◌++◌, codes, take, drop, Option, Some, None, slice_index}
+-- Kernel calls, as a trace has them (our own), by the table of kernel calls. A type has one name by both rules; by the lenient ones
+-- GRANT is answered EBADREQUEST.
+use Rattle.std.specs.Prelude.{ℕ, ◌+◌, ◌-◌, ◌==◌, ◌&&◌, nat_le, if◌then◌else◌, List, [], ◌++◌, codes, take, drop, Option, Some, None, slice_index}
 use Rattle.std.specs.Fmt.{decimal}
+use Rattle.mx_kcall.specs.Rows.{first_call, name_of, reply_count, row_of}
+use Rattle.mx_kcall.specs.declared.rows.CallRow.{CallRow}
 use Rattle.mx_look_facts.specs.declared.glance.CpuGlance.{CpuGlance}
 use Rattle.mx_look_facts.specs.declared.glance.Glance.{Glance}
 use Rattle.mx_look_facts.specs.Calls.{asks_kernel}
 use Rattle.mx_look_trace.specs.Numbers.{result_text, spaced_numbers}
 use Rattle.mx_look_trace.specs.Reasons.{request_reason}
 
-unfoldable pub request_name : ℕ → List ℕ
-request_name kind =
-    if kind == 0x600 then codes "EXIT" else
-    if kind == 0x601 then codes "TIMES" else
-    if kind == 0x602 then codes "SETALARM" else
-    if kind == 0x603 then codes "IRQCTL" else
-    if kind == 0x604 then codes "DEVIO" else
-    if kind == 0x605 then codes "VIRCOPY" else
-    if kind == 0x606 then codes "KILL" else
-    if kind == 0x607 then codes "WHOIS" else
-    if kind == 0x608 then codes "GRANT" else
-    []
-
-unfoldable pub request_count : ℕ → ℕ
-request_count kind =
-    if (kind == 0x602) || (kind == 0x606) || (kind == 0x607) then 1 else
-    if kind == 0x603 then 2 else
-    if kind == 0x604 then 3 else
-    if kind == 0x608 then 4 else
-    if kind == 0x605 then 5 else
-    0
-
 -- the type stands after the source, and then the words
 abbrev pub words_from : ℕ → List ℕ → List ℕ
 words_from count message = spaced_numbers (take count (drop 2 message))
 
--- a type that no request has; 600 to 608 are the hexadecimal digits of one that has a name
-unfoldable pub other_type : ℕ → List ℕ
-other_type kind =
-    codes ", type " ++ decimal kind
-    ++ (if nat_le 600 kind && nat_le kind 608 then codes ": 0x" ++ decimal kind ++ codes " is " ++ request_name (kind - 600 + 0x600) else [])
+abbrev pub name_by : Option CallRow → List ℕ
+name_by None = []
+name_by (Some row) = name_of row
 
-abbrev pub named_request : List ℕ → ℕ → List ℕ → List ℕ
-named_request [] kind message = other_type kind
-named_request name kind message = codes ", " ++ name ++ words_from (request_count kind) message
+-- the name of a type's request, or nothing
+unfoldable pub request_name : ℕ → List ℕ
+request_name kind = name_by (row_of kind)
+
+-- the request whose type has these decimal digits, read in hexadecimal: 600 and 609 for 600 and 609 hex
+abbrev pub row_by_digits : ℕ → Option CallRow
+row_by_digits kind = if nat_le 600 kind && nat_le kind 609 then row_of (kind - 600 + first_call) else None
+
+abbrev pub hint : ℕ → Option CallRow → List ℕ
+hint kind None = []
+hint kind (Some row) = codes ": 0x" ++ decimal kind ++ codes " is " ++ name_of row
+
+-- a type that no request has
+unfoldable pub other_type : ℕ → List ℕ
+other_type kind = codes ", type " ++ decimal kind ++ hint kind (row_by_digits kind)
+
+abbrev pub row_request : Option CallRow → ℕ → List ℕ → List ℕ
+row_request None kind message = other_type kind
+row_request (Some row) kind message = codes ", " ++ name_of row ++ words_from row.words message
 
 unfoldable pub request_words : List ℕ → List ℕ
-request_words message = let kind = slice_index message 1 in named_request (request_name kind) kind message
+request_words message = let kind = slice_index message 1 in row_request (row_of kind) kind message
 
 abbrev pub request_text_by : CpuGlance → Option (List ℕ) → List ℕ
 request_text_by h None = []
@@ -55,17 +49,14 @@ request_text_by h (Some message) = if asks_kernel h then request_words message e
 unfoldable pub request_text : CpuGlance → List ℕ
 request_text h = request_text_by h h.image.words
 
--- of DEVIO only a read has a word in its reply
-unfoldable pub answer_count : ℕ → ℕ → ℕ
-answer_count kind action =
-    if kind == 0x601 then 3 else
-    if (kind == 0x602) || (kind == 0x607) then 1 else
-    if (kind == 0x604) && (action == 0) then 1 else
-    0
+-- how many words the reply has to a request with this first word
+abbrev pub answer_count : Option CallRow → ℕ → ℕ
+answer_count None first = 0
+answer_count (Some row) first = reply_count row.reply first
 
 -- AN ANSWER: the result, which is the type of the reply; of OK the reply's words, and else why
 unfoldable pub answer_text : Glance → List ℕ → List ℕ → List ℕ
 answer_text g request reply =
     codes "answer " ++ result_text (slice_index reply 1)
-    ++ (if slice_index reply 1 == 0 then words_from (answer_count (slice_index request 1) (slice_index request 2)) reply
+    ++ (if slice_index reply 1 == 0 then words_from (answer_count (row_of (slice_index request 1)) (slice_index request 2)) reply
     else request_reason g request (slice_index reply 1))

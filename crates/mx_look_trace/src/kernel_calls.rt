@@ -1,12 +1,14 @@
-//! Kernel calls: what is asked, and what is answered. A further kernel call has its row in
-//! `request_name`, in `request_count`, and in `answer_count` if its reply has words.
+//! Kernel calls: what is asked, and what is answered. Names and counts of words are those of the table of
+//! kernel calls.
 
-ghost use Rattle.std.specs.Prelude.{◌≡◌, ◌≤◌, ◌++◌, OnOk, slice_index};
-ghost use Rattle.mx_look_trace.specs.KernelCalls.{request_name, request_count, other_type, request_words, request_text, answer_count, answer_text};
+ghost use Rattle.std.specs.Prelude.{◌≡◌, ◌≤◌, ◌++◌, OnOk, option_copied, slice_index};
+ghost use Rattle.mx_kcall.specs.Rows.{row_of};
+ghost use Rattle.mx_look_trace.specs.KernelCalls.{answer_count, answer_text, other_type, request_name, request_text, request_words, row_by_digits};
 
 use crate::numbers::{push_result, push_spaced};
 use crate::reasons::request_reason;
 use crate::words::push_counted;
+use mx_kcall::{CallRow, FIRST_CALL, call_row};
 use mx_look_facts::{CpuGlance, Glance, asks_kernel};
 use mx_print_report::push_decimal;
 use std::alloc::AllocError;
@@ -16,34 +18,20 @@ use std::alloc::AllocError;
 pub fn request_name(kind: u32) -> &'static [u8]
     ensures { result.now ≡ request_name kind }
 {
-    match kind {
-        0x600 => b"EXIT",
-        0x601 => b"TIMES",
-        0x602 => b"SETALARM",
-        0x603 => b"IRQCTL",
-        0x604 => b"DEVIO",
-        0x605 => b"VIRCOPY",
-        0x606 => b"KILL",
-        0x607 => b"WHOIS",
-        0x608 => b"GRANT",
-        _ => b"",
+    match call_row(kind) {
+        Some(row) => row.name(),
+        None => b"",
     }
 }
 
-/// How many words the request of a type has.
-#[tactic(auto, unfolding(crate::specs::KernelCalls::request_count))]
-fn request_count(kind: u32) -> usize
-    ensures count { result ≡ request_count kind }
-    ensures few { result ≤ 7 }
+/// The request whose type has these decimal digits, read in hexadecimal.
+fn row_by_digits(kind: u32) -> Option<&'static CallRow>
+    ensures { option_copied result ≡ row_by_digits kind }
 {
-    match kind {
-        0x602 | 0x606 | 0x607 => 1,
-        0x603 => 2,
-        0x604 => 3,
-        0x608 => 4,
-        0x605 => 5,
-        _ => 0,
+    if kind < 600 || kind > 609 {
+        return None;
     }
+    call_row(kind - 600 + FIRST_CALL)
 }
 
 /// Appends a type that no request has, and the request whose type it is if its digits are hexadecimal.
@@ -52,13 +40,13 @@ fn push_other_type(out: &mut Vec<u8>, kind: u32) -> Result<(), AllocError>
     ensures { OnOk result (out.new.items ≡ out.old.items ++ other_type kind) }
 {
     push_counted(out, b", type", kind)?;
-    if kind < 600 || kind > 608 {
+    let Some(row) = row_by_digits(kind) else {
         return Ok(());
-    }
+    };
     out.extend_from_slice(b": 0x")?;
     push_decimal(out, kind)?;
     out.extend_from_slice(b" is ")?;
-    out.extend_from_slice(request_name(kind - 600 + 0x600))
+    out.extend_from_slice(row.name())
 }
 
 /// Appends a request.
@@ -67,13 +55,12 @@ fn push_request_words(out: &mut Vec<u8>, words: &[u32; 9]) -> Result<(), AllocEr
     ensures { OnOk result (out.new.items ≡ out.old.items ++ request_words words.now) }
 {
     let kind = words[1];
-    let name = request_name(kind);
-    if name.is_empty() {
+    let Some(row) = call_row(kind) else {
         return push_other_type(out, kind);
-    }
+    };
     out.extend_from_slice(b", ")?;
-    out.extend_from_slice(name)?;
-    push_spaced(out, &words[2..2 + request_count(kind)])
+    out.extend_from_slice(row.name())?;
+    push_spaced(out, &words[2..2 + row.words])
 }
 
 /// Appends what a process asks of the kernel, if its trap does and the words lie inside its memory.
@@ -88,16 +75,13 @@ pub(crate) fn push_request(out: &mut Vec<u8>, held: &CpuGlance) -> Result<(), Al
 }
 
 /// How many words the reply to a request has, if it is made.
-#[tactic(auto, unfolding(crate::specs::KernelCalls::answer_count))]
-fn answer_count(kind: u32, action: u32) -> usize
-    ensures count { result ≡ answer_count kind action }
+fn answer_count(kind: u32, first: u32) -> usize
+    ensures count { result ≡ answer_count (row_of kind) first }
     ensures few { result ≤ 7 }
 {
-    match kind {
-        0x601 => 3,
-        0x602 | 0x607 => 1,
-        0x604 if action == 0 => 1,
-        _ => 0,
+    match call_row(kind) {
+        Some(row) => row.reply_words(first),
+        None => 0,
     }
 }
 

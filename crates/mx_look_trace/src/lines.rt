@@ -10,10 +10,11 @@ use crate::numbers::{push_hex, push_result, push_spaced, used_count};
 use crate::reasons::push_refusal;
 use crate::words::{push_counted, push_doing, push_party, push_who, push_who_of};
 use mx_look_facts::{
-    CpuGlance, Delivery, DeliveryKind, SlotGlance, Step, delivery_to, gone_on, has_changed,
-    has_rung, is_ready, is_renewed, kernel_call, slot_in,
+    CpuGlance, SlotGlance, Step, delivery_to, gone_on, has_changed, has_rung, is_ready, is_renewed,
+    kernel_call, slot_in,
 };
 use mx_print_report::push_decimal;
+use mx_proc::{Delivery, DeliveryKind};
 use std::alloc::AllocError;
 
 /// Appends a record's number, and three spaces.

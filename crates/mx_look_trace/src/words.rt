@@ -5,9 +5,9 @@ ghost use Rattle.std.specs.Fmt.{decimal};
 ghost use Rattle.mx_look_trace.specs.Words.{named, who_of, who, party_text, named_party, awaited_text, cause_text, doing_text};
 
 use crate::numbers::push_signed;
-use mx_look_facts::{Awaited, DeathCause, Doing, Glance, SlotGlance, slot_in};
+use mx_look_facts::{Awaited, Doing, Glance, SlotGlance, slot_in};
 use mx_print_report::{push_decimal, push_name};
-use mx_proc::{ANY, CLOCK, HARDWARE, SYSTEM, slot_of};
+use mx_proc::{ANY, CLOCK, DeathCause, HARDWARE, SYSTEM, slot_of};
 use std::alloc::AllocError;
 
 /// Appends a word and a number, parted by a space.

@@ -96,7 +96,7 @@ leased_known d n a x v h s e =
       used = loan_used d.table x.slot x.budget l;
       out = m.0;
       ticks = m.1;
-      few = omega (arith, m.1, (s.each x.slot).process.ticks);
+      few = omega (arith, m.1, (s.each x.slot).process.ticks, (process_at d.table x.slot).terms.quantum_fits);
       steps = omega (arith, h.steps x.slot, h.room, h.size);
       console = omega (arith, h.console, h.room, h.size);
     }

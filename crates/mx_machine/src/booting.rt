@@ -7,7 +7,7 @@ ghost use Rattle.mx_machine.specs.KernelState.{kernel_state_at_boot};
 
 use crate::current::CurrentState;
 use crate::{Config, Lease, Service, load};
-use mx_ipc::{Rules, Table};
+use mx_proc::{Rules, Table};
 use mx_word::NoMemory;
 use std::alloc::Global;
 use std::mem;

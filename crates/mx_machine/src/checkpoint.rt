@@ -84,8 +84,8 @@ impl Checkpoint {
     pub fn new(alloc: Global, machine: &Machine) -> Result<Checkpoint, NoMemory>
         ensures { IfOk result (λ checkpoint. checkpoint ≡ machine.now) }
     {
-        machine.opened();
-        let kernel = machine.kernel.stored(alloc)?;
+        machine.facts();
+        let kernel = machine.kernel.to_stored(alloc)?;
         let outs = copy_outs(alloc, &machine.outs, CopyFor::Storing)?;
         Ok(Checkpoint { kernel, outs })
     }
@@ -101,7 +101,7 @@ impl Checkpoint {
         requires records { records.now ≡ self.now.kernel.history }
         ensures { IfOk result (λ machine. machine ≡ self.now) }
     {
-        let mut kernel = self.kernel.restored(alloc, services, records)?;
+        let mut kernel = self.kernel.restore(alloc, services, records)?;
         let mut outs = copy_outs(alloc, &self.outs, CopyFor::Running)?;
         give_caches(&mut kernel, &mut outs);
         Ok(Machine { kernel, outs })

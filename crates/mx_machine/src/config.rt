@@ -2,7 +2,8 @@
 
 ghost use Rattle.std.specs.Prelude.{◌≡◌, ◌<◌, ◌≤◌, length, string_bytes};
 
-use mx_kcall::{Name, Rules, Terms};
+use mx_kcall::Name;
+use mx_proc::{Rules, Terms};
 use std::marker::Model;
 
 /// The name of a file, exactly as a configuration has it.

@@ -20,8 +20,9 @@ use crate::stored::StoredState;
 use crate::{
     Answer, Decoded, Event, Lease, Out, Refusal, Service, Stop, is_worn, raise, respawn, tick,
 };
-use mx_ipc::{Endpoint, Slot, Table, endpoint_from, pick};
+use mx_ipc::pick;
 use mx_load::CopyFor;
+use mx_proc::{Endpoint, Slot, Table, endpoint_from};
 use mx_word::NoMemory;
 use std::alloc::Global;
 use std::marker::Model;
@@ -100,7 +101,7 @@ impl CurrentState {
     }
 
     /// A copy without the services, to be stored.
-    pub(crate) fn stored(&self, alloc: Global) -> Result<StoredState, NoMemory>
+    pub(crate) fn to_stored(&self, alloc: Global) -> Result<StoredState, NoMemory>
         ensures { IfOk result (λ stored. stored ≡ self.now) }
     {
         let table = self.table.copied(alloc, CopyFor::Storing)?;
@@ -123,7 +124,7 @@ impl CurrentState {
     }
 
     /// Law: the table is sound, and leases, services and records fit it.
-    pub(crate) fn opened(&self)
+    pub(crate) fn facts(&self)
         ensures sound { Sound self.now.table }
         ensures holds { IsConsistent self.now.table self.now.leases self.now.services
             self.now.records self.now.capacity }

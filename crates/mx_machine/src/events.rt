@@ -3,8 +3,8 @@
 ghost use Rattle.std.specs.Prelude.{◌≡◌};
 ghost use Rattle.mx_machine.specs.Refusals.{code_of_refusal, name_of_refusal};
 
-use mx_image::Outcome;
-use mx_kcall::Endpoint;
+use mx_exec::Outcome;
+use mx_proc::Endpoint;
 
 /// What an actor does to a machine. Only a processor can make a `Step`, a `Take` or a `Back`. Every
 /// actor, and so a processor too, can make the other four events.

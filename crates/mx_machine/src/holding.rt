@@ -5,8 +5,9 @@ ghost use Rattle.mx_machine.specs.declared.holding.Out.{Out};
 ghost use Rattle.mx_machine.specs.Held.{held_run};
 
 use crate::decoded::Decoded;
-use mx_image::{Image, Stop};
-use mx_kcall::Slot;
+use mx_exec::Image;
+use mx_image::Stop;
+use mx_proc::Slot;
 
 /// A process that is on a processor.
 #[derive(Drop)]

@@ -21,7 +21,7 @@ use crate::stored::StoredKernel;
 use crate::{
     Answer, Config, Decoded, Event, Out, Record, Recorded, Refusal, Service, runs_are_steps,
 };
-use mx_ipc::{Delivery, Rules, Slot, Table};
+use mx_proc::{Delivery, Rules, Slot, Table};
 use mx_word::NoMemory;
 use std::alloc::Global;
 use std::marker::Model;
@@ -125,9 +125,9 @@ impl Kernel {
         ensures err { IfErr result (λ refusal.
             IsEventRefused self.old self.new cpu events.Take refusal) }
     {
-        self.present.opened();
+        self.present.facts();
         let mut out = self.present.take(cpu)?;
-        self.present.opened();
+        self.present.facts();
         note(&mut self.records, cpu, Recorded::Take);
         out.decoded = self.caches.lend(self.present.lease(cpu));
         Ok(out)
@@ -146,7 +146,7 @@ impl Kernel {
             → IsSound (with_held (replay self.old) cpu (Some (record l { out = out }))) }
     {
         runs_are_steps();
-        self.present.opened();
+        self.present.facts();
         let count = out.count;
         let decoded = mem::replace(&mut out.decoded, Decoded::nothing());
         let Some(lease) = self.present.lease(cpu) else {
@@ -154,7 +154,7 @@ impl Kernel {
         };
         self.caches.take_home(lease.slot, decoded);
         self.present.come_back(cpu, lease, out);
-        self.present.opened();
+        self.present.facts();
         note(&mut self.records, cpu, Recorded::Back(count));
         count
     }
@@ -168,9 +168,9 @@ impl Kernel {
         ensures err { IfErr result (λ refusal.
             IsEventRefused self.old self.new actor event refusal) }
     {
-        self.present.opened();
+        self.present.facts();
         let answer = self.present.act(event)?;
-        self.present.opened();
+        self.present.facts();
         note(&mut self.records, actor, recorded_as(event));
         Ok(answer)
     }
@@ -226,11 +226,11 @@ impl Kernel {
     }
 
     /// A copy without the services and the records, to be stored.
-    pub(crate) fn stored(&self, alloc: Global) -> Result<StoredKernel, NoMemory>
+    pub(crate) fn to_stored(&self, alloc: Global) -> Result<StoredKernel, NoMemory>
         ensures { IfOk result (λ stored. stored ≡ self.now) }
     {
         Ok(StoredKernel {
-            present: self.present.stored(alloc)?,
+            present: self.present.to_stored(alloc)?,
             records: Snapshot::of(&self.records),
             processors: self.processors,
             rules: self.rules,
@@ -279,7 +279,7 @@ impl Kernel {
     /// Law: a kernel's history begins at a boot, and each of its events is accepted and finds a sound world.
     /// So is the replay, with at most 8 processors. The records can be written, and what an actor holds is
     /// fresh.
-    pub fn opened(&self)
+    pub fn facts(&self)
         ensures sound { IsSound (replay self.now) }
         ensures few { length (replay self.now).cpus ≤ 8 }
         ensures booted { IsBoot self.now.boot }
@@ -289,6 +289,6 @@ impl Kernel {
         ensures fresh { (a : ℕ) (l : HeldProcess) → held_by (replay self.now) a ≡ Some l
             → IsFresh (replay self.now) l }
     {
-        self.present.opened();
+        self.present.facts();
     }
 }

@@ -30,5 +30,5 @@ pub fn runs_again(machine: &Machine, kernel: &Kernel)
 {
     histories_replay();
     actors_stay();
-    kernel.opened();
+    kernel.facts();
 }

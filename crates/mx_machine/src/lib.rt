@@ -42,10 +42,11 @@ pub use holding::{Held, Lease, Out};
 pub use kernel::{Kernel, recorded_as};
 pub use laws::{histories_replay, runs_again, steps_change_places};
 pub use machine::Machine;
-pub use mx_image::Stop;
-pub use mx_kcall::{
-    Endpoint, Name, Rules, Service, Slot, Terms, call, die, is_worn, load, raise, respawn, tick,
-};
+pub(crate) use mx_image::Stop;
+pub use mx_kcall::Service;
+pub(crate) use mx_kcall::{call, die, is_worn, raise, respawn, tick};
+pub(crate) use mx_load::load;
+pub(crate) use mx_proc::{Endpoint, Rules, Slot};
 pub use steps::{Tool, at_stop};
 pub use world_laws::{
     actors_stay, back_empties, held_runs_join, others_keep, parts_join, runs_are_steps,

@@ -45,7 +45,7 @@ fn endpoint_on(kernel: &Kernel, cpu: u8) -> Endpoint
     ensures { IfSome (held_by (replay kernel.now) cpu) (λ l.
         result ≡ endpoint_of (replay kernel.now).table l.slot) }
 {
-    kernel.opened();
+    kernel.facts();
     match kernel.slot_on(cpu) {
         Some(slot) => kernel.table().endpoint(slot),
         None => unreachable!(),
@@ -72,7 +72,7 @@ impl Machine {
         ensures kernel { result.kernel ≡ kernel }
         ensures world { world_of result ≡ replay kernel }
     {
-        kernel.opened();
+        kernel.facts();
         Machine {
             kernel,
             outs: [None, None, None, None, None, None, None, None],
@@ -110,11 +110,11 @@ impl Machine {
     }
 
     /// What a processor holds, as it is now.
-    pub fn held(&self, cpu: u8) -> Option<&Out>
+    pub fn out(&self, cpu: u8) -> Option<&Out>
         ensures { MatchOption result (held_by (world_of self.now) cpu ≡ None) (λ out.
             (l : HeldProcess) × (held_by (world_of self.now) cpu ≡ Some l) × (out.now ≡ l.out)) }
     {
-        self.opened();
+        self.facts();
         if cpu as usize >= self.outs.len() {
             return None;
         }
@@ -130,7 +130,7 @@ impl Machine {
             (l : HeldProcess) × (held_by (world_of self.now) cpu ≡ Some l)
             × (image.now ≡ l.out.image)) }
     {
-        match self.held(cpu) {
+        match self.out(cpu) {
             Some(out) => Some(&out.image),
             None => None,
         }
@@ -157,7 +157,7 @@ impl Machine {
     {
         held_runs_join();
         runs_are_steps();
-        self.opened();
+        self.facts();
         if cpu as usize >= self.outs.len() {
             return Err(Refusal::CpuEmpty);
         }
@@ -170,7 +170,7 @@ impl Machine {
         ensures recorded { self.new.kernel ≡ kept_after self.old.kernel cpu events.Step result }
     {
         held_runs_join();
-        self.opened();
+        self.facts();
         if cpu as usize >= self.outs.len() {
             return Err(Refusal::CpuEmpty);
         }
@@ -183,7 +183,7 @@ impl Machine {
         ensures recorded { self.new.kernel ≡ kept_after self.old.kernel cpu events.Take result }
     {
         let out = self.kernel.take(cpu)?;
-        self.kernel.opened();
+        self.kernel.facts();
         let answer = Answer::Taken(endpoint_on(&self.kernel, cpu), out.budget);
         self.outs[cpu as usize] = Some(out);
         Ok(answer)
@@ -194,7 +194,7 @@ impl Machine {
         ensures moved { move (world_of self.old) cpu events.Back ≡ (result, world_of self.new) }
         ensures recorded { self.new.kernel ≡ kept_after self.old.kernel cpu events.Back result }
     {
-        self.opened();
+        self.facts();
         if cpu as usize >= self.outs.len() {
             return Err(Refusal::CpuEmpty);
         }
@@ -262,11 +262,11 @@ impl Machine {
     pub fn sound(&self)
         ensures { IsSound (world_of self.now) }
     {
-        self.kernel.opened();
+        self.kernel.facts();
     }
 
     /// Law: what each processor holds is what the kernel lent it, after the steps made since.
-    pub fn opened(&self)
+    pub fn facts(&self)
         ensures { IsMachineState self.now }
     {
         let _kernel = &self.kernel;

@@ -11,7 +11,8 @@ ghost use Rattle.mx_machine.specs.Serving.{IsReturned, IsSent, Settled, SettledB
 
 use crate::{Out, Stop, call, die};
 use mx_exec::Image;
-use mx_ipc::{DeathCause, Slot, State, Table, TrapAnswer, enqueue, trap};
+use mx_ipc::{TrapAnswer, enqueue, trap};
+use mx_proc::{DeathCause, Slot, State, Table};
 
 /// Moves the image of a ready process out.
 #[tactic(auto, unfolding(crate::specs::Move::table_after_sending_out), using(crate::proofs::ServingLemmas::is_sent))]

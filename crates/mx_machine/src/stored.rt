@@ -6,8 +6,8 @@ ghost use Rattle.std.specs.Prelude.{◌≡◌, ◌≤◌, IfOk, length, vec_capa
 use crate::caches::Caches;
 use crate::current::CurrentState;
 use crate::{Kernel, Lease, Record, Service};
-use mx_ipc::{Rules, Table};
 use mx_load::CopyFor;
+use mx_proc::{Rules, Table};
 use mx_word::NoMemory;
 use std::alloc::Global;
 use std::marker::Model;
@@ -53,7 +53,7 @@ impl StoredState {
     }
 
     /// The state again, with these services.
-    pub(crate) fn restored(
+    pub(crate) fn restore(
         &self,
         alloc: Global,
         services: Vec<Service>,
@@ -118,7 +118,7 @@ fn copy_records(alloc: Global, records: &[Record], capacity: u32) -> Result<Vec<
 
 impl StoredKernel {
     /// The kernel again, with its services and its records. The caches are empty, as at boot.
-    pub(crate) fn restored(
+    pub(crate) fn restore(
         &self,
         alloc: Global,
         services: Vec<Service>,
@@ -130,7 +130,7 @@ impl StoredKernel {
     {
         let records = copy_records(alloc, records, self.present.capacity())?;
         let caches = Caches::new(alloc, services.as_slice())?;
-        let present = self.present.restored(alloc, services)?;
+        let present = self.present.restore(alloc, services)?;
         Ok(Kernel {
             present,
             records,

@@ -12,8 +12,7 @@ mod slots;
 mod stops;
 
 pub use messages::{push_delivery, push_messages};
-pub use mx_debug::{DebugError, Debugger, Halt, HaltCause, Kernel};
-pub use mx_image::{Runs, Stop};
+pub use mx_debug::{DebugError, Debugger, Halt, HaltCause};
 pub use processes::{push_memory, push_process};
 pub use refused::{Refused, push_done};
 pub use registers::push_registers;

@@ -4,7 +4,8 @@ ghost use Rattle.std.specs.Prelude.{◌≡◌, ◌++◌, OnOk, string_bytes};
 ghost use Rattle.mx_machine.specs.History.{replay};
 ghost use Rattle.mx_print_answers.specs.Messages.{kind_word, delivery_line, delivery_lines, delivery_text};
 
-use mx_debug::{Debugger, Kernel};
+use mx_debug::Debugger;
+use mx_machine::Kernel;
 use mx_proc::{Delivery, DeliveryKind};
 use std::alloc::AllocError;
 use std::fmt::Write;

@@ -5,8 +5,9 @@ ghost use Rattle.mx_print_answers.specs.Runs.{stop_of_halt, halt_line, run_line}
 
 use crate::said::Said;
 use mx_debug::{Halt, HaltCause};
+use mx_image::Stop;
 use mx_insn_words::push_eight_digits;
-use mx_machine::{Refusal, Stop};
+use mx_machine::Refusal;
 use std::alloc::AllocError;
 use std::fmt::Write;
 

@@ -4,7 +4,8 @@ ghost use Rattle.std.specs.Prelude.{◌≡◌};
 ghost use Rattle.mx_print_answers.specs.Said.{said_of_answer};
 
 use mx_exec::Outcome;
-use mx_machine::{Answer, Refusal, Stop};
+use mx_image::Stop;
+use mx_machine::{Answer, Refusal};
 use std::fmt;
 
 /// The answer to a line of a script, as a printer needs it.

@@ -11,9 +11,9 @@ use crate::processes::{push_memory, push_process};
 use crate::refused::Refused;
 use mx_aout::Symbol;
 use mx_boot::{AddressWord, SymbolName};
-use mx_debug::{DebugError, Debugger, Kernel};
+use mx_debug::{DebugError, Debugger};
 use mx_exec::Image;
-use mx_machine::{Machine, Refusal};
+use mx_machine::{Kernel, Machine, Refusal};
 use mx_proc::Slot;
 use std::alloc::AllocError;
 use std::fmt::Write;
@@ -22,7 +22,7 @@ use std::fmt::Write;
 pub fn symbols_of(kernel: &Kernel, slot: Slot) -> &[Symbol]
     ensures { result.now ≡ symbols_by (slice_get (replay kernel.now).services slot) }
 {
-    kernel.opened();
+    kernel.facts();
     match kernel.services().get(slot as usize) {
         Some(service) => service.program.symbols.as_slice(),
         None => &[],
@@ -71,7 +71,7 @@ pub fn slot_named(machine: &Machine, slot: u32) -> Result<Slot, Refused>
     ensures { result ≡ slot_named (world_of machine.now) slot }
 {
     let kernel = machine.kernel();
-    kernel.opened();
+    kernel.facts();
     if (slot as usize) < kernel.services().len() {
         Ok(slot as Slot)
     } else {
@@ -83,7 +83,7 @@ pub fn slot_named(machine: &Machine, slot: u32) -> Result<Slot, Refused>
 fn value_of(kernel: &Kernel, slot: Slot, name: &[u8]) -> Option<u32>
     ensures { result ≡ first_named (symbols_by (slice_get (replay kernel.now).services slot)) name.now }
 {
-    kernel.opened();
+    kernel.facts();
     match kernel.services().get(slot as usize) {
         Some(service) => Debugger::address(&service.program, name).ok(),
         None => None,

@@ -1,4 +1,4 @@
-use Rattle.std.proofs.Common.{suc, replicate, lit<, ◌≡◌, ◌≢◌, ℕ, ◌+◌, ◌<◌, ◌≤◌, ◌==◌, inl, inr, Bool, true, false, cond, List, [], ◌∷◌, ◌++◌, length, get_or, slice_set, refl, sym, ap, ◌∙◌, arith, subst, length-set, get_or-set_same, get_or-set_other, Option, Some, None, IfSome, length-append}
+use Rattle.std.proofs.Common.{suc, replicate, lit<, ◌≡◌, ◌≢◌, ℕ, ◌+◌, ◌^◌, ◌<◌, ◌≤◌, ◌==◌, inl, inr, Bool, true, false, cond, List, [], ◌∷◌, ◌++◌, length, get_or, slice_set, refl, sym, ap, ◌∙◌, arith, subst, length-set, get_or-set_same, get_or-set_other, Option, Some, None, IfSome, length-append}
 use Rattle.std.proofs.lemmas.Bool.{cases_Bool, cases_eq, cases_lt}
 use Rattle.std.proofs.Math.ListN.{get_or-eq_default, get_or-append}
 use Rattle.std.proofs.Math.Seq.{get_or-append_seam}
@@ -10,7 +10,9 @@ use Rattle.mx_proc.specs.Queues.{tally, times, without, list_at, first_ready, In
 use Rattle.mx_proc.specs.States.{is_ready, is_sending, is_blocked, IsAlone}
 use Rattle.mx_proc.specs.Devices.{no_devices}
 use Rattle.mx_proc.specs.Waits.{sends_of, without_from, IsPair, Reaches, one_pair, and_then, Acyclic}
-use Rattle.mx_proc.specs.TableState.{TableState, nobody, process_at, with_process}
+use Rattle.mx_exec.specs.declared.image.Image.{Image}
+use Rattle.mx_proc.specs.declared.process.Terms.{Terms}
+use Rattle.mx_proc.specs.TableState.{TableState, nobody, process_at, with_process, new_process}
 use Rattle.mx_proc.specs.Sound.{Stands, Sound, IsProcess, belongs}
 use Rattle.mx_proc.proofs.ListLemmas.{all_same, tally-same, tally-other, times-push, times-without_same, times-without_other, list_at-cases}
 use Rattle.mx_proc.proofs.WaitLemmas.{acyclic_push, acyclic_without, pair_push, pair_without, sends-push, sends-without_same, sends-without_other}
@@ -327,6 +329,12 @@ picked_ready w s h e =
       ready,
     )
 
+-- ---- new processes
+
+-- a process that begins, whatever of the slot's was replaced
+pub begun : (uptime generation used : ℕ) (image : Image) (terms : Terms) → generation < 2 ^ 20 → IsProcess uptime (record (new_process image terms) { generation = generation; restarts_used = used })
+begun uptime generation used image terms h = record { level = terms.lowest; best = terms.best_above; ticks = omega arith; generation = h; pending = refl; windows = refl; alarm = _; buffer = λ m. cc }
+
 -- ---- a table without processes
 
 no_chain : (p q : ℕ) → Reaches [] p q → ⊥
@@ -334,7 +342,7 @@ no_chain _ _ (one_pair p q h) = h
 no_chain _ _ (and_then p q r h g) = h
 
 nobody_is : (uptime : ℕ) → IsProcess uptime nobody
-nobody_is uptime = record { level = omega arith; best = omega arith; quantum = omega arith; ticks = omega arith; generation = lit< tt; pending = refl; windows = refl; alarm = _; buffer = λ m. cc }
+nobody_is uptime = record { level = omega arith; best = omega arith; ticks = omega arith; generation = lit< tt; pending = refl; windows = refl; alarm = _; buffer = λ m. cc }
 
 pub founded : (w : TableState) → w.slots ≡ [] → w.ready ≡ replicate 16 [] → w.waits ≡ [] → w.devices ≡ no_devices → Sound w
 founded w a b d e =

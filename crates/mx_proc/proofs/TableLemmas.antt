@@ -2,6 +2,7 @@ use Rattle.std.proofs.Common.{◌≡◌, ◌≢◌, ℕ, ◌+◌, ◌^◌, ◌<�
 use Rattle.std.proofs.lemmas.Bool.{cases_eq}
 use Rattle.mx_proc.specs.declared.process.Process.{Process}
 use Rattle.mx_proc.specs.declared.process.State.{State}
+use Rattle.mx_proc.specs.declared.process.Terms.{Terms}
 use Rattle.mx_proc.specs.declared.process.State.TheVariants.{Home, Ready, Out, Doomed, Sending, Calling, Receiving, Awaiting, Down}
 use Rattle.mx_proc.specs.Queues.{tally, times, without, list_at}
 use Rattle.mx_proc.specs.States.{IsAlone, is_ready, is_sending, is_blocked, is_down, is_out}
@@ -33,7 +34,6 @@ state_set w n s q st v h b e o still room =
     renamed w n s (record q { state = st }) v (alone n s (record q { state = st }) (subst Sound v h) b o still (record {
       level = k.level;
       best = k.best;
-      quantum = k.quantum;
       generation = k.generation;
       ticks = k.ticks;
       pending = k.pending;
@@ -46,8 +46,7 @@ state_set w n s q st v h b e o still room =
 pub record Alike (q p : Process) : Type 0 where
   pub state : p.state ≡ q.state
   pub level : p.level ≡ q.level
-  pub best : p.best ≡ q.best
-  pub quantum : p.quantum ≡ q.quantum
+  pub terms : p.terms ≡ q.terms
   pub generation : p.generation ≡ q.generation
   pub ticks : p.ticks ≡ q.ticks
   pub pending : length p.pending ≡ length q.pending
@@ -62,10 +61,9 @@ alike w n s q p v h b e a =
     let k = is_process w n s q v h is in
     renamed w n s p v (stays n s p (subst Sound v h) b (a.state ∙ ap (λ x. x.state) is) (a.level ∙ ap (λ x. x.level) is) (record {
       level = omega (arith, k.level, a.level);
-      best = omega (arith, k.best, a.best, a.level);
-      quantum = omega (arith, k.quantum, a.quantum);
+      best = omega (arith, k.best, a.level, ap (λ (t : Terms). t.best) a.terms);
       generation = subst (λ g. g < 2 ^ 20) (sym a.generation) k.generation;
-      ticks = omega (arith, k.ticks, a.ticks);
+      ticks = omega (arith, k.ticks, a.ticks, ap (λ (t : Terms). t.quantum) a.terms);
       pending = a.pending ∙ k.pending;
       windows = a.windows ∙ k.windows;
       alarm = subst (λ o. IfSome o (λ due. due < n.uptime + 2 ^ 32)) (sym a.alarm) k.alarm;
@@ -78,7 +76,7 @@ alarm_set w n s q due v h b e bound =
     let is = the_process w n s q v b e in
     let k = is_process w n s q v h is in
     renamed w n s (record q { alarm = due }) v (stays n s (record q { alarm = due }) (subst Sound v h) b (ap (λ (p : Process). p.state) is) (ap (λ (p : Process). p.level) is)
-    (record { level = k.level; best = k.best; quantum = k.quantum; ticks = k.ticks; generation = k.generation; pending = k.pending; windows = k.windows; alarm = bound; buffer = k.buffer }))
+    (record { level = k.level; best = k.best; ticks = k.ticks; generation = k.generation; pending = k.pending; windows = k.windows; alarm = bound; buffer = k.buffer }))
 
 -- who is ready stands in the list of its level
 pub ready_listed : (w n : TableState) (s : ℕ) (q : Process) → w ≡ n → Sound w → s < length n.slots → q ≡ get_or w.slots s q → is_ready (process_at n s).state ≡ true → 1 ≤ times s (list_at w.ready q.level)
@@ -96,17 +94,16 @@ sending_waits w n s v h y =
 
 -- ready, in the list of a level
 pub listed : (w n w' : TableState) (s level : ℕ) (list : List ℕ) (q p : Process) → w ≡ n → Sound w → s < length n.slots → q ≡ get_or w.slots s q → IsAlone (process_at n s).state
-    → level ≤ 14 → p.level ≡ level → p.state ≡ Ready → p.best ≡ q.best → q.best ≤ level → p.quantum ≡ q.quantum → p.generation ≡ q.generation → p.ticks ≤ 65535 → p.pending ≡ q.pending → p.windows ≡ q.windows → p.alarm ≡ q.alarm
+    → level ≤ 14 → p.level ≡ level → p.state ≡ Ready → p.terms ≡ q.terms → q.terms.best ≤ level → p.generation ≡ q.generation → p.ticks ≤ q.terms.quantum → p.pending ≡ q.pending → p.windows ≡ q.windows → p.alarm ≡ q.alarm
     → w'.slots ≡ slice_set w.slots s p → w'.ready ≡ slice_set w.ready level list → w'.waits ≡ w.waits → w'.devices ≡ w.devices → w'.uptime ≡ w.uptime → ((t : ℕ) → times t list ≡ tally (s == t) + times t (list_at w.ready level)) → Sound w'
-listed w n w' s level list q p v h b e o low at st best high quantum generation ticks notes panes alarm slots r u f g counts =
+listed w n w' s level list q p v h b e o low at st terms high generation ticks notes panes alarm slots r u f g counts =
     let is = the_process w n s q v b e in
     let k = is_process_here w n s q v h is in
     placed w w' s level list p h (subst (λ (x : TableState). s < length x.slots) (sym v) b) (subst (λ x. IsAlone (process_at x s).state) (sym v) o) low at st (record {
       level = omega (arith, at, low);
-      best = omega (arith, at, best, high);
-      quantum = omega (arith, quantum, k.quantum);
+      best = omega (arith, at, high, ap (λ (t : Terms). t.best) terms);
       generation = subst (λ g. g < 2 ^ 20) (sym generation) k.generation;
-      ticks = ticks;
+      ticks = omega (arith, ticks, ap (λ (t : Terms). t.quantum) terms);
       pending = ap length notes ∙ k.pending;
       windows = ap length panes ∙ k.windows;
       alarm = subst (λ o. IfSome o (λ due. due < w.uptime + 2 ^ 32)) (sym alarm) k.alarm;
@@ -114,7 +111,7 @@ listed w n w' s level list q p v h b e o low at st best high quantum generation 
     }) slots r u f g counts
 
 homed : (uptime : ℕ) (q : Process) → IsProcess uptime q → IsProcess uptime (record q { state = Home })
-homed uptime q k = record { level = k.level; best = k.best; quantum = k.quantum; generation = k.generation; ticks = k.ticks; pending = k.pending; windows = k.windows; alarm = k.alarm; buffer = λ m. cc }
+homed uptime q k = record { level = k.level; best = k.best; generation = k.generation; ticks = k.ticks; pending = k.pending; windows = k.windows; alarm = k.alarm; buffer = λ m. cc }
 
 pub unlisted : (w n w' : TableState) (s : ℕ) (q : Process) → w ≡ n → Sound w → s < length n.slots → q ≡ get_or w.slots s q → is_ready (process_at n s).state ≡ true
     → w'.slots ≡ slice_set w.slots s (record q { state = Home }) → w'.ready ≡ slice_set w.ready q.level (without s (list_at w.ready q.level)) → w'.waits ≡ w.waits → w'.devices ≡ w.devices → w'.uptime ≡ w.uptime → Sound w'
@@ -140,7 +137,6 @@ waiting w n w' s d q st v h b e i apart free o still sends room slots r u g same
     (subst (λ x. IsAlone (process_at x s).state) (sym v) o) still sends (record {
       level = k.level;
       best = k.best;
-      quantum = k.quantum;
       generation = k.generation;
       ticks = k.ticks;
       pending = k.pending;

@@ -3,7 +3,7 @@ use Rattle.std.specs.Prelude.{ℕ, map, List, Option, Some, None, if◌then◌el
 use Rattle.mx_exec.specs.declared.image.Code.{Code}
 use Rattle.mx_exec.specs.Lasting.{lasting}
 use Rattle.mx_proc.specs.declared.process.Process.{Process}
-use Rattle.mx_proc.specs.declared.process.Masks.{Masks}
+use Rattle.mx_proc.specs.declared.process.Terms.{Terms}
 use Rattle.mx_proc.specs.declared.devices.Devices.{Devices}
 use Rattle.mx_proc.specs.States.{is_out}
 use Rattle.mx_proc.specs.TableState.{TableState}
@@ -13,9 +13,7 @@ pub record FixedOfProcess : Type 0 where
   pub generation : ℕ
   pub restarts_used : ℕ
   pub steps : ℕ
-  pub masks : Masks
-  pub best : ℕ
-  pub quantum : ℕ
+  pub terms : Terms
   -- what no step changes of its image
   pub lasting : Code × ℕ
 
@@ -28,7 +26,7 @@ pub record Frame : Type 0 where
   pub devices : Devices
 
 abbrev pub fixed_of : Process → FixedOfProcess
-fixed_of p = record { generation = p.generation; restarts_used = p.restarts_used; steps = p.steps; masks = p.masks; best = p.best; quantum = p.quantum; lasting = lasting p.image }
+fixed_of p = record { generation = p.generation; restarts_used = p.restarts_used; steps = p.steps; terms = p.terms; lasting = lasting p.image }
 
 abbrev pub loan_of : Process → Option ℕ
 loan_of p = if is_out p.state then Some p.ticks else None

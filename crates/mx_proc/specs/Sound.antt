@@ -18,9 +18,8 @@ HasBuffer p = p.image.regs.ebx + 36 ≤ length p.image.memory
 -- What holds of each process by itself, at an uptime.
 pub record IsProcess (uptime : ℕ) (p : Process) : Type 0 where
   pub level : p.level ≤ 14
-  pub best : p.best ≤ p.level
-  pub quantum : p.quantum ≤ 65535
-  pub ticks : p.ticks ≤ 65535
+  pub best : p.terms.best ≤ p.level
+  pub ticks : p.ticks ≤ p.terms.quantum
   pub generation : p.generation < 2 ^ 20
   pub pending : length p.pending ≡ 34
   pub windows : length p.windows ≡ 32

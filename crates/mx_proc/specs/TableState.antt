@@ -1,6 +1,7 @@
 -- A table as plain lists (proc.c), and the changes that it is made of.
 use Rattle.std.specs.Prelude.{ℕ, ◌<◌, ◌+◌, ◌-◌, ◌*◌, ◌^◌, ◌++◌, ◌∷◌, Bool, false, List, [], Option, Some, None, slice_index_or, slice_set, length, replicate, take, drop}
 use Rattle.std.specs.Option.{option_map}
+use Rattle.std.proofs.Common.{lit<, lit≤}
 use Rattle.circular_buffer.specs.Buffer.{keep_last}
 use Rattle.mx_exec.specs.declared.image.Image.{Image}
 use Rattle.mx_exec.specs.Image.{blank}
@@ -45,16 +46,29 @@ pub record TableState : Type 0 where
 abbrev pub empty_table : Rules → TableState
 empty_table rules = record { slots = []; ready = replicate 16 []; waits = []; renewed = None; uptime = 0; devices = no_devices; deliveries = []; rules = rules }
 
+-- the terms of nobody
+abbrev pub no_terms : Terms
+no_terms = record {
+  masks = record { traps = 0; sends = 0; calls = 0 };
+  level = 0;
+  best = 0;
+  quantum = 1;
+  restarts = 0;
+  lowest = lit≤ tt;
+  best_above = lit≤ tt;
+  some_ticks = lit< tt;
+  quantum_fits = lit≤ tt;
+  restarts_fit = lit≤ tt;
+}
+
 -- the process of an index past the table
 abbrev pub nobody : Process
 nobody = record {
   state = Down Exit;
   generation = 0;
   restarts_used = 0;
-  masks = record { traps = 0; sends = 0; calls = 0 };
+  terms = no_terms;
   level = 0;
-  best = 0;
-  quantum = 0;
   ticks = 0;
   steps = 0;
   pending = replicate 34 false;
@@ -112,7 +126,7 @@ table_with_first w s = let p = process_at w s in record w {
 -- a process is ready with a new quantum, at the end of the list of this level
 abbrev pub table_with_last : TableState → ℕ → ℕ → TableState
 table_with_last w s level = let p = process_at w s in record w {
-  slots = slice_set w.slots s (record p { state = Ready; level = level; ticks = p.quantum });
+  slots = slice_set w.slots s (record p { state = Ready; level = level; ticks = p.terms.quantum });
   ready = slice_set w.ready level (list_at w.ready level ++ s ∷ []);
   renewed = Some s;
 }
@@ -195,15 +209,11 @@ with_image w s image = with_process w s (record (process_at w s) { image = image
 
 -- a process as it begins: ready, with a full quantum
 abbrev pub new_process : Image → Terms → Process
-new_process image terms = record nobody {
-  state = Ready;
-  masks = terms.masks;
-  level = terms.level;
-  best = terms.best;
-  quantum = terms.quantum;
-  ticks = terms.quantum;
-  image = image;
-}
+new_process image terms = record nobody { state = Ready; terms = terms; level = terms.level; ticks = terms.quantum; image = image }
+
+-- the process after a dead one: nothing of that is left but its generation and its restarts, each one more
+abbrev pub process_after : Process → Image → Terms → Process
+process_after dead image terms = record (new_process image terms) { generation = dead.generation + 1; restarts_used = dead.restarts_used + 1 }
 
 -- one slot more, at the end of the list of its level
 abbrev pub table_after_add : TableState → Image → Terms → TableState

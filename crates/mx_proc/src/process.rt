@@ -1,6 +1,6 @@
 //! Processes, one in each slot of the table; and the numbers that name slots, sources and partners.
 
-ghost use Rattle.std.specs.Prelude.{◌≡◌, ◌<◌, ◌≤◌, length, IfSome};
+ghost use Rattle.std.specs.Prelude.{◌≡◌, ◌+◌, ◌<◌, ◌≤◌, ◌^◌, length, IfSome};
 ghost use Rattle.mx_proc.specs.Partners.{order_of_source, source_in_order, lines_in_notification, may_be, first_pending};
 ghost use Rattle.mx_proc.specs.States.{is_ready, is_down};
 
@@ -174,14 +174,11 @@ pub struct Process {
     pub generation: u32,
     /// How many of the service's restarts are used up.
     pub restarts_used: u32,
-    pub masks: Masks,
-    /// The number of its ready list, 0 to 14. List 0 is the highest.
+    /// What its service gave it.
+    pub terms: Terms,
+    /// The ready list that it is in when it is ready, `terms.best` to 14.
     pub level: u8,
-    /// The highest list that it may rise to, 0 to `level`.
-    pub best: u8,
-    /// How many ticks a new quantum has. Each step takes one tick.
-    pub quantum: u32,
-    /// How many ticks of the quantum are left.
+    /// How many ticks of its quantum are left. Each step takes one tick.
     pub ticks: u32,
     /// How many steps this process has made. (The one before it in the slot doesn't count.)
     pub steps: u64,
@@ -194,6 +191,44 @@ pub struct Process {
     /// For the process of each slot: the window of this process's memory that it may use, if any.
     pub windows: [Option<Window>; 32],
     pub image: Image,
+}
+
+impl Process {
+    ghost use Rattle.mx_proc.specs.TableState.{new_process, process_after};
+
+    /// The first process of a slot, by these terms: ready, with a full quantum.
+    pub fn new(terms: Terms, image: Image) -> Process
+        ensures { result ≡ new_process image terms }
+    {
+        Process {
+            state: State::Ready,
+            generation: 0,
+            restarts_used: 0,
+            terms,
+            level: terms.level,
+            ticks: terms.quantum,
+            steps: 0,
+            pending: [false; 34],
+            lines: 0,
+            alarm: None,
+            windows: [None; 32],
+            image,
+        }
+    }
+
+    /// The process after a dead one in its slot: a new one, of the next generation, with one restart more
+    /// used up.
+    pub fn after(dead: &Process, terms: Terms, image: Image) -> Process
+        requires generation { dead.now.generation + 1 < 2 ^ 32 }
+        requires restarts { dead.now.restarts_used + 1 < 2 ^ 32 }
+        ensures { result ≡ process_after dead.now image terms }
+    {
+        Process {
+            generation: dead.generation + 1,
+            restarts_used: dead.restarts_used + 1,
+            ..Process::new(terms, image)
+        }
+    }
 }
 
 impl State {

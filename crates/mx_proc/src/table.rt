@@ -10,7 +10,7 @@ ghost use Rattle.mx_proc.specs.States.{is_blocked, is_down};
 use crate::deliveries::{Deliveries, Delivery};
 use crate::devices::Devices;
 use crate::endpoints::{Endpoint, FIRST_NEGATIVE, endpoint_from, generation_of, slot_of};
-use crate::process::{Process, Slot, State, Terms};
+use crate::process::{Process, Slot, Terms};
 use crate::ready::Ready;
 use crate::waits::Waits;
 use crate::windows::Rules;
@@ -98,8 +98,7 @@ impl Table {
 
     /// Makes a process with this image in the next slot, and answers the slot. The process is ready, with a
     /// full quantum, at the end of the ready list of its level. `image` is blank after the call. If there is
-    /// no memory, nothing changes. The restarts among the terms aren't used: they are a matter of the slot's
-    /// service.
+    /// no memory, nothing changes.
     pub fn add(&mut self, alloc: Global, image: &mut Image, terms: Terms) -> Result<Slot, NoMemory>
         requires room { length self.old.slots < 32 }
         ensures slot { IfOk result (λ slot. slot ≡ length self.old.slots) }
@@ -108,22 +107,7 @@ impl Table {
         ensures err { OnErr result ((self.new ≡ self.old) × (image.new ≡ image.old)) }
     {
         let slot = self.slots.as_slice().len() as u8;
-        let process = Process {
-            state: State::Ready,
-            generation: 0,
-            restarts_used: 0,
-            masks: terms.masks,
-            level: terms.level,
-            best: terms.best,
-            quantum: terms.quantum,
-            ticks: terms.quantum,
-            steps: 0,
-            pending: [false; 34],
-            lines: 0,
-            alarm: None,
-            windows: [None; 32],
-            image: mem::replace(image, Image::blank(alloc)),
-        };
+        let process = Process::new(terms, mem::replace(image, Image::blank(alloc)));
         match self.slots.push(process) {
             Ok(()) => {
                 self.ready.push_back(terms.level, slot);
@@ -188,7 +172,7 @@ impl Table {
             → HasBuffer (process_at self.now slot) }
         ensures generation { (process_at self.now slot).generation < 2 ^ 20 }
         ensures level { (process_at self.now slot).level ≤ 14 }
-        ensures best { (process_at self.now slot).best ≤ (process_at self.now slot).level }
+        ensures best { (process_at self.now slot).terms.best ≤ (process_at self.now slot).level }
         ensures alarm { IfSome (process_at self.now slot).alarm (λ due.
             due < self.now.uptime + 2 ^ 32) }
     {

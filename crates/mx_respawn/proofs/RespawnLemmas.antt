@@ -1,10 +1,11 @@
 use Rattle.std.proofs.Common.{◌≡◌, ◌∙◌, ℕ, ◌<◌, ◌++◌, ◌∷◌, [], length, slice_set, length-set, get_or-set_same, sym, ap, subst}
 use Rattle.std.proofs.lemmas.List.{set-set}
 use Rattle.mx_load.specs.Image.{blank}
+use Rattle.mx_load.specs.Load.{image_of_program}
 use Rattle.mx_ipc.specs.Proc.declared.process.Process.{Process}
 use Rattle.mx_ipc.specs.Proc.Frame.{Frame, frame_with_process}
 use Rattle.mx_ipc.specs.Proc.Queues.{list_at}
-use Rattle.mx_ipc.specs.Proc.TableState.{TableState, nobody, process_at, with_image, table_after_revival}
+use Rattle.mx_ipc.specs.Proc.TableState.{TableState, nobody, process_at, with_image, process_after, table_after_revival}
 use Rattle.mx_respawn.specs.declared.service.Service.{Service}
 use Rattle.mx_respawn.specs.Respawn.{next_process, table_after_respawn}
 
@@ -13,8 +14,8 @@ pub emptied : (w t : TableState) (s : ℕ) → s < length w.slots → t ≡ with
 emptied w t s b e = ap (λ x. process_at x s) e ∙ get_or-set_same w.slots s _ nobody b
 
 -- the one after it is that after the dead process
-pub next_is : (w t : TableState) (s : ℕ) (p q : Process) (v : Service) → s < length w.slots → t ≡ with_image w s blank → q ≡ process_at t s → p ≡ next_process q v → p ≡ next_process (process_at w s) v
-next_is w t s p q v b e f g = g ∙ ap (λ x. next_process x v) (f ∙ emptied w t s b e)
+pub next_is : (w t : TableState) (s : ℕ) (image : _) (v : Service) → s < length w.slots → t ≡ with_image w s blank → image ≡ image_of_program v.program → process_after (process_at t s) image v.terms ≡ next_process (process_at w s) v
+next_is w t s image v b e f = ap (λ p. process_after p image v.terms) (emptied w t s b e) ∙ ap (λ i. process_after (process_at w s) i v.terms) f
 
 put_twice : (w : TableState) (s : ℕ) (p : Process) → table_after_revival (with_image w s blank) s p ≡ table_after_revival w s p
 put_twice w s p = ap (λ l. let n : TableState = record w { slots = l; ready = slice_set w.ready p.level (list_at w.ready p.level ++ s ∷ []) } in n) (set-set w.slots s _ p)

@@ -1,9 +1,7 @@
 -- Respawn (our choice): the slot of a dead process gets a new one from its service.
-use Rattle.std.specs.Prelude.{ℕ, ◌+◌, ◌-◌, ◌^◌, ◌++◌, ◌∷◌, [], ◌||◌, nat_le, Bool, false, None, slice_set, replicate}
+use Rattle.std.specs.Prelude.{ℕ, ◌-◌, ◌^◌, ◌||◌, nat_le, Bool}
 use Rattle.mx_ipc.specs.Proc.declared.process.Process.{Process}
-use Rattle.mx_ipc.specs.Proc.declared.process.State.TheVariants.{Ready}
-use Rattle.mx_ipc.specs.Proc.Queues.{list_at}
-use Rattle.mx_ipc.specs.Proc.TableState.{TableState, process_at}
+use Rattle.mx_ipc.specs.Proc.TableState.{TableState, process_at, process_after, table_after_revival}
 use Rattle.mx_load.specs.Load.{image_of_program}
 use Rattle.mx_respawn.specs.declared.service.Service.{Service}
 
@@ -13,26 +11,8 @@ is_worn p v = nat_le v.terms.restarts p.restarts_used || nat_le (2 ^ 20 - 1) p.g
 
 -- the process after a dead one: nothing of that is left but its generation and its restarts, each one more
 abbrev pub next_process : Process → Service → Process
-next_process p v = record {
-  state = Ready;
-  generation = p.generation + 1;
-  restarts_used = p.restarts_used + 1;
-  masks = v.terms.masks;
-  level = v.terms.level;
-  best = v.terms.best;
-  quantum = v.terms.quantum;
-  ticks = v.terms.quantum;
-  steps = 0;
-  pending = replicate 34 false;
-  lines = 0;
-  alarm = None;
-  windows = replicate 32 None;
-  image = image_of_program v.program;
-}
+next_process p v = process_after p (image_of_program v.program) v.terms
 
 -- A RESPAWN: it is ready, at the end of the list of the service's level
 unfoldable pub table_after_respawn : TableState → ℕ → Service → TableState
-table_after_respawn w s v = record w {
-  slots = slice_set w.slots s (next_process (process_at w s) v);
-  ready = slice_set w.ready v.terms.level (list_at w.ready v.terms.level ++ s ∷ []);
-}
+table_after_respawn w s v = table_after_revival w s (next_process (process_at w s) v)

@@ -10,7 +10,8 @@ ghost use Rattle.mx_ipc.specs.Proc.declared.process.State.TheVariants.{Home, Dow
 ghost use Rattle.mx_respawn.specs.Death.{receives_from_alone, table_after_taking_out, callers, receivers, table_after_freeing_all, table_after_death};
 ghost use Rattle.mx_respawn.specs.Waking.{table_after_waking};
 
-use mx_ipc::{DeathCause, Errno, Partner, Slot, Source, State, Table, go_on};
+use mx_ipc::go_on;
+use mx_proc::{DeathCause, Errno, Partner, Slot, Source, State, Table};
 
 /// Whether a process in this state receives only from this slot.
 fn names(state: State, slot: Slot) -> bool

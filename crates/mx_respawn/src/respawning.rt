@@ -9,8 +9,8 @@ ghost use Rattle.mx_ipc.specs.Proc.TableState.{process_at};
 ghost use Rattle.mx_respawn.specs.Respawn.{is_worn, next_process, table_after_respawn};
 
 use crate::service::Service;
-use mx_ipc::{Process, Slot, State, Table};
-use mx_load::{Image, refill};
+use mx_load::refill;
+use mx_proc::{Process, Slot, Table};
 
 /// Whether a process can have none after it: the restarts of its service are used up, or its
 /// generation is the last one.
@@ -18,33 +18,6 @@ pub fn is_worn(process: &Process, service: &Service) -> bool
     ensures { result ≡ is_worn process.now service.now }
 {
     service.terms.restarts <= process.restarts_used || process.generation >= 0xF_FFFF
-}
-
-/// The process after a dead one, from that one's own image.
-fn next_process(dead: &Process, image: Image, service: &Service) -> Process
-    requires fresh { is_worn dead.now service.now ≡ false }
-    requires from { IsLoadedFrom image service.now.program }
-    ensures value { result ≡ next_process dead.now service.now }
-    ensures from { IsLoadedFrom result.image service.now.program }
-{
-    let mut image = image;
-    refill(&mut image, &service.program);
-    Process {
-        state: State::Ready,
-        generation: dead.generation + 1,
-        restarts_used: dead.restarts_used + 1,
-        masks: service.terms.masks,
-        level: service.terms.level,
-        best: service.terms.best,
-        quantum: service.terms.quantum,
-        ticks: service.terms.quantum,
-        steps: 0,
-        pending: [false; 34],
-        lines: 0,
-        alarm: None,
-        windows: [None; 32],
-        image,
-    }
 }
 
 /// The slot of a dead process gets a new one, from the service that the dead one was loaded from.
@@ -64,7 +37,7 @@ pub fn respawn(table: &mut Table, slot: Slot, service: &Service)
     ensures settled { NoneComesHome table.old table.new }
 {
     // The image goes out of the table, is filled again, and comes back: no memory is taken.
-    let image = table.take_image(slot);
-    let process = next_process(table.process(slot), image, service);
-    table.revive(slot, process);
+    let mut image = table.take_image(slot);
+    refill(&mut image, &service.program);
+    table.revive(slot, service.terms, image);
 }

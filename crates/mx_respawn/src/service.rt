@@ -1,7 +1,7 @@
 //! Services: a program and its terms, from which each process of a slot is made.
 
-use mx_ipc::Terms;
 use mx_load::Program;
+use mx_proc::Terms;
 use mx_text::Name;
 
 /// What a slot is booted and respawned from.

@@ -13,7 +13,7 @@ is_last_renewed w s = is_slot w.renewed
 -- the level after a spent quantum: one lower if this slot was also the last one renewed, else one higher,
 -- held between its best level and 14
 abbrev pub next_level : Process → Bool → ℕ
-next_level p again = if again then (if nat_lt p.level 14 then p.level + 1 else 14) else (if nat_lt p.best p.level then p.level - 1 else p.best)
+next_level p again = if again then (if nat_lt p.level 14 then p.level + 1 else 14) else (if nat_lt p.terms.best p.level then p.level - 1 else p.terms.best)
 
 -- with ticks left, to the front of its list; else with a new quantum, to the end of the list of the next level
 unfoldable pub table_after_queueing : TableState → ℕ → TableState

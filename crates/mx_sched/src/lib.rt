@@ -9,11 +9,7 @@ ghost use Rattle.mx_proc.specs.TableState.{process_at, table_after_dequeue};
 ghost use Rattle.mx_proc.specs.declared.process.State.TheVariants.{Ready};
 ghost use Rattle.mx_sched.specs.Queueing.{table_after_queueing};
 
-pub use mx_proc::{
-    ANY, Access, CLOCK, DeathCause, Delivery, Endpoint, Errno, HARDWARE, MESSAGE_SIZE, Masks,
-    Partner, Process, ProcessAddress, Rules, SYSTEM, Slot, Source, Stale, State, Table, Terms,
-    Window, endpoint_from, generation_of, slot_of,
-};
+use mx_proc::{Slot, State, Table};
 
 /// The lowest level of a process. The list below it, 15, is the idle list, and stays empty.
 const LOWEST: u8 = 14;
@@ -38,7 +34,7 @@ pub fn enqueue(table: &mut Table, slot: Slot)
         table.to_front(slot);
         return;
     }
-    let (level, best) = (process.level, process.best);
+    let (level, best) = (process.level, process.terms.best);
     let again = match table.last_renewed() {
         Some(last) => last == slot,
         None => false,

@@ -5,10 +5,10 @@ ghost use Rattle.std.specs.Prelude.{◌≡◌, ◌≤◌, All, None};
 use crate::gates::{GateCall, NotingGate};
 use crate::machine::{config, is_history, last_idle_seat, services};
 use mx_cpus::{
-    ActorSeat, Blank, Kernel, Naming, Outside, OutsideCall, Shared, boot, drive_with, outsider,
-    processor, respawner,
+    ActorSeat, Blank, Naming, Outside, OutsideCall, Shared, boot, drive_with, outsider, processor,
+    respawner,
 };
-use mx_machine::{Record, Recorded};
+use mx_machine::{Kernel, Record, Recorded};
 use std::marker::Brand;
 use std::sync::Wait;
 use std::test::Fail;

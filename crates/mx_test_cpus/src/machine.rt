@@ -4,8 +4,8 @@ ghost use Rattle.std.specs.Prelude.{◌≡◌, ◌<◌, ◌≤◌, All, IfOk, If
 
 use mx_aout::read;
 use mx_cpus::{ActorSeat, Naming};
-use mx_machine::{Config, FileName, Record, Recorded, Rules, ServiceLine, ServiceLines};
-use mx_proc::{Masks, Terms};
+use mx_machine::{Config, FileName, Record, Recorded, ServiceLine, ServiceLines};
+use mx_proc::{Masks, Rules, Terms};
 use mx_respawn::Service;
 use mx_text::name_of;
 use std::alloc::Global;

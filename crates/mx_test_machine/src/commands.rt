@@ -3,9 +3,10 @@
 
 use crate::files::{SUM, reader};
 use mx_app::{
-    Channels, Complaint, Ending, Failure, InputLines, KeptFile, LineFailure, MemoryWriter,
-    NamedFiles, NoProgress, NotingFiles, NotingReader, perform_words,
+    CommandIo, Complaint, Ending, Failure, LineFailure, NoProgress, NotingFiles, NotingReader,
+    perform_words,
 };
+use mx_app_db::{Channels, InputLines, KeptFile, MemoryWriter, NamedFiles};
 use std::alloc::Global;
 use std::fmt::Write as _;
 use std::io;
@@ -37,22 +38,33 @@ impl Write for Sink {
     }
 }
 
-type Held = Channels<NotingReader<NamedFiles<'static>>, NotingFiles<MemoryWriter>, Sink>;
+type MemoryIo = CommandIo<
+    NotingReader<NamedFiles<'static>>,
+    NotingFiles<MemoryWriter>,
+    Sink,
+    InputLines<&'static [u8]>,
+    NoProgress,
+>;
 
-/// Channels over lists of bytes, of which those that take bytes may be broken.
-fn channels(alloc: Global, refusal: Option<io::ErrorKind>) -> Held {
+/// Channels over lists of bytes, of which those that take bytes may be broken; no line is typed.
+fn memory_io(alloc: Global, refusal: Option<io::ErrorKind>) -> MemoryIo {
     let files = match refusal {
         Some(kind) => MemoryWriter::refusing(alloc, kind),
         None => MemoryWriter::new(alloc),
     };
-    Channels {
-        reader: NotingReader::new(reader()),
-        files: NotingFiles::new(files),
-        out: Sink {
-            bytes: Vec::new(alloc),
-            flushed: 0,
-            refusal,
+    CommandIo {
+        channels: Channels {
+            reader: NotingReader::new(reader()),
+            files: NotingFiles::new(files),
+            out: Sink {
+                bytes: Vec::new(alloc),
+                flushed: 0,
+                refusal,
+            },
         },
+        lines: InputLines::new(b"".as_slice()),
+        progress: NoProgress::new(),
+        asks: false,
     }
 }
 
@@ -1196,30 +1208,20 @@ static EXPLAINED: &[Failed] = &[
     },
 ];
 
-/// Performs words, and answers the status; the line of a failure is appended.
+/// Performs words, and answers the status and the lines of a failure.
 fn perform<R: Threads + Wait + Clock + Sync>(
-    channels: &mut Held,
     rt: &R,
     alloc: Global,
+    work: &mut MemoryIo,
     words: &'static [&'static str],
     shows: bool,
-    told: &mut String,
-) -> u8 {
-    let mut lines = InputLines::new(b"".as_slice());
-    match perform_words(
-        rt,
-        alloc,
-        words,
-        channels,
-        &mut lines,
-        &mut NoProgress::new(),
-        false,
-        shows,
-    ) {
-        Ok(done) => done.status,
+) -> (u8, String) {
+    let mut told = String::new(alloc);
+    match perform_words(rt, alloc, words, work, shows) {
+        Ok(done) => (done.status, told),
         Err(complaint) => {
             let _ = write!(told, "{complaint}");
-            complaint.status()
+            (complaint.status(), told)
         }
     }
 }
@@ -1240,12 +1242,12 @@ fn is_kept(files: &[KeptFile], wanted: Option<(&str, &[u8])>) -> bool {
 }
 
 fn is_done<R: Threads + Wait + Clock + Sync>(rt: &R, alloc: Global, row: &Done) -> bool {
-    let mut channels = channels(alloc, None);
-    let mut told = String::new(alloc);
-    perform(&mut channels, rt, alloc, row.words, false, &mut told) == row.status
+    let mut work = memory_io(alloc, None);
+    let (status, told) = perform(rt, alloc, &mut work, row.words, false);
+    status == row.status
         && told.is_empty()
-        && is_printed(&channels.out, row.printed)
-        && is_kept(channels.files.writer().files(), row.file)
+        && is_printed(&work.channels.out, row.printed)
+        && is_kept(work.channels.files.writer().files(), row.file)
 }
 
 /// Whether words fail so, with nothing printed or written, if what takes bytes is broken in this
@@ -1256,9 +1258,8 @@ fn is_told<R: Threads + Wait + Clock + Sync>(
     refusal: Option<io::ErrorKind>,
     row: &Failed,
 ) -> bool {
-    let mut channels = channels(alloc, refusal);
-    let mut told = String::new(alloc);
-    let ended = perform(&mut channels, rt, alloc, row.words, false, &mut told);
+    let mut work = memory_io(alloc, refusal);
+    let (ended, told) = perform(rt, alloc, &mut work, row.words, false);
     let is_told = if row.status == 2 && row.told.is_empty() {
         told.as_str().starts_with("error: ")
     } else {
@@ -1266,8 +1267,8 @@ fn is_told<R: Threads + Wait + Clock + Sync>(
     };
     ended == row.status
         && is_told
-        && is_printed(&channels.out, "")
-        && is_kept(channels.files.writer().files(), None)
+        && is_printed(&work.channels.out, "")
+        && is_kept(work.channels.files.writer().files(), None)
 }
 
 #[test]
@@ -1324,9 +1325,8 @@ static TERMINALS: &[(&[&str], bool, bool)] = &[
 #[test]
 fn terminals_explained(rt: HostRuntime) {
     for (words, shows, is_explained) in TERMINALS {
-        let mut channels = channels(rt.alloc(), None);
-        let mut told = String::new(rt.alloc());
-        let status = perform(&mut channels, &rt, rt.alloc(), words, *shows, &mut told);
+        let mut work = memory_io(rt.alloc(), None);
+        let (status, told) = perform(&rt, rt.alloc(), &mut work, words, *shows);
         let wanted = if *is_explained {
             "mx: 80 File\nmx: FILE nothing: wanted a file that can be read\n"
         } else {
@@ -1447,18 +1447,8 @@ static TURNED: &[Turned] = &[
 
 /// Whether the turns or the run that words ask for end so.
 fn is_ended<R: Threads + Wait + Clock + Sync>(rt: &R, alloc: Global, row: &Turned) -> bool {
-    let mut channels = channels(alloc, None);
-    let mut lines = InputLines::new(b"".as_slice());
-    match perform_words(
-        rt,
-        alloc,
-        row.words,
-        &mut channels,
-        &mut lines,
-        &mut NoProgress::new(),
-        false,
-        false,
-    ) {
+    let mut work = memory_io(alloc, None);
+    match perform_words(rt, alloc, row.words, &mut work, false) {
         Ok(done) => done.ending == Some(row.ending),
         Err(_) => false,
     }
@@ -1539,17 +1529,16 @@ static UNWRITTEN: &[Unwritten] = &[
 
 /// Whether words fail, and print just this, if no file may be written.
 fn is_unwritten<R: Threads + Wait + Clock + Sync>(rt: &R, alloc: Global, row: &Unwritten) -> bool {
-    let mut channels = channels(alloc, None);
-    channels.files = NotingFiles::new(MemoryWriter::refusing(
+    let mut work = memory_io(alloc, None);
+    work.channels.files = NotingFiles::new(MemoryWriter::refusing(
         alloc,
         io::ErrorKind::PermissionDenied,
     ));
-    let mut told = String::new(alloc);
-    let status = perform(&mut channels, rt, alloc, row.words, false, &mut told);
+    let (status, told) = perform(rt, alloc, &mut work, row.words, false);
     status == 3
         && told.as_str() == "mx: 80 File\n"
-        && is_printed(&channels.out, row.printed)
-        && is_kept(channels.files.writer().files(), None)
+        && is_printed(&work.channels.out, row.printed)
+        && is_kept(work.channels.files.writer().files(), None)
 }
 
 /// The three ticks come at any time, and the report is always the wanted one; the history has the
@@ -1558,17 +1547,16 @@ fn is_unwritten<R: Threads + Wait + Clock + Sync>(rt: &R, alloc: Global, row: &U
 fn run_with_ticks(rt: HostRuntime) {
     let alloc = rt.alloc();
     let words: &[&str] = &["mx", "run", "one", "new.log", "--ticks", "3"];
-    let mut channels = channels(alloc, None);
-    let mut told = String::new(alloc);
-    let status = perform(&mut channels, &rt, alloc, words, false, &mut told);
+    let mut work = memory_io(alloc, None);
+    let (status, told) = perform(&rt, alloc, &mut work, words, false);
     assert!(rt; status == 0 && told.is_empty());
     assert!(rt;
         is_printed(
-            &channels.out,
+            &work.channels.out,
             "0 a 0 down fault 13 7 1\nuptime 3\nconsole 0\n"
         )
     );
-    let files = channels.files.writer().files();
+    let files = work.channels.files.writer().files();
     assert!(rt; files.len() == 1 && lines_in(files[0].bytes.as_slice()) == 8);
 }
 
@@ -1713,10 +1701,9 @@ docs/use/REFERENCE.md.
 ];
 
 fn ends_so<R: Threads + Wait + Clock + Sync>(rt: &R, alloc: Global, row: &Help) -> bool {
-    let mut channels = channels(alloc, None);
-    let mut told = String::new(alloc);
-    let status = perform(&mut channels, rt, alloc, row.words, false, &mut told);
-    let out = &channels.out;
+    let mut work = memory_io(alloc, None);
+    let (status, told) = perform(rt, alloc, &mut work, row.words, false);
+    let out = &work.channels.out;
     status == 0
         && told.is_empty()
         && out.bytes.ends_with(row.ending.as_bytes())
@@ -1796,10 +1783,9 @@ static PICTURES: &[Picture] = &[
 ];
 
 fn is_drawn<R: Threads + Wait + Clock + Sync>(rt: &R, alloc: Global, row: &Picture) -> bool {
-    let mut channels = channels(alloc, None);
-    let mut told = String::new(alloc);
-    let ended = perform(&mut channels, rt, alloc, row.words, false, &mut told);
-    let out = &channels.out;
+    let mut work = memory_io(alloc, None);
+    let (ended, told) = perform(rt, alloc, &mut work, row.words, false);
+    let out = &work.channels.out;
     let Some(rest) = out.bytes.as_slice().strip_prefix(SMALL_PICTURE.as_bytes()) else {
         return false;
     };

@@ -1,7 +1,8 @@
 //! A saved history that is cut: nothing is replayed of it, unless whole lines are left.
 
 use crate::files::{CLIENT, DRIVER, PAIR};
-use mx_app_db::{BootError, Failure, NamedFile, NamedFiles, Replayed, replay};
+use mx_app_db::{Failure, NamedFile, NamedFiles, Replayed, replay};
+use mx_boot::BootError;
 use std::alloc::Global;
 use std::process::Abort;
 

@@ -1,7 +1,8 @@
 //! Machines that are driven by scripts, by histories and under a debugger, and what is printed of them.
 
 use crate::files::reader;
-use mx_app_db::{BootError, Failure, Replayed, db, replay, step};
+use mx_app_db::{Failure, Replayed, db, replay, step};
+use mx_boot::BootError;
 use std::alloc::Global;
 use std::test::Fail;
 

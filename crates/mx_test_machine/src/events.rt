@@ -7,7 +7,7 @@ use crate::numbers::{EBADREQUEST, ECALLDENIED, EDEADDST, EPERM, EXIT, OK, VIRCOP
 use mx_app_db::{Script, start};
 use mx_exec::{Image, Outcome};
 use mx_machine::{Answer, Event, Held, Machine, Out, Refusal, Tool};
-use mx_proc::{ANY, DeathCause, Masks, Partner, Process, SYSTEM, State, Table};
+use mx_proc::{ANY, DeathCause, Partner, Process, SYSTEM, State, Table, Terms};
 use mx_respawn::{Service, is_worn};
 use mx_word::{Register, Size};
 use std::alloc::Global;
@@ -719,23 +719,12 @@ fn is_lent(machine: &mut Machine) -> bool {
 }
 
 /// A process that is down.
-fn down(alloc: Global, masks: Masks, generation: u32, restarts_used: u32) -> Process {
-    Process {
-        state: State::Down(DeathCause::Exit),
-        generation,
-        restarts_used,
-        masks,
-        level: 4,
-        best: 4,
-        quantum: 20,
-        ticks: 20,
-        steps: 0,
-        pending: [false; 34],
-        lines: 0,
-        alarm: None,
-        windows: [None; 32],
-        image: Image::blank(alloc),
-    }
+fn down(alloc: Global, terms: Terms, generation: u32, restarts_used: u32) -> Process {
+    let mut process = Process::new(terms, Image::blank(alloc));
+    process.state = State::Down(DeathCause::Exit);
+    process.generation = generation;
+    process.restarts_used = restarts_used;
+    process
 }
 
 /// Whether a process of the last service is worn, or isn't, as the row wants. It is made by hand,
@@ -743,8 +732,7 @@ fn down(alloc: Global, masks: Masks, generation: u32, restarts_used: u32) -> Pro
 fn has_worn(alloc: Global, services: &[Service], worn: &Worn) -> bool {
     match services {
         [.., service] => {
-            let masks = service.terms.masks;
-            let process = down(alloc, masks, worn.generation, worn.restarts_used);
+            let process = down(alloc, service.terms, worn.generation, worn.restarts_used);
             is_worn(&process, service) == worn.is_worn
         }
         _ => false,

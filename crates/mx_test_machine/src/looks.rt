@@ -1,7 +1,9 @@
 //! Sessions over a saved history: the lines that are typed, and what is printed.
 
 use crate::files::reader;
-use mx_app::{Channels, CommandRequest, Done, InputLines, MemoryWriter, NoProgress, perform};
+use mx_app::{CommandIo, Done, NoProgress, perform};
+use mx_app_command::CommandRequest;
+use mx_app_db::{Channels, InputLines, MemoryWriter};
 use std::alloc::Global;
 use std::sync::Wait;
 use std::test::Fail;
@@ -363,26 +365,22 @@ fn is_printed<R: Threads + Wait + Clock + Sync>(
     config: &'static str,
     row: &Session,
 ) -> bool {
-    let mut channels = Channels {
-        reader: reader(),
-        files: MemoryWriter::new(alloc),
-        out: Vec::new(alloc),
+    let mut io = CommandIo {
+        channels: Channels {
+            reader: reader(),
+            files: MemoryWriter::new(alloc),
+            out: Vec::new(alloc),
+        },
+        lines: InputLines::new(row.typed),
+        progress: NoProgress::new(),
+        asks: row.asks,
     };
-    let mut lines = InputLines::new(row.typed);
     let request = CommandRequest::Look {
         config,
         log: row.log,
     };
-    let answer = perform(
-        rt,
-        alloc,
-        &mut channels,
-        &mut lines,
-        &mut NoProgress::new(),
-        row.asks,
-        request,
-    );
-    answer == Ok(Done::with_status(0)) && channels.out.as_slice() == row.printed.as_bytes()
+    let answer = perform(rt, alloc, &mut io, request);
+    answer == Ok(Done::with_status(0)) && io.channels.out.as_slice() == row.printed.as_bytes()
 }
 
 #[test]

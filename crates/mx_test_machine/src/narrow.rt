@@ -2,10 +2,9 @@
 
 use crate::files::reader;
 use crate::texts::Narrow;
-use mx_app::{
-    Channels, CommandRequest, Failure, InputLines, MemoryWriter, NoProgress, RecordRange, perform,
-};
-use mx_app_db::{Script, make_steps, start};
+use mx_app::{CommandIo, Failure, NoProgress, perform};
+use mx_app_command::{CommandRequest, RecordRange};
+use mx_app_db::{Channels, InputLines, MemoryWriter, Script, make_steps, start};
 use mx_boot::{Over, save};
 use mx_machine::{Event, Machine};
 use std::alloc::Global;
@@ -116,13 +115,18 @@ fn is_printed<R: Threads + Wait + Clock + Sync>(
     row: &Row,
     room: usize,
 ) -> bool {
-    let mut channels = Channels {
-        reader: reader(),
-        files: MemoryWriter::new(alloc),
-        out: Narrow {
-            bytes: Vec::new(alloc),
-            room,
+    let mut io = CommandIo {
+        channels: Channels {
+            reader: reader(),
+            files: MemoryWriter::new(alloc),
+            out: Narrow {
+                bytes: Vec::new(alloc),
+                room,
+            },
         },
+        lines: InputLines::new(b"".as_slice()),
+        progress: NoProgress::new(),
+        asks: false,
     };
     let text = row.printed.as_bytes();
     let wanted = if room < text.len() {
@@ -130,21 +134,12 @@ fn is_printed<R: Threads + Wait + Clock + Sync>(
     } else {
         Ok(0)
     };
-    let mut lines = InputLines::new(b"".as_slice());
-    let done = perform(
-        rt,
-        alloc,
-        &mut channels,
-        &mut lines,
-        &mut NoProgress::new(),
-        false,
-        row.request,
-    );
+    let done = perform(rt, alloc, &mut io, row.request);
     let answer = match done {
         Ok(done) => Ok(done.status),
         Err(failure) => Err(failure),
     };
-    answer == wanted && channels.out.bytes.as_slice() == &text[..room.min(text.len())]
+    answer == wanted && io.channels.out.bytes.as_slice() == &text[..room.min(text.len())]
 }
 
 fn print_in_each_room<R: Threads + Wait + Clock + Sync + Abort>(rt: &R, alloc: Global, row: &Row) {

@@ -1,10 +1,9 @@
 //! Texts that aren't UTF-8, in each place where a text is read.
 
 use crate::files::{CLIENT, DRIVER, PAIR};
-use mx_app::{
-    Channels, CommandRequest, Done, Failure, InputLines, MemoryWriter, NamedFile, NamedFiles,
-    NoProgress, RecordRange, perform,
-};
+use mx_app::{CommandIo, Done, Failure, NoProgress, perform};
+use mx_app_command::{CommandRequest, RecordRange};
+use mx_app_db::{Channels, InputLines, MemoryWriter, NamedFile, NamedFiles};
 use std::alloc::Global;
 use std::process::Abort;
 use std::sync::Wait;
@@ -229,22 +228,18 @@ fn answer<R: Threads + Wait + Clock + Sync>(
         file("cli.out", CLIENT),
         file("empty", b""),
     ];
-    let mut channels = Channels {
-        reader: NamedFiles::new(&files),
-        files: MemoryWriter::new(alloc),
-        out: Vec::new(alloc),
+    let mut io = CommandIo {
+        channels: Channels {
+            reader: NamedFiles::new(&files),
+            files: MemoryWriter::new(alloc),
+            out: Vec::new(alloc),
+        },
+        lines: InputLines::new(b"".as_slice()),
+        progress: NoProgress::new(),
+        asks: false,
     };
-    let mut lines = InputLines::new(b"".as_slice());
-    let answer = perform(
-        rt,
-        alloc,
-        &mut channels,
-        &mut lines,
-        &mut NoProgress::new(),
-        false,
-        row.request,
-    );
-    let is_silent = channels.out.is_empty() && channels.files.files().is_empty();
+    let answer = perform(rt, alloc, &mut io, row.request);
+    let is_silent = io.channels.out.is_empty() && io.channels.files.files().is_empty();
     Ok((answer, is_silent))
 }
 

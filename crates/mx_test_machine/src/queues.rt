@@ -7,7 +7,7 @@ use crate::numbers::{ALL_SENDS, ALL_TRAPS};
 use crate::tables::{add_process, word_at};
 use mx_ipc::{receive, send, sendrec};
 use mx_proc::{
-    ANY, DeathCause, Masks, Partner, Process, Rules, SYSTEM, Slot, Source, State, Table,
+    ANY, DeathCause, Masks, Partner, Rules, SYSTEM, Slot, Source, State, Table, Terms,
 };
 use mx_respawn::die;
 use mx_sched::{dequeue, enqueue, pick};
@@ -20,6 +20,9 @@ const MASKS: Masks = Masks {
     sends: ALL_SENDS,
     calls: 0,
 };
+
+/// The last generation, and the most restarts that terms have.
+const LAST: u32 = 0xF_FFFF;
 
 /// 32 services at level 7, whose best is 5 and whose quantum is 5.
 fn services(rt: &impl Abort, alloc: Global) -> Result<Table, Fail> {
@@ -96,27 +99,18 @@ fn kill(rt: &impl Abort, table: &mut Table, slot: Slot) {
 fn revive(rt: &impl Abort, table: &mut Table, slot: Slot) {
     assert!(rt; slot < table.used());
     assert!(rt; table.process(slot).state.is_down());
-    let generation = table.process(slot).generation;
-    assert!(rt; generation < 1_000_000);
     let image = table.take_image(slot);
-    let process = Process {
-        state: State::Ready,
-        generation: generation + 1,
-        restarts_used: 0,
+    let dead = table.process(slot);
+    assert!(rt; dead.state.is_down());
+    assert!(rt; dead.generation < LAST && dead.restarts_used < LAST);
+    let terms = Terms {
         masks: MASKS,
         level: 7,
         best: 5,
         quantum: 5,
-        ticks: 5,
-        steps: 0,
-        pending: [false; 34],
-        lines: 0,
-        alarm: None,
-        windows: [None; 32],
-        image,
+        restarts: LAST,
     };
-    assert!(rt; table.process(slot).state.is_down());
-    table.revive(slot, process);
+    table.revive(slot, terms, image);
 }
 
 fn perform(rt: &impl Abort, table: &mut Table, slot: Slot, deed: Deed) {

@@ -2,7 +2,8 @@
 
 use crate::files::reader;
 use mx_aout::FileError;
-use mx_app_db::{BootError, Failure, Script, start};
+use mx_app_db::{Failure, Script, start};
+use mx_boot::BootError;
 use std::alloc::Global;
 use std::test::Fail;
 

@@ -1,11 +1,13 @@
 //! Configurations, scripts and histories, read and saved.
 
 use BootError::{BadLine, BadRecord, TooMany, TwiceNamed};
+use mx_app_db::{debug_script, own_words_are_apart};
 use mx_boot::{
-    BootError, Config, Over, ScriptLine, config, debug_script, history_again, log, number_again,
-    one_history, one_text, save_history, script, verb_again, words_again,
+    BootError, Over, ScriptLine, config, history_again, log, number_again, one_history, one_text,
+    save_history, script, verb_again, words_again,
 };
-use mx_machine::{Record, Recorded, Rules};
+use mx_machine::{Config, Record, Recorded};
+use mx_proc::Rules;
 use std::alloc::Global;
 use std::io;
 use std::io::Write;
@@ -792,6 +794,7 @@ fn laws() {
     words_again();
     number_again();
     verb_again();
+    own_words_are_apart();
     one_history();
     history_again();
     one_text();

@@ -1,9 +1,8 @@
 //! Spellings from the manual's tables.
 
 use mx_encode::{Wide, encode};
-use mx_insn::{
-    Arithmetic, Immediate, Index, Insn, Memory, Operand, Operands, Register, Scale, Size,
-};
+use mx_insn::{Immediate, Index, Insn, Memory, Operand, Operands, Scale};
+use mx_word::{Arithmetic, Register, Size};
 
 /// A MOV from memory to EAX, an ADD to EAX, or a jump.
 enum Case {

@@ -1,10 +1,10 @@
 //! Forms that a size decides.
 
 use mx_asm_statement::{
-    Address, Argument, JumpLength, Mnemonic, Name, Prefix, Register, Single, Size, Value,
-    statement_after_prefix, statement_for,
+    Address, Argument, JumpLength, Name, Value, statement_after_prefix, statement_for,
 };
-use mx_insn::{BitScan, BitTest, DoubleShift};
+use mx_insn_words::{Mnemonic, Prefix, Single};
+use mx_word::{BitScan, BitTest, DoubleShift, Register, Size};
 
 const EAX: Argument = Argument::Register(Size::Dword, Register::Eax);
 

@@ -1,6 +1,9 @@
 //! Operands of every shape.
 
-use mx_asm_statement::{Argument, Item, Mark, Register, Scale, Size, argument_of};
+use mx_asm_statement::{Argument, Item, argument_of};
+use mx_insn::Scale;
+use mx_lex::Mark;
+use mx_word::{Register, Size};
 
 const EBX: Item = Item::Register(Size::Dword, Register::Ebx);
 

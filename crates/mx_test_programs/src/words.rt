@@ -1,9 +1,10 @@
 //! Words that may begin a statement of the assembler.
 
-use mx_insn::{Condition, Loop, Register, Size, Transfer};
+use mx_insn::{Loop, Transfer};
 use mx_insn_words::{
     Directive, Mnemonic, Prefix, Single, WordStart, register_named, size_named, start_named,
 };
+use mx_word::{Condition, Register, Size};
 
 /// A word, and what a statement begins with it, if anything.
 struct Row {

@@ -4,8 +4,8 @@ ghost use Rattle.std.specs.Prelude.{◌≡◌, All, None};
 
 use crate::machine::{RUNS, Row, boot_row, is_end};
 use crate::pairs::{FULL, TALK, TALK_AGAIN, TALK_AND_TICK};
-use mx_cpus::{ActorSeat, Blank, Gate, Kernel, Naming, Shared, drive};
-use mx_machine::{Record, Recorded};
+use mx_cpus::{ActorSeat, Blank, Gate, Naming, Shared, drive};
+use mx_machine::{Kernel, Record, Recorded};
 use std::alloc::Global;
 use std::marker::Brand;
 use std::process::Abort;

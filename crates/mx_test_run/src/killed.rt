@@ -3,9 +3,9 @@
 ghost use Rattle.std.specs.Prelude.{◌≡◌, All, IfSome, None};
 
 use crate::machine::{Log, RUNS, Row, boot_row, is_end};
-use mx_cpus::{ActorSeat, Blank, Gate, Kernel, Naming, Shared, drive};
+use mx_cpus::{ActorSeat, Blank, Gate, Naming, Shared, drive};
 use mx_debug::Debugger;
-use mx_machine::Answer;
+use mx_machine::{Answer, Kernel};
 use std::alloc::Global;
 use std::marker::Brand;
 use std::process::Abort;

@@ -3,7 +3,8 @@
 ghost use Rattle.std.specs.Prelude.{◌≡◌, All, IfOk, None};
 
 use mx_app_run::{NamedFile, NamedFiles, Replayed, replay, report, saved_text, setup_of};
-use mx_cpus::{ActorSeat, Blank, Kernel, boot};
+use mx_cpus::{ActorSeat, Blank, boot};
+use mx_machine::Kernel;
 use std::alloc::Global;
 use std::test::Fail;
 

@@ -9,7 +9,5 @@ mod outside;
 mod turns;
 
 pub use laws::{rest_is_still, turn_of_one, turns_are_few, turns_join};
-pub use mx_machine::{Event, Machine};
-pub use mx_walk::{Part, Progress};
 pub use outside::Outside;
 pub use turns::{Ending, make_turns};

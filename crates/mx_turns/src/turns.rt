@@ -54,7 +54,7 @@ fn part_of(machine: &Machine, log: usize) -> Part
     ensures { result ≡ part_of log (world_of machine.now) }
 {
     let kernel = machine.kernel();
-    kernel.opened();
+    kernel.facts();
     Part {
         done: kernel.history().len(),
         all: log,

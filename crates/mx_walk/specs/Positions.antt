@@ -64,6 +64,10 @@ pub record IsPosition (records : List Record) (p : Position) : Type 0 where
   pub above : p.records ≤ length records
   pub inside : p.steps ≤ first_steps (drop p.records records)
 
+-- below all records
+abbrev pub end_of : List Record → Position
+end_of records = record { records = length records; steps = 0 }
+
 -- one position is above another
 abbrev pub IsAbove : Position → Position → Type 0
 IsAbove p q = (p.records < q.records) ⊎ ((p.records ≡ q.records) × (p.steps < q.steps))

@@ -1,5 +1,5 @@
 -- A walk along a history (our own).
-use Rattle.std.specs.Prelude.{◌≡◌, ◌<◌, ◌≤◌, ℕ, List, All, length, Option, Some, None}
+use Rattle.std.specs.Prelude.{◌≡◌, ◌<◌, ◌≤◌, ℕ, List, [], ◌∷◌, All, filter, length, Option, Some, None, if◌then◌else◌}
 use Rattle.mx_machine.specs.declared.config.Config.{Config}
 use Rattle.mx_machine.specs.declared.events.Event.{Event}
 use Rattle.mx_machine.specs.declared.events.Refusal.{Refusal}
@@ -10,18 +10,36 @@ use Rattle.mx_machine.specs.Move.{event_refusal}
 use Rattle.mx_machine.specs.World.{World, actors}
 use Rattle.mx_machine.specs.Machine.{MachineState, world_of}
 use Rattle.mx_walk.specs.declared.positions.Position.{Position}
-use Rattle.mx_walk.specs.Positions.{IsAt, IsPosition, IsStuck, IsUpTo, event_below, events_above, world_at}
+use Rattle.mx_walk.specs.Positions.{IsAt, IsPosition, IsStuck, IsUpTo, event_below, events_above, is_up_to, world_at}
 
--- A WALK: where the history begins, its records, where the walker stands, and the last position that it can
--- come to
+-- A WALK: where the history begins, its records, where the walker stands, the last position that it can come to, and
+-- its marks: the positions, in order, from which it can go on without a walk from the first
 pub record Walk : Type 0 where
   pub boot : World
   pub records : List Record
   pub here : Position
   pub last : Position
+  pub marks : List Position
 
 abbrev pub first : Position
 first = record { records = 0; steps = 0 }
+
+-- ---- where a walk begins
+
+-- the last of these positions; p if there is none
+abbrev pub last_or : Position → List Position → Position
+last_or p [] = p
+last_or p (q ∷ qs) = last_or q qs
+
+-- WHERE A WALK BACK BEGINS: at the last mark that isn't below where it goes; at the first position if none is
+abbrev pub mark_above : List Position → Position → Position
+mark_above marks to = last_or first (filter (λ m. is_up_to m to) marks)
+
+-- WHERE A WALK BEGINS: where the walker stands, if it goes on from there; else where a walk back begins
+abbrev pub start_to : Walk → Position → Position
+start_to k to = if is_up_to k.here to then k.here else mark_above k.marks to
+
+-- ---- the world that is shown
 
 -- THE WORLD that a walker shows: that after the records above it and the steps of the next
 abbrev pub world_here : Walk → World

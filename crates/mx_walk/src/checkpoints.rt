@@ -1,11 +1,12 @@
 //! Checkpoints along a history: where they are taken, and how a machine is made from one.
 
-ghost use Rattle.std.specs.Prelude.{◌≡◌, ◌+◌, ◌/◌, ◌<◌, ◌≤◌, [], IfOk, IfSome, length, min, slice_index_or};
+ghost use Rattle.std.specs.Prelude.{◌≡◌, ◌+◌, ◌/◌, ◌<◌, ◌≤◌, [], IfOk, IfSome, MatchOption, length, min, slice_index_or};
 ghost use Rattle.mx_machine.specs.Machine.{world_of};
 ghost use Rattle.mx_machine.specs.World.{actors};
-ghost use Rattle.mx_walk.specs.Checkpoints.{AreStored, IsStored};
+ghost use Rattle.mx_walk.specs.Checkpoints.{AreStored, IsStored, positions_of};
 ghost use Rattle.mx_walk.specs.declared.checkpoints.Stored.{Stored};
 ghost use Rattle.mx_walk.specs.Positions.{IsAt, IsUpTo};
+ghost use Rattle.mx_walk.specs.Walks.{first, mark_above};
 
 use crate::positions::{Position, is_up_to, steps_in};
 use mx_exec::{Code, Image};
@@ -189,8 +190,11 @@ impl Checkpoints {
 
 /// The last checkpoint that isn't below a position.
 pub(crate) fn last_above(checkpoints: &[Stored], to: Position) -> Option<usize>
-    ensures { IfSome result (λ index. (index < length checkpoints.now)
-        × ((d : Stored) → IsUpTo (slice_index_or checkpoints.now index d).position to)) }
+    ensures { MatchOption result (mark_above (positions_of checkpoints.now) to ≡ first)
+        (λ index. (index < length checkpoints.now)
+        × ((d : Stored) → IsUpTo (slice_index_or checkpoints.now index d).position to)
+        × ((d : Stored) → (slice_index_or checkpoints.now index d).position
+        ≡ mark_above (positions_of checkpoints.now) to)) }
 {
     let mut last = None;
     for index in 0..checkpoints.len() {
@@ -210,7 +214,8 @@ pub(crate) fn machine_of(
     stored: &Stored,
 ) -> Result<Machine, NoMemory>
     requires { IsStored machine.kernel.boot records.now stored.now }
-    ensures there { IfOk result (λ again. IsAt machine.kernel.boot records.now stored.now.position again) }
+    ensures there { IfOk result (λ again.
+        IsAt machine.kernel.boot records.now stored.now.position again) }
     ensures actors { IfOk result (λ again.
         actors (world_of again) ≡ actors machine.kernel.boot) }
 {

@@ -4,6 +4,7 @@
 mod booting;
 mod checkpoints;
 mod either;
+mod first_walk;
 mod going;
 mod laws;
 mod positions;
@@ -31,7 +32,7 @@ pub use positions::{
 };
 pub use progress::{Part, Progress};
 pub use records::{Halted, finish_record, make_event, make_steps};
-pub use seeking::{Mark, Sought, seek, seek_last};
+pub use seeking::{Mark, Sought, Way, seek, seek_last};
 pub use several::Several;
 pub use stopping::{CodePlace, Coming, Leaving};
 pub use walker::Walker;

@@ -165,7 +165,7 @@ pub(crate) fn make_steps_to_mark<M: Mark>(
         None => return none,
     };
     machine.sound();
-    machine.opened();
+    machine.facts();
     M::steps_are_marked();
     let mut searcher = Searcher {
         mark,

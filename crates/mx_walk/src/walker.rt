@@ -1,27 +1,27 @@
 //! A walker: a machine at a position of a history.
 
-ghost use Rattle.std.specs.Prelude.{◌≡◌, ◌<◌, ◌++◌, ℕ, true, false, All, IfErr, IfOk, IfSome, List, MatchOption, Some};
+ghost use Rattle.std.specs.Prelude.{◌≡◌, ◌⊎◌, ◌<◌, ◌≤◌, ◌++◌, ℕ, true, false, All, IfErr, IfOk, MatchOption, OnOk, length, if◌then◌else◌};
 ghost use Rattle.mx_machine.specs.declared.events.Event.{Event as Made};
 ghost use Rattle.mx_machine.specs.declared.history.Record.{Record as Noted};
 ghost use Rattle.mx_machine.specs.Move.{event_refusal};
 ghost use Rattle.mx_machine.specs.World.{actors};
 ghost use Rattle.mx_machine.specs.Machine.{world_of};
 ghost use Rattle.mx_walk.specs.declared.positions.Position.{Position as At};
-ghost use Rattle.mx_walk.specs.Checkpoints.{AreStored};
-ghost use Rattle.mx_walk.specs.Positions.{IsAbove, IsAt, IsPosition, IsUpTo, event_below, position_before};
+ghost use Rattle.mx_walk.specs.Checkpoints.{AreStored, positions_of};
+ghost use Rattle.mx_walk.specs.Positions.{IsAbove, IsAt, IsPosition, IsUpTo, is_up_to, position_before};
 ghost use Rattle.mx_walk.specs.Seeking.{IsFirstMarked, IsLastMarked, IsPassed};
 ghost use Rattle.mx_walk.specs.Watching.{is_changed};
-ghost use Rattle.mx_walk.specs.Parts.{walk_shown};
-ghost use Rattle.mx_walk.specs.Walks.{IsBootOf, IsLast, first, refusal_here, world_here};
+ghost use Rattle.mx_walk.specs.Parts.{shown_to, walk_between, walk_shown};
+ghost use Rattle.mx_walk.specs.Walks.{IsBootOf, IsLast, first, mark_above, refusal_here, world_here};
 
 use crate::booting::boot_again;
 use crate::checkpoints::{Checkpoints, Stored, last_above, machine_of};
+use crate::first_walk::walk_first;
 use crate::going::go_on;
 use crate::positions::{FIRST, Position, is_up_to, next_event, position_before};
 use crate::progress::Progress;
 use crate::records::make_event;
-use crate::seeking::{Mark, Sought, seek, seek_last};
-use crate::showing::walk_on;
+use crate::seeking::{Mark, Sought, Way, seek, seek_last};
 use crate::watching::{ByteChange, BytePlace};
 use mx_machine::{Config, Machine, Record, Refusal};
 use mx_word::NoMemory;
@@ -41,7 +41,7 @@ pub struct Walker {
 }
 
 impl Model for Walker {
-    ghost use Rattle.mx_walk.specs.Checkpoints.{AreStored};
+    ghost use Rattle.mx_walk.specs.Checkpoints.{AreStored, positions_of};
     ghost use Rattle.mx_walk.specs.Walks.{IsWalk, Walk};
 
     ghost Value = { Walk };
@@ -51,6 +51,7 @@ impl Model for Walker {
       records = w.records.items;
       here = w.here;
       last = w.last;
+      marks = positions_of w.checkpoints.items;
     } };
 
     ghost invariant = { λ w. IsWalk w.machine w.config (record {
@@ -58,7 +59,16 @@ impl Model for Walker {
       records = w.records.items;
       here = w.here;
       last = w.last;
+      marks = positions_of w.checkpoints.items;
     }) × AreStored w.machine.kernel.boot w.records.items w.checkpoints.items };
+}
+
+/// What a machine is made again of: the configuration that it boots from, the history, and checkpoints along it.
+#[derive(Clone, Copy)]
+struct Origin<'a> {
+    config: &'a Config,
+    records: &'a [Record],
+    checkpoints: &'a [Stored],
 }
 
 /// A machine at the last checkpoint that isn't below a position, and where that is; booted again if there is
@@ -66,26 +76,27 @@ impl Model for Walker {
 fn machine_again(
     alloc: Global,
     machine: Machine,
-    config: &Config,
-    records: &[Record],
-    checkpoints: &[Stored],
+    origin: Origin<'_>,
     to: Position,
 ) -> Result<(Machine, Position), NoMemory>
-    requires booted { IsBootOf config.now machine.kernel.boot }
-    requires stored { AreStored machine.kernel.boot records.now checkpoints.now }
-    ensures there { IfOk result (λ above. IsAt machine.kernel.boot records.now above.1 above.0) }
+    requires booted { IsBootOf origin.config.now machine.kernel.boot }
+    requires stored { AreStored machine.kernel.boot origin.records.now origin.checkpoints.now }
+    ensures there { IfOk result (λ above.
+        IsAt machine.kernel.boot origin.entry.records.now above.1 above.0) }
     ensures early { IfOk result (λ above. IsUpTo above.1 to) }
+    ensures mark { IfOk result (λ above. above.1
+        ≡ mark_above (positions_of origin.entry.checkpoints.now) to) }
     ensures actors { IfOk result (λ above.
         actors (world_of above.0) ≡ actors machine.kernel.boot) }
 {
-    match last_above(checkpoints, to) {
+    match last_above(origin.checkpoints, to) {
         Some(index) => {
-            let stored = &checkpoints[index];
-            let again = machine_of(alloc, machine, records, stored)?;
+            let stored = &origin.checkpoints[index];
+            let again = machine_of(alloc, machine, origin.records, stored)?;
             Ok((again, stored.position))
         }
         None => {
-            let again = boot_again(alloc, machine, config)?;
+            let again = boot_again(alloc, machine, origin.config)?;
             Ok((again, FIRST))
         }
     }
@@ -96,25 +107,26 @@ fn machine_again(
 fn machine_above(
     alloc: Global,
     machine: Machine,
-    config: &Config,
-    records: &[Record],
-    checkpoints: &[Stored],
+    origin: Origin<'_>,
     here: Position,
     to: Position,
 ) -> Result<(Machine, Position), NoMemory>
-    requires booted { IsBootOf config.now machine.kernel.boot }
-    requires stored { AreStored machine.kernel.boot records.now checkpoints.now }
-    requires there { IsAt machine.kernel.boot records.now here machine }
+    requires booted { IsBootOf origin.config.now machine.kernel.boot }
+    requires stored { AreStored machine.kernel.boot origin.records.now origin.checkpoints.now }
+    requires there { IsAt machine.kernel.boot origin.records.now here machine }
     requires actors { actors (world_of machine) ≡ actors machine.kernel.boot }
-    ensures there { IfOk result (λ above. IsAt machine.kernel.boot records.now above.1 above.0) }
+    ensures there { IfOk result (λ above.
+        IsAt machine.kernel.boot origin.entry.records.now above.1 above.0) }
     ensures early { IfOk result (λ above. IsUpTo above.1 to) }
+    ensures start { IfOk result (λ above. above.1 ≡ (if is_up_to here to then here
+        else mark_above (positions_of origin.entry.checkpoints.now) to)) }
     ensures actors { IfOk result (λ above.
         actors (world_of above.0) ≡ actors machine.kernel.boot) }
 {
     if is_up_to(here, to) {
         return Ok((machine, here));
     }
-    machine_again(alloc, machine, config, records, checkpoints, to)
+    machine_again(alloc, machine, origin, to)
 }
 
 impl Walker {
@@ -134,19 +146,17 @@ impl Walker {
         ensures made { IfOk result (λ w. (w.boot ≡ machine.kernel.boot)
             × (w.records ≡ records.items) × (w.here ≡ first)) }
         ensures last { IfOk result (λ w. IsLast w.boot w.records w.last) }
+        ensures few { IfOk result (λ w. length w.marks ≤ 63) }
         ensures shown { IfOk result (λ w. P.shown progress.new
             ≡ P.shown progress.old ++ walk_shown w.records w.last) }
-        ensures walked { IfErr result (λ _. (last : At) × IsLast machine.kernel.boot records.items last
+        ensures walked { IfErr result (λ _. (last : At)
+            × IsLast machine.kernel.boot records.items last
             × (P.shown progress.new ≡ P.shown progress.old ++ walk_shown records.items last)) }
     {
         let mut machine = machine;
         let mut checkpoints = Checkpoints::planned(alloc, &machine, records.as_slice());
-        let end = Position {
-            records: records.len(),
-            steps: 0,
-        };
         let walked = records.as_slice();
-        let last = walk_on(&mut machine, walked, FIRST, end, &mut checkpoints, progress);
+        let last = walk_first(&mut machine, walked, &mut checkpoints, progress);
         let machine = boot_again(alloc, machine, &config)?;
         Ok(Walker {
             machine,
@@ -206,11 +216,20 @@ impl Walker {
         }
     }
 
-    /// Goes to any position that it can come to. Takes memory only to go back.
-    pub fn go_to(self, alloc: Global, to: Position) -> Result<Walker, NoMemory>
+    /// Goes to any position that it can come to, and shows each record that it passes. Takes memory only to go back,
+    /// before it shows anything.
+    pub fn go_to<P: Progress>(
+        self,
+        alloc: Global,
+        to: Position,
+        progress: &mut P,
+    ) -> Result<Walker, NoMemory>
         requires position { IsPosition self.records to }
         requires early { IsUpTo to self.last }
-        ensures { IfOk result (λ w. w ≡ record self { here = to }) }
+        ensures gone { IfOk result (λ w. w ≡ record self { here = to }) }
+        ensures shown { OnOk result (P.shown progress.new
+            ≡ P.shown progress.old ++ shown_to self to) }
+        ensures unshown { IfErr result (λ _. P.shown progress.new ≡ P.shown progress.old) }
     {
         let Walker {
             machine,
@@ -220,10 +239,13 @@ impl Walker {
             last,
             checkpoints,
         } = self;
-        let above = records.as_slice();
-        let stored = checkpoints.as_slice();
-        let (mut machine, from) = machine_above(alloc, machine, &config, above, stored, here, to)?;
-        go_on(&mut machine, records.as_slice(), from, to);
+        let origin = Origin {
+            config: &config,
+            records: records.as_slice(),
+            checkpoints: checkpoints.as_slice(),
+        };
+        let (mut machine, from) = machine_above(alloc, machine, origin, here, to)?;
+        go_on(&mut machine, records.as_slice(), from, to, progress);
         Ok(Walker {
             machine,
             config,
@@ -234,18 +256,23 @@ impl Walker {
         })
     }
 
-    /// Goes on up to right below the first event that is marked; to the last position if there is none.
-    /// Answers whether there is one. Takes no memory.
-    pub fn seek<M: Mark>(&mut self, mark: &mut M) -> bool
+    /// Goes on up to right below the first event that is marked; to the last position if there is none. Shows
+    /// each record that it passes. Answers whether there is one. Takes no memory.
+    pub fn seek<M: Mark, P: Progress>(&mut self, mark: &mut M, progress: &mut P) -> bool
         ensures same { self.new ≡ record self.old { here = self.new.here } }
         ensures found { result ≡ true → IsFirstMarked (M.marks mark.old)
             self.old.boot self.old.records self.old.here self.new.here }
         ensures nowhere { result ≡ false → (self.new.here ≡ self.old.last)
             × IsPassed (M.marks mark.old)
             self.old.boot self.old.records self.old.here self.old.last }
+        ensures shown { P.shown progress.new ≡ P.shown progress.old
+            ++ walk_between self.old.records self.old.here self.new.here }
     {
-        let records = self.records.as_slice();
-        match seek(&mut self.machine, records, self.here, self.last, mark) {
+        let way = Way {
+            from: self.here,
+            to: self.last,
+        };
+        match seek(&mut self.machine, self.records.as_slice(), way, mark, progress) {
             Sought::Found(here) => {
                 self.here = here;
                 true
@@ -257,18 +284,23 @@ impl Walker {
         }
     }
 
-    /// Walks from the first position to here again, and answers right above which event it came last that is
-    /// marked. Takes memory to boot the machine again.
-    fn look_back<M: Mark>(
+    /// Walks from the first position to here again, shows each record that it passes, and answers right above
+    /// which event it came last that is marked. Takes memory to boot the machine again, before it shows
+    /// anything.
+    fn look_back<M: Mark, P: Progress>(
         self,
         alloc: Global,
         mark: &mut M,
+        progress: &mut P,
     ) -> Result<(Walker, Option<Position>), NoMemory>
         ensures same { IfOk result (λ back. back.0 ≡ self) }
         ensures marked { IfOk result (λ back. MatchOption back.1
             (IsPassed (M.marks mark.old) self.boot self.records first self.here)
             (λ p. IsPosition self.records p × IsAbove p self.here
             × IsLastMarked (M.marks mark.old) self.boot self.records p self.here)) }
+        ensures shown { OnOk result (P.shown progress.new
+            ≡ P.shown progress.old ++ walk_shown self.records self.here) }
+        ensures unshown { IfErr result (λ _. P.shown progress.new ≡ P.shown progress.old) }
     {
         let Walker {
             machine,
@@ -279,7 +311,11 @@ impl Walker {
             checkpoints,
         } = self;
         let mut machine = boot_again(alloc, machine, &config)?;
-        let (_, found) = seek_last(&mut machine, records.as_slice(), FIRST, here, mark);
+        let way = Way {
+            from: FIRST,
+            to: here,
+        };
+        let (_, found) = seek_last(&mut machine, records.as_slice(), way, mark, progress);
         let walker = Walker {
             machine,
             config,
@@ -291,66 +327,90 @@ impl Walker {
         Ok((walker, found))
     }
 
-    /// Goes back to right above the last event that is marked; to the first position if there is none.
-    /// Answers whether there is one. Takes memory to boot the machine again.
-    pub fn seek_back<M: Mark>(self, alloc: Global, mark: &mut M) -> Result<(Walker, bool), NoMemory>
+    /// Goes back to right above the last event that is marked; to the first position if there is none. Shows
+    /// each record from the first position to here, and then those on its way there. Answers whether there is
+    /// one. Takes memory to boot the machine again.
+    pub fn seek_back<M: Mark, P: Progress>(
+        self,
+        alloc: Global,
+        mark: &mut M,
+        progress: &mut P,
+    ) -> Result<(Walker, bool), NoMemory>
         ensures same { IfOk result (λ back. back.0 ≡ record self { here = back.0.here }) }
         ensures found { IfOk result (λ back. back.1 ≡ true → IsLastMarked (M.marks mark.old)
             self.boot self.records back.0.here self.here) }
         ensures nowhere { IfOk result (λ back. back.1 ≡ false → (back.0.here ≡ first)
             × IsPassed (M.marks mark.old) self.boot self.records first self.here) }
+        ensures shown { IfOk result (λ back. P.shown progress.new ≡ P.shown progress.old
+            ++ (walk_shown self.records self.here ++ shown_to self back.0.here)) }
+        ensures unshown { IfErr result (λ _. (P.shown progress.new ≡ P.shown progress.old)
+            ⊎ (P.shown progress.new ≡ P.shown progress.old ++ walk_shown self.records self.here)) }
     {
-        let (walker, found) = self.look_back(alloc, mark)?;
+        let (walker, found) = self.look_back(alloc, mark, progress)?;
         match found {
-            Some(marked) => Ok((walker.go_to(alloc, marked)?, true)),
-            None => Ok((walker.go_to(alloc, FIRST)?, false)),
+            Some(marked) => Ok((walker.go_to(alloc, marked, progress)?, true)),
+            None => Ok((walker.go_to(alloc, FIRST, progress)?, false)),
         }
     }
 
-    /// Goes on up to right above the first event that is marked; to the last position if there is none.
-    /// Answers whether there is one. Takes memory to boot the machine again.
-    pub fn seek_above<M: Mark>(
+    /// Goes on up to right above the first event that is marked; to the last position if there is none. Shows each
+    /// record that it passes, and those on its way back above the event. Answers whether there is one. Takes
+    /// memory to boot the machine again.
+    pub fn seek_above<M: Mark, P: Progress>(
         self,
         alloc: Global,
         mark: &mut M,
+        progress: &mut P,
     ) -> Result<(Walker, bool), NoMemory>
         ensures same { IfOk result (λ on. on.0 ≡ record self { here = on.0.here }) }
-        ensures found { IfOk result (λ on. on.1 ≡ true → (q : Position) × IsPosition self.records q
+        ensures found { IfOk result (λ on. on.1 ≡ true → (q : At) × IsPosition self.records q
             × IsFirstMarked (M.marks mark.old) self.boot self.records self.here q
-            × (on.0.here ≡ position_before self.records q)) }
+            × (on.0.here ≡ position_before self.records q)
+            × (P.shown progress.new ≡ P.shown progress.old ++ (walk_between self.records self.here q
+            ++ shown_to (record self { here = q }) on.0.here))) }
         ensures nowhere { IfOk result (λ on. on.1 ≡ false → (on.0.here ≡ self.last)
-            × IsPassed (M.marks mark.old) self.boot self.records self.here self.last) }
+            × IsPassed (M.marks mark.old) self.boot self.records self.here self.last
+            × (P.shown progress.new
+            ≡ P.shown progress.old ++ walk_between self.records self.here self.last)) }
+        ensures unshown { IfErr result (λ _. (q : At)
+            × IsFirstMarked (M.marks mark.old) self.boot self.records self.here q
+            × (P.shown progress.new
+            ≡ P.shown progress.old ++ walk_between self.records self.here q)) }
     {
         let mut walker = self;
-        if !walker.seek(mark) {
+        if !walker.seek(mark, progress) {
             return Ok((walker, false));
         }
         match position_before(walker.records(), walker.here()) {
-            Some(above) => Ok((walker.go_to(alloc, above)?, true)),
-            None => Ok((walker, true)),
+            Some(above) => Ok((walker.go_to(alloc, above, progress)?, true)),
+            None => unreachable!(),
         }
     }
 
-    /// Goes on to right below the next event that changes a byte; to the last position if there is none.
-    /// Answers whether there is one. Takes no memory.
-    pub fn go_to_next_change(&mut self, place: BytePlace) -> bool
+    /// Goes on to right below the next event that changes a byte; to the last position if there is none. Shows each
+    /// record that it passes. Answers whether there is one. Takes no memory.
+    pub fn go_to_next_change<P: Progress>(&mut self, place: BytePlace, progress: &mut P) -> bool
         ensures same { self.new ≡ record self.old { here = self.new.here } }
         ensures found { result ≡ true → IsFirstMarked (λ w _ u. is_changed place w u)
             self.old.boot self.old.records self.old.here self.new.here }
         ensures nowhere { result ≡ false → (self.new.here ≡ self.old.last)
             × IsPassed (λ w _ u. is_changed place w u)
             self.old.boot self.old.records self.old.here self.old.last }
+        ensures shown { P.shown progress.new ≡ P.shown progress.old
+            ++ walk_between self.old.records self.old.here self.new.here }
     {
         let mut mark = ByteChange::new(place);
-        self.seek(&mut mark)
+        self.seek(&mut mark, progress)
     }
 
-    /// Goes back to right above the last event that changed a byte; to the first position if there is none.
-    /// Answers whether there is one. Takes memory to boot the machine again.
-    pub fn go_to_last_change(
+    /// Goes back to right above the last event that changed a byte; to the first position if there is none. Shows
+    /// each record from the first position to here, and then those on its way there. Answers whether there is
+    /// one. Takes memory to boot the machine again.
+    pub fn go_to_last_change<P: Progress>(
         self,
         alloc: Global,
         place: BytePlace,
+        progress: &mut P,
     ) -> Result<(Walker, bool), NoMemory>
         ensures same { IfOk result (λ back. back.0 ≡ record self { here = back.0.here }) }
         ensures found { IfOk result (λ back. back.1 ≡ true
@@ -358,8 +418,12 @@ impl Walker {
             self.boot self.records back.0.here self.here) }
         ensures nowhere { IfOk result (λ back. back.1 ≡ false → (back.0.here ≡ first)
             × IsPassed (λ w _ u. is_changed place w u) self.boot self.records first self.here) }
+        ensures shown { IfOk result (λ back. P.shown progress.new ≡ P.shown progress.old
+            ++ (walk_shown self.records self.here ++ shown_to self back.0.here)) }
+        ensures unshown { IfErr result (λ _. (P.shown progress.new ≡ P.shown progress.old)
+            ⊎ (P.shown progress.new ≡ P.shown progress.old ++ walk_shown self.records self.here)) }
     {
         let mut mark = ByteChange::new(place);
-        self.seek_back(alloc, &mut mark)
+        self.seek_back(alloc, &mut mark, progress)
     }
 }

@@ -13,22 +13,7 @@ fn copy_process(alloc: Global, process: &Process, purpose: CopyFor) -> Result<Pr
     ensures { IfOk result (λ copy. copy ≡ process.now) }
 {
     let image = copy_image(alloc, &process.image, purpose)?;
-    Ok(Process {
-        state: process.state,
-        generation: process.generation,
-        restarts_used: process.restarts_used,
-        masks: process.masks,
-        level: process.level,
-        best: process.best,
-        quantum: process.quantum,
-        ticks: process.ticks,
-        steps: process.steps,
-        pending: process.pending,
-        lines: process.lines,
-        alarm: process.alarm,
-        windows: process.windows,
-        image,
-    })
+    Ok(Process { image, ..*process })
 }
 
 /// Copies of these processes, in room for 32 of them.

@@ -1,14 +1,14 @@
 //! Images that leave the table for a processor, and come home; and the steps that were made meanwhile.
 
-ghost use Rattle.std.specs.Prelude.{◌≡◌, false, true, ◌+◌, ◌<◌, ◌≤◌, ◌^◌, IfSome, length};
+ghost use Rattle.std.specs.Prelude.{◌≡◌, false, true, ◌+◌, ◌<◌, ◌≤◌, ◌^◌, length};
 ghost use Rattle.mx_exec.specs.Image.{blank};
 ghost use Rattle.mx_proc.specs.Frame.{frame, frame_with_process};
 ghost use Rattle.mx_proc.specs.States.{IsAlone, is_out, is_down};
-ghost use Rattle.mx_proc.specs.TableState.{process_at, with_state, table_after_move_out, table_after_move_home, table_after_steps, with_image, table_after_revival};
-ghost use Rattle.mx_proc.specs.declared.process.State.TheVariants.{Home, Ready, Out, Doomed};
+ghost use Rattle.mx_proc.specs.TableState.{process_at, with_state, table_after_move_out, table_after_move_home, table_after_steps, with_image, process_after, table_after_revival};
+ghost use Rattle.mx_proc.specs.declared.process.State.TheVariants.{Home, Out, Doomed};
 
 use super::Table;
-use crate::process::{Process, Slot, State};
+use crate::process::{Process, Slot, State, Terms};
 use mx_exec::Image;
 use std::mem;
 
@@ -82,25 +82,21 @@ impl Table {
         mem::replace(&mut process.image, blank)
     }
 
-    /// Puts a new process in the slot of a dead one. The new process must be ready; it comes to the end of
-    /// the ready list of its level.
-    pub fn revive(&mut self, slot: Slot, process: Process)
+    /// Puts a new process in the slot of a dead one, by these terms and with this image. The new process is
+    /// ready, at the end of the ready list of its level.
+    pub fn revive(&mut self, slot: Slot, terms: Terms, image: Image)
         requires slot { slot < length self.old.slots }
         requires down { is_down (process_at self.old slot).state ≡ true }
-        requires ready { process.state ≡ Ready }
-        requires generation { process.generation < 2 ^ 20 }
-        requires pending { length process.pending ≡ 34 }
-        requires windows { length process.windows ≡ 32 }
-        requires level { process.level ≤ 14 }
-        requires best { process.best ≤ process.level }
-        requires quantum { process.quantum ≤ 65535 }
-        requires ticks { process.ticks ≤ 65535 }
-        requires alarm { IfSome process.alarm (λ due. due < self.old.uptime + 2 ^ 32) }
-        ensures value { self.new ≡ table_after_revival self.old slot process }
-        ensures frame { frame self.new ≡ frame_with_process (frame self.old) slot process }
+        requires generation { (process_at self.old slot).generation + 1 < 2 ^ 20 }
+        requires restarts { (process_at self.old slot).restarts_used < terms.restarts }
+        ensures value { self.new ≡ table_after_revival self.old slot
+            (process_after (process_at self.old slot) image terms) }
+        ensures frame { frame self.new ≡ frame_with_process (frame self.old) slot
+            (process_after (process_at self.old slot) image terms) }
     {
-        let level = process.level;
+        let dead = &self.slots[slot as usize];
+        let process = Process::after(dead, terms, image);
         self.slots[slot as usize] = process;
-        self.ready.push_back(level, slot);
+        self.ready.push_back(terms.level, slot);
     }
 }

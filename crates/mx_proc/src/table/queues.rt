@@ -46,7 +46,7 @@ impl Table {
     pub fn to_end(&mut self, slot: Slot, level: u8)
         requires slot { slot < length self.old.slots }
         requires level { level ≤ 14 }
-        requires best { (process_at self.old slot).best ≤ level }
+        requires best { (process_at self.old slot).terms.best ≤ level }
         requires alone { IsAlone (process_at self.old slot).state }
         requires home { is_out (process_at self.old slot).state ≡ false }
         ensures value { self.new ≡ end_of self.old slot level }
@@ -55,7 +55,7 @@ impl Table {
         let process = &mut self.slots[slot as usize];
         process.state = State::Ready;
         process.level = level;
-        process.ticks = process.quantum;
+        process.ticks = process.terms.quantum;
         self.ready.push_back(level, slot);
         self.renewed = Some(slot);
     }

@@ -3,15 +3,15 @@ use Rattle.std.proofs.lemmas.Result.{err_from_is_err_and}
 use Rattle.mx_app.proofs.Summed.{compared, not_compared}
 use Rattle.mx_app.proofs.summing.perform_compared.Goals as goal
 
-pub returns-in_err-compare_named : goal.returns-in_err-compare_named
-returns-in_err-compare_named g c =
+pub returns-in_err-compare_named-clause-done : goal.returns-in_err-compare_named-clause-done
+returns-in_err-compare_named-clause-done g c =
     let p = err_from_is_err_and c.from_residual.result c.from_residual.ensures.1 in
-    not_compared c.args.asks c.args.request c.args.name.now _ c.first_name.ensures _ _ _ _ _ _ c.in_err-compare_named.field-0.0 c.from_residual.result c.in_err-compare_named.ensures (rw (p.1, p.2) refl)
+    not_compared c.args.io.now.asks c.args.request c.args.name.now _ c.first_name.ensures _ _ _ _ _ _ c.in_err-compare_named.field-0.0 c.from_residual.result c.in_err-compare_named.ensures (rw (p.1, p.2) refl)
 
-pub returns-in_err-done : goal.returns-in_err-done
-returns-in_err-done g c =
+pub returns-in_err-done-clause-done : goal.returns-in_err-done-clause-done
+returns-in_err-done-clause-done g c =
     let p = err_from_is_err_and c.from_residual-in_err-done.result c.from_residual-in_err-done.ensures.1 in
-    compared c.args.asks c.args.request c.args.name.now _ c.first_name.ensures _ _ _ _ _ _ _ _ _ _ (Err c.in_err-done.field-0.0) c.from_residual-in_err-done.result c.in_err-done.ensures c.in_ok-compare_named.ensures (rw (p.1, p.2) refl)
+    compared c.args.io.now.asks c.args.request c.args.name.now _ c.first_name.ensures _ _ _ _ _ _ _ _ _ _ (Err c.in_err-done.field-0.0) c.from_residual-in_err-done.result c.in_err-done.ensures.done c.in_ok-compare_named.ensures (rw (p.1, p.2) refl)
 
-pub returns : goal.returns
-returns g c = compared c.args.asks c.args.request c.args.name.now _ c.first_name.ensures _ _ _ _ _ _ _ _ _ _ (Ok c.in_ok-done.done) _ c.in_ok-done.ensures c.in_ok-compare_named.ensures refl
+pub returns-clause-done : goal.returns-clause-done
+returns-clause-done g c = compared c.args.io.now.asks c.args.request c.args.name.now _ c.first_name.ensures _ _ _ _ _ _ _ _ _ _ (Ok c.in_ok-done.done) _ c.in_ok-done.ensures.done c.in_ok-compare_named.ensures refl

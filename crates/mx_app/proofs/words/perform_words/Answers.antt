@@ -1,26 +1,24 @@
-use Rattle.std.proofs.Common.{[], inl, inr, refl, subst, sym}
+use Rattle.std.proofs.Common.{inl, inr, refl, subst, sym}
 use Rattle.std.proofs.lemmas.List.{append-nil}
 use Rattle.mx_app.specs.Noting.{Noted}
 use Rattle.mx_app.specs.Words.{IsAnswered}
+use Rattle.mx_app.proofs.Doing.{nothing_done}
 use Rattle.mx_app.proofs.Told.{noted_same}
 use Rattle.mx_app.proofs.words.perform_words.Goals as goal
 
-pub returns-in-Err : goal.returns-in-Err
-returns-in-Err g c =
-    ([], [], [], [], sym (append-nil _), sym (append-nil _), sym (append-nil _), sym (append-nil _), inr (c.in-Err.mistake, c.in-Err.ensures.kinds, refl, refl, refl, refl, c.complain.ensures))
+pub returns-in-Err-clause-done : goal.returns-in-Err-clause-done
+returns-in-Err-clause-done g c =
+    (nothing_done, sym (append-nil _), sym (append-nil _), sym (append-nil _), sym (append-nil _), inr (c.in-Err.mistake, c.in-Err.ensures.kinds, refl, refl, refl, refl, c.complain.ensures))
 
-pub returns-in-Ok : goal.returns-in-Ok
-returns-in-Ok g c =
-    let done = c.perform_line-done.ensures in
-    let same = noted_same c.noted.result _ _ _ _ c.noted.ensures.last c.noted.ensures.missed c.noted.ensures.unwritten c.noted.ensures.text in (
+pub returns-in-Ok-clause-done : goal.returns-in-Ok-clause-done
+returns-in-Ok-clause-done g c =
+    let done = c.perform_line-done.ensures.done in
+    let same = noted_same c.notes_of.result _ _ _ _ c.notes_of.ensures.last c.notes_of.ensures.missed c.notes_of.ensures.unwritten c.notes_of.ensures.text in (
       done.0,
       done.1,
       done.2,
       done.3,
       done.4,
-      done.5,
-      done.6,
-      done.7,
       inl (
         c.in-Ok.line,
         c.perform_line-done.result,
@@ -29,7 +27,7 @@ returns-in-Ok g c =
         c.in-Ok.ensures.silent,
         c.in-Ok.ensures.sums,
         c.in-Ok.ensures.apart,
-        done.8,
+        done.5,
         subst (λ (n : Noted). IsAnswered c.in-Ok.line c.args.shows c.perform_line-done.result n c.answer.result) same c.answer.ensures,
       ),
     )

@@ -1,7 +1,7 @@
 use Rattle.std.specs.Prelude.{string_bytes}
 use Rattle.mx_app_step.specs.Machine.{world_of}
 use Rattle.mx_app_db.proofs.Made.{always, both, plain_of, broken_of, cleared_of}
-use Rattle.mx_app_db.proofs.AnswerTexts.{answer_by, plain_answer, broken_answer, cleared_answer, go_answer, registers_answer, registers_of_answer, memory_answer, memory_of_answer, messages_answer, last_messages_answer}
+use Rattle.mx_app_db.proofs.AnswerTexts.{answer_by, plain_answer, broken_answer, cleared_answer, go_answer, look_answer}
 use Rattle.mx_app_db.proofs.lines.perform_debug_line.Goals as goal
 
 pub returns-in-Plain-clause-made : goal.returns-in-Plain-clause-made
@@ -36,32 +36,7 @@ returns-in-Go-clause-text c =
     answer_by c.perform_go.result c.args.other (both (world_of c.args.machine.now) c.args.debugger.now) c.args.line.now _ (string_bytes c.args.text.now) (string_bytes c.perform_go.new.text) _ c.in-Go.is
     (go_answer c.args.other (both (world_of c.args.machine.now) c.args.debugger.now) _ _) c.perform_go.ensures.text
 
-pub returns-in-Registers-clause-text : goal.returns-in-Registers-clause-text
-returns-in-Registers-clause-text c =
-    answer_by c.show_registers.result c.args.other (both (world_of c.args.machine.now) c.args.debugger.now) c.args.line.now _ (string_bytes c.args.text.now) (string_bytes c.show_registers.new.text) _ c.in-Registers.is
-    (registers_answer c.args.other (both (world_of c.args.machine.now) c.args.debugger.now) _) c.show_registers.ensures
-
-pub returns-in-Memory-clause-text : goal.returns-in-Memory-clause-text
-returns-in-Memory-clause-text c =
-    answer_by c.show_memory.result c.args.other (both (world_of c.args.machine.now) c.args.debugger.now) c.args.line.now _ (string_bytes c.args.text.now) (string_bytes c.show_memory.new.text) _ c.in-Memory.is
-    (memory_answer c.args.other (both (world_of c.args.machine.now) c.args.debugger.now) _ _ _) c.show_memory.ensures
-
-pub returns-in-RegistersOf-clause-text : goal.returns-in-RegistersOf-clause-text
-returns-in-RegistersOf-clause-text c =
-    answer_by c.push_registers_of.result c.args.other (both (world_of c.args.machine.now) c.args.debugger.now) c.args.line.now _ (string_bytes c.args.text.now) (string_bytes c.push_registers_of.new.out) _ c.in-RegistersOf.is
-    (registers_of_answer c.args.other (both (world_of c.args.machine.now) c.args.debugger.now) _ _ c.slot_named.ensures) c.push_registers_of.ensures
-
-pub returns-in-MemoryOf-clause-text : goal.returns-in-MemoryOf-clause-text
-returns-in-MemoryOf-clause-text c =
-    answer_by c.push_memory_of.result c.args.other (both (world_of c.args.machine.now) c.args.debugger.now) c.args.line.now _ (string_bytes c.args.text.now) (string_bytes c.push_memory_of.new.out) _ c.in-MemoryOf.is
-    (memory_of_answer c.args.other (both (world_of c.args.machine.now) c.args.debugger.now) _ _ _ _ c.slot_named-in-MemoryOf.ensures) c.push_memory_of.ensures
-
-pub returns-in-Messages-clause-text : goal.returns-in-Messages-clause-text
-returns-in-Messages-clause-text c =
-    answer_by c.push_messages.result c.args.other (both (world_of c.args.machine.now) c.args.debugger.now) c.args.line.now _ (string_bytes c.args.text.now) (string_bytes c.push_messages.new.out) _ c.in-Messages.is
-    (messages_answer c.args.other c.args.machine.now c.kernel-in-Messages.result.now c.args.debugger.now c.kernel-in-Messages.ensures) c.push_messages.ensures
-
-pub returns-in-LastMessages-clause-text : goal.returns-in-LastMessages-clause-text
-returns-in-LastMessages-clause-text c =
-    answer_by c.push_last_messages.result c.args.other (both (world_of c.args.machine.now) c.args.debugger.now) c.args.line.now _ (string_bytes c.args.text.now) (string_bytes c.push_last_messages.new.out) _ c.in-LastMessages.is
-    (last_messages_answer c.args.other (both (world_of c.args.machine.now) c.args.debugger.now) _) c.push_last_messages.ensures
+pub returns-in-Show-clause-text : goal.returns-in-Show-clause-text
+returns-in-Show-clause-text c =
+    answer_by c.push_look.result c.args.other (both (world_of c.args.machine.now) c.args.debugger.now) c.args.line.now _ (string_bytes c.args.text.now) (string_bytes c.push_look.new.text) _ c.in-Show.is
+    (look_answer c.args.other (both (world_of c.args.machine.now) c.args.debugger.now) _) c.push_look.ensures

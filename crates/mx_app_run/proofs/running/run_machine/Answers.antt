@@ -4,4 +4,4 @@ use Rattle.mx_app_run.proofs.running.run_machine.Goals as goal
 pub returns : goal.returns
 returns g c =
     run_of c.args.config.now c.args.services.items c.args.outside.ticks c.args.outside.calls.now c.in_ok-kernel.kernel c.in_ok-blank.blank.boot c.in_ok-blank.blank.table c.in_ok-blank.seats.items
-    c.in_ok-blank.ensures.boot c.in_ok-blank.ensures.seats c.in_ok-kernel.ensures.boot c.in_ok-kernel.ensures.driven c.opened.ensures.accepted c.opened.ensures.written
+    c.in_ok-blank.ensures.boot c.in_ok-blank.ensures.seats c.in_ok-kernel.ensures.boot c.in_ok-kernel.ensures.driven c.facts.ensures.accepted c.facts.ensures.written

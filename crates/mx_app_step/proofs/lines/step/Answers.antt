@@ -2,6 +2,8 @@ use Rattle.std.proofs.Common.{inl, inr}
 use Rattle.std.proofs.lemmas.Result.{IfErr-weaker, err_from_is_err_and, on_ok_weaker}
 use Rattle.mx_app_start.specs.Failure.{IsWanting}
 use Rattle.mx_app_start.specs.Machine.{world_of}
+use Rattle.mx_app_step.specs.Driving.{driven}
+use Rattle.mx_app_step.proofs.ScriptLemmas.{script_reported}
 use Rattle.mx_app_step.proofs.StepLemmas.{script_printed}
 use Rattle.mx_app_step.proofs.lines.step.Goals as goal
 
@@ -14,6 +16,11 @@ returns-in_err-started-clause-fault g c =
 pub returns-clause-printed : goal.returns-clause-printed
 returns-clause-printed g c =
     let s = c.in_ok-started.ensures.started in
+    let m = c.in_ok-started.started.machine in
+    let other = c.in_ok-started.started.other in
+    let lines = c.as_slice.result.now in
+    let x = g.W.Write.contents c.args.out.now in
+    let z = g.W.Write.contents c.print_lines.new.out in
     on_ok_weaker c.print_lines.result (λ b. (
       s.0,
       s.1,
@@ -21,7 +28,8 @@ returns-clause-printed g c =
       c.in_ok-started.started.lines.items,
       s.3,
       s.4,
-      script_printed c.args.numbered (g.W.Write.contents c.args.out.now) (g.W.Write.contents c.print_lines.new.out) s.1 s.2 (world_of c.in_ok-started.started.machine) c.in_ok-started.started.other c.in_ok-started.started.lines.items c.as_slice-lines.result.now s.5 s.6 c.as_slice-lines.ensures.value b,
+      script_printed c.args.numbered x z s.1 s.2 (world_of m) other c.in_ok-started.started.lines.items lines s.5 s.6 c.as_slice.ensures.value
+          (script_reported c.args.numbered x z (driven m _) other lines b),
     )) c.print_lines.ensures.printed
 
 pub returns-clause-fault : goal.returns-clause-fault

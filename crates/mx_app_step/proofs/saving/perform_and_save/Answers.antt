@@ -11,22 +11,28 @@ use Rattle.mx_boot.specs.declared.scripts.ScriptLine.{ScriptLine}
 use Rattle.mx_app_step.specs.Kept.{lines_kept, text_kept, IsUnwritten}
 use Rattle.mx_app_step.specs.Lines.{lines_made}
 use Rattle.mx_app_step.specs.Numbered.{answers_text}
+use Rattle.mx_app_step.specs.Driving.{driven}
+use Rattle.mx_app_step.proofs.ScriptLemmas.{script_kept, script_said, script_world}
 use Rattle.mx_app_step.proofs.StepLemmas.{lines_printed}
 use Rattle.mx_app_step.proofs.saving.perform_and_save.Goals as goal
 
 pub returns-clause-saved : goal.returns-clause-saved
 returns-clause-saved g c =
-    let w = world_of c.args.started.now.machine in
+    let m = c.args.started.now.machine in
+    let u = c.print_said.new.machine in
+    let w = world_of m in
     let other = c.args.started.now.other in
-    let lines = c.as_slice-lines.result.now in
-    let items : lines ≡ c.args.started.now.lines.items = c.as_slice-lines.ensures.value in
+    let lines = c.as_slice.result.now in
+    let items : lines ≡ c.args.started.now.lines.items = c.as_slice.ensures.value in
     let x = g.W.Write.contents c.args.out.now in
+    let y = g.W.Write.contents c.print_said.new.out in
     let z = g.W.Write.contents c.print_report.new.out in
+    let done = c.in_ok-print_said.ensures.done in
     on_ok_weaker c.print_report.result (λ b. (
       c.in_ok-write_history.ensures.written ∙ ap (λ (k : BootAndHistory). g.F.FileWriter.written c.args.files.now ++ kept c.args.log.now (text_kept k) ∷ [])
-          (c.kernel.ensures ∙ c.in_ok-print_said.ensures.kept ∙ ap (lines_kept c.args.started.now.machine.kernel w other) items),
+          (c.kernel.ensures ∙ script_kept m u _ _ other lines done ∙ ap (lines_kept m.kernel w other) items),
       subst (λ (ls : List ScriptLine). (let m = lines_made w other ls in Appends x z (answers_text c.args.numbered m.0 ++ report_text m.1.table m.1.services))) items
-          (lines_printed c.args.numbered x (g.W.Write.contents c.print_said.new.out) z w (world_of c.print_said.new.machine) other lines c.in_ok-print_said.ensures.printed c.in_ok-print_said.ensures.world b),
+          (lines_printed c.args.numbered x y z w (world_of u) other lines (script_said c.args.numbered x y (driven m _) other lines c.in_ok-print_said.ensures.printed) (script_world m u _ _ other lines done) b),
     )) c.print_report.ensures.bytes
 
 -- what isn't written isn't saved
@@ -39,8 +45,10 @@ unsaved name text ws f h = elim h [
 pub returns-in_err-write_history-clause-unsaved : goal.returns-in_err-write_history-clause-unsaved
 returns-in_err-write_history-clause-unsaved g c =
     let p = err_from_is_err_and c.from_residual-in_err-write_history.result c.from_residual-in_err-write_history.ensures.1 in
-    let lines = ap (lines_kept c.args.started.now.machine.kernel (world_of c.args.started.now.machine) c.args.started.now.other) c.as_slice-lines.ensures.value in
-    let kernel = c.kernel.ensures ∙ c.in_ok-print_said.ensures.kept ∙ lines in
+    let m = c.args.started.now.machine in
+    let other = c.args.started.now.other in
+    let items = ap (lines_kept m.kernel (world_of m) other) c.as_slice.ensures.value in
+    let kernel = c.kernel.ensures ∙ script_kept m c.print_said.new.machine _ _ other c.as_slice.result.now c.in_ok-print_said.ensures.done ∙ items in
     let h = c.in_err-write_history.ensures.unwritten in
     let why = unsaved c.args.log.now _ h.0 _ (subst (λ (k : BootAndHistory). IsUnwritten c.args.log.now (text_kept k) h.0 c.in_err-write_history.field-0.0) kernel h.2) in
     rw (p.1, p.2) (h.0, h.1, why)

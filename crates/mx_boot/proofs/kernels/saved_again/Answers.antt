@@ -11,4 +11,4 @@ returns c =
     let actors : ℕ = config.cpus + config.others in
     let few : actors ≤ 256 = omega (arith, cpus, others) in
     c.history_again.ensures actors c.args.kernel.now.boot.table.rules c.args.kernel.now.history few
-    (subst (λ (n : ℕ). All (IsWritable n) c.args.kernel.now.history) (sym c.requires) c.opened.ensures.written)
+    (subst (λ (n : ℕ). All (IsWritable n) c.args.kernel.now.history) (sym c.requires) c.facts.ensures.written)

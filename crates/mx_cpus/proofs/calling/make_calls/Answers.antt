@@ -11,7 +11,7 @@ returns-in-Full g c =
     let next = c.make_call-next in
     let course = calls_full boot called xs c.loop-call.call-index _ c.args.seat c.loop-call.seat next.result.0 c.loop-call.side next.result.2 c.loop-call.invariant c.loop-call-test.true next.ensures.made c.in-Full.is in
     record {
-      made = outsider_made boot called xs c.args.seat next.result.0 c.opened.ensures.mine course;
+      made = outsider_made boot called xs c.args.seat next.result.0 c.facts.ensures.mine course;
       course = course;
       side = next.ensures.actor ∙ c.loop-call.invariant.follows.actor;
     }
@@ -24,7 +24,7 @@ returns-in-Stopped g c =
     let next = c.make_call-next in
     let course = calls_stopped boot called xs c.loop-call.call-index _ c.args.seat c.loop-call.seat next.result.0 c.loop-call.side next.result.2 c.loop-call.invariant c.loop-call-test.true next.ensures.made c.in-Stopped.is in
     record {
-      made = outsider_made boot called xs c.args.seat next.result.0 c.opened.ensures.mine course;
+      made = outsider_made boot called xs c.args.seat next.result.0 c.facts.ensures.mine course;
       course = course;
       side = next.ensures.actor ∙ c.loop-call.invariant.follows.actor;
     }
@@ -42,6 +42,6 @@ returns-clause-made g c =
     let xs = c.args.calls.now in
     let k = c.loop-call.call-index in
     let over : length xs ≤ k = omega arith in
-    outsider_made boot called xs c.args.seat c.how_far-seat.result.0 c.opened.ensures.mine
+    outsider_made boot called xs c.args.seat c.how_far-seat.result.0 c.facts.ensures.mine
     (calls_all boot called xs k c.args.seat c.loop-call.seat c.how_far-seat.result.0 c.loop-call.side c.how_far-seat.result.1 c.ask.result.goes_on c.loop-call.invariant (take_all k xs over)
     (record { rests = c.how_far-seat.ensures.rest; many = c.how_far-seat.ensures.records; seen = c.ask.ensures.seen; asked = c.ask.ensures.called }))

@@ -11,7 +11,7 @@ returns-in-Full-clause-course g c =
 
 pub returns-in-Full-clause-made : goal.returns-in-Full-clause-made
 returns-in-Full-clause-made g c =
-    respawner_made g.M.Naming.boot (g.G.Gate.was_called c.args.context.now.door.gate.now) c.args.ticks c.args.seat c.opened.ensures.mine c.make_round-next.result.0 (returns-in-Full-clause-course g c)
+    respawner_made g.M.Naming.boot (g.G.Gate.was_called c.args.context.now.door.gate.now) c.args.ticks c.args.seat c.facts.ensures.mine c.make_round-next.result.0 (returns-in-Full-clause-course g c)
 
 pub how_far-next-requires : goal.how_far-next-requires
 how_far-next-requires g c =
@@ -31,7 +31,7 @@ returns-then-not-goes_on-clause-course g c =
 
 pub returns-then-not-goes_on-clause-made : goal.returns-then-not-goes_on-clause-made
 returns-then-not-goes_on-clause-made g c =
-    respawner_made g.M.Naming.boot (g.G.Gate.was_called c.args.context.now.door.gate.now) c.args.ticks c.args.seat c.opened.ensures.mine c.how_far-next.result.0 (returns-then-not-goes_on-clause-course g c)
+    respawner_made g.M.Naming.boot (g.G.Gate.was_called c.args.context.now.door.gate.now) c.args.ticks c.args.seat c.facts.ensures.mine c.how_far-next.result.0 (returns-then-not-goes_on-clause-course g c)
 
 pub loop-preserved : goal.loop-preserved
 loop-preserved g c =

@@ -5,8 +5,8 @@ pub returns : goal.returns
 returns c =
     let k = c.args.first.now in
     let n = c.args.second.now in
-    let h = c.opened.ensures in
-    let g = c.opened-2.ensures in
+    let h = c.facts.ensures in
+    let g = c.facts-2.ensures in
     λ s t v u e f p d. kernels_agree k n s t v u
     (record { booted = h.booted; sound = h.history; leads = (c.histories_replay.ensures k h.accepted).world })
     (record { booted = g.booted; sound = g.history; leads = (c.histories_replay.ensures n g.accepted).world })

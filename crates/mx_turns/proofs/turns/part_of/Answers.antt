@@ -4,4 +4,4 @@ use Rattle.mx_turns.proofs.turns.part_of.Goals as goal
 
 pub returns : goal.returns
 returns c =
-    part_now c.args.log c.args.machine.now c.kernel-kernel.result.now (length c.history.result.now) c.kernel-kernel.ensures c.opened.ensures.booted c.opened.ensures.accepted (ap length c.history.ensures)
+    part_now c.args.log c.args.machine.now c.kernel-kernel.result.now (length c.history.result.now) c.kernel-kernel.ensures c.facts.ensures.booted c.facts.ensures.accepted (ap length c.history.ensures)

@@ -28,7 +28,7 @@ returns-in-Ok-clause-passed g c = λ no.
     let slot : c.in-Some.slot ≡ l.slot = slot_is c.slot_on.result (held_by w c.args.cpu) c.in-Some.slot l c.in-Some.is c.slot_on.ensures o.1.held in
     let run : HasRun f c.args.steps l searched.made searched.is_met = subst (λ s. HasRun f c.args.steps (record { slot = s; out = l.out }) searched.made searched.is_met) slot o.2.3 in
     none_marked (g.M.Mark.marks c.args.mark.now) f (c.steps_are_marked.ensures c.args.mark.now) searched.made w c.args.cpu l
-    (is_alone w c.args.cpu l c.sound.ensures (few_processors c.args.machine.now c.opened.ensures) o.1.held) (run.passed no)
+    (is_alone w c.args.cpu l c.sound.ensures (few_processors c.args.machine.now c.facts.ensures) o.1.held) (run.passed no)
 
 pub returns-in-Ok-clause-found : goal.returns-in-Ok-clause-found
 returns-in-Ok-clause-found g c = λ yes.
@@ -41,6 +41,6 @@ returns-in-Ok-clause-found g c = λ yes.
     let searched = c.work.new.tool.searched in
     let slot : c.in-Some.slot ≡ l.slot = slot_is c.slot_on.result (held_by w c.args.cpu) c.in-Some.slot l c.in-Some.is c.slot_on.ensures o.1.held in
     let run : HasRun f c.args.steps l searched.made searched.is_met = subst (λ s. HasRun f c.args.steps (record { slot = s; out = l.out }) searched.made searched.is_met) slot o.2.3 in
-    let alone = is_alone w c.args.cpu l c.sound.ensures (few_processors c.args.machine.now c.opened.ensures) o.1.held in
+    let alone = is_alone w c.args.cpu l c.sound.ensures (few_processors c.args.machine.now c.facts.ensures) o.1.held in
     let n = run.found yes in
     (n.0, n.1, none_marked h f law n.0 w c.args.cpu l alone n.2, marked_then h f law n.0 w c.args.cpu l alone n.3)

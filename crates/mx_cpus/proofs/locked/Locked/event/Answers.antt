@@ -12,7 +12,7 @@ event-requires-clause-actor g c =
     let k = c.self.inside.kernel in
     let a = c.note-seat.result.actor in
     let table = ap (λ (x : SeatView). x.table) c.note-seat.ensures.seat ∙ c.requires.table in
-    let below : a < g.M.Naming.table.words = subst (λ z. a < z.words) table c.opened.ensures.actor in
+    let below : a < g.M.Naming.table.words = subst (λ z. a < z.words) table c.facts.ensures.actor in
     subst (λ i. i < actors (replay k)) (sym c.actor.ensures)
     (actor_there k a g.M.Naming.table.words c.actors_stay.ensures.events (c.self.invariant.1 ∙ ap actors (sym c.self.invariant.0)) below)
 
@@ -28,9 +28,9 @@ returns-in-Ok-clause-ok g c =
     let who = c.actor.ensures ∙ ap (λ (x : SeatView). x.actor) c.note-seat.ensures.seat in
     let now = seat_of_event z k d c.note-seat.new.self c.record.new.self s c.note-seat.result c.record.result c.recorded_as.result (recorded_as c.args.event) is c.note-seat.ensures.seat c.note-seat.ensures.desk c.record.ensures.desk c.record.ensures.seat c.recorded_as.ensures in
     accepted_by g.M.Naming.boot k c.event.new.self s c.record.result c.actor.result (recorded_as c.args.event) s.held (λ w x. x ≡ c.in-Ok.answer) c.self.invariant.0 known.0 known.1 who
-    ok.1.recorded now c.opened-in-Ok.ensures.accepted (for_all_answer (replay k) c.actor.result c.args.event c.requires.event ∙ sym ok.0)
+    ok.1.recorded now c.facts-in-Ok.ensures.accepted (for_all_answer (replay k) c.actor.result c.args.event c.requires.event ∙ sym ok.0)
 
 pub returns-in-Err-clause-err : goal.returns-in-Err-clause-err
 returns-in-Err-clause-err g c =
     refused_by g.M.Naming.boot g.M.Naming.table c.self.inside.kernel c.self.inside.desk c.args.seat c.note-seat.result c.actor.result c.args.event c.in-Err.refusal c.self.invariant.0 c.self.invariant.2
-    c.note-seat.ensures.known c.note-seat.ensures.seat c.actor.ensures c.opened-2.ensures.accepted c.in-Err.ensures.err.0
+    c.note-seat.ensures.known c.note-seat.ensures.seat c.actor.ensures c.facts-2.ensures.accepted c.in-Err.ensures.err.0

@@ -52,4 +52,4 @@ returns-clause-given g c =
     known.0 known.1 who
     (c.back.ensures.recorded ∙ ap (λ i. with_record k c.actor-actor.result (recorded.Back i)) count)
     (seat_of_back z k d c.redeem-seat.new.self s c.redeem-seat.result.0 n c.self.invariant.2 c.redeem-seat.ensures.desk c.redeem-seat.ensures.seat)
-    c.opened.ensures.accepted (back_answered w c.actor-actor.result n h.0 (ap (held_by w) who ∙ h.1) none, lent)
+    c.facts.ensures.accepted (back_answered w c.actor-actor.result n h.0 (ap (held_by w) who ∙ h.1) none, lent)

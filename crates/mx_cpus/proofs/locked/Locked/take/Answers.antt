@@ -24,7 +24,7 @@ returns-in-Ok-clause-ok g c =
     let who = c.actor.ensures ∙ ap (λ (x : SeatView). x.actor) seat in
     let now = seat_of_take z k d c.note-seat.new.self c.lend-seat.new.self s c.note-seat.result t out is seat c.note-seat.ensures.desk c.lend-seat.ensures.desk c.lend-seat.ensures.seat in (
       subst (λ o. IsAcceptedCall b s t recorded.Take (Some o) (λ w answer. Unit {0})) (sym (ap (λ (l : LoanView). l.lent) loan))
-          (accepted_by b k n s t c.actor.result recorded.Take (Some out) (λ w answer. Unit {0}) c.self.invariant.0 known.0 known.1 who ok.recorded now c.opened-in-Ok.ensures.accepted tt),
+          (accepted_by b k n s t c.actor.result recorded.Take (Some out) (λ w answer. Unit {0}) c.self.invariant.0 known.0 known.1 who ok.recorded now c.facts-in-Ok.ensures.accepted tt),
       lent_by b n t c.lend-seat.result.1 c.actor.result out (ap (λ m. m.boot) ok.recorded ∙ c.self.invariant.0)
           (ap (λ (x : SeatView). x.seen) now ∙ ap (λ i. k.history ++ take_record i ∷ []) (sym who) ∙ sym (ap (λ m. m.history) ok.recorded))
           (ap (λ (x : SeatView). x.actor) now ∙ sym who)
@@ -34,4 +34,4 @@ returns-in-Ok-clause-ok g c =
 pub returns-in-Err-clause-err : goal.returns-in-Err-clause-err
 returns-in-Err-clause-err g c =
     refused_by g.M.Naming.boot g.M.Naming.table c.self.inside.kernel c.self.inside.desk c.args.seat c.note-seat.result c.actor.result events.Take c.in-Err.refusal c.self.invariant.0 c.self.invariant.2
-    c.note-seat.ensures.known c.note-seat.ensures.seat c.actor.ensures c.opened.ensures.accepted c.in-Err.ensures.err.0
+    c.note-seat.ensures.known c.note-seat.ensures.seat c.actor.ensures c.facts.ensures.accepted c.in-Err.ensures.err.0

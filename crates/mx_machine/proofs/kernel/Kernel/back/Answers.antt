@@ -26,7 +26,7 @@ invariant_of-self c =
     let k = lease_known _ _ _ _ c.args.cpu c.requires.0 c.in-Some.lease c.self.view_is c.self.invariant c.requires.1 at in
     let s = back_steps _ _ _ _ c.args.cpu c.requires.0 c.args.out c.runs_are_steps.ensures c.self.view_is c.self.invariant c.requires.1 c.requires.2 in
     subst (λ k. IsAtReplay c.come_back.new.self (vec_capacity c.note.new.records) k) (sym (after_returning c.self.inside.rules _ _ c.self.inside.processors c.args.cpu c.in-Some.lease.slot _ _ c.args.out c.come_back.ensures.value c.note.ensures.items))
-    (back_agrees _ _ _ _ _ c.args.cpu c.requires.0 c.args.out c.in-Some.lease c.self.invariant (opened_sound _ _ _ _ refl c.self.invariant c.opened.ensures.sound c.opened.ensures.holds) (ap (λ k. held_by (replay k) c.args.cpu) c.self.view_is ∙ c.requires.1) s k.0 c.come_back.ensures.value
+    (back_agrees _ _ _ _ _ c.args.cpu c.requires.0 c.args.out c.in-Some.lease c.self.invariant (opened_sound _ _ _ _ refl c.self.invariant c.facts.ensures.sound c.facts.ensures.holds) (ap (λ k. held_by (replay k) c.args.cpu) c.self.view_is ∙ c.requires.1) s k.0 c.come_back.ensures.value
     (record { actor = holder_is_actor _ _ _ c.args.cpu c.in-Some.lease c.self.invariant at; number = omega (arith, c.come_back.ensures.few) }) c.note.ensures.room)
 
 pub returns-clause-world : goal.returns-clause-world
@@ -41,4 +41,4 @@ returns-clause-found c =
     let s = back_steps _ _ _ _ c.args.cpu c.requires.0 c.args.out c.runs_are_steps.ensures c.self.view_is c.self.invariant c.requires.1 c.requires.2 in
     λ l h. let z : Some c.requires.0 ≡ Some l = sym c.requires.1 ∙ h in let same : c.requires.0 ≡ l = cc in
     subst (λ (l : HeldProcess). IsSound (with_held (replay c.args.self.now) c.args.cpu (Some (record l { out = c.args.out })))) same
-    (back_sound _ _ _ _ c.args.cpu c.requires.0 c.args.out c.self.view_is c.self.invariant (opened_sound _ _ _ _ refl c.self.invariant c.opened.ensures.sound c.opened.ensures.holds) s)
+    (back_sound _ _ _ _ c.args.cpu c.requires.0 c.args.out c.self.view_is c.self.invariant (opened_sound _ _ _ _ refl c.self.invariant c.facts.ensures.sound c.facts.ensures.holds) s)

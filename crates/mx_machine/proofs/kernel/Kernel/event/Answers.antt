@@ -16,7 +16,7 @@ returns-in_err-answer-clause-err c =
 pub invariant_of-self-2 : goal.invariant_of-self-2
 invariant_of-self-2 c = let h = c.in_ok-answer.ensures in
     subst (λ k. IsAtReplay c.act.new.self (vec_capacity c.note.new.records) k) (sym (after_acting c.self.inside.rules _ _ c.self.inside.processors c.args.actor _ _ c.args.event _ h (c.note.ensures.items ∙ ap (λ e. c.self.inside.records.items ++ record { actor = c.args.actor; event = e } ∷ []) c.recorded_as.ensures)))
-    (act_agrees _ _ _ _ _ c.args.actor c.args.event _ c.self.invariant (opened_sound _ _ _ _ refl c.self.invariant c.opened.ensures.sound c.opened.ensures.holds) c.requires.event h (record { actor = event_actor _ _ _ _ _ c.self.view_is c.self.invariant c.requires.actor; number = h.number }) c.note.ensures.room)
+    (act_agrees _ _ _ _ _ c.args.actor c.args.event _ c.self.invariant (opened_sound _ _ _ _ refl c.self.invariant c.facts.ensures.sound c.facts.ensures.holds) c.requires.event h (record { actor = event_actor _ _ _ _ _ c.self.view_is c.self.invariant c.requires.actor; number = h.number }) c.note.ensures.room)
 
 pub returns-clause-ok : goal.returns-clause-ok
 returns-clause-ok c = let h = c.in_ok-answer.ensures in (

@@ -13,7 +13,7 @@ returns-in_err-out-clause-err c =
 pub invariant_of-self-2 : goal.invariant_of-self-2
 invariant_of-self-2 c = let t = c.in_ok-out.ensures in
     subst (λ k. IsAtReplay c.take.new.self (vec_capacity c.note.new.records) k) (sym (after_taking c.self.inside.rules _ _ c.self.inside.processors c.args.cpu t.0 _ _ _ t.1 c.note.ensures.items))
-    (take_agrees _ _ _ _ _ c.args.cpu t.0 _ c.self.invariant (opened_sound _ _ _ _ refl c.self.invariant c.opened.ensures.sound c.opened.ensures.holds) t.1 c.opened.ensures.holds (record { actor = is_actor _ _ _ c.args.cpu c.self.invariant t.1.processor; number = omega arith }) c.note.ensures.room)
+    (take_agrees _ _ _ _ _ c.args.cpu t.0 _ c.self.invariant (opened_sound _ _ _ _ refl c.self.invariant c.facts.ensures.sound c.facts.ensures.holds) t.1 c.facts.ensures.holds (record { actor = is_actor _ _ _ c.args.cpu c.self.invariant t.1.processor; number = omega arith }) c.note.ensures.room)
 
 pub returns-clause-ok : goal.returns-clause-ok
 returns-clause-ok c = let t = c.in_ok-out.ensures in

@@ -15,7 +15,7 @@ use Rattle.mx_machine.proofs.MachineLemmas.{back-accepted, empty-refused}
 use Rattle.mx_machine.proofs.machine.Machine.back.Goals as goal
 
 pub returns-then-cpu-ge8-clause-moved : goal.returns-then-cpu-ge8-clause-moved
-returns-then-cpu-ge8-clause-moved c = empty-refused (world_of c.args.self.now) c.args.cpu Back tt (none_beyond c.args.self.now.kernel c.args.self.now.outs c.args.cpu c.opened.ensures (omega arith))
+returns-then-cpu-ge8-clause-moved c = empty-refused (world_of c.args.self.now) c.args.cpu Back tt (none_beyond c.args.self.now.kernel c.args.self.now.outs c.args.cpu c.facts.ensures (omega arith))
 
 pub invariant_of-self : goal.invariant_of-self
 invariant_of-self c =

@@ -6,4 +6,4 @@ use Rattle.mx_machine.proofs.SoundLemmas.{is-sound}
 use Rattle.mx_machine.proofs.machine.Machine.sound.Goals as goal
 
 pub returns : goal.returns
-returns c = subst (λ (m : MachineState). IsSound (world_of m)) c.self.view_is (is-sound (on c.self.inside.kernel c.self.inside.outs) c.self.invariant c.opened.ensures.sound)
+returns c = subst (λ (m : MachineState). IsSound (world_of m)) c.self.view_is (is-sound (on c.self.inside.kernel c.self.inside.outs) c.self.invariant c.facts.ensures.sound)

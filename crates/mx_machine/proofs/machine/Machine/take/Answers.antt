@@ -23,8 +23,8 @@ returns-in_err-out-clause-moved c =
 pub invariant_of-self-2 : goal.invariant_of-self-2
 invariant_of-self-2 c =
     let l = c.in_ok-out.ensures.lent in
-    let below : c.args.cpu < length c.self.inside.outs = omega (arith, c.self.invariant.places, took-below c.self.inside.kernel c.take.new.self c.self.inside.outs c.args.cpu l.0 c.opened.ensures.few l.1) in
-    let fresh = c.opened.ensures.fresh c.args.cpu l.0 l.1 in
+    let below : c.args.cpu < length c.self.inside.outs = omega (arith, c.self.invariant.places, took-below c.self.inside.kernel c.take.new.self c.self.inside.outs c.args.cpu l.0 c.facts.ensures.few l.1) in
+    let fresh = c.facts.ensures.fresh c.args.cpu l.0 l.1 in
     take-running c.self.inside.kernel c.take.new.self c.self.inside.outs c.args.cpu l.0 c.in_ok-out.out below c.self.invariant c.in_ok-out.ensures.ok.world l.1 (run_none l.0.out c.in_ok-out.out l.2 fresh.count fresh.stop)
 
 pub returns-clause-moved : goal.returns-clause-moved
@@ -35,7 +35,7 @@ returns-clause-moved c =
     let out = c.in_ok-out.out in
     let ok = c.in_ok-out.ensures.ok in
     let l = c.in_ok-out.ensures.lent in
-    let below : c.args.cpu < length os = omega (arith, c.self.invariant.places, took-below k n os c.args.cpu l.0 c.opened.ensures.few l.1) in
+    let below : c.args.cpu < length os = omega (arith, c.self.invariant.places, took-below k n os c.args.cpu l.0 c.facts.ensures.few l.1) in
     let endpoint : c.endpoint_on.result ≡ endpoint_of (replay n).table l.0.slot =
     subst (λ (x : Option HeldProcess). IfSome x (λ (y : HeldProcess). c.endpoint_on.result ≡ endpoint_of (replay n).table y.slot)) l.1 c.endpoint_on.ensures in
     let answer = taken-answer k n c.args.cpu c.endpoint_on.result l.0 out ok.accepted ok.world l.1 l.2 endpoint in

@@ -6,7 +6,7 @@ use Rattle.mx_machine.proofs.DoneLemmas.{actors-of_kernel, any_default, none_bey
 use Rattle.mx_machine.proofs.machine.Machine.work.Goals as goal
 
 pub returns-then-cpu-ge8-clause-err : goal.returns-then-cpu-ge8-clause-err
-returns-then-cpu-ge8-clause-err g c = (refl, none_beyond c.args.self.now.kernel c.args.self.now.outs c.args.cpu c.opened.ensures (omega arith), refl, refl)
+returns-then-cpu-ge8-clause-err g c = (refl, none_beyond c.args.self.now.kernel c.args.self.now.outs c.args.cpu c.facts.ensures (omega arith), refl, refl)
 
 pub invariant_of-self : goal.invariant_of-self
 invariant_of-self g c =

@@ -13,7 +13,7 @@ pub invariant_of-self : goal.invariant_of-self
 invariant_of-self c =
     let is = the_process _ _ c.args.slot _ c.self.view_is c.requires.slot c.index_mut-process.ensures.value in
     let k = is_process _ _ c.args.slot _ c.self.view_is c.self.invariant is in
-    listed _ _ _ c.args.slot _ _ c.index_mut-process.result.now _ c.self.view_is c.self.invariant c.requires.slot c.index_mut-process.ensures.value c.requires.alone k.level refl refl refl k.best refl refl k.ticks refl refl refl refl c.push_front.ensures refl refl refl (λ t. refl)
+    listed _ _ _ c.args.slot _ _ c.index_mut-process.result.now _ c.self.view_is c.self.invariant c.requires.slot c.index_mut-process.ensures.value c.requires.alone k.level refl refl refl k.best refl k.ticks refl refl refl refl c.push_front.ensures refl refl refl (λ t. refl)
 
 pub returns-clause-frame : goal.returns-clause-frame
 returns-clause-frame c = framed_home _ _ c.args.slot c.index_mut-process.result.now _ _ _ _ _ c.self.view_is c.requires.slot c.index_mut-process.ensures.value refl refl c.requires.home

@@ -1,7 +1,0 @@
-use Rattle.std.proofs.Common.{◌∙◌, sym}
-use Rattle.mx_app.specs.Noting.{noted_in}
-use Rattle.mx_app.proofs.Told.{told_so}
-use Rattle.mx_app.proofs.words.told.Goals as goal
-
-pub returns-in-Ok : goal.returns-in-Ok
-returns-in-Ok c = told_so c.args.line c.args.shows c.args.failure (noted_in c.args.notes) c.in-Ok.text (sym c.explains.ensures ∙ c.if-not-explains.false) c.in-Ok.ensures

@@ -1,0 +1,27 @@
+-- What a command did with what it works with (our own).
+use Rattle.std.specs.Prelude.{◌≡◌, ◌++◌, ℕ, List, Option}
+use Rattle.std.specs.Io.KnownBytes.{Appends}
+use Rattle.mx_app_db.specs.Asked.{Asked}
+use Rattle.mx_app_db.specs.Written.{Written}
+use Rattle.mx_walk.specs.declared.progress.Part.{Part}
+use Rattle.mx_app.specs.declared.command_io.CommandIo.{CommandIo}
+
+-- What a command did, each in order: the files that it asked for and wrote, the lines that were typed, and the progress
+-- that it showed.
+pub record Deeds : Type 0 where
+  pub asked : List Asked
+  pub written : List Written
+  pub typed : List (Option (List ℕ))
+  pub shown : List Part
+
+-- THESE LOGS HAVE GROWN by what a command did: of files asked for and written, of typed lines, and of progress. Of what
+-- it did and of the texts that it may have printed this holds
+abbrev pub Does : {R F W L P : Type 0} → CommandIo R F W L P → CommandIo R F W L P → (R → List Asked) → (F → List Written) → (W → Option (List ℕ))
+    → (L → List (Option (List ℕ))) → (P → List Part) → (Deeds → (List ℕ → Type 0) → Type 0) → Type 0
+Does old new asked written contents typed shown Holds =
+    (d : Deeds)
+    × (asked new.channels.reader ≡ asked old.channels.reader ++ d.asked)
+    × (written new.channels.files ≡ written old.channels.files ++ d.written)
+    × (typed new.lines ≡ typed old.lines ++ d.typed)
+    × (shown new.progress ≡ shown old.progress ++ d.shown)
+    × Holds d (λ text. Appends (contents old.channels.out) (contents new.channels.out) text)

@@ -1,0 +1,16 @@
+//! What a command works with.
+
+use mx_app_start::Channels;
+
+/// What a command works with: its files and its text, the lines that are typed for it, and what is shown its
+/// progress.
+#[derive(Drop)]
+pub struct CommandIo<R: Drop, F: Drop, W: Drop, L: Drop, P: Drop> {
+    pub channels: Channels<R, F, W>,
+    /// The lines that are typed. Only `look` takes any.
+    pub lines: L,
+    /// What is shown how far a command is.
+    pub progress: P,
+    /// Whether `look` prints the position before each line.
+    pub asks: bool,
+}

@@ -1,0 +1,74 @@
+-- The lines of a debugger's script: those of any script, and its own (our own).
+use Rattle.std.specs.Prelude.{◌≡◌, ◌&&◌, ℕ, Bool, true, not, if◌then◌else◌, List, [], ◌∷◌, codes, is_some, map, Option, Some, None}
+use Rattle.std.specs.List.{list_any}
+use Rattle.std.specs.Str.{bytes_eq}
+use Rattle.mx_text.specs.Fields.{fields, pair, ◌>>=◌}
+use Rattle.mx_text.specs.Lines.{lines}
+use Rattle.mx_text.specs.declared.error.BootError.{BootError}
+use Rattle.mx_boot.specs.declared.place.CodePlace.{CodePlace}
+use Rattle.mx_boot.specs.declared.verb.Verb.{Verb}
+use Rattle.mx_boot.specs.Config.{Config}
+use Rattle.mx_boot.specs.Places.{code_place_of}
+use Rattle.mx_boot.specs.Reading.{AreLinesRead, TellsUnread}
+use Rattle.mx_boot.specs.Script.{actor_and_count, count_field, script_line_of}
+use Rattle.mx_boot.specs.Verbs.{verb_of}
+use Rattle.mx_app_db.specs.Looks.{look_of, looks}
+use Rattle.mx_app_db.specs.declared.script.DebugLine.{DebugLine}
+use Rattle.mx_app_db.specs.declared.script.DebugLine.TheVariants.{Plain, Break, Clear, Go, Show}
+
+abbrev pub slot_and_place : List (List ℕ) → Option (ℕ × CodePlace)
+slot_and_place fs = do
+  p ← pair fs
+  s ← count_field p.0
+  at ← code_place_of p.1
+  Some (s, at)
+
+-- the line that begins with a word of the debugger's own and goes on with these fields
+abbrev pub own_line_of : List ℕ → List (List ℕ) → Option DebugLine
+own_line_of word fs =
+    if bytes_eq word (codes "break") then (do
+      p ← slot_and_place fs
+      Some (Break p.0 p.1)) else
+    if bytes_eq word (codes "clear") then (do
+      p ← slot_and_place fs
+      Some (Clear p.0 p.1)) else
+    if bytes_eq word (codes "go") then (do
+      p ← actor_and_count fs
+      Some (Go p.0 p.1)) else
+    (do
+      l ← look_of word fs
+      Some (Show l))
+
+-- a line that begins with a verb of any script is one of any script
+abbrev pub debug_line_of : Option Verb → List ℕ → List (List ℕ) → Option DebugLine
+debug_line_of (Some v) word fs = do
+  plain ← script_line_of v fs
+  Some (Plain plain)
+debug_line_of None word fs = own_line_of word fs
+
+abbrev pub line_of_fields : List (List ℕ) → Option DebugLine
+line_of_fields [] = None
+line_of_fields (f ∷ fs) = debug_line_of (verb_of f) f fs
+
+-- WHAT A LINE of a debugger's script is read as
+abbrev pub debug_line : List ℕ → Option DebugLine
+debug_line line = line_of_fields (fields line)
+
+-- ---- the first words
+
+abbrev pub own_words : List (List ℕ)
+own_words = codes "break" ∷ codes "clear" ∷ codes "go" ∷ map (λ r. r.0) looks
+
+-- none is a verb of any script, and none is there twice
+abbrev pub are_apart : List (List ℕ) → Bool
+are_apart [] = true
+are_apart (w ∷ ws) = not (is_some (verb_of w)) && not (list_any (bytes_eq w) ws) && are_apart ws
+
+-- ---- whole scripts
+
+-- the machine boots as its configuration says
+abbrev pub IsDebugScript : List ℕ → Config → Config → List DebugLine → Type 0
+IsDebugScript text read config said = AreLinesRead debug_line (lines text) said × (config ≡ read)
+
+abbrev pub TellsDebugScript : List ℕ → Config → BootError → Type 0
+TellsDebugScript text config e = TellsUnread debug_line (lines text) e

@@ -1,0 +1,113 @@
+//! The lines of a debugger's script, as values.
+
+ghost use Rattle.std.specs.Prelude.{◌≡◌, IfOk, IfErr};
+ghost use Rattle.mx_text.specs.Fields.{fields};
+ghost use Rattle.mx_text.specs.Lines.{lines};
+ghost use Rattle.mx_boot.specs.Reading.{AreLinesRead, TellsUnread};
+ghost use Rattle.mx_app_db.specs.DebugScript.{are_apart, debug_line, debug_line_of, own_line_of, own_words, slot_and_place};
+
+use crate::looks::{Look, look_of};
+use mx_app_start::Course;
+use mx_boot::{
+    CodePlace, ReadsLine, ScriptLine, actor_and_count, count, place_named, read_lines,
+    script_line_of, verb_named,
+};
+use mx_machine::Config;
+use mx_text::{BootError, next_field, two_fields};
+use std::alloc::Global;
+
+/// A line of a debugger's script.
+#[derive(Drop)]
+pub enum DebugLine {
+    /// A line of any script.
+    Plain(ScriptLine),
+    /// A breakpoint in the process of a slot.
+    Break(u32, CodePlace),
+    /// No breakpoint any more.
+    Clear(u32, CodePlace),
+    /// On a processor at most a number of steps, up to a breakpoint.
+    Go(u8, u32),
+    /// A line that changes nothing.
+    Show(Look),
+}
+
+/// The slot and the place that are a line's two fields.
+fn slot_and_place(line: &[u8]) -> Option<(u32, CodePlace)>
+    ensures { result ≡ slot_and_place (fields line.now) }
+{
+    let (first, second) = two_fields(line)?;
+    let slot = count(first)?;
+    let place = place_named(second)?;
+    Some((slot, place))
+}
+
+/// The line that begins with a word of the debugger's own and goes on like this.
+fn own_line_of(word: &[u8], rest: &[u8]) -> Option<DebugLine>
+    ensures { result ≡ own_line_of word.now (fields rest.now) }
+{
+    match word {
+        b"break" => {
+            let (slot, place) = slot_and_place(rest)?;
+            Some(DebugLine::Break(slot, place))
+        }
+        b"clear" => {
+            let (slot, place) = slot_and_place(rest)?;
+            Some(DebugLine::Clear(slot, place))
+        }
+        b"go" => {
+            let (cpu, steps) = actor_and_count(rest)?;
+            Some(DebugLine::Go(cpu, steps))
+        }
+        _ => Some(DebugLine::Show(look_of(word, rest)?)),
+    }
+}
+
+/// Law: the first words of a debugger's own lines differ from one another and from those of any script.
+pub fn own_words_are_apart()
+    ensures { are_apart own_words ≡ true }
+{}
+
+/// Reads the lines of a debugger's script.
+struct DebugReader;
+
+impl ReadsLine for DebugReader {
+    ghost use Rattle.mx_app_db.specs.DebugScript.{debug_line};
+
+    type Said = DebugLine;
+
+    ghost says = { λ _ line. debug_line line };
+
+    fn read(&self, line: &[u8]) -> Option<DebugLine> {
+        let (word, rest) = next_field(line)?;
+        match verb_named(word) {
+            Some(verb) => Some(DebugLine::Plain(script_line_of(verb, rest)?)),
+            None => own_line_of(word, rest),
+        }
+    }
+}
+
+/// The lines of a debugger's script: those of a script, `break S PLACE`, `clear S PLACE`, `go C K`, and looks.
+/// A PLACE is an address, which begins with a digit, or the name of a symbol.
+pub fn debug_script(alloc: Global, text: &str) -> Result<Vec<DebugLine>, BootError>
+    ensures read { IfOk result (λ found. AreLinesRead debug_line (lines text.now) found.items) }
+    ensures unread { IfErr result (λ e. TellsUnread debug_line (lines text.now) e) }
+{
+    read_lines(alloc, &DebugReader, text.as_bytes())
+}
+
+/// A debugger's script as a text that drives a machine.
+pub struct DebugScript;
+
+impl Course for DebugScript {
+    ghost use Rattle.mx_app_db.specs.DebugScript.{IsDebugScript, TellsDebugScript};
+
+    type Line = DebugLine;
+
+    ghost IsSaid = { IsDebugScript };
+
+    ghost Tells = { TellsDebugScript };
+
+    fn read(alloc: Global, text: &str, _config: &mut Config) -> Result<Vec<DebugLine>, BootError> {
+        debug_script(alloc, text)
+    }
+}

@@ -1,0 +1,145 @@
+//! Lines that drive a machine, of whatever grammar: each is performed, its answer is printed, and at last the
+//! report.
+
+ghost use Rattle.std.specs.Prelude.{◌≡◌, ◌<◌, ◌++◌, ℕ, List, IfErr, OnOk, string_bytes};
+ghost use Rattle.std.specs.Io.KnownBytes.{Appends};
+ghost use Rattle.mx_app_start.specs.Failure.{IsWanting};
+ghost use Rattle.mx_app_start.specs.Machine.{world_of};
+ghost use Rattle.mx_app_start.specs.Report.{report_text};
+ghost use Rattle.mx_machine.specs.World.{actors};
+ghost use Rattle.mx_app_step.specs.Driving.{Driven, driven, lines_done, lines_told, number_text};
+ghost use Rattle.mx_app_step.specs.Pieces.{IsPrintedBut};
+
+use crate::printing::{print_piece, print_report};
+use mx_app_failure::{Failure, print_text};
+use mx_machine::Machine;
+use std::alloc::{AllocError, Global};
+use std::fmt;
+use std::io::Write;
+
+/// Performs lines of one grammar on a machine.
+pub trait Performs {
+    type Line;
+
+    /// What a line does, if this is the actor of a line that names none.
+    ghost does: { ℕ → Driven Self → Self.Line → Driven Self };
+
+    /// What is printed of it.
+    ghost tells: { ℕ → Driven Self → Self.Line → List ℕ };
+
+    /// Performs a line, and appends the answer to `text`. If the line names no actor, `other` is the actor of its
+    /// event. After an error, which is memory, `text` may have a part of the answer.
+    fn perform(
+        &mut self,
+        machine: &mut Machine,
+        other: u8,
+        line: &Self::Line,
+        text: &mut String,
+    ) -> Result<(), AllocError>
+        requires { other < actors (world_of machine.old) }
+        ensures done { OnOk result (does other (driven machine.old self.old) line.now
+            ≡ driven machine.new self.new) }
+        ensures text { OnOk result (string_bytes text.new ≡ string_bytes text.old
+            ++ tells other (driven machine.old self.old) line.now) }
+        ensures actors { actors (world_of machine.new) ≡ actors (world_of machine.old) };
+}
+
+/// Lines that drive a machine.
+#[derive(Drop)]
+pub struct Lines<'a, L> {
+    pub lines: &'a [L],
+    /// The actor of the lines that name none.
+    pub other: u8,
+    /// Whether each answer comes after its line's number.
+    pub numbered: bool,
+}
+
+/// Appends the number of a line, if answers are numbered: `3: `.
+fn push_number(text: &mut String, numbered: bool, number: usize) -> Result<(), AllocError>
+    ensures { OnOk result (string_bytes text.new ≡ string_bytes text.old
+        ++ number_text numbered number) }
+{
+    use fmt::Write;
+    if numbered {
+        write!(text, "{number}: ")
+    } else {
+        Ok(())
+    }
+}
+
+/// Performs lines, and prints the answers piece by piece. `text` ends with the last piece, which isn't printed
+/// yet: the caller prints it.
+fn perform_lines<P: Performs, W: Write>(
+    performer: &mut P,
+    machine: &mut Machine,
+    lines: &Lines<'_, P::Line>,
+    text: &mut String,
+    out: &mut W,
+) -> Result<(), Failure>
+    requires { lines.now.other < actors (world_of machine.old) }
+    ensures err { IfErr result IsWanting }
+    ensures done { OnOk result (lines_done (P.does lines.now.other) (driven machine.old performer.old)
+        lines.now.lines.now ≡ driven machine.new performer.new) }
+    ensures printed { OnOk result (IsPrintedBut (W.contents out.old) (W.contents out.new)
+        (string_bytes text.new)
+        (string_bytes text.old
+        ++ lines_told (P.does lines.now.other) (P.tells lines.now.other) lines.now.numbered 1
+        (driven machine.old performer.old) lines.now.lines.now)) }
+{
+    let mut number = 0;
+    for line in lines.lines {
+        number += 1;
+        push_number(text, lines.numbered, number)?;
+        performer.perform(machine, lines.other, line, text)?;
+        print_piece(text, out)?;
+    }
+    Ok(())
+}
+
+/// Performs lines, and prints the answer to each. What was made before memory ran out is printed too; a writer
+/// that has failed isn't tried again.
+pub fn print_said<P: Performs, W: Write>(
+    alloc: Global,
+    performer: &mut P,
+    machine: &mut Machine,
+    lines: &Lines<'_, P::Line>,
+    out: &mut W,
+) -> Result<(), Failure>
+    requires { lines.now.other < actors (world_of machine.old) }
+    ensures err { IfErr result IsWanting }
+    ensures done { OnOk result (lines_done (P.does lines.now.other) (driven machine.old performer.old)
+        lines.now.lines.now ≡ driven machine.new performer.new) }
+    ensures printed { OnOk result (Appends (W.contents out.old) (W.contents out.new)
+        (lines_told (P.does lines.now.other) (P.tells lines.now.other) lines.now.numbered 1
+        (driven machine.old performer.old) lines.now.lines.now)) }
+{
+    let mut text = String::new(alloc);
+    let done = perform_lines(performer, machine, lines, &mut text, out);
+    if let Err(Failure::File) = done {
+        return done;
+    }
+    print_text(text.as_bytes(), out)?;
+    done?;
+    Ok(())
+}
+
+/// Performs lines, prints the answer to each, and then the report.
+pub fn print_lines<P: Performs, W: Write>(
+    alloc: Global,
+    performer: &mut P,
+    machine: &mut Machine,
+    lines: &Lines<'_, P::Line>,
+    out: &mut W,
+) -> Result<(), Failure>
+    requires { lines.now.other < actors (world_of machine.old) }
+    ensures err { IfErr result IsWanting }
+    ensures printed { OnOk result (let d = driven machine.old performer.old in
+        let e = lines_done (P.does lines.now.other) d lines.now.lines.now in
+        Appends (W.contents out.old) (W.contents out.new)
+        (lines_told (P.does lines.now.other) (P.tells lines.now.other) lines.now.numbered 1 d
+        lines.now.lines.now
+        ++ report_text e.world.table e.world.services)) }
+{
+    print_said(alloc, performer, machine, lines, out)?;
+    print_report(alloc, machine, out)
+}

@@ -1,6 +1,0 @@
-use Rattle.std.proofs.Common.{subst}
-use Rattle.mx_machine.specs.Machine.{IsMachineState}
-use Rattle.mx_machine.proofs.machine.Machine.opened.Goals as goal
-
-pub returns : goal.returns
-returns c = subst IsMachineState c.self.view_is c.self.invariant
