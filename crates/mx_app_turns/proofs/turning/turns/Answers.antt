@@ -53,7 +53,7 @@ returns-in_err-write_history g c =
     let items = c.in_ok-begun.begun.events.items in
     let ending = c.make_turns-ending.result in
     let made = turned_at s.1 s.2 c.from-bound.result bound c.as_slice.result.now items ticks m n k ending c.from-bound.ensures c.as_slice.ensures.value c.kernel-kernel.ensures s.5 c.in_ok-begun.ensures.kernel
-    c.make_turns-ending.ensures.made c.make_turns-ending.ensures.ending c.opened.ensures.accepted c.opened.ensures.written (room_of (replay k) c.opened.ensures.sound) in
+    c.make_turns-ending.ensures.made c.make_turns-ending.ensures.ending c.facts.ensures.accepted c.facts.ensures.written (room_of (replay k) c.facts.ensures.sound) in
     let shown = shows_at s.1 s.2 c.from-bound.result bound c.in_ok-begun.begun.config.log c.as_slice.result.now items ticks (world_of m) (g.P.Progress.shown c.args.progress.now) (g.P.Progress.shown c.make_turns-ending.new.progress) (g.P.Progress.shown c.clear.new.self)
     c.from-bound.ensures (ap (λ (x : Config). x.log) s.6) c.as_slice.ensures.value s.5 c.make_turns-ending.ensures.shown c.clear.ensures in
     let h = c.in_err-write_history.ensures.unwritten in
@@ -75,7 +75,7 @@ returns-in_err-print_kernel_report g c =
     let items = c.in_ok-begun.begun.events.items in
     let ending = c.make_turns-ending.result in
     let made = turned_at s.1 s.2 c.from-bound.result bound c.as_slice.result.now items ticks m n k ending c.from-bound.ensures c.as_slice.ensures.value c.kernel-kernel.ensures s.5 c.in_ok-begun.ensures.kernel
-    c.make_turns-ending.ensures.made c.make_turns-ending.ensures.ending c.opened.ensures.accepted c.opened.ensures.written (room_of (replay k) c.opened.ensures.sound) in
+    c.make_turns-ending.ensures.made c.make_turns-ending.ensures.ending c.facts.ensures.accepted c.facts.ensures.written (room_of (replay k) c.facts.ensures.sound) in
     let shown = shows_at s.1 s.2 c.from-bound.result bound c.in_ok-begun.begun.config.log c.as_slice.result.now items ticks (world_of m) (g.P.Progress.shown c.args.progress.now) (g.P.Progress.shown c.make_turns-ending.new.progress) (g.P.Progress.shown c.clear.new.self)
     c.from-bound.ensures (ap (λ (x : Config). x.log) s.6) c.as_slice.ensures.value s.5 c.make_turns-ending.ensures.shown c.clear.ensures in
     (s.0, kept log (text_kept k) ∷ [], shown.0, s.3, c.in_ok-write_history.ensures.written, shown.1, untold config file log ticks bound s.0 (λ (text : List ℕ). Appends (g.W.Write.contents c.args.channels.now.out) (g.W.Write.contents c.print_kernel_report.new.out) text) apart s.1 s.2 items k ending shown.0 s.4 other made shown.2 c.in_err-print_kernel_report.field-0.0 c.from_residual-in_err-print_kernel_report.result c.in_err-print_kernel_report.ensures.err c.from_residual-in_err-print_kernel_report.ensures.1)
@@ -96,7 +96,7 @@ returns g c =
     let items = c.in_ok-begun.begun.events.items in
     let ending = c.make_turns-ending.result in
     let made = turned_at s.1 s.2 c.from-bound.result bound c.as_slice.result.now items ticks m n k ending c.from-bound.ensures c.as_slice.ensures.value c.kernel-kernel.ensures s.5 c.in_ok-begun.ensures.kernel
-    c.make_turns-ending.ensures.made c.make_turns-ending.ensures.ending c.opened.ensures.accepted c.opened.ensures.written (room_of (replay k) c.opened.ensures.sound) in
+    c.make_turns-ending.ensures.made c.make_turns-ending.ensures.ending c.facts.ensures.accepted c.facts.ensures.written (room_of (replay k) c.facts.ensures.sound) in
     let shown = shows_at s.1 s.2 c.from-bound.result bound c.in_ok-begun.begun.config.log c.as_slice.result.now items ticks (world_of m) (g.P.Progress.shown c.args.progress.now) (g.P.Progress.shown c.make_turns-ending.new.progress) (g.P.Progress.shown c.clear.new.self)
     c.from-bound.ensures (ap (λ (x : Config). x.log) s.6) c.as_slice.ensures.value s.5 c.make_turns-ending.ensures.shown c.clear.ensures in
     (s.0, kept log (text_kept k) ∷ [], shown.0, s.3, c.in_ok-write_history.ensures.written, shown.1, written config file log ticks bound s.0 (λ (text : List ℕ). Appends (g.W.Write.contents c.args.channels.now.out) (g.W.Write.contents c.print_kernel_report.new.out) text) apart s.1 s.2 items k ending shown.0 s.4 other made shown.2 c.in_ok-print_kernel_report.ensures.bytes)
