@@ -1,5 +1,5 @@
 -- The lines of a debugger's script: those of any script, and its own (our own).
-use Rattle.std.specs.Prelude.{◌≡◌, ◌&&◌, ℕ, Bool, true, not, if◌then◌else◌, List, [], ◌∷◌, codes, is_some, map, Option, Some, None}
+use Rattle.std.specs.Prelude.{◌≡◌, ◌&&◌, ℕ, Bool, true, not, if◌then◌else◌, List, [], ◌∷◌, codes, is_some, Option, Some, None}
 use Rattle.std.specs.List.{list_any}
 use Rattle.std.specs.Str.{bytes_eq}
 use Rattle.mx_text.specs.Fields.{fields, pair, ◌>>=◌}
@@ -12,7 +12,7 @@ use Rattle.mx_boot.specs.Places.{code_place_of}
 use Rattle.mx_boot.specs.Reading.{AreLinesRead, TellsUnread}
 use Rattle.mx_boot.specs.Script.{actor_and_count, count_field, script_line_of}
 use Rattle.mx_boot.specs.Verbs.{verb_of}
-use Rattle.mx_app_db.specs.Looks.{look_of, looks}
+use Rattle.mx_app_db.specs.Looks.{look_of, look_words}
 use Rattle.mx_app_db.specs.declared.script.DebugLine.{DebugLine}
 use Rattle.mx_app_db.specs.declared.script.DebugLine.TheVariants.{Plain, Break, Clear, Go, Show}
 
@@ -23,21 +23,33 @@ slot_and_place fs = do
   at ← code_place_of p.1
   Some (s, at)
 
+unfoldable pub break_asked : List (List ℕ) → Option DebugLine
+break_asked fs = do
+  p ← slot_and_place fs
+  Some (Break p.0 p.1)
+
+unfoldable pub clear_asked : List (List ℕ) → Option DebugLine
+clear_asked fs = do
+  p ← slot_and_place fs
+  Some (Clear p.0 p.1)
+
+unfoldable pub go_asked : List (List ℕ) → Option DebugLine
+go_asked fs = do
+  p ← actor_and_count fs
+  Some (Go p.0 p.1)
+
+unfoldable pub look_asked : List ℕ → List (List ℕ) → Option DebugLine
+look_asked word fs = do
+  l ← look_of word fs
+  Some (Show l)
+
 -- the line that begins with a word of the debugger's own and goes on with these fields
-abbrev pub own_line_of : List ℕ → List (List ℕ) → Option DebugLine
+unfoldable pub own_line_of : List ℕ → List (List ℕ) → Option DebugLine
 own_line_of word fs =
-    if bytes_eq word (codes "break") then (do
-      p ← slot_and_place fs
-      Some (Break p.0 p.1)) else
-    if bytes_eq word (codes "clear") then (do
-      p ← slot_and_place fs
-      Some (Clear p.0 p.1)) else
-    if bytes_eq word (codes "go") then (do
-      p ← actor_and_count fs
-      Some (Go p.0 p.1)) else
-    (do
-      l ← look_of word fs
-      Some (Show l))
+    if bytes_eq word (codes "break") then break_asked fs else
+    if bytes_eq word (codes "clear") then clear_asked fs else
+    if bytes_eq word (codes "go") then go_asked fs else
+    look_asked word fs
 
 -- a line that begins with a verb of any script is one of any script
 abbrev pub debug_line_of : Option Verb → List ℕ → List (List ℕ) → Option DebugLine
@@ -57,7 +69,7 @@ debug_line line = line_of_fields (fields line)
 -- ---- the first words
 
 abbrev pub own_words : List (List ℕ)
-own_words = codes "break" ∷ codes "clear" ∷ codes "go" ∷ map (λ r. r.0) looks
+own_words = codes "break" ∷ codes "clear" ∷ codes "go" ∷ look_words
 
 -- none is a verb of any script, and none is there twice
 abbrev pub are_apart : List (List ℕ) → Bool

@@ -18,7 +18,7 @@ use Rattle.mx_app_db.specs.declared.looks.Look.TheVariants.{Registers, Registers
 -- ---- how they are written: the fields after the first word
 
 -- of a processor, or after `of` of a slot
-abbrev pub registers_asked : List (List ℕ) → Option Look
+unfoldable pub registers_asked : List (List ℕ) → Option Look
 registers_asked [] = None
 registers_asked (f ∷ fs) = if bytes_eq f (codes "of") then (do
   s ← only_count fs
@@ -41,7 +41,7 @@ memory_of_slot (f ∷ fs) = do
   Some (MemoryOf s p.0 p.1)
 
 -- of a processor, or after `of` of a slot
-abbrev pub memory_asked : List (List ℕ) → Option Look
+unfoldable pub memory_asked : List (List ℕ) → Option Look
 memory_asked [] = None
 memory_asked (f ∷ fs) = if bytes_eq f (codes "of") then memory_of_slot fs else (do
   c ← actor_field f
@@ -49,7 +49,7 @@ memory_asked (f ∷ fs) = if bytes_eq f (codes "of") then memory_of_slot fs else
   Some (Memory c p.0 p.1))
 
 -- all deliveries, or the last of them
-abbrev pub messages_asked : List (List ℕ) → Option Look
+unfoldable pub messages_asked : List (List ℕ) → Option Look
 messages_asked [] = Some Messages
 messages_asked (f ∷ fs) = do
   n ← only_count (f ∷ fs)
@@ -57,18 +57,17 @@ messages_asked (f ∷ fs) = do
 
 -- ---- by the first word
 
--- THE LOOKS, each by its first word
-abbrev pub looks : List (List ℕ × (List (List ℕ) → Option Look))
-looks = (codes "regs", registers_asked) ∷ (codes "mem", memory_asked) ∷ (codes "messages", messages_asked) ∷ []
+-- THE LOOK of a line that begins with a word and goes on with these fields
+unfoldable pub look_of : List ℕ → List (List ℕ) → Option Look
+look_of word fs =
+    if bytes_eq word (codes "regs") then registers_asked fs else
+    if bytes_eq word (codes "mem") then memory_asked fs else
+    if bytes_eq word (codes "messages") then messages_asked fs else
+    None
 
--- the row of a word reads the fields after it
-abbrev pub read_by : List (List ℕ × (List (List ℕ) → Option Look)) → List ℕ → List (List ℕ) → Option Look
-read_by [] word fs = None
-read_by (r ∷ rs) word fs = if bytes_eq word r.0 then r.1 fs else read_by rs word fs
-
--- the look of a line that begins with a word and goes on with these fields
-abbrev pub look_of : List ℕ → List (List ℕ) → Option Look
-look_of word fs = read_by looks word fs
+-- these words
+abbrev pub look_words : List (List ℕ)
+look_words = codes "regs" ∷ codes "mem" ∷ codes "messages" ∷ []
 
 -- ---- what they show
 

@@ -37,6 +37,7 @@ pub enum Look {
 }
 
 /// The registers that a line asks for: of a processor, or after `of` of a slot.
+#[tactic(auto, unfolding(crate::specs::Looks::registers_asked))]
 fn registers_asked(line: &[u8]) -> Option<Look>
     ensures { result ≡ registers_asked (fields line.now) }
 {
@@ -68,6 +69,7 @@ fn memory_of_slot(line: &[u8]) -> Option<Look>
 }
 
 /// The memory that a line asks for: of a processor, or after `of` of a slot.
+#[tactic(auto, unfolding(crate::specs::Looks::memory_asked))]
 fn memory_asked(line: &[u8]) -> Option<Look>
     ensures { result ≡ memory_asked (fields line.now) }
 {
@@ -81,6 +83,7 @@ fn memory_asked(line: &[u8]) -> Option<Look>
 }
 
 /// The deliveries that a line asks for: all, or the last of them.
+#[tactic(auto, unfolding(crate::specs::Looks::messages_asked))]
 fn messages_asked(line: &[u8]) -> Option<Look>
     ensures { result ≡ messages_asked (fields line.now) }
 {
@@ -93,15 +96,20 @@ fn messages_asked(line: &[u8]) -> Option<Look>
 /// The look of a line that begins with a word and goes on like this: `regs C`, `regs of S`, `mem C M N`,
 /// `mem of S M N`, `messages` or `messages N`. M is an address, which begins with a digit, or the name of a
 /// symbol, which may be followed by a plus and how many bytes after it.
+#[tactic(auto, unfolding(crate::specs::Looks::look_of))]
 pub(crate) fn look_of(word: &[u8], rest: &[u8]) -> Option<Look>
     ensures { result ≡ look_of word.now (fields rest.now) }
 {
-    match word {
-        b"regs" => registers_asked(rest),
-        b"mem" => memory_asked(rest),
-        b"messages" => messages_asked(rest),
-        _ => None,
+    if word == b"regs".as_slice() {
+        return registers_asked(rest);
     }
+    if word == b"mem".as_slice() {
+        return memory_asked(rest);
+    }
+    if word == b"messages".as_slice() {
+        return messages_asked(rest);
+    }
+    None
 }
 
 /// Appends the registers of the process on a processor.
@@ -143,11 +151,7 @@ fn push_all_messages(text: &mut String, machine: &Machine) -> Result<(), AllocEr
 }
 
 /// Appends what a look shows of a machine.
-pub(crate) fn push_look(
-    text: &mut String,
-    machine: &Machine,
-    look: &Look,
-) -> Result<(), AllocError>
+pub(crate) fn push_look(text: &mut String, machine: &Machine, look: &Look) -> Result<(), AllocError>
     ensures { OnOk result (string_bytes text.new ≡ string_bytes text.old
         ++ look_text (world_of machine.now) look.now) }
 {

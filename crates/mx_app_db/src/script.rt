@@ -4,7 +4,7 @@ ghost use Rattle.std.specs.Prelude.{◌≡◌, IfOk, IfErr};
 ghost use Rattle.mx_text.specs.Fields.{fields};
 ghost use Rattle.mx_text.specs.Lines.{lines};
 ghost use Rattle.mx_boot.specs.Reading.{AreLinesRead, TellsUnread};
-ghost use Rattle.mx_app_db.specs.DebugScript.{are_apart, debug_line, debug_line_of, own_line_of, own_words, slot_and_place};
+ghost use Rattle.mx_app_db.specs.DebugScript.{are_apart, debug_line, debug_line_of, own_line_of, own_words, break_asked, clear_asked, go_asked, look_asked, slot_and_place};
 
 use crate::looks::{Look, look_of};
 use mx_app_start::Course;
@@ -41,25 +41,52 @@ fn slot_and_place(line: &[u8]) -> Option<(u32, CodePlace)>
     Some((slot, place))
 }
 
+#[tactic(auto, unfolding(crate::specs::DebugScript::break_asked))]
+fn break_asked(line: &[u8]) -> Option<DebugLine>
+    ensures { result ≡ break_asked (fields line.now) }
+{
+    let (slot, place) = slot_and_place(line)?;
+    Some(DebugLine::Break(slot, place))
+}
+
+#[tactic(auto, unfolding(crate::specs::DebugScript::clear_asked))]
+fn clear_asked(line: &[u8]) -> Option<DebugLine>
+    ensures { result ≡ clear_asked (fields line.now) }
+{
+    let (slot, place) = slot_and_place(line)?;
+    Some(DebugLine::Clear(slot, place))
+}
+
+#[tactic(auto, unfolding(crate::specs::DebugScript::go_asked))]
+fn go_asked(line: &[u8]) -> Option<DebugLine>
+    ensures { result ≡ go_asked (fields line.now) }
+{
+    let (cpu, steps) = actor_and_count(line)?;
+    Some(DebugLine::Go(cpu, steps))
+}
+
+#[tactic(auto, unfolding(crate::specs::DebugScript::look_asked))]
+fn look_asked(word: &[u8], line: &[u8]) -> Option<DebugLine>
+    ensures { result ≡ look_asked word.now (fields line.now) }
+{
+    Some(DebugLine::Show(look_of(word, line)?))
+}
+
 /// The line that begins with a word of the debugger's own and goes on like this.
+#[tactic(auto, unfolding(crate::specs::DebugScript::own_line_of))]
 fn own_line_of(word: &[u8], rest: &[u8]) -> Option<DebugLine>
     ensures { result ≡ own_line_of word.now (fields rest.now) }
 {
-    match word {
-        b"break" => {
-            let (slot, place) = slot_and_place(rest)?;
-            Some(DebugLine::Break(slot, place))
-        }
-        b"clear" => {
-            let (slot, place) = slot_and_place(rest)?;
-            Some(DebugLine::Clear(slot, place))
-        }
-        b"go" => {
-            let (cpu, steps) = actor_and_count(rest)?;
-            Some(DebugLine::Go(cpu, steps))
-        }
-        _ => Some(DebugLine::Show(look_of(word, rest)?)),
+    if word == b"break".as_slice() {
+        return break_asked(rest);
     }
+    if word == b"clear".as_slice() {
+        return clear_asked(rest);
+    }
+    if word == b"go".as_slice() {
+        return go_asked(rest);
+    }
+    look_asked(word, rest)
 }
 
 /// Law: the first words of a debugger's own lines differ from one another and from those of any script.

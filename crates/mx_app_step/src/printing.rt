@@ -48,7 +48,11 @@ pub fn print_kernel_report<W: Write>(
 }
 
 /// Prints the report on a machine's processes, as `print_kernel_report` does.
-pub(crate) fn print_report<W: Write>(alloc: Global, machine: &Machine, out: &mut W) -> Result<(), Failure>
+pub(crate) fn print_report<W: Write>(
+    alloc: Global,
+    machine: &Machine,
+    out: &mut W,
+) -> Result<(), Failure>
     ensures err { IfErr result IsWanting }
     ensures bytes { OnOk result (Appends (W.contents out.old) (W.contents out.new)
         (report_text (world_of machine.now).table (world_of machine.now).services)) }

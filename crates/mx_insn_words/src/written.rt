@@ -5,8 +5,8 @@ ghost use Rattle.mx_insn.specs.Sizes.{size_of_operands};
 ghost use Rattle.mx_insn_words.specs.Instructions.{mnemonic_of, extend_mnemonic, spread_mnemonic, written_operand, written_pair, written_product, written_count, written_extension, written_accumulator, written_port, written_target, written_return, written_operands};
 ghost use Rattle.mx_insn_words.specs.Listed.{written_list};
 
-use WrittenOperands::{Nothing, One, Three, Two};
 use crate::mnemonic::{Mnemonic, Single};
+use WrittenOperands::{Nothing, One, Three, Two};
 use mx_insn::{
     Count, Extension, Immediate, Insn, Memory, Operand, OperandSize, Operands, Port, PortSize,
     Product, WideImmediate,

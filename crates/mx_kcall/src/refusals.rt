@@ -246,7 +246,10 @@ pub(crate) fn check(table: &Table, slot: Slot) -> Result<KernelCall, Errno>
         Some(request) => request,
         None => return Err(Errno::BadRequest),
     };
-    if !has_bit(table.process(slot).terms.masks.calls, words.kind - FIRST_CALL) {
+    if !has_bit(
+        table.process(slot).terms.masks.calls,
+        words.kind - FIRST_CALL,
+    ) {
         return Err(Errno::Denied);
     }
     check_request(table, slot, request)?;

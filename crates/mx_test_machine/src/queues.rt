@@ -6,9 +6,7 @@ ghost use Rattle.mx_proc.specs.States.{is_out};
 use crate::numbers::{ALL_SENDS, ALL_TRAPS};
 use crate::tables::{add_process, word_at};
 use mx_ipc::{receive, send, sendrec};
-use mx_proc::{
-    ANY, DeathCause, Masks, Partner, Rules, SYSTEM, Slot, Source, State, Table, Terms,
-};
+use mx_proc::{ANY, DeathCause, Masks, Partner, Rules, SYSTEM, Slot, Source, State, Table, Terms};
 use mx_respawn::die;
 use mx_sched::{dequeue, enqueue, pick};
 use std::alloc::Global;

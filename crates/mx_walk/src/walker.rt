@@ -272,7 +272,13 @@ impl Walker {
             from: self.here,
             to: self.last,
         };
-        match seek(&mut self.machine, self.records.as_slice(), way, mark, progress) {
+        match seek(
+            &mut self.machine,
+            self.records.as_slice(),
+            way,
+            mark,
+            progress,
+        ) {
             Sought::Found(here) => {
                 self.here = here;
                 true
