@@ -16,10 +16,13 @@ use Rattle.mx_walk.specs.Walks.{Walk, first, mark_above, start_to, world_here}
 use Rattle.mx_walk.proofs.Next.{world_next}
 use Rattle.mx_walk.proofs.PartsShown.{joined}
 use Rattle.mx_app_look.specs.declared.points.Points.{Points}
+use Rattle.mx_app_look.specs.declared.request.Request.{Request}
+use Rattle.mx_app_look.specs.declared.request.Request.TheVariants.{Why}
+use Rattle.mx_app_look.specs.declared.sight.Sight.{Sight}
 use Rattle.mx_app_look.specs.Above.{record_above}
 use Rattle.mx_app_look.specs.Marks.{changes_watched, is_looked_for}
 use Rattle.mx_app_look.specs.Searches.{is_break, next_made}
-use Rattle.mx_app_look.specs.Shows.{IsLastShown, IsNextShown, IsSearchShown, IsShownAfter, IsShownFrom, halt_shown, record_shown, return_shown, steps_made, why_shown, why_shown_by}
+use Rattle.mx_app_look.specs.Shows.{IsLastShown, IsNextShown, IsRequestShown, IsSearchShown, IsShownAfter, IsShownFrom, halt_shown, record_shown, return_shown, steps_made, why_shown, why_shown_by}
 use Rattle.mx_app_look.specs.declared.happening.Happening.{Happening}
 use Rattle.mx_app_look.specs.Until.{below, halt_below, has, met, until_halt}
 use Rattle.mx_walk.proofs.Along.{up_trans}
@@ -309,3 +312,25 @@ module _ (k : Walk) (s : Points) where
       ∙ ap (λ (q : Position). now ++ return_shown k p q) at in
       let rest = return_shown k p (next_position k.records p) in
       (back p ++ rest, both_shown before now after (back p) rest a ends, inl (p, subst (λ (xs : List Record). IsPosition xs p) records position, found, refl))
+
+-- ---- requests
+
+-- one that moves
+pub moved_shown : {A E : Type 0} (r : Result A E) (s : Sight) (q p : Request) (to : Position) (before after : List Part) → q ≡ p → IsRequestShown s p (shown_to s.walker to) → OnOk r (after ≡ before ++ shown_to s.walker to)
+    → OnOk r (Shows before after (λ ps. IsRequestShown s q ps))
+moved_shown r s q p to before after is h shown =
+    ok_weaker r (after ≡ before ++ shown_to s.walker to) (Shows before after (λ ps. IsRequestShown s q ps)) (λ e. (shown_to s.walker to, e, subst (λ (x : Request). IsRequestShown s x (shown_to s.walker to)) (sym is) h)) shown
+
+-- one that shows this
+pub asked_shown : {A E : Type 0} (r : Result A E) (s : Sight) (q p : Request) (before after : List Part) → q ≡ p → OnOk r (Shows before after (λ ps. IsRequestShown s p ps)) → OnOk r (Shows before after (λ ps. IsRequestShown s q ps))
+asked_shown r s q p before after is h = subst (λ (x : Request). OnOk r (Shows before after (λ ps. IsRequestShown s x ps))) (sym is) h
+
+pub why_asked : {A E : Type 0} (r : Result A E) (s : Sight) (q : Request) (before after : List Part) → q ≡ Why → OnOk r (after ≡ before ++ why_shown s.walker) → OnOk r (Shows before after (λ ps. IsRequestShown s q ps))
+why_asked r s q before after is shown =
+    ok_weaker r (after ≡ before ++ why_shown s.walker) (Shows before after (λ ps. IsRequestShown s q ps)) (λ e. (why_shown s.walker, e, subst (λ (x : Request). IsRequestShown s x (why_shown s.walker)) (sym is) refl)) shown
+
+-- one that stays here
+pub stayed_shown : {A E : Type 0} (r : Result A E) (s : Sight) (q p : Request) (before : List Part) → q ≡ p → IsRequestShown s p (shown_to s.walker s.walker.here) → OnOk r (Shows before before (λ ps. IsRequestShown s q ps))
+stayed_shown r s q p before is h =
+    ok_always r (Shows before before (λ ps. IsRequestShown s q ps))
+    (shown_to s.walker s.walker.here, stays_shown s.walker before, subst (λ (x : Request). IsRequestShown s x (shown_to s.walker s.walker.here)) (sym is) h)
