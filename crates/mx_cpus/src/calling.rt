@@ -8,7 +8,7 @@ ghost use Rattle.mx_cpus.specs.Outsiders.{HasMadeCalls, IsOutsiderRun};
 
 use crate::gate::{Gate, Unwatched, WatchingGate};
 use crate::outside::OutsideCall;
-use crate::side::{Door, FreeSide, LoopContext};
+use crate::side::{FreeSide, LoopContext};
 use crate::{ActorSeat, Naming, Shared};
 use mx_machine::{Event, Refusal};
 use std::sync::Wait;
@@ -149,9 +149,8 @@ pub fn outsider<M: Naming, G: Gate, R: Wait>(
         seat result }
 {
     let gate = Unwatched { gate };
-    let door = Door::new(&gate);
+    let context = LoopContext::new(rt, shared, &gate);
     let side = FreeSide::new(seat.actor());
-    let context = LoopContext { rt, shared, door };
     let (seat, side) = make_calls(&context, seat, side, calls);
     side.leave();
     seat

@@ -8,7 +8,7 @@ ghost use Rattle.mx_cpus.specs.Progresses.{IsRoundTo, IsSweepTo};
 
 use crate::gate::{Gate, Unwatched, WatchingGate};
 use crate::progress::Progress;
-use crate::side::{Door, FreeSide, LoopContext};
+use crate::side::{FreeSide, LoopContext};
 use crate::{ActorSeat, Naming, Shared};
 use mx_machine::{Held, Refusal};
 use std::sync::Wait;
@@ -76,9 +76,8 @@ pub fn processor<M: Naming, G: Gate, R: Wait>(
     ensures course { IsProcessorRun M.boot (unwatched (G.was_called gate.now)) seat result }
 {
     let gate = Unwatched { gate };
-    let door = Door::new(&gate);
+    let context = LoopContext::new(rt, shared, &gate);
     let side = FreeSide::new(seat.actor());
-    let context = LoopContext { rt, shared, door };
     let (seat, side) = make_turns(&context, seat, side);
     side.leave();
     seat
@@ -176,9 +175,8 @@ pub fn respawner<M: Naming, G: Gate, R: Wait>(
     ensures course { IsRespawnerRun M.boot (unwatched (G.was_called gate.now)) ticks seat result }
 {
     let gate = Unwatched { gate };
-    let door = Door::new(&gate);
+    let context = LoopContext::new(rt, shared, &gate);
     let side = FreeSide::new(seat.actor());
-    let context = LoopContext { rt, shared, door };
     let (seat, side) = make_rounds(&context, seat, side, ticks);
     side.leave();
     seat

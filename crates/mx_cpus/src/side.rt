@@ -28,6 +28,18 @@ pub(crate) struct LoopContext<'s, M: Naming, G: WatchingGate, R> {
     pub door: Door<'s, G>,
 }
 
+impl<'s, M: Naming, G: WatchingGate, R> LoopContext<'s, M, G, R> {
+    pub(crate) fn new(rt: &'s R, shared: &'s Shared<M>, gate: &'s G) -> LoopContext<'s, M, G, R>
+        ensures { result.door.gate.now ≡ gate.now }
+    {
+        LoopContext {
+            rt,
+            shared,
+            door: Door::new(gate),
+        }
+    }
+}
+
 /// The side of an actor that holds nothing.
 pub(crate) struct FreeSide {
     actor: u8,
