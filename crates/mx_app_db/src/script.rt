@@ -1,6 +1,6 @@
 //! The lines of a debugger's script, as values.
 
-ghost use Rattle.std.specs.Prelude.{◌≡◌, IfOk, IfErr};
+ghost use Rattle.std.specs.Prelude.{◌≡◌, true, IfOk, IfErr};
 ghost use Rattle.mx_text.specs.Fields.{fields};
 ghost use Rattle.mx_text.specs.Lines.{lines};
 ghost use Rattle.mx_boot.specs.Reading.{AreLinesRead, TellsUnread};
