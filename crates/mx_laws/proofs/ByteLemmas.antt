@@ -1,7 +1,7 @@
 -- What others leave of an image.
 use Rattle.std.proofs.Common.{◌≡◌, ◌∙◌, ℕ, ◌+◌, ◌-◌, ◌<◌, ◌≤◌, Bool, true, false, List, [], ◌∷◌, ◌++◌, length, take, drop, Option, Some, None, refl, sym, ap, subst, get_or, inl, inr, arith}
 use Rattle.std.proofs.lemmas.List.{get_or-take, get_or-drop, get_or_append_left, get_or-append_right, length-append, length-drop, length-take}
-use Rattle.std.proofs.Common.{◌≢◌, cond, not, ◌||◌, ◌%◌, get_or-set_other}
+use Rattle.std.proofs.Common.{◌≢◌, cond, not, ◌||◌, ◌%◌}
 use Rattle.std.specs.Prelude.{◌⊎◌, ◌&&◌, ◌==◌, nat_le, slice_index_or}
 use Rattle.std.specs.Option.{option_map}
 use Rattle.std.proofs.lemmas.Bool.{cases_eq, cases_lt, leb-true, ne_eqb}
@@ -11,8 +11,7 @@ use Rattle.mx_proc.specs.declared.errors.Errno.{Errno}
 use Rattle.mx_proc.specs.declared.errors.Errno.TheVariants.{Denied}
 use Rattle.mx_proc.specs.declared.process.Process.{Process}
 use Rattle.mx_proc.specs.declared.windows.Window.{Window}
-use Rattle.mx_proc.specs.TableState.{TableState, memory_at, nobody, window_of, table_after_move_home}
-use Rattle.mx_ipc.specs.Checks.{first_error}
+use Rattle.mx_proc.specs.TableState.{TableState, memory_at, window_of}
 use Rattle.mx_word.specs.Bits.{has_bit}
 use Rattle.mx_kcall.specs.declared.request.CopyRange.{CopyRange}
 use Rattle.mx_kcall.specs.declared.request.KernelCall.{KernelCall}

@@ -1,6 +1,5 @@
 -- What a return does to the images of a table is what it writes down.
-use Rattle.std.proofs.Common.{◌≡◌, ◌∙◌, ℕ, ◌%◌, ◌==◌, Bool, true, false, cond, List, [], ◌∷◌, Option, Some, None, refl, sym, ap}
-use Rattle.mx_exec.specs.declared.image.Image.{Image}
+use Rattle.std.proofs.Common.{◌≡◌, ◌∙◌, ℕ, ◌%◌, Bool, true, false, [], ◌∷◌, Option, Some, None, refl, sym, ap}
 use Rattle.mx_image.specs.declared.runs.Stop.{Stop}
 use Rattle.mx_image.specs.declared.runs.Stop.TheVariants.{Spent, Trap, Fault}
 use Rattle.mx_proc.specs.declared.process.DeathCause.TheVariants as cause

@@ -1,5 +1,5 @@
 -- Events leave the rules that a machine runs by.
-use Rattle.std.proofs.Common.{◌≡◌, ◌∙◌, ℕ, ◌%◌, ◌==◌, nat_lt, Bool, true, false, cond, List, [], ◌∷◌, Option, Some, None, slice_get, refl}
+use Rattle.std.proofs.Common.{◌≡◌, ◌∙◌, ℕ, ◌%◌, nat_lt, Bool, true, false, cond, List, [], ◌∷◌, Option, Some, None, slice_get, refl}
 use Rattle.mx_image.specs.declared.runs.Stop.{Stop}
 use Rattle.mx_image.specs.declared.runs.Stop.TheVariants.{Spent, Trap, Fault}
 use Rattle.mx_proc.specs.declared.process.DeathCause.{DeathCause}

@@ -5,7 +5,7 @@ use Rattle.mx_exec.specs.Image.{blank}
 use Rattle.mx_proc.specs.declared.process.Process.{Process}
 use Rattle.mx_proc.specs.TableState.{TableState, nobody, process_at}
 use Rattle.mx_machine.specs.World.{World, HeldProcess}
-use Rattle.mx_laws.specs.Same.{held_but, SameBut, SameButImage, SameTableBut}
+use Rattle.mx_laws.specs.Same.{held_but, SameBut, SameTableBut}
 use Rattle.mx_laws.proofs.Twins.{is_slot, image_seen, Alike, AllAlike, Twins}
 use Rattle.mx_laws.proofs.TwinWorlds.{held_seen, TwinWorlds}
 use Rattle.mx_laws.proofs.TwinLemmas.{at, other_at, other_slot, slots_of}

@@ -1,5 +1,5 @@
 -- Two machines that are the same but for the image of the process in slot q, as their proofs go along them.
-use Rattle.std.specs.Prelude.{◌≡◌, ℕ, [], map, Option, Some, None}
+use Rattle.std.specs.Prelude.{◌≡◌, ℕ, map, Option, Some, None}
 use Rattle.mx_machine.specs.World.{World, HeldProcess}
 use Rattle.mx_laws.specs.Same.{frame_of}
 use Rattle.mx_laws.proofs.Twins.{image_seen, is_slot, Twins}
