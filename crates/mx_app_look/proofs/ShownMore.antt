@@ -1,25 +1,33 @@
 -- What requests show.
-use Rattle.std.proofs.Common.{◌≡◌, ◌∙◌, ◌≤◌, ◌<◌, ℕ, suc, ◌+◌, ◌-◌, eqb, leb, ltb, cond, Bool, true, false, List, [], ◌∷◌, ◌++◌, append_assoc, Option, Some, None, Result, Ok, Err, IfErr, IfOk, OnOk, drop, get_or, length, map, slice_get, refl, ap, sym, subst, inl, inr, arith}
+use Rattle.std.proofs.Common.{◌≡◌, ◌∙◌, ◌≤◌, ◌<◌, ℕ, suc, ◌+◌, ◌-◌, eqb, leb, ltb, cond, Bool, true, false, List, [], ◌∷◌, ◌++◌, append_assoc, Option, Some, None, Result, Ok, Err, IfErr, IfOk, OnOk, drop, find, get_or, length, map, slice_get, refl, ap, sym, subst, inl, inr, arith}
 use Rattle.std.specs.List.{range_with_len}
 use Rattle.std.proofs.lemmas.Bool.{cases_lt, eq-eqb, le-leb, lt-ltb, ne_eqb}
 use Rattle.std.proofs.lemmas.List.{append-nil}
 use Rattle.mx_machine.specs.declared.events.Event.{Event}
 use Rattle.mx_machine.specs.declared.history.Record.{Record}
+use Rattle.mx_machine.specs.Move.{world_after_event}
+use Rattle.mx_machine.specs.World.{World}
 use Rattle.mx_walk.specs.declared.positions.Position.{Position}
 use Rattle.mx_walk.specs.declared.progress.Part.{Part}
 use Rattle.mx_walk.specs.Parts.{HasGrown, part_after, parts_between, shown_to, shown_way, walk_between, walk_shown}
-use Rattle.mx_walk.specs.Positions.{IsPosition, IsUpTo, event_below, first_steps, is_up_to, next_position, position_before, steps_in}
+use Rattle.mx_walk.specs.Positions.{IsPosition, IsUpTo, event_below, first_steps, is_up_to, next_position, position_before, steps_in, world_at}
 use Rattle.mx_walk.specs.Seeking.{IsFirstMarked, IsLastMarked, IsPassed, is_marked}
 use Rattle.mx_walk.specs.Walks.{Walk, first, mark_above, start_to, world_here}
+use Rattle.mx_walk.proofs.Next.{world_next}
 use Rattle.mx_walk.proofs.PartsShown.{joined}
 use Rattle.mx_app_look.specs.declared.points.Points.{Points}
+use Rattle.mx_app_look.specs.declared.request.Request.{Request}
+use Rattle.mx_app_look.specs.declared.request.Request.TheVariants.{Why}
+use Rattle.mx_app_look.specs.declared.sight.Sight.{Sight}
 use Rattle.mx_app_look.specs.Above.{record_above}
 use Rattle.mx_app_look.specs.Marks.{changes_watched, is_looked_for}
 use Rattle.mx_app_look.specs.Searches.{is_break, next_made}
-use Rattle.mx_app_look.specs.Shows.{IsLastShown, IsNextShown, IsSearchShown, IsShownAfter, IsShownFrom, halt_shown, record_shown, return_shown, steps_made, why_shown, why_shown_by}
-use Rattle.mx_app_look.specs.Until.{below}
+use Rattle.mx_app_look.specs.Shows.{IsLastShown, IsNextShown, IsRequestShown, IsSearchShown, IsShownAfter, IsShownFrom, halt_shown, record_shown, return_shown, steps_made, why_shown, why_shown_by}
+use Rattle.mx_app_look.specs.declared.happening.Happening.{Happening}
+use Rattle.mx_app_look.specs.Until.{below, halt_below, has, met, until_halt}
 use Rattle.mx_walk.proofs.Along.{up_trans}
 use Rattle.mx_app_look.proofs.Coming.{gone}
+use Rattle.mx_app_look.proofs.Meeting.{met_from}
 use Rattle.mx_app_look.proofs.Moving.{made_position, read_is, records_up_to, steps_by}
 
 -- ---- what was shown before, and after
@@ -39,6 +47,10 @@ grown_more before now after a b = (a.0 ++ b.0, b.1 ∙ ap (λ (xs : List Part). 
 pub err_always : {A E : Type 0} (r : Result A E) (X : Type 0) → X → IfErr r (λ (e : E). X)
 err_always (Ok a) X h = tt
 err_always (Err e) X h = h
+
+pub ok_always : {A E : Type 0} (r : Result A E) (X : Type 0) → X → OnOk r X
+ok_always (Ok a) X h = h
+ok_always (Err e) X h = tt
 
 pub err_weaker : {A E : Type 0} (r : Result A E) (X Y : Type 0) → (X → Y) → IfErr r (λ (e : E). X) → IfErr r (λ (e : E). Y)
 err_weaker (Ok a) X Y f h = tt
@@ -188,6 +200,12 @@ shown_until_here k u w p n before after there halts on a =
     until_shown k p (n + 1) before after (subst (λ (q : Position). IsUpTo k.here q) at on.later) (ap (λ (q : Position). q.records) (sym at) ∙ on.place) a
 
 -- to the last position
+pub halts_last : (k : Walk) (h : Happening) (n : ℕ) → (n < k.last.records → ⊥) → met_from k h n ≡ met k h → (until_halt k h).0 ≡ k.last
+halts_last k h n over none =
+    let left : k.last.records - n ≡ 0 = omega (arith, over) in
+    let nothing : met_from k h n ≡ None = ap (λ m. find (has k h) (range_with_len n m)) left in
+    ap (λ (o : Option ℕ). (halt_below k o).0) (sym none ∙ nothing)
+
 pub shown_until_last : (k w : Walk) (p : Position) (n : ℕ) (before now after : List Part) → w ≡ gone k w.here → On k w n → (n < k.last.records → ⊥) → p ≡ k.last
     → now ≡ before ++ parts_between (length k.records) k.here.records n → after ≡ now ++ shown_to w k.last → after ≡ before ++ shown_to k p
 shown_until_last k w p n before now after moved on over at a b =
@@ -199,6 +217,20 @@ shown_until_last k w p n before now after moved on over at a b =
     until_shown k k.last n before after (up_trans k.here w.here k.last on.later on.late) (sym end ∙ on.place) all ∙ ap (λ (q : Position). before ++ shown_to k q) (sym at)
 
 -- ---- searches
+
+-- halted above the step at a breakpoint, or below it again
+pub halt_is_shown : (k : Walk) (s : Points) (j : Walk) (p : Position) (before after : List Part) → j ≡ gone k p → is_break j s j.here (event_below j.records j.here) ≡ true
+    → after ≡ before ++ shown_to k p → after ≡ before ++ halt_shown k s p k.here
+halt_is_shown k s j p before after moved is a =
+    let same : is_break k s p (event_below k.records p) ≡ true = subst (λ (w : Walk). is_break w s w.here (event_below w.records w.here) ≡ true) moved is in
+    a ∙ ap (λ (ps : List Part). before ++ ps) (sym (append-nil (shown_to k p))) ∙ ap (λ b. before ++ (shown_to k p ++ cond b [] (shown_way k p k.here))) (sym same)
+
+pub halt_below_shown : (k : Walk) (s : Points) (j : Walk) (p : Position) (before now after : List Part) → j ≡ gone k p → is_break j s j.here (event_below j.records j.here) ≡ false
+    → now ≡ before ++ shown_to k p → after ≡ now ++ shown_to j k.here → after ≡ before ++ halt_shown k s p k.here
+halt_below_shown k s j p before now after moved isnt a b =
+    let same : is_break k s p (event_below k.records p) ≡ false = subst (λ (w : Walk). is_break w s w.here (event_below w.records w.here) ≡ false) moved isnt in
+    both_shown before now after (shown_to k p) (shown_to j k.here) a b ∙ ap (λ (w : Walk). before ++ (shown_to k p ++ shown_to w k.here)) moved
+    ∙ ap (λ c. before ++ (shown_to k p ++ cond c [] (shown_way k p k.here))) (sym same)
 
 module _ (k : Walk) (s : Points) where
   pub search_met : (j : Walk) (above : Position) (before now after : List Part) → j ≡ gone k j.here → IsPosition j.records j.here → IsUpTo j.here j.last
@@ -224,6 +256,13 @@ module _ (k : Walk) (s : Points) where
   pub search_passed : (p : Position) (before after : List Part) → p ≡ k.last → IsPassed (is_looked_for s) k.boot k.records k.here k.last
       → after ≡ before ++ walk_between k.records k.here p → Shows before after (λ ps. IsSearchShown k s k.here ps)
   search_passed p before after at passed a = (walk_between k.records k.here p, a, inr (passed, ap (λ (q : Position). walk_between k.records k.here q) at))
+
+  pub is_marked_there : (j : Walk) (x : ℕ × Event) (next : Position) → IsPosition k.records k.here → event_below k.records k.here ≡ Some x → next ≡ next_position k.records k.here → j ≡ gone k next
+      → is_marked (changes_watched s) (world_here k) x ≡ changes_watched s (world_here k) x (world_here j)
+  is_marked_there j x next h e there moved =
+      let world : world_here j ≡ world_after_event (world_here k) x.0 x.1 =
+      ap (λ (w : Walk). world_here w) moved ∙ ap (λ (p : Position). world_at k.boot k.records p) there ∙ world_next k.records k.here x h e k.boot in
+      ap (λ (u : World). changes_watched s (world_here k) x u) (sym world)
 
   -- past the first event
   pub shown_one : (next : Position) (before after : List Part) (b : Bool) → b ≡ true → after ≡ before ++ shown_to k next → Shows before after (λ ps. IsShownAfter k s next b ps)
@@ -273,3 +312,25 @@ module _ (k : Walk) (s : Points) where
       ∙ ap (λ (q : Position). now ++ return_shown k p q) at in
       let rest = return_shown k p (next_position k.records p) in
       (back p ++ rest, both_shown before now after (back p) rest a ends, inl (p, subst (λ (xs : List Record). IsPosition xs p) records position, found, refl))
+
+-- ---- requests
+
+-- one that moves
+pub moved_shown : {A E : Type 0} (r : Result A E) (s : Sight) (q p : Request) (to : Position) (before after : List Part) → q ≡ p → IsRequestShown s p (shown_to s.walker to) → OnOk r (after ≡ before ++ shown_to s.walker to)
+    → OnOk r (Shows before after (λ ps. IsRequestShown s q ps))
+moved_shown r s q p to before after is h shown =
+    ok_weaker r (after ≡ before ++ shown_to s.walker to) (Shows before after (λ ps. IsRequestShown s q ps)) (λ e. (shown_to s.walker to, e, subst (λ (x : Request). IsRequestShown s x (shown_to s.walker to)) (sym is) h)) shown
+
+-- one that shows this
+pub asked_shown : {A E : Type 0} (r : Result A E) (s : Sight) (q p : Request) (before after : List Part) → q ≡ p → OnOk r (Shows before after (λ ps. IsRequestShown s p ps)) → OnOk r (Shows before after (λ ps. IsRequestShown s q ps))
+asked_shown r s q p before after is h = subst (λ (x : Request). OnOk r (Shows before after (λ ps. IsRequestShown s x ps))) (sym is) h
+
+pub why_asked : {A E : Type 0} (r : Result A E) (s : Sight) (q : Request) (before after : List Part) → q ≡ Why → OnOk r (after ≡ before ++ why_shown s.walker) → OnOk r (Shows before after (λ ps. IsRequestShown s q ps))
+why_asked r s q before after is shown =
+    ok_weaker r (after ≡ before ++ why_shown s.walker) (Shows before after (λ ps. IsRequestShown s q ps)) (λ e. (why_shown s.walker, e, subst (λ (x : Request). IsRequestShown s x (why_shown s.walker)) (sym is) refl)) shown
+
+-- one that stays here
+pub stayed_shown : {A E : Type 0} (r : Result A E) (s : Sight) (q p : Request) (before : List Part) → q ≡ p → IsRequestShown s p (shown_to s.walker s.walker.here) → OnOk r (Shows before before (λ ps. IsRequestShown s q ps))
+stayed_shown r s q p before is h =
+    ok_always r (Shows before before (λ ps. IsRequestShown s q ps))
+    (shown_to s.walker s.walker.here, stays_shown s.walker before, subst (λ (x : Request). IsRequestShown s x (shown_to s.walker s.walker.here)) (sym is) h)

@@ -1,7 +1,13 @@
-use Rattle.std.proofs.Common.{◌≡◌, ◌∙◌, ◌<◌, ◌≤◌, length, ap, subst, sym, arith}
+use Rattle.std.proofs.Common.{◌≡◌, ◌∙◌, ◌<◌, ◌≤◌, ◌++◌, length, refl, ap, subst, sym, arith}
 use Rattle.mx_walk.specs.declared.positions.Position.{Position}
+use Rattle.mx_walk.specs.Positions.{IsPosition, IsUpTo}
 use Rattle.mx_walk.specs.Walks.{Walk}
+use Rattle.mx_walk.proofs.PartsShown.{none_between}
 use Rattle.mx_app_look.proofs.Meeting.{goes_by, goes_on, halts_here, appends_it}
+use Rattle.mx_walk.specs.Parts.{parts_between, shown_to}
+use Rattle.mx_app_look.specs.Until.{until_halt}
+use Rattle.mx_app_look.proofs.Meeting.{met_from}
+use Rattle.mx_app_look.proofs.ShownMore.{err_always, err_weaker, grown_by, grown_more, grown_same, halts_last, ok_weaker, on_here, on_one_more, passed_one, shown_until_here, shown_until_last}
 use Rattle.mx_app_look.proofs.going_until.go_on_until.Goals as goal
 
 pub bounds-records-above : goal.bounds-records-above
@@ -42,4 +48,63 @@ loop-above-preserved g c =
       none = goes_by k c.loop-above.walker c.args.happening c.records.result.now c.loop-above.above _ c.see_record.new.step inv.walker c.records.ensures lt few
           c.in_ok-walker.ensures.step inv.none (sym c.happens.ensures ∙ c.if-happens.false);
       nothing = inv.nothing;
+      on = on_one_more k c.loop-above.walker c.records.result.now c.loop-above.above _ inv.walker c.records.ensures lt few inv.on c.in_ok-walker.walker c.in_ok-walker.ensures.walker;
+      shown = passed_one k c.loop-above.walker c.records.result.now c.loop-above.above _ inv.walker c.records.ensures lt few inv.on (g.P.Progress.shown c.args.progress.now) (g.P.Progress.shown c.loop-above.progress) (g.P.Progress.shown c.see_record.new.progress)
+          inv.shown c.in_ok-walker.ensures.shown;
     }
+
+pub loop-above-init : goal.loop-above-init
+loop-above-init g c =
+    let k = c.args.walker in
+    let same : c.here.result.records ≡ k.here.records = ap (λ (p : Position). p.records) c.here.ensures.here in
+    record {
+      walker = refl;
+      none = ap (λ n. met_from k c.args.happening n) same;
+      nothing = refl;
+      on = on_here k c.here.result.records same (subst (λ (p : Position). IsPosition k.records p) c.here.ensures.here c.here.ensures.position) (subst (λ (p : Position). IsUpTo p k.last) c.here.ensures.here c.here.ensures.early);
+      shown = none_between (length k.records) k.here.records (g.P.Progress.shown c.args.progress.now) ∙ ap (λ n. g.P.Progress.shown c.args.progress.now ++ parts_between (length k.records) k.here.records n) (sym same);
+    }
+
+pub returns-then-happens-clause-shown : goal.returns-then-happens-clause-shown
+returns-then-happens-clause-shown g c =
+    let k = c.args.walker in
+    let w = c.loop-above.walker in
+    let n = c.loop-above.above in
+    let rs = c.records.result.now in
+    let inv = c.loop-above.invariant in
+    let u = c.in_ok-walker.walker in
+    let there = c.in_ok-walker.ensures.walker in
+    let lt : n < k.last.records = subst (λ (p : Position). n < p.records) c.last-last.ensures.last c.loop-above-test.true in
+    let few : k.last.records ≤ length k.records = subst (λ (p : Position). p.records ≤ length k.records) c.last-last.ensures.last c.last-last.ensures.is.position.above in
+    let halts = halts_here k w c.args.happening rs n _ c.see_record.new.step inv.walker c.records.ensures lt few c.in_ok-walker.ensures.step inv.none (sym c.happens.ensures ∙ c.if-happens.true) u there in
+    let before = g.P.Progress.shown c.args.progress.now in
+    let after = g.P.Progress.shown c.see_record.new.progress in
+    let a = passed_one k w rs n _ inv.walker c.records.ensures lt few inv.on before (g.P.Progress.shown c.loop-above.progress) after inv.shown c.in_ok-walker.ensures.shown in
+    shown_until_here k u w (until_halt k c.args.happening).0 n before after there halts (on_one_more k w rs n _ inv.walker c.records.ensures lt few inv.on u there) a
+
+pub returns-clause-shown : goal.returns-clause-shown
+returns-clause-shown g c =
+    let k = c.args.walker in
+    let w = c.loop-above.walker in
+    let n = c.loop-above.above in
+    let inv = c.loop-above.invariant in
+    let before = g.P.Progress.shown c.args.progress.now in
+    let now = g.P.Progress.shown c.loop-above.progress in
+    let after = g.P.Progress.shown c.go_to.new.progress in
+    let over : n < k.last.records → ⊥ = λ lt. c.loop-above-test.false (subst (λ (p : Position). n < p.records) (sym c.last-last.ensures.last) lt) in
+    let at : (until_halt k c.args.happening).0 ≡ k.last = halts_last k c.args.happening n over inv.none in
+    ok_weaker c.go_to.result _ _ (λ (shown : after ≡ now ++ shown_to w c.last-last.result).
+    shown_until_last k w (until_halt k c.args.happening).0 n before now after inv.walker inv.on over at inv.shown (shown ∙ ap (λ (p : Position). now ++ shown_to w p) c.last-last.ensures.last)) c.go_to.ensures.shown
+
+pub returns-in_err-walker-clause-grown : goal.returns-in_err-walker-clause-grown
+returns-in_err-walker-clause-grown g c = err_always c.from_residual.result _ (grown_more _ _ _ (grown_by _ _ _ c.loop-above.invariant.shown) c.in_err-walker.ensures.grown)
+
+pub returns-in_err-push_record-clause-grown : goal.returns-in_err-push_record-clause-grown
+returns-in_err-push_record-clause-grown g c =
+    err_always c.from_residual-in_err-push_record.result _ (grown_more _ _ _ (grown_by _ _ _ c.loop-above.invariant.shown) (grown_by _ _ _ c.in_ok-walker.ensures.shown))
+
+pub returns-in_err-extend_from_slice-clause-grown : goal.returns-in_err-extend_from_slice-clause-grown
+returns-in_err-extend_from_slice-clause-grown g c = err_always c.from_residual-in_err-extend_from_slice.result _ (grown_by _ _ _ c.loop-above.invariant.shown)
+
+pub returns-clause-grown : goal.returns-clause-grown
+returns-clause-grown g c = err_weaker c.go_to.result _ _ (λ same. grown_more _ _ _ (grown_by _ _ _ c.loop-above.invariant.shown) (grown_same _ _ same)) c.go_to.ensures.unshown

@@ -1,4 +1,4 @@
-use Rattle.std.proofs.Common.{◌≡◌, ◌∙◌, List, Some, None, ap, subst, sym}
+use Rattle.std.proofs.Common.{◌≡◌, ◌∙◌, ◌++◌, List, Some, None, ap, subst, sym}
 use Rattle.mx_machine.specs.declared.history.Record.{Record}
 use Rattle.mx_walk.specs.declared.positions.Position.{Position}
 use Rattle.mx_walk.specs.Positions.{IsPosition, IsUpTo, event_below, next_position}
@@ -8,6 +8,8 @@ use Rattle.mx_walk.proofs.Next.{is_position_too}
 use Rattle.mx_app_look.specs.Marks.{is_looked_for}
 use Rattle.mx_app_look.proofs.Coming.{last_halt, next_is_early, no_last_halt, some_below}
 use Rattle.mx_app_look.proofs.Marked.{Marks, both_are}
+use Rattle.mx_walk.specs.Parts.{shown_to}
+use Rattle.mx_app_look.proofs.ShownMore.{back_shown, err_always, grown_by, grown_more, grown_none, grown_same, none_before}
 use Rattle.mx_app_look.proofs.searches.go_back_to_point.Goals as goal
 
 pub returns-then-not-found-clause-halt : goal.returns-then-not-found-clause-halt
@@ -72,3 +74,29 @@ returns-clause-halt g c =
     let there = c.in-Some.ensures.1 ∙ ap (λ (rs : List Record). next_position rs p) c.records.ensures ∙ ap (λ (q : Position). next_position j.records q) here in
     last_halt k s j c.in_ok-go_to-in-Some.field-0 c.in-Some.next.position _ c.in_ok-walker.ensures.same position found there c.in_ok-walker-in-Some.ensures.changes
     (ap (λ (w : Walk). w.here) c.in_ok-go_to-in-Some.ensures ∙ here)
+
+pub returns-then-not-found-clause-shown : goal.returns-then-not-found-clause-shown
+returns-then-not-found-clause-shown g c =
+    let k = c.args.walker in
+    let s = c.args.points.now in
+    let m = c.in_ok-mark.mark in
+    let same = both_are s m.one.marks.items m.other.marks.items c.in_ok-mark.ensures.bytes c.in_ok-mark.ensures.breaks in
+    let n = c.in_ok-walker.ensures.nowhere c.if-not-found.true in
+    none_before k s c.in_ok-walker.walker.here (g.P.Progress.shown c.args.progress.now) (g.P.Progress.shown c.seek_back.new.progress) n.0 (subst (λ (f : Marks). IsPassed f k.boot k.records first k.here) same n.1) c.in_ok-walker.ensures.shown
+
+pub returns-clause-shown : goal.returns-clause-shown
+returns-clause-shown g c =
+    let k = c.args.walker in
+    let s = c.args.points.now in
+    let j = c.in_ok-walker.walker in
+    let l = c.in_ok-walker-in-Some.walker in
+    let p = c.here-halt.result in
+    let m = c.in_ok-mark.mark in
+    let same = both_are s m.one.marks.items m.other.marks.items c.in_ok-mark.ensures.bytes c.in_ok-mark.ensures.breaks in
+    let found : IsLastMarked (is_looked_for s) k.boot k.records j.here k.here = subst (λ (f : Marks). IsLastMarked f k.boot k.records j.here k.here) same (c.in_ok-walker.ensures.found c.if-not-found.false) in
+    let here = c.here-halt.ensures.here in
+    let position = subst (λ (q : Position). IsPosition j.records q) here c.here-halt.ensures.position in
+    let there = c.in-Some.ensures.1 ∙ ap (λ (rs : List Record). next_position rs p) c.records.ensures ∙ ap (λ (q : Position). next_position j.records q) here in
+    let then = g.P.Progress.shown c.go_and_compare.new.progress in
+    back_shown k s j l c.in-Some.next.position (g.P.Progress.shown c.args.progress.now) (g.P.Progress.shown c.seek_back.new.progress) then (g.P.Progress.shown c.go_to.new.progress) c.in_ok-walker.ensures.same c.in_ok-walker-in-Some.ensures.walker position found there
+    c.in_ok-walker.ensures.shown c.in_ok-walker-in-Some.ensures.shown (c.in_ok-go_to-in-Some.ensures.shown ∙ ap (λ (q : Position). then ++ shown_to l q) here)

@@ -1,4 +1,4 @@
-use Rattle.std.proofs.Common.{rules, ◌≡◌, ◌∙◌, ◌<◌, All, IfErr, List, ℕ, [], inl, inr, refl, ap, subst, sym}
+use Rattle.std.proofs.Common.{rules, ◌≡◌, ◌∙◌, ◌<◌, ◌++◌, All, IfErr, List, ℕ, [], inl, inr, refl, ap, subst, sym}
 use Rattle.std.proofs.KnownBytes.{Appends-trans}
 use Rattle.std.proofs.lemmas.List.{append-nil}
 use Rattle.std.proofs.lemmas.Result.{IfErr-weaker, IfOk-weaker, err_from_is_err_and}
@@ -11,6 +11,7 @@ use Rattle.mx_walk.specs.Parts.{walk_shown}
 use Rattle.mx_walk.specs.Walks.{IsLast, Walk}
 use Rattle.mx_app_look.specs.Sessions.{begun_text}
 use Rattle.mx_app_look.proofs.Starting.{held_by_walk, is_begun}
+use Rattle.mx_app_look.proofs.ShownMore.{both_shown, grown_by, grown_none, grown_same}
 use Rattle.mx_app_look.proofs.session.look.Goals as goal
 
 pub returns-in_err-machine-clause-fault : goal.returns-in_err-machine-clause-fault
@@ -35,7 +36,7 @@ returns-in_err-walker-clause-fault g c =
     let last : IsLast (world_at_boot s.1 s.2) records h.0 = subst (λ (w : World). IsLast w records h.0) boot h.1 in
     let wanting : IfErr c.from_residual-in_err-walker.result IsWanting = search rules in
     IfErr-weaker c.from_residual-in_err-walker.result IsWanting _
-    (λ f e. (s.0, [], walk_shown records h.0, s.3, sym (append-nil (g.L.LineReader.given c.args.lines.now)), h.2, inr (s.1, s.2, records, h.0, s.4, last, refl, e))) wanting
+    (λ f e. (s.0, [], walk_shown records h.0, s.3, sym (append-nil (g.L.LineReader.given c.args.lines.now)), h.2, inr (s.1, s.2, records, h.0, s.4, last, grown_none _, e))) wanting
 
 pub returns-in_err-begin-clause-fault : goal.returns-in_err-begin-clause-fault
 returns-in_err-begin-clause-fault g c =
@@ -49,7 +50,7 @@ returns-in_err-begin-clause-fault g c =
     let p = err_from_is_err_and c.from_residual-in_err-begin.result c.from_residual-in_err-begin.ensures.1 in
     let wanting : IfErr c.from_residual-in_err-begin.result IsWanting = subst (λ r. IfErr r IsWanting) (sym p.1) (subst IsWanting (sym p.2) c.in_err-begin.ensures.err) in
     IfErr-weaker c.from_residual-in_err-begin.result IsWanting _
-    (λ f e. (s.0, [], walk_shown k.records k.last, s.3, sym (append-nil (g.L.LineReader.given c.args.lines.now)), shown, inr (s.1, s.2, records, k.last, s.4, begun.last, ap (λ (rs : List Record). walk_shown rs k.last) made.1, e))) wanting
+    (λ f e. (s.0, [], walk_shown k.records k.last, s.3, sym (append-nil (g.L.LineReader.given c.args.lines.now)), shown, inr (s.1, s.2, records, k.last, s.4, begun.last, grown_same _ _ (ap (λ (rs : List Record). walk_shown rs k.last) made.1), e))) wanting
 
 pub returns-clause-printed : goal.returns-clause-printed
 returns-clause-printed g c =
@@ -67,14 +68,15 @@ returns-clause-printed g c =
       k,
       b.0,
       b.1,
-      s.3,
       b.2,
+      s.3,
       b.3,
-      c.clear.ensures ∙ c.in_ok-walker.ensures.shown,
+      b.4,
+      both_shown _ _ _ _ _ (c.clear.ensures ∙ c.in_ok-walker.ensures.shown) b.6,
       s.4,
       begun,
-      held_by_walk c.args.asks c.begin.new.walker k c.new-2.result b.0 b.1 c.in_ok-begin.ensures.same c.new-2.ensures.breakpoints c.new-2.ensures.watches b.4,
-      Appends-trans (g.W.Write.contents c.args.out.now) (g.W.Write.contents c.begin.new.out) (g.W.Write.contents c.converse.new.out) (begun_text c.args.asks k) b.1 c.in_ok-begin.ensures.printed b.5,
+      held_by_walk c.args.asks c.begin.new.walker k c.new-2.result b.0 b.1 b.2 c.in_ok-begin.ensures.same c.new-2.ensures.breakpoints c.new-2.ensures.watches b.5,
+      Appends-trans (g.W.Write.contents c.args.out.now) (g.W.Write.contents c.begin.new.out) (g.W.Write.contents c.converse.new.out) (begun_text c.args.asks k) b.1 c.in_ok-begin.ensures.printed b.7,
     )) c.converse.ensures.printed
 
 pub returns-clause-fault : goal.returns-clause-fault
@@ -87,4 +89,5 @@ returns-clause-fault g c =
     let begun = is_begun (world_at_boot s.1 s.2) records k boot made.1 made.2 c.in_ok-walker.ensures.last in
     let shown = c.clear.ensures ∙ c.in_ok-walker.ensures.shown in
     IfErr-weaker c.converse.result _ _
-    (λ f h. (s.0, h.1.0, walk_shown k.records k.last, s.3, h.1.1, shown, inr (s.1, s.2, records, k.last, s.4, begun.last, ap (λ (rs : List Record). walk_shown rs k.last) made.1, h.0))) c.converse.ensures.err
+    (λ f h. let more = h.2 in (s.0, h.1.0, walk_shown k.records k.last ++ more.0, s.3, h.1.1, both_shown _ _ _ _ _ shown more.1,
+    inr (s.1, s.2, records, k.last, s.4, begun.last, grown_by _ _ _ (ap (λ (rs : List Record). walk_shown rs k.last ++ more.0) made.1), h.0))) c.converse.ensures.err

@@ -1,5 +1,8 @@
-use Rattle.std.proofs.Common.{◌≡◌, ap, arith}
+use Rattle.std.proofs.Common.{◌≡◌, ◌∙◌, ap, sym, arith}
 use Rattle.mx_app_look.proofs.Moving.{records_up_to}
+use Rattle.mx_walk.specs.declared.positions.Position.{Position}
+use Rattle.mx_app_look.specs.Shows.{record_shown}
+use Rattle.mx_app_look.proofs.ShownMore.{err_always, grown_by, grown_more, grown_same, then_none}
 use Rattle.mx_app_look.proofs.world_texts.push_record_above.Goals as goal
 
 pub see_record-requires-clause-there : goal.see_record-requires-clause-there
@@ -9,3 +12,20 @@ see_record-requires-clause-there g c =
     let same : p.records ≡ c.args.walker.here.records = ap (λ q. q.records) c.here-here.ensures.here in
     let there = c.requires.there in
     omega (arith, le, same, there)
+
+pub returns-clause-shown : goal.returns-clause-shown
+returns-clause-shown g c =
+    let k = c.args.walker in
+    let n = c.args.placed.above in
+    then_none k c.in_ok-walker.walker n c.here-here.result (g.P.Progress.shown c.args.progress.now) (g.P.Progress.shown c.see_record.new.progress) (g.P.Progress.shown c.go_to.new.progress) (record_shown k n c.args.placed.entry)
+    (c.requires.there ∙ ap (λ (p : Position). p.records) (sym c.here-here.ensures.here)) c.in_ok-walker.ensures.walker c.in_ok-walker.ensures.shown c.in_ok-go_to.ensures.shown
+
+pub returns-in_err-walker-clause-grown : goal.returns-in_err-walker-clause-grown
+returns-in_err-walker-clause-grown g c = err_always c.from_residual.result _ c.in_err-walker.ensures.grown
+
+pub returns-in_err-push_record-clause-grown : goal.returns-in_err-push_record-clause-grown
+returns-in_err-push_record-clause-grown g c = err_always c.from_residual-in_err-push_record.result _ (grown_by _ _ _ c.in_ok-walker.ensures.shown)
+
+pub returns-in_err-go_to-clause-grown : goal.returns-in_err-go_to-clause-grown
+returns-in_err-go_to-clause-grown g c =
+    err_always c.from_residual-in_err-go_to.result _ (grown_more _ _ _ (grown_by _ _ _ c.in_ok-walker.ensures.shown) (grown_same _ _ c.in_err-go_to.ensures.unshown))

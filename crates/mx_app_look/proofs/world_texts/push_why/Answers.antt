@@ -1,10 +1,12 @@
-use Rattle.std.proofs.Common.{◌≡◌, ◌∙◌, ◌-◌, ◌++◌, ◌≤◌, ◌<◌, ℕ, suc, List, length, get_or, Some, OnOk, slice_get, ap, subst, sym, arith}
+use Rattle.std.proofs.Common.{◌≡◌, ◌∙◌, ◌-◌, ◌+◌, ◌++◌, ◌≤◌, ◌<◌, ℕ, suc, List, length, get_or, Some, OnOk, slice_get, ap, subst, sym, arith}
 use Rattle.mx_machine.specs.declared.history.Record.{Record}
 use Rattle.mx_look_trace.specs.Trace.{record_text}
 use Rattle.mx_app_look.specs.Above.{step_above, why_text}
+use Rattle.mx_walk.specs.declared.progress.Part.{Part}
 use Rattle.mx_walk.specs.Walks.{Walk}
 use Rattle.mx_app_look.proofs.Moving.{read_is}
 use Rattle.mx_app_look.proofs.WhyTexts.{why_is}
+use Rattle.mx_app_look.proofs.ShownMore.{boot_shown, err_always, grown_none, shown_is_read}
 use Rattle.mx_app_look.proofs.world_texts.push_why.Goals as goal
 
 -- what was read at this index of these records
@@ -24,3 +26,20 @@ returns-clause-text g c =
     let few : n ≤ length k.records = c.here-here.ensures.position.above in
     subst (λ t. OnOk c.push_record_above.result (c.push_record_above.new.out.items ≡ c.args.out.now.items ++ t))
     (sym (text_is k c.records.result.now n _ c.records.ensures c.if-here-eq0.false here (omega (arith, here, few)))) c.push_record_above.ensures.text
+
+pub push_record_above-requires-clause-there : goal.push_record_above-requires-clause-there
+push_record_above-requires-clause-there g c =
+    let n = c.here-here.result.records in
+    let here : n ≡ c.args.walker.here.records = ap (λ p. p.records) c.here-here.ensures.here in
+    let some = c.if-here-eq0.false in
+    omega (arith, here, some)
+
+pub returns-clause-shown : goal.returns-clause-shown
+returns-clause-shown g c =
+    let k = c.args.walker in
+    let n = c.here-here.result.records in
+    let here : n ≡ k.here.records = ap (λ p. p.records) c.here-here.ensures.here in
+    let few : n ≤ length k.records = c.here-here.ensures.position.above in
+    let before = g.P.Progress.shown c.args.progress.now in
+    subst (λ (ps : List Part). OnOk c.push_record_above.result (g.P.Progress.shown c.push_record_above.new.progress ≡ before ++ ps))
+    (sym (shown_is_read k c.records.result.now n _ c.records.ensures c.if-here-eq0.false here (omega (arith, here, few)))) c.push_record_above.ensures.shown
