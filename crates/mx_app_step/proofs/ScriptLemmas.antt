@@ -26,7 +26,7 @@ numbered_told : {P : Type 0} (o n : ℕ) (ls : List ScriptLine) (d : Driven P) �
 numbered_told o n [] d = refl
 numbered_told o n (l ∷ ls) d =
     let s = (line_made d.world o l).0 in
-    ap (λ (t : List ℕ). t ++ lines_told (script_does o) (script_tells o) true (n + 1) (script_does o d l) ls) (append_assoc (decimal n) (codes ": ") (said_line s ++ codes "\n"))
+    ap (λ (t : List ℕ). t ++ lines_told (script_does o) (script_tells o) true (n + 1) (script_does o d l) ls) (sym (append_assoc (decimal n ++ codes ": ") (said_line s) (codes "\n")))
     ∙ ap (λ (t : List ℕ). numbered_line n s ++ t) (numbered_told o (n + 1) ls (script_does o d l))
 
 plain_told : {P : Type 0} (o n : ℕ) (ls : List ScriptLine) (d : Driven P) → lines_told (script_does o) (script_tells o) false n d ls ≡ said_lines (lines_made d.world o ls).0
