@@ -89,5 +89,12 @@ returns-clause-fault g c =
     let begun = is_begun (world_at_boot s.1 s.2) records k boot made.1 made.2 c.in_ok-walker.ensures.last in
     let shown = c.clear.ensures ∙ c.in_ok-walker.ensures.shown in
     IfErr-weaker c.converse.result _ _
-    (λ f h. let more = h.2 in (s.0, h.1.0, walk_shown k.records k.last ++ more.0, s.3, h.1.1, both_shown _ _ _ _ _ shown more.1,
-    inr (s.1, s.2, records, k.last, s.4, begun.last, grown_by _ _ _ (ap (λ (rs : List Record). walk_shown rs k.last ++ more.0) made.1), h.0))) c.converse.ensures.err
+    (λ f h. let more = h.2 in (
+      s.0,
+      h.1.0,
+      walk_shown k.records k.last ++ more.0,
+      s.3,
+      h.1.1,
+      both_shown _ _ _ _ _ shown more.1,
+      inr (s.1, s.2, records, k.last, s.4, begun.last, grown_by _ _ _ (ap (λ (rs : List Record). walk_shown rs k.last ++ more.0) made.1), h.0),
+    )) c.converse.ensures.err
