@@ -3,7 +3,7 @@ use Rattle.std.specs.Prelude.{ℕ, zero, suc, List, [], ◌∷◌, ◌++◌, cod
 use Rattle.mx_app_db.specs.declared.script.DebugLine.{DebugLine}
 use Rattle.mx_app_db.specs.declared.script.DebugLine.TheVariants.{Plain, Break, Clear, Go, Show}
 use Rattle.mx_machine.specs.declared.events.Refusal.TheVariants.{AtStop, CpuEmpty}
-use Rattle.mx_machine.specs.World.{World, HeldProcess, held_by}
+use Rattle.mx_machine.specs.World.{HeldProcess, held_by}
 use Rattle.mx_app_step.specs.Lines.{line_made}
 use Rattle.mx_print_answers.specs.Breakpoint.{Breakpoint}
 use Rattle.mx_print_answers.specs.Halts.{held_after, cause_of, is_reached, steps_to_halt}

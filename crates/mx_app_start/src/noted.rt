@@ -6,7 +6,7 @@ ghost use Rattle.std.specs.Borrow.{ftrue};
 use std::marker::{Model, PhantomData};
 
 /// Values as clauses see them, in the order in which they were noted. It has no bytes and owns
-/// nothing, and the values themselves may change or go.
+/// nothing, so any thread may have it, and the values themselves may change or go.
 #[derive(Drop)]
 pub struct Noted<T> {
     marker: PhantomData<T>,
@@ -37,3 +37,7 @@ impl<T> Noted<T> {
         }
     }
 }
+
+unsafe impl<T> Send for Noted<T> {}
+
+unsafe impl<T> Sync for Noted<T> {}

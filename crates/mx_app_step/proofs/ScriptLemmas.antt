@@ -9,7 +9,7 @@ use Rattle.mx_boot.specs.declared.scripts.ScriptLine.{ScriptLine}
 use Rattle.mx_machine.specs.World.{World}
 use Rattle.mx_print_answers.specs.Said.{said_line, said_lines}
 use Rattle.mx_app_step.specs.Driving.{Driven, driven, lines_done, lines_told}
-use Rattle.mx_app_step.specs.Kept.{event_of_line, kept_by, lines_kept}
+use Rattle.mx_app_step.specs.Kept.{lines_kept}
 use Rattle.mx_app_step.specs.Lines.{line_made, lines_made}
 use Rattle.mx_app_step.specs.Numbered.{answers_text, numbered_line, numbered_lines}
 use Rattle.mx_app_step.specs.Performed.{script_does, script_tells}

@@ -193,12 +193,12 @@ pub fn drive_with<M: Naming + Send + Sync, G: WatchingGate + Sync, R: Threads + 
 ) -> Result<Vec<ActorSeat>, NoMemory>
     requires tables { All (λ s. s.table ≡ M.table) seats.items }
     requires empties { All (λ s. s.held ≡ None) seats.items }
-    ensures driven { IfOk result (λ v.
-        AreDrivenWith (length M.boot.cpus) outside.ticks outside.calls.now
-        seats.items v.items) }
+    ensures driven { IfOk result (λ v. AreDrivenWith (length M.boot.cpus) outside.entry.ticks
+        outside.entry.calls.now seats.items v.items) }
     ensures served { IfOk result (λ v. AreServedWith M.boot (G.was_called gate.now)
-        (length M.boot.cpus) outside.ticks outside.calls.now seats.items v.items) }
-    ensures told { All (λ s. IsEndTold (role_of s.actor (length M.boot.cpus) outside.calls.now)
+        (length M.boot.cpus) outside.entry.ticks outside.entry.calls.now seats.items v.items) }
+    ensures told { All (λ s. IsEndTold
+        (role_of s.actor (length M.boot.cpus) outside.entry.calls.now)
         (G.was_called gate.now) s) seats.items }
     ensures tables { IfOk result (λ v. All (λ s. s.table ≡ M.table) v.items) }
 {

@@ -2,7 +2,6 @@ use Rattle.std.proofs.Common.{◌∙◌, ◌+◌, ◌++◌, [], List, ℕ, ap, a
 use Rattle.std.proofs.KnownBytes.{Appends-nil}
 use Rattle.std.proofs.lemmas.List.{append-nil}
 use Rattle.std.specs.Prelude.{string_bytes}
-use Rattle.mx_app_start.specs.Machine.{world_of}
 use Rattle.mx_app_step.specs.Driving.{driven, lines_told, number_text}
 use Rattle.mx_app_step.specs.Pieces.{IsPrintedBut}
 use Rattle.mx_app_step.proofs.DrivingLemmas.{next_done, next_told}

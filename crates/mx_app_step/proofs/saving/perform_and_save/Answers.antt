@@ -1,7 +1,8 @@
-use Rattle.std.proofs.Common.{[], ◌∷◌, ◌++◌, ap, inl, inr, subst, List, ℕ, ◌∙◌, ◌≡◌}
-use Rattle.std.proofs.lemmas.Result.{err_from_is_err_and, on_ok_weaker}
+use Rattle.std.proofs.Common.{[], ◌∷◌, ◌++◌, ap, inl, inr, refl, subst, List, ℕ, ◌∙◌, ◌≡◌}
+use Rattle.std.proofs.lemmas.Result.{IfErr-weaker, err_from_is_err_and, on_ok_weaker}
 use Rattle.std.specs.Io.KnownBytes.{Appends}
 use Rattle.mx_app_failure.specs.declared.failure.Failure.{Failure}
+use Rattle.mx_app_start.specs.Failure.{IsWanting}
 use Rattle.mx_app_start.specs.Machine.{world_of}
 use Rattle.mx_app_start.specs.Report.{report_text}
 use Rattle.mx_app_start.specs.Telling.{IsUnsaved}
@@ -52,3 +53,13 @@ returns-in_err-write_history-clause-unsaved g c =
     let h = c.in_err-write_history.ensures.unwritten in
     let why = unsaved c.args.log.now _ h.0 _ (subst (λ (k : BootAndHistory). IsUnwritten c.args.log.now (text_kept k) h.0 c.in_err-write_history.field-0.0) kernel h.2) in
     rw (p.1, p.2) (h.0, h.1, why)
+
+pub returns-clause-unsaved : goal.returns-clause-unsaved
+returns-clause-unsaved g c =
+    let m = c.args.started.now.machine in
+    let other = c.args.started.now.other in
+    let items = ap (lines_kept m.kernel (world_of m) other) c.as_slice.ensures.value in
+    let kernel = c.kernel.ensures ∙ script_kept m c.print_said.new.machine _ _ other c.as_slice.result.now c.in_ok-print_said.ensures.done ∙ items in
+    let written = c.in_ok-write_history.ensures.written ∙ ap (λ (k : BootAndHistory). g.F.FileWriter.written c.args.files.now ++ kept c.args.log.now (text_kept k) ∷ []) kernel in
+    let text = text_kept (lines_kept m.kernel (world_of m) other c.args.started.now.lines.items) in
+    IfErr-weaker c.print_report.result IsWanting _ (λ f h. (kept c.args.log.now text ∷ [], written, inr (inr (refl, h)))) c.print_report.ensures.err

@@ -1,7 +1,6 @@
 use Rattle.std.proofs.lemmas.Result.{on_ok_weaker}
-use Rattle.mx_app_step.specs.Machine.{world_of}
 use Rattle.mx_app_db.proofs.Made.{performed}
-use Rattle.mx_app_db.proofs.lines.DebugPerformer.perform.Goals as goal
+use Rattle.mx_app_db.proofs.lines.DebugPerformerPerforms.perform.Goals as goal
 
 pub returns-clause-done : goal.returns-clause-done
 returns-clause-done c =
