@@ -1,5 +1,5 @@
 -- What requests show.
-use Rattle.std.proofs.Common.{◌≡◌, ◌∙◌, ◌≤◌, ◌<◌, ℕ, suc, ◌+◌, ◌-◌, eqb, leb, ltb, cond, Bool, true, false, List, [], ◌∷◌, ◌++◌, append_assoc, Option, Some, None, Result, Ok, Err, IfErr, IfOk, OnOk, drop, find, get_or, length, map, slice_get, refl, ap, sym, subst, inl, inr, arith}
+use Rattle.std.proofs.Common.{◌≡◌, ◌∙◌, ◌⊎◌, ◌≤◌, ◌<◌, ℕ, suc, ◌+◌, ◌-◌, eqb, leb, ltb, cond, Bool, true, false, List, [], ◌∷◌, ◌++◌, append_assoc, Option, Some, None, Result, Ok, Err, IfErr, IfOk, OnOk, drop, find, get_or, length, map, slice_get, refl, ap, sym, subst, inl, inr, arith}
 use Rattle.std.specs.List.{range_with_len}
 use Rattle.std.proofs.lemmas.Bool.{cases_lt, eq-eqb, le-leb, lt-ltb, ne_eqb}
 use Rattle.std.proofs.lemmas.List.{append-nil}
@@ -40,6 +40,10 @@ grown_same before after e = ([], e ∙ sym (append-nil before))
 
 pub grown_by : (before after ps : List Part) → after ≡ before ++ ps → HasGrown before after
 grown_by before after ps e = (ps, e)
+
+pub grown_either : (before after ps : List Part) → (after ≡ before) ⊎ (after ≡ before ++ ps) → HasGrown before after
+grown_either before after ps (inl e) = grown_same before after e
+grown_either before after ps (inr e) = (ps, e)
 
 pub grown_more : (before now after : List Part) → HasGrown before now → HasGrown now after → HasGrown before after
 grown_more before now after a b = (a.0 ++ b.0, b.1 ∙ ap (λ (xs : List Part). xs ++ b.0) a.1 ∙ append_assoc before a.0 b.0)
@@ -200,13 +204,13 @@ shown_until_here k u w p n before after there halts on a =
     until_shown k p (n + 1) before after (subst (λ (q : Position). IsUpTo k.here q) at on.later) (ap (λ (q : Position). q.records) (sym at) ∙ on.place) a
 
 -- to the last position
-pub halts_last : (k : Walk) (h : Happening) (n : ℕ) → (n < k.last.records → ⊥) → met_from k h n ≡ met k h → (until_halt k h).0 ≡ k.last
+pub halts_last : (k : Walk) (h : Happening) (n : ℕ) → k.last.records ≤ n → met_from k h n ≡ met k h → (until_halt k h).0 ≡ k.last
 halts_last k h n over none =
     let left : k.last.records - n ≡ 0 = omega (arith, over) in
     let nothing : met_from k h n ≡ None = ap (λ m. find (has k h) (range_with_len n m)) left in
     ap (λ (o : Option ℕ). (halt_below k o).0) (sym none ∙ nothing)
 
-pub shown_until_last : (k w : Walk) (p : Position) (n : ℕ) (before now after : List Part) → w ≡ gone k w.here → On k w n → (n < k.last.records → ⊥) → p ≡ k.last
+pub shown_until_last : (k w : Walk) (p : Position) (n : ℕ) (before now after : List Part) → w ≡ gone k w.here → On k w n → k.last.records ≤ n → p ≡ k.last
     → now ≡ before ++ parts_between (length k.records) k.here.records n → after ≡ now ++ shown_to w k.last → after ≡ before ++ shown_to k p
 shown_until_last k w p n before now after moved on over at a b =
     let le = records_up_to w.here k.last on.late in

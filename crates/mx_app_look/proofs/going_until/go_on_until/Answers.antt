@@ -57,12 +57,12 @@ loop-above-preserved g c =
 pub loop-above-init : goal.loop-above-init
 loop-above-init g c =
     let k = c.args.walker in
-    let same : c.here.result.records ≡ k.here.records = ap (λ (p : Position). p.records) c.here.ensures.here in
+    let same : c.here-from.result.records ≡ k.here.records = ap (λ (p : Position). p.records) c.here-from.ensures.here in
     record {
       walker = refl;
       none = ap (λ n. met_from k c.args.happening n) same;
       nothing = refl;
-      on = on_here k c.here.result.records same (subst (λ (p : Position). IsPosition k.records p) c.here.ensures.here c.here.ensures.position) (subst (λ (p : Position). IsUpTo p k.last) c.here.ensures.here c.here.ensures.early);
+      on = on_here k c.here-from.result.records same (subst (λ (p : Position). IsPosition k.records p) c.here-from.ensures.here c.here-from.ensures.position) (subst (λ (p : Position). IsUpTo p k.last) c.here-from.ensures.here c.here-from.ensures.early);
       shown = none_between (length k.records) k.here.records (g.P.Progress.shown c.args.progress.now) ∙ ap (λ n. g.P.Progress.shown c.args.progress.now ++ parts_between (length k.records) k.here.records n) (sym same);
     }
 
@@ -92,7 +92,7 @@ returns-clause-shown g c =
     let before = g.P.Progress.shown c.args.progress.now in
     let now = g.P.Progress.shown c.loop-above.progress in
     let after = g.P.Progress.shown c.go_to.new.progress in
-    let over : n < k.last.records → ⊥ = λ lt. c.loop-above-test.false (subst (λ (p : Position). n < p.records) (sym c.last-last.ensures.last) lt) in
+    let over : k.last.records ≤ n = subst (λ (p : Position). p.records ≤ n) c.last-last.ensures.last c.loop-above-test.false in
     let at : (until_halt k c.args.happening).0 ≡ k.last = halts_last k c.args.happening n over inv.none in
     ok_weaker c.go_to.result _ _ (λ (shown : after ≡ now ++ shown_to w c.last-last.result).
     shown_until_last k w (until_halt k c.args.happening).0 n before now after inv.walker inv.on over at inv.shown (shown ∙ ap (λ (p : Position). now ++ shown_to w p) c.last-last.ensures.last)) c.go_to.ensures.shown

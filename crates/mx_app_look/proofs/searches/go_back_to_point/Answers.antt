@@ -9,7 +9,7 @@ use Rattle.mx_app_look.specs.Marks.{is_looked_for}
 use Rattle.mx_app_look.proofs.Coming.{last_halt, next_is_early, no_last_halt, some_below}
 use Rattle.mx_app_look.proofs.Marked.{Marks, both_are}
 use Rattle.mx_walk.specs.Parts.{shown_to}
-use Rattle.mx_app_look.proofs.ShownMore.{back_shown, err_always, grown_by, grown_more, grown_none, grown_same, none_before}
+use Rattle.mx_app_look.proofs.ShownMore.{back_shown, err_always, grown_by, grown_either, grown_more, none_before}
 use Rattle.mx_app_look.proofs.searches.go_back_to_point.Goals as goal
 
 pub returns-then-not-found-clause-halt : goal.returns-then-not-found-clause-halt
@@ -73,7 +73,7 @@ returns-clause-halt g c =
     let position = subst (λ (q : Position). IsPosition j.records q) here c.here-halt.ensures.position in
     let there = c.in-Some.ensures.1 ∙ ap (λ (rs : List Record). next_position rs p) c.records.ensures ∙ ap (λ (q : Position). next_position j.records q) here in
     last_halt k s j c.in_ok-go_to-in-Some.field-0 c.in-Some.next.position _ c.in_ok-walker.ensures.same position found there c.in_ok-walker-in-Some.ensures.changes
-    (ap (λ (w : Walk). w.here) c.in_ok-go_to-in-Some.ensures ∙ here)
+    (ap (λ (w : Walk). w.here) c.in_ok-go_to-in-Some.ensures.gone ∙ here)
 
 pub returns-then-not-found-clause-shown : goal.returns-then-not-found-clause-shown
 returns-then-not-found-clause-shown g c =
@@ -100,3 +100,10 @@ returns-clause-shown g c =
     let then = g.P.Progress.shown c.go_and_compare.new.progress in
     back_shown k s j l c.in-Some.next.position (g.P.Progress.shown c.args.progress.now) (g.P.Progress.shown c.seek_back.new.progress) then (g.P.Progress.shown c.go_to.new.progress) c.in_ok-walker.ensures.same c.in_ok-walker-in-Some.ensures.walker position found there
     c.in_ok-walker.ensures.shown c.in_ok-walker-in-Some.ensures.shown (c.in_ok-go_to-in-Some.ensures.shown ∙ ap (λ (q : Position). then ++ shown_to l q) here)
+
+pub returns-in_err-walker-clause-grown : goal.returns-in_err-walker-clause-grown
+returns-in_err-walker-clause-grown g c = err_always c.from_residual-in_err-walker.result _ (grown_either _ _ _ c.in_err-walker.ensures.unshown)
+
+pub returns-in_err-walker-in-Some-clause-grown : goal.returns-in_err-walker-in-Some-clause-grown
+returns-in_err-walker-in-Some-clause-grown g c =
+    err_always c.from_residual-in_err-walker-in-Some.result _ (grown_more _ _ _ (grown_by _ _ _ c.in_ok-walker.ensures.shown) c.in_err-walker-in-Some.ensures.grown)
