@@ -4,7 +4,7 @@ ghost use Rattle.std.specs.Prelude.{◌≡◌, true, IfOk, IfErr};
 ghost use Rattle.mx_text.specs.Fields.{fields};
 ghost use Rattle.mx_text.specs.Lines.{lines};
 ghost use Rattle.mx_boot.specs.Reading.{AreLinesRead, TellsUnread};
-ghost use Rattle.mx_app_db.specs.DebugScript.{are_apart, debug_line, debug_line_of, own_line_of, own_words, break_asked, clear_asked, go_asked, look_asked, slot_and_place};
+ghost use Rattle.mx_app_db.specs.DebugScript.{are_apart, debug_line, own_line_of, own_words, break_asked, clear_asked, go_asked, look_asked, slot_and_place};
 
 use crate::looks::{Look, look_of};
 use mx_app_start::Course;

@@ -2,6 +2,7 @@ use Rattle.std.proofs.Common.{◌≡◌, ◌∙◌, ◌<◌, ◌≤◌, ◌++◌
 use Rattle.mx_walk.specs.declared.positions.Position.{Position}
 use Rattle.mx_walk.specs.Positions.{IsPosition, IsUpTo}
 use Rattle.mx_walk.specs.Walks.{Walk}
+use Rattle.mx_walk.proofs.Along.{any_record}
 use Rattle.mx_walk.proofs.PartsShown.{none_between}
 use Rattle.mx_app_look.proofs.Meeting.{goes_by, goes_on, halts_here, appends_it}
 use Rattle.mx_walk.specs.Parts.{parts_between, shown_to}
@@ -48,7 +49,7 @@ loop-above-preserved g c =
       none = goes_by k c.loop-above.walker c.args.happening c.records.result.now c.loop-above.above _ c.see_record.new.step inv.walker c.records.ensures lt few
           c.in_ok-walker.ensures.step inv.none (sym c.happens.ensures ∙ c.if-happens.false);
       nothing = inv.nothing;
-      on = on_one_more k c.loop-above.walker c.records.result.now c.loop-above.above _ inv.walker c.records.ensures lt few inv.on c.in_ok-walker.walker c.in_ok-walker.ensures.walker;
+      on = on_one_more k c.loop-above.walker c.records.result.now c.loop-above.above any_record inv.walker c.records.ensures lt few inv.on c.in_ok-walker.walker c.in_ok-walker.ensures.walker;
       shown = passed_one k c.loop-above.walker c.records.result.now c.loop-above.above _ inv.walker c.records.ensures lt few inv.on (g.P.Progress.shown c.args.progress.now) (g.P.Progress.shown c.loop-above.progress) (g.P.Progress.shown c.see_record.new.progress)
           inv.shown c.in_ok-walker.ensures.shown;
     }
@@ -80,7 +81,7 @@ returns-then-happens-clause-shown g c =
     let before = g.P.Progress.shown c.args.progress.now in
     let after = g.P.Progress.shown c.see_record.new.progress in
     let a = passed_one k w rs n _ inv.walker c.records.ensures lt few inv.on before (g.P.Progress.shown c.loop-above.progress) after inv.shown c.in_ok-walker.ensures.shown in
-    shown_until_here k u w (until_halt k c.args.happening).0 n before after there halts (on_one_more k w rs n _ inv.walker c.records.ensures lt few inv.on u there) a
+    shown_until_here k u w (until_halt k c.args.happening).0 n before after there halts (on_one_more k w rs n any_record inv.walker c.records.ensures lt few inv.on u there) a
 
 pub returns-clause-shown : goal.returns-clause-shown
 returns-clause-shown g c =
