@@ -1,5 +1,5 @@
 -- What is done of a command line with a file of sums, from what its parts do.
-use Rattle.std.proofs.Common.{◌≡◌, ◌⊎◌, ◌∙◌, ◌++◌, ap, append_assoc, Bool, List, [], ◌∷◌, Option, None, Some, Result, Ok, Err, false, true, inl, inr, refl, subst, sym}
+use Rattle.std.proofs.Common.{◌≡◌, ◌⊎◌, ◌∙◌, ◌++◌, ap, append_assoc, Bool, List, [], ◌∷◌, Option, Some, Result, Ok, Err, false, true, inl, inr, refl, subst, sym}
 use Rattle.std.specs.Prelude.{ℕ}
 use Rattle.std.specs.Io.KnownBytes.{Appends}
 use Rattle.std.proofs.lemmas.List.{append-nil}

@@ -39,12 +39,12 @@ returns-in-Run-clause-done g c =
 pub returns-in-Turns-clause-done : goal.returns-in-Turns-clause-done
 returns-in-Turns-clause-done g c =
     as_typed _ _ _ _ _ _ _ _ _ _ _ _ _ c.in-Turns.is
-    (turned _ _ _ _ _ _ c.in-Turns.config.now c.in-Turns.log.now (option_map (λ s. s.now) c.in-Turns.events) c.in-Turns.ticks c.in-Turns.bound _ _ c.turns.result c.done_after_turns-in-Turns.result c.turns.ensures c.done_after_turns-in-Turns.ensures)
+    (turned _ _ _ _ _ _ c.in-Turns.config.now c.in-Turns.log.now (option_map (λ s. s.now) c.in-Turns.events) c.in-Turns.ticks c.in-Turns.bound _ _ c.turns-ending.result c.done_after_turns-in-Turns.result c.turns-ending.ensures c.done_after_turns-in-Turns.ensures)
 
 pub returns-in-Sweep-clause-done : goal.returns-in-Sweep-clause-done
 returns-in-Sweep-clause-done g c =
     as_typed _ _ _ _ _ _ _ _ _ _ _ _ _ c.in-Sweep.is
-    (swept _ _ _ _ _ _ c.in-Sweep.config.now c.in-Sweep.log.now c.in-Sweep.fault.now (option_map (λ s. s.now) c.in-Sweep.save) c.in-Sweep.from c.in-Sweep.to c.in-Sweep.bound c.in-Sweep.strict _ _ c.sweep.result c.done_after_sweep.result c.sweep.ensures c.done_after_sweep.ensures)
+    (swept _ _ _ _ _ _ c.in-Sweep.config.now c.in-Sweep.log.now c.in-Sweep.fault.now (option_map (λ s. s.now) c.in-Sweep.save) c.in-Sweep.from c.in-Sweep.to c.in-Sweep.bound c.in-Sweep.strict _ _ c.sweep-swept.result c.done_after_sweep.result c.sweep-swept.ensures c.done_after_sweep.ensures)
 
 pub returns-in-Replay-clause-done : goal.returns-in-Replay-clause-done
 returns-in-Replay-clause-done g c = as_asked c.args.io.now.asks _ _ _ _ _ _ _ _ c.in-Replay.is (replays _ _ _ c.in-Replay.config.now c.in-Replay.log.now _ _ c.replay.result c.done_after_replay.result c.replay.ensures.printed c.replay.ensures.fault c.done_after_replay.ensures)
