@@ -11,8 +11,9 @@
 //! The outsider asks once after its last call, and then its loop ends. So the end of a loop that has asked is the end of
 //! the calls, and the end of one that hasn't is the end of the run: no thread could be made, or the history is full.
 
-use mx_app_start::{Part, SharedProgress};
+use mx_app_start::SharedProgress;
 use mx_cpus::{Gate, WatchingGate};
+use mx_walk::Part;
 use std::sync::atomic::{AtomicBool, AtomicU32, Ordering};
 use std::time::{Clock, Duration};
 use std::{array, thread};
