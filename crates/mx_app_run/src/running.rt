@@ -10,7 +10,9 @@ ghost use Rattle.mx_app_run.specs.Run.{EndsDriven, IsCalled, IsNotCalled, IsRun,
 use crate::calls::{outside_calls, ticks_of};
 use crate::gate::{RunGate, RunPlan};
 use mx_app_failure::Failure;
-use mx_app_start::{Channels, FileWriter, Reader, SharedProgress, names_program, setup_of, text_of};
+use mx_app_start::{
+    Channels, FileWriter, Reader, SharedProgress, names_program, setup_of, text_of,
+};
 use mx_app_step::{print_kernel_report, write_history};
 use mx_app_turns::writes_over;
 use mx_cpus::{ActorSeat, Blank, Naming, Outside, OutsideCall, Shared, boot, drive_with};

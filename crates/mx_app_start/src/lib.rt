@@ -23,6 +23,7 @@ pub use course::{Course, History, Script};
 pub use lines::{InputLines, LineReader};
 pub use memory::{KeptFile, MemoryWriter};
 pub use mx_app_failure::Failure;
+pub use mx_walk::{Part, Progress};
 pub use named::{NamedFile, NamedFiles};
 pub use programs::names_program;
 pub use progress::{NoProgress, RuntimeProgress, SharedProgress};
