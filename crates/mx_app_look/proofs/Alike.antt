@@ -1,11 +1,13 @@
 -- A session has one text.
-use Rattle.std.proofs.Common.{◌≡◌, ◌∙◌, ℕ, Bool, true, false, List, [], ◌∷◌, ◌++◌, Option, Some, None, inl, inr, ap, ap₂, sym, subst}
+use Rattle.std.proofs.Common.{◌≡◌, ◌∙◌, ◌⊎◌, ◌==◌, ◌&&◌, ℕ, zero, suc, cond, refl, Bool, true, false, List, [], ◌∷◌, ◌++◌, Option, Some, None, inl, inr, ap, ap₂, sym, subst}
 use Rattle.mx_app_look.specs.declared.request.Request.{Request}
 use Rattle.mx_app_look.specs.declared.request.Request.TheVariants.{Nothing, Forward, Back, Step, StepBack, GoTo, Point, Continue, Reverse, Until, Where, Why, Processes, Messages, Show, Help, Quit}
 use Rattle.mx_app_look.specs.Requests.{request_of}
 use Rattle.mx_app_look.proofs.Halting.{one_last_halt, one_next_halt}
 use Rattle.mx_walk.specs.declared.positions.Position.{Position}
-use Rattle.mx_walk.specs.Positions.{IsPosition}
+use Rattle.mx_walk.specs.Positions.{IsPosition, is_up_to, next_position, position_before}
+use Rattle.mx_walk.specs.Walks.{Walk}
+use Rattle.mx_app_look.specs.Moves.{steps_back, steps_on}
 use Rattle.mx_app_look.specs.declared.sight.Sight.{Sight}
 use Rattle.mx_app_look.specs.Answers.{IsMade}
 use Rattle.mx_app_look.specs.Places.{place_text}
@@ -33,12 +35,28 @@ texts_of asks s (Some l ∷ xs) t ps (inr a) = let p = a.1 in inr (a.0, (p.0, p.
 abbrev pub bare : Sight → Sight
 bare s = record s { walker = unmarked s.walker }
 
+steps_on_bare : (n : ℕ) (k : Walk) (p : Position) → steps_on n k p ≡ steps_on n (unmarked k) p
+steps_on_bare zero k p = refl
+steps_on_bare (suc n) k p = ap (λ (q : Position). let r : Position = cond (is_up_to k.last p) p q in r) (steps_on_bare n k (next_position k.records p))
+
+steps_back_bare : (n : ℕ) (k : Walk) (p : Position) → steps_back n k p ≡ steps_back n (unmarked k) p
+steps_back_bare zero k p = refl
+steps_back_bare (suc n) k p = ap (λ (q : Position). let r : Position = cond ((p.records == 0) && (p.steps == 0)) p q in r) (steps_back_bare n k (position_before k.records p))
+
+abbrev bare_gone : Sight → Position → Sight
+bare_gone s p = record (bare s) { walker = record (unmarked s.walker) { here = p } }
+
 bare_made : (s u : Sight) (q : Request) (t : List ℕ) → IsMade s q u t → IsMade (bare s) q (bare u) t
+unfolding place_text
 bare_made s u Nothing t a = (ap bare a.0, a.1)
 bare_made s u (Forward n) t a = (ap bare a.0, a.1)
 bare_made s u (Back n) t a = (ap bare a.0, a.1)
-bare_made s u (Step n) t a = (ap bare a.0, a.1)
-bare_made s u (StepBack n) t a = (ap bare a.0, a.1)
+bare_made s u (Step n) t a =
+    let e = steps_on_bare n s.walker s.walker.here in
+    (ap bare a.0 ∙ ap (λ (p : Position). bare_gone s p) e, a.1 ∙ ap (λ (p : Position). place_text (bare_gone s p).walker) e)
+bare_made s u (StepBack n) t a =
+    let e = steps_back_bare n s.walker s.walker.here in
+    (ap bare a.0 ∙ ap (λ (p : Position). bare_gone s p) e, a.1 ∙ ap (λ (p : Position). place_text (bare_gone s p).walker) e)
 bare_made s u (GoTo p) t a = (ap bare a.0, a.1)
 bare_made s u (Point p) t a = (ap bare a.0, a.1)
 bare_made s u Continue t a = let h = a.2 in (a.0, a.1, (ap bare h.0, h.1))

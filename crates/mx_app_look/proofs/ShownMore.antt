@@ -17,7 +17,7 @@ use Rattle.mx_walk.proofs.Next.{world_next}
 use Rattle.mx_walk.proofs.PartsShown.{joined}
 use Rattle.mx_app_look.specs.declared.points.Points.{Points}
 use Rattle.mx_app_look.specs.declared.request.Request.{Request}
-use Rattle.mx_app_look.specs.declared.request.Request.TheVariants.{Why}
+use Rattle.mx_app_look.specs.declared.request.Request.TheVariants.{Nothing, Quit, Why}
 use Rattle.mx_app_look.specs.declared.sight.Sight.{Sight}
 use Rattle.mx_app_look.specs.Above.{record_above}
 use Rattle.mx_app_look.specs.Marks.{changes_watched, is_looked_for}
@@ -338,3 +338,7 @@ pub stayed_shown : {A E : Type 0} (r : Result A E) (s : Sight) (q p : Request) (
 stayed_shown r s q p before is h =
     ok_always r (Shows before before (λ ps. IsRequestShown s q ps))
     (shown_to s.walker s.walker.here, stays_shown s.walker before, subst (λ (x : Request). IsRequestShown s x (shown_to s.walker s.walker.here)) (sym is) h)
+
+pub nothing_shown : {A E : Type 0} (r : Result A E) (s : Sight) (q : Request) (before : List Part) → (q ≡ Nothing) ⊎ (q ≡ Quit) → OnOk r (Shows before before (λ ps. IsRequestShown s q ps))
+nothing_shown r s q before (inl e) = stayed_shown r s q Nothing before e refl
+nothing_shown r s q before (inr e) = stayed_shown r s q Quit before e refl

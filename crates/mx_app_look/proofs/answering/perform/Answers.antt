@@ -7,7 +7,7 @@ use Rattle.mx_app_look.proofs.Halted.{both_hold}
 use Rattle.mx_walk.specs.declared.positions.Position.{Position}
 use Rattle.mx_walk.specs.Parts.{shown_to}
 use Rattle.mx_app_look.specs.Answers.{to_of}
-use Rattle.mx_app_look.proofs.ShownMore.{asked_shown, err_always, grown_none, moved_shown, stayed_shown, why_asked}
+use Rattle.mx_app_look.proofs.ShownMore.{asked_shown, err_always, grown_none, moved_shown, nothing_shown, stayed_shown, why_asked}
 use Rattle.mx_app_look.proofs.answering.perform.Goals as goal
 
 pub returns-in-Help-clause-made : goal.returns-in-Help-clause-made
@@ -92,3 +92,6 @@ returns-in-Help-clause-shown g c = stayed_shown c.say.result c.args.sight c.args
 
 pub returns-in-Help-clause-grown : goal.returns-in-Help-clause-grown
 returns-in-Help-clause-grown g c = err_always c.say.result _ (grown_none _)
+
+pub returns-in-Nothing-clause-shown : goal.returns-in-Nothing-clause-shown
+returns-in-Nothing-clause-shown g c = nothing_shown c.say-in-Nothing.result c.args.sight c.args.request (g.P.Progress.shown c.args.progress.now) c.in-Nothing.is

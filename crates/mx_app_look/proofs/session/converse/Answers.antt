@@ -12,42 +12,42 @@ returns-in_err-next-clause-err g c =
     let wanting : IfErr c.from_residual.result IsWanting = search rules in
     IfErr-weaker c.from_residual.result IsWanting _ (λ f h. (h, (inv.typed, c.in_err-next.ensures.failed ∙ inv.lines), (inv.parts, inv.walked))) wanting
 
-pub returns-in_err-answer_line-clause-err : goal.returns-in_err-answer_line-clause-err
-returns-in_err-answer_line-clause-err g c =
+pub returns-in_err-next-2-clause-err : goal.returns-in_err-next-2-clause-err
+returns-in_err-next-2-clause-err g c =
     let more = c.in_ok-next.ensures.more c.if-not-branch.false in
-    let wanting : IfErr c.from_residual-in_err-answer_line.result IsWanting = search rules in
+    let wanting : IfErr c.from_residual-in_err-next-2.result IsWanting = search rules in
     let given = given_more c.args.session.asks c.args.session.sight c.loop.sight c.loop.counter (g.L.LineReader.given c.args.lines.now) (g.L.LineReader.given c.loop.lines) (g.L.LineReader.given c.next.new.self)
     (g.P.Progress.shown c.args.progress.now) (g.P.Progress.shown c.loop.progress) (g.W.Write.contents c.args.out.now) (g.W.Write.contents c.loop.out) (Some c.next.new.line.items) c.loop.invariant more in
     let shown = shown_more c.args.session.asks c.args.session.sight c.loop.sight c.loop.counter (g.L.LineReader.given c.args.lines.now) (g.L.LineReader.given c.loop.lines)
-    (g.P.Progress.shown c.args.progress.now) (g.P.Progress.shown c.loop.progress) (g.P.Progress.shown c.answer_line.new.progress) (g.W.Write.contents c.args.out.now) (g.W.Write.contents c.loop.out) c.loop.invariant c.in_err-answer_line.ensures.grown in
-    IfErr-weaker c.from_residual-in_err-answer_line.result IsWanting _ (λ f h. (h, given, shown)) wanting
+    (g.P.Progress.shown c.args.progress.now) (g.P.Progress.shown c.loop.progress) (g.P.Progress.shown c.answer_line.new.progress) (g.W.Write.contents c.args.out.now) (g.W.Write.contents c.loop.out) c.loop.invariant c.in_err-next-2.ensures.grown in
+    IfErr-weaker c.from_residual-in_err-next-2.result IsWanting _ (λ f h. (h, given, shown)) wanting
 
-pub returns-in_err-print_text-clause-err : goal.returns-in_err-print_text-clause-err
-returns-in_err-print_text-clause-err g c =
+pub returns-in_err-print_text-in-Some-clause-err : goal.returns-in_err-print_text-in-Some-clause-err
+returns-in_err-print_text-in-Some-clause-err g c =
     let more = c.in_ok-next.ensures.more c.if-not-branch.false in
-    let wanting : IfErr c.from_residual-in_err-print_text.result IsWanting = search rules in
+    let wanting : IfErr c.from_residual-in_err-print_text-in-Some.result IsWanting = search rules in
     let given = given_more c.args.session.asks c.args.session.sight c.loop.sight c.loop.counter (g.L.LineReader.given c.args.lines.now) (g.L.LineReader.given c.loop.lines) (g.L.LineReader.given c.next.new.self)
     (g.P.Progress.shown c.args.progress.now) (g.P.Progress.shown c.loop.progress) (g.W.Write.contents c.args.out.now) (g.W.Write.contents c.loop.out) (Some c.next.new.line.items) c.loop.invariant more in
-    let h = some_case c.in_ok-answer_line.field-0 (c.in-Some.next, c.in-Some.text) _ _ c.in-Some.is c.in_ok-answer_line.ensures.answered in
+    let h = some_case c.in_ok-next-2.field-0 (c.in-Some.next, c.in-Some.text) _ _ c.in-Some.is c.in_ok-next-2.ensures.answered in
     let a = h.1 in
     let shown = shown_more c.args.session.asks c.args.session.sight c.loop.sight c.loop.counter (g.L.LineReader.given c.args.lines.now) (g.L.LineReader.given c.loop.lines)
     (g.P.Progress.shown c.args.progress.now) (g.P.Progress.shown c.loop.progress) (g.P.Progress.shown c.answer_line.new.progress) (g.W.Write.contents c.args.out.now) (g.W.Write.contents c.loop.out) c.loop.invariant (grown_by _ _ _ a.5) in
-    IfErr-weaker c.from_residual-in_err-print_text.result IsWanting _ (λ f h. (h, given, shown)) wanting
+    IfErr-weaker c.from_residual-in_err-print_text-in-Some.result IsWanting _ (λ f h. (h, given, shown)) wanting
 
 pub returns-in-None-clause-printed : goal.returns-in-None-clause-printed
 returns-in-None-clause-printed g c =
     let more = c.in_ok-next.ensures.more c.if-not-branch.false ∙ ap (λ (l : List ℕ). g.L.LineReader.given c.loop.lines ++ Some l ∷ []) (sym c.as_slice.ensures.value) in
-    let h = none_case c.in_ok-answer_line.field-0 _ _ c.in-None.is c.in_ok-answer_line.ensures.answered in
+    let h = none_case c.in_ok-next-2.field-0 _ _ c.in-None.is c.in_ok-next-2.ensures.answered in
     ended c.args.session.asks c.args.session.sight c.loop.sight c.loop.counter (g.L.LineReader.given c.args.lines.now) (g.L.LineReader.given c.loop.lines) (g.L.LineReader.given c.next.new.self)
     (g.P.Progress.shown c.args.progress.now) (g.P.Progress.shown c.loop.progress) (g.P.Progress.shown c.answer_line.new.progress) (g.W.Write.contents c.args.out.now) (g.W.Write.contents c.loop.out) c.as_slice.result.now c.loop.invariant more h.0 h.1
 
 pub loop-preserved : goal.loop-preserved
 loop-preserved g c =
     let more = c.in_ok-next.ensures.more c.if-not-branch.false ∙ ap (λ (l : List ℕ). g.L.LineReader.given c.loop.lines ++ Some l ∷ []) (sym c.as_slice.ensures.value) in
-    let h = some_case c.in_ok-answer_line.field-0 (c.in-Some.next, c.in-Some.text) _ _ c.in-Some.is c.in_ok-answer_line.ensures.answered in
+    let h = some_case c.in_ok-next-2.field-0 (c.in-Some.next, c.in-Some.text) _ _ c.in-Some.is c.in_ok-next-2.ensures.answered in
     one_more c.args.session.asks c.args.session.sight c.loop.sight c.in-Some.next c.loop.counter (g.L.LineReader.given c.args.lines.now) (g.L.LineReader.given c.loop.lines) (g.L.LineReader.given c.next.new.self)
     (g.P.Progress.shown c.args.progress.now) (g.P.Progress.shown c.loop.progress) (g.P.Progress.shown c.answer_line.new.progress) (g.W.Write.contents c.args.out.now) (g.W.Write.contents c.loop.out) (g.W.Write.contents c.print_text.new.out) c.as_slice.result.now c.in-Some.text.items c.loop.invariant more h.0 h.1
-    (subst (λ t. Appends (g.W.Write.contents c.loop.out) (g.W.Write.contents c.print_text.new.out) t) c.as_slice-2.ensures.value c.in_ok-print_text.ensures.printed)
+    (subst (λ t. Appends (g.W.Write.contents c.loop.out) (g.W.Write.contents c.print_text.new.out) t) c.as_slice-in-Some.ensures.value c.in_ok-print_text-in-Some.ensures.printed)
 
 pub returns-then-not-branch-clause-err : goal.returns-then-not-branch-clause-err
 returns-then-not-branch-clause-err g c =
