@@ -47,7 +47,7 @@ loop-preserved g c =
     let h = some_case c.in_ok-next-2.field-0 (c.in-Some.next, c.in-Some.text) _ _ c.in-Some.is c.in_ok-next-2.ensures.answered in
     one_more c.args.session.asks c.args.session.sight c.loop.sight c.in-Some.next c.loop.counter (g.L.LineReader.given c.args.lines.now) (g.L.LineReader.given c.loop.lines) (g.L.LineReader.given c.next.new.self)
     (g.P.Progress.shown c.args.progress.now) (g.P.Progress.shown c.loop.progress) (g.P.Progress.shown c.answer_line.new.progress) (g.W.Write.contents c.args.out.now) (g.W.Write.contents c.loop.out) (g.W.Write.contents c.print_text.new.out) c.as_slice.result.now c.in-Some.text.items c.loop.invariant more h.0 h.1
-    (subst (λ t. Appends (g.W.Write.contents c.loop.out) (g.W.Write.contents c.print_text.new.out) t) c.as_slice-in-Some.ensures.value c.in_ok-print_text-in-Some.ensures.printed)
+    (subst (λ t. Appends (g.W.Write.contents c.loop.out) (g.W.Write.contents c.print_text.new.out) t) c.as_slice-in-Some.ensures.value c.in_ok-print_text-in-Some.ensures.bytes)
 
 pub returns-then-not-branch-clause-err : goal.returns-then-not-branch-clause-err
 returns-then-not-branch-clause-err g c =
