@@ -1529,11 +1529,22 @@ static UNWRITTEN: &[Unwritten] = &[
 
 /// Whether words fail, and print just this, if no file may be written.
 fn is_unwritten<R: Threads + Wait + Clock + Sync>(rt: &R, alloc: Global, row: &Unwritten) -> bool {
-    let mut work = memory_io(alloc, None);
-    work.channels.files = NotingFiles::new(MemoryWriter::refusing(
-        alloc,
-        io::ErrorKind::PermissionDenied,
-    ));
+    let CommandIo {
+        channels,
+        lines,
+        progress,
+        asks,
+    } = memory_io(alloc, None);
+    let Channels { reader, out, .. } = channels;
+    let writer = MemoryWriter::refusing(alloc, io::ErrorKind::PermissionDenied);
+    let files = NotingFiles::new(writer);
+    let channels = Channels { reader, files, out };
+    let mut work = CommandIo {
+        channels,
+        lines,
+        progress,
+        asks,
+    };
     let (status, told) = perform(rt, alloc, &mut work, row.words, false);
     status == 3
         && told.as_str() == "mx: 80 File\n"
