@@ -243,7 +243,7 @@ pub(crate) fn check(table: &Table, slot: Slot) -> Result<KernelCall, Errno>
         Some(request) => request,
         None => return Err(Errno::BadRequest),
     };
-    if !has_bit(table.process(slot).terms.masks.calls, request.bit()) {
+    if !has_bit(table.process(slot).schedule.terms.masks.calls, request.bit()) {
         return Err(Errno::Denied);
     }
     check_request(table, slot, request)?;

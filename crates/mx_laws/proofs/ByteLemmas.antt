@@ -234,7 +234,7 @@ part_whole xs at count le = omega (arith, length-take count (drop at xs), length
 
 copy_fits : (t : TableState) (s : ℕ) (c : CopyRange) → kernel_call_refusal_by t s (Some (Vircopy c)) ≡ None → IsAllowed t s (copy_made t c)
 copy_fits t s c e =
-    let h = none_holds ((not (has_bit (process_at t s).terms.masks.calls 5), Denied) ∷ kernel_call_reasons t s (Vircopy c)) e in
+    let h = none_holds ((not (has_bit (process_at t s).schedule.terms.masks.calls 5), Denied) ∷ kernel_call_reasons t s (Vircopy c)) e in
     let from = c.source.endpoint in let to = c.target.endpoint in
     record {
       windows = λ strict. record {

@@ -226,7 +226,7 @@ impl CurrentState {
         ensures value { self.new ≡ state_after_take self.old cpu slot }
         ensures out { result ≡ (held_at_take self.old.table slot).out }
     {
-        let budget = self.table.process(slot).ticks;
+        let budget = self.table.process(slot).schedule.ticks;
         let image = send_out(&mut self.table, slot);
         self.leases[cpu as usize] = Some(Lease { slot, budget });
         self.records += 1;

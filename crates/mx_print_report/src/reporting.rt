@@ -19,8 +19,8 @@ fn push_slot(out: &mut Vec<u8>, table: &Table, slot: Slot, name: &[u8]) -> Resul
     push_decimal(out, u32::from(slot))?;
     out.push(b' ')?;
     push_process(out, Naming::Endpoints, table, slot, name)?;
-    push_number(out, u32::from(process.level))?;
-    push_number(out, process.ticks)?;
+    push_number(out, u32::from(process.schedule.level))?;
+    push_number(out, process.schedule.ticks)?;
     out.push(b'\n')?;
     Ok(())
 }

@@ -658,8 +658,8 @@ fn has_end(rt: &impl Abort, table: &Table, end: &End) -> bool {
     assert!(rt; end.slot < table.used());
     let process = table.process(end.slot);
     process.state == end.state
-        && process.level == end.level
-        && process.ticks == end.ticks
+        && process.schedule.level == end.level
+        && process.schedule.ticks == end.ticks
         && process.steps == end.steps
         && process.image.register(Register::Eax) == end.eax
         && process.image.memory.read(end.place, Size::Dword) == Ok(end.word)

@@ -82,7 +82,7 @@ fn spend(rt: &impl Abort, table: &mut Table, slot: Slot) {
     assert!(rt; slot < table.used());
     assert!(rt; table.process(slot).state.is_ready());
     dequeue(table, slot);
-    let ticks = table.process(slot).ticks;
+    let ticks = table.process(slot).schedule.ticks;
     assert!(rt; table.process(slot).steps < 1_000_000_000);
     table.spend(slot, ticks);
     assert!(rt; table.process(slot).state == State::Home);
@@ -489,7 +489,7 @@ fn is_alike(rt: &impl Abort, table: &Table, plain: &Plain, slot: Slot, other: Sl
     let process = table.process(slot);
     let only = Partner::Only(Source::Slot(other));
     process.state == plain.state(slot)
-        && process.level == plain.level(slot)
+        && process.schedule.level == plain.level(slot)
         && table.next(slot) == plain.next(slot)
         && table.caller(slot, Partner::Any) == plain.caller(slot, None)
         && table.caller(slot, only) == plain.caller(slot, Some(other))

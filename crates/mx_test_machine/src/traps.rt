@@ -825,11 +825,11 @@ static LEVELS: &[Spent] = &[
 fn level_after(rt: &impl Abort, table: &mut Table, slot: Slot) -> u8 {
     assert!(rt; slot < table.used());
     let process = table.process(slot);
-    assert!(rt; process.state.is_ready() && process.steps < 1000 && process.ticks == 5);
+    assert!(rt; process.state.is_ready() && process.steps < 1000 && process.schedule.ticks == 5);
     dequeue(table, slot);
     table.spend(slot, 5);
     enqueue(table, slot);
-    table.process(slot).level
+    table.process(slot).schedule.level
 }
 
 /// Each slot comes to its level.
