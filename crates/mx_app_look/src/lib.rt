@@ -1,4 +1,5 @@
-//! `mx look`: a saved history, looked at forward and back.
+//! `mx look`: a saved history, looked at forward and back: a session of `Request`s typed at a prompt, over a
+//! `Sight` with a walker, points, watches and what is happening here.
 #![tactic(auto)]
 
 mod answering;

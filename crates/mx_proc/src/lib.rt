@@ -1,4 +1,5 @@
-//! The table of processes: slots, ready lists, blocked sends, devices, and the last deliveries.
+//! The table of processes: its slots, each with a `Process` of a state, level and generation; ready lists and
+//! blocked sends, which are linked; pending sources, windows, devices, and the last deliveries.
 //!
 //! # A sound table
 //!

@@ -1,4 +1,5 @@
-//! A machine that walks a saved history, forward and back.
+//! A machine that walks the records of a saved history, forward and back, from `Position` to position, with
+//! marks, searches, checkpoints and progress.
 #![tactic(auto)]
 
 mod booting;
