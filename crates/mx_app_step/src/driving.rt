@@ -78,8 +78,9 @@ fn perform_lines<P: Performs, W: Write>(
 ) -> Result<(), Failure>
     requires { lines.now.other < actors (world_of machine.old) }
     ensures err { IfErr result IsWanting }
-    ensures done { OnOk result (lines_done (P.does lines.now.other) (driven machine.old performer.old)
-        lines.now.lines.now ≡ driven machine.new performer.new) }
+    ensures done { OnOk result (lines_done (P.does lines.now.other)
+        (driven machine.old performer.old) lines.now.lines.now
+        ≡ driven machine.new performer.new) }
     ensures printed { OnOk result (IsPrintedBut (W.contents out.old) (W.contents out.new)
         (string_bytes text.new)
         (string_bytes text.old
@@ -107,8 +108,9 @@ pub fn print_said<P: Performs, W: Write>(
 ) -> Result<(), Failure>
     requires { lines.now.other < actors (world_of machine.old) }
     ensures err { IfErr result IsWanting }
-    ensures done { OnOk result (lines_done (P.does lines.now.other) (driven machine.old performer.old)
-        lines.now.lines.now ≡ driven machine.new performer.new) }
+    ensures done { OnOk result (lines_done (P.does lines.now.other)
+        (driven machine.old performer.old) lines.now.lines.now
+        ≡ driven machine.new performer.new) }
     ensures printed { OnOk result (Appends (W.contents out.old) (W.contents out.new)
         (lines_told (P.does lines.now.other) (P.tells lines.now.other) lines.now.numbered 1
         (driven machine.old performer.old) lines.now.lines.now)) }

@@ -1,7 +1,7 @@
 //! Machines that are driven by scripts, by histories and under a debugger, and what is printed of them.
 
 use crate::files::reader;
-use mx_app_db::{Failure, Replayed, db, replay, step};
+use mx_app_db::{Failure, NamedScript, Replayed, db, replay, step};
 use mx_boot::BootError;
 use std::alloc::Global;
 use std::test::Fail;
@@ -323,7 +323,14 @@ static ROWS: &[Row] = &[
 
 fn drive(alloc: Global, row: &Row, out: &mut Vec<u8>) -> Result<Replayed, Failure> {
     let made = match row.by {
-        By::Script => step(alloc, &mut reader(), row.config, row.text, false, out),
+        By::Script => {
+            let named = NamedScript {
+                config: row.config,
+                script: row.text,
+                numbered: false,
+            };
+            step(alloc, &mut reader(), named, out)
+        }
         By::Debugger => db(alloc, &mut reader(), row.config, row.text, out),
         By::History => return replay(alloc, &mut reader(), row.config, row.text, out),
     };
