@@ -149,6 +149,34 @@ Looks config log asks qs typed ps Prints (Err f) = HasFailed config log qs ps f
 
 -- ---- requests
 
+-- one that works on files, without a machine
+abbrev pub is_on_files : CommandRequest → Bool
+is_on_files (One file steps) = true
+is_on_files (As text file) = true
+is_on_files (Dis file) = true
+is_on_files (Nm file) = true
+is_on_files (Explain config) = true
+is_on_files request = false
+
+-- one that drives a machine by a script
+abbrev pub is_by_script : CommandRequest → Bool
+is_by_script (Step config script save numbered) = true
+is_by_script (Db config script) = true
+is_by_script request = false
+
+-- one that shows a saved history
+abbrev pub is_of_history : CommandRequest → Bool
+is_of_history (Replay config log) = true
+is_of_history (Trace config log range) = true
+is_of_history (Draw config log range) = true
+is_of_history request = false
+
+-- one that makes turns in one thread, or sweeps a history by such turns
+abbrev pub makes_turns : CommandRequest → Bool
+makes_turns (Turns config log ticks events bound) = true
+makes_turns (Sweep config log fault bound from to strict save) = true
+makes_turns request = false
+
 -- a file is read, shown, and none is written
 abbrev pub Shows : (List ℕ → List ℕ → Type 0) → List ℕ → List Asked → List Written → (List ℕ → Type 0) → Result Done Kind → Type 0
 Shows Has name qs ws Prints r =
