@@ -31,7 +31,7 @@ use Rattle.mx_app_db.specs.Records.{IsReplayPrinted as IsReplayPrinted}
 use Rattle.mx_app_db.specs.Traces.{IsTracePrinted}
 use Rattle.mx_app_db.specs.Replayed.{Replayed}
 use Rattle.mx_app_db.specs.DebugLines.{DebuggedWorld, debug_lines_made}
-use Rattle.mx_app_db.specs.Told.{debug_lines_text}
+use Rattle.mx_app_db.specs.LineTexts.{debug_lines_text}
 use Rattle.mx_app_draw.specs.Scenes.{IsDrawingPrinted}
 use Rattle.mx_app_look.specs.Sessions.{HasFailed, IsBegun, IsSession, IsWhole, begun_text, sight_at}
 use Rattle.mx_app_run.specs.Run.{Runs}

@@ -42,7 +42,7 @@ use Rattle.mx_turns.specs.declared.turns.Ending.{Ending}
 use Rattle.mx_walk.specs.Parts.{walk_shown}
 use Rattle.mx_walk.specs.Walks.{Walk}
 use Rattle.mx_app_db.specs.DebugLines.{DebuggedWorld, debug_lines_made}
-use Rattle.mx_app_db.specs.Told.{debug_lines_text}
+use Rattle.mx_app_db.specs.LineTexts.{debug_lines_text}
 use Rattle.mx_app.specs.Deeds.{Deeds}
 use Rattle.mx_app.specs.Explained.{ExplainsConfig}
 use Rattle.mx_app.specs.Named.{Assembles, ShowsFile}
@@ -77,7 +77,7 @@ done_after_sweep strict (Ok swept.Refused) = Ok (with_status 1)
 done_after_sweep strict (Err f) = Err f
 
 -- ---- machines: the files are as the start wants them, and the text is printed, after the lines' numbers if that is
--- asked; or the first fault is told
+-- asked; or it fails by the first fault
 
 abbrev pub Steps : List ℕ → List ℕ → Bool → List Asked → (List ℕ → Type 0) → Result (Unit {0}) Kind → Type 0
 Steps config script numbered qs Prints (Ok u) =
@@ -122,7 +122,7 @@ Replays config log qs Prints (Ok how) =
     × IsReplayPrinted (world_at_boot c vs) records how Prints
 Replays config log qs Prints (Err f) = IsTold IsSaved TellsSaved config log qs f
 
--- the records up to the range's last are made, and those from its first on are told
+-- the records up to the range's last are made, and those from its first on are printed
 abbrev pub Traces : List ℕ → List ℕ → RecordRange → List Asked → (List ℕ → Type 0) → Result Replayed Kind → Type 0
 Traces config log range qs Prints (Ok how) =
     (c : Config) × (vs : List Service) × (records : List Record) × IsStart IsSaved config log qs c vs records

@@ -53,15 +53,15 @@ hint_line v (Delivery i s) = placed_line v i (Delivery i s)
 hint_line v (Kept i s place) = placed_line v i (Kept i s place)
 hint_line v (Console i) = placed_line v i (Console i)
 
-abbrev pub told : Scene → Hint → List ℕ
-told v h = codes "<title>" ++ shown (hint_line v h) ++ codes "</title>"
+abbrev pub hint_title : Scene → Hint → List ℕ
+hint_title v h = codes "<title>" ++ shown (hint_line v h) ++ codes "</title>"
 
 -- A HINT, if it has any text
 unfoldable pub hint_text : Scene → Hint → List ℕ
 hint_text v Nothing = []
-hint_text v h = told v h
+hint_text v h = hint_title v h
 
 -- the end of a figure that has nothing in it but a hint
 unfoldable pub end_text : Scene → List ℕ → Hint → List ℕ
 end_text v tag Nothing = codes "/>\n"
-end_text v tag h = codes ">" ++ told v h ++ codes "</" ++ tag ++ codes ">\n"
+end_text v tag h = codes ">" ++ hint_title v h ++ codes "</" ++ tag ++ codes ">\n"

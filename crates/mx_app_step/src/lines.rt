@@ -54,13 +54,13 @@ pub fn perform_line(machine: &mut Machine, other: u8, line: ScriptLine) -> Said
 pub(crate) struct ScriptPerformer;
 
 impl Performs for ScriptPerformer {
-    ghost use Rattle.mx_app_step.specs.Performed.{script_does, script_tells};
+    ghost use Rattle.mx_app_step.specs.Performed.{script_does, script_prints};
 
     type Line = ScriptLine;
 
     ghost does = { script_does };
 
-    ghost tells = { script_tells };
+    ghost prints = { script_prints };
 
     fn perform(
         &mut self,

@@ -37,7 +37,7 @@ pub enum Replayed {
     Refused,
 }
 
-/// The events that records stand for, up to the first that is refused. Answers the number of its
+/// Makes the events of records, up to the first that is refused. Answers the number of its
 /// record, the first having the number 1, and why.
 pub fn perform_records(machine: &mut Machine, records: &[Record]) -> Result<(), (usize, Refusal)>
     requires { All (λ (x : Noted). x.actor < actors (world_of machine.old)) records.now }

@@ -27,7 +27,7 @@ use mx_walk::{make_event, make_steps, own_event, steps_in};
 use std::alloc::Global;
 use std::io::Write;
 
-/// A step to be filled: nothing happens, and the machine is seen as it stands.
+/// A step to be filled: nothing happens, and the machine is seen as it is.
 pub fn resting_step(machine: &Machine) -> Step
     ensures { result ≡ resting_step (world_of machine.now) }
 {
@@ -70,7 +70,7 @@ pub fn look_record(
     Ok(())
 }
 
-/// Prints what is told of a step: nothing of one before `from`. What was in the text is lost.
+/// Prints a step, or nothing if it is before `from`. What was in the text is lost.
 fn print_step<W: Write>(
     text: &mut Vec<u8>,
     step: &Step,
