@@ -53,7 +53,7 @@ impl Debugger {
         if !marks[address as usize % MARKS] {
             return false;
         }
-        self.stands(slot, address)
+        self.has_breakpoint(slot, address)
     }
 
     /// Whether the address of the slot's next instruction is at a breakpoint.
