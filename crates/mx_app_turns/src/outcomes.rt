@@ -37,7 +37,7 @@ fn push_processes(
     ensures { OnOk result (text.new.items ≡ text.old.items
         ++ process_lines naming table.now 0 services.now) }
 {
-    for slot in 0..table.used() {
+    for slot in 0..table.slot_count() {
         text.extend_from_slice(b"  ")?;
         push_process(
             text,

@@ -18,10 +18,10 @@ unfoldable pub glance_of_slot : TableState → ℕ → Service → SlotGlance
 glance_of_slot t s v = let p = process_at t s in record {
   name = v.name;
   endpoint = endpoint_of t s;
-  traps = p.terms.masks.traps;
+  traps = p.schedule.terms.masks.traps;
   doing = doing_of t s p.state;
-  level = p.level;
-  ticks = p.ticks;
+  level = p.schedule.level;
+  ticks = p.schedule.ticks;
   pending = p.pending;
   lines = p.lines;
   alarm = p.alarm;

@@ -38,7 +38,7 @@ pub enum Doing {
 fn endpoint_of(table: &Table, slot: Slot) -> Endpoint
     ensures { result ≡ endpoint_of table.now slot }
 {
-    if slot < table.used() {
+    if slot < table.slot_count() {
         table.endpoint(slot)
     } else {
         u32::from(slot)

@@ -40,10 +40,10 @@ fn glance_of_slot(table: &Table, slot: Slot, service: &Service) -> SlotGlance
     SlotGlance {
         name: service.name,
         endpoint: table.endpoint(slot),
-        traps: process.terms.masks.traps,
+        traps: process.schedule.terms.masks.traps,
         doing: doing_of(table, slot, process.state),
-        level: process.level,
-        ticks: process.ticks,
+        level: process.schedule.level,
+        ticks: process.schedule.ticks,
         pending: process.pending,
         lines: process.lines,
         alarm: process.alarm,

@@ -66,7 +66,7 @@ process_words by w s name = name_bytes name ++ 32 ∷ decimal (number_of by w s)
 abbrev pub slot_line : TableState → ℕ → List ℕ → List ℕ
 slot_line w s name =
     let p = process_at w s in
-    decimal s ++ 32 ∷ process_words Endpoints w s name ++ 32 ∷ decimal p.level ++ 32 ∷ decimal p.ticks ++ codes "\n"
+    decimal s ++ 32 ∷ process_words Endpoints w s name ++ 32 ∷ decimal p.schedule.level ++ 32 ∷ decimal p.schedule.ticks ++ codes "\n"
 
 -- the lines of services, of which the first has this slot
 abbrev pub slot_lines : TableState → ℕ → List Service → List ℕ

@@ -58,7 +58,7 @@ pub enum Naming {
 pub fn endpoint_of(table: &Table, slot: Slot) -> u32
     ensures { result ≡ endpoint_of table.now slot }
 {
-    if slot < table.used() {
+    if slot < table.slot_count() {
         table.endpoint(slot)
     } else {
         u32::from(slot)

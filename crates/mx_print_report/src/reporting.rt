@@ -19,8 +19,8 @@ fn push_slot(out: &mut Vec<u8>, table: &Table, slot: Slot, name: &[u8]) -> Resul
     push_decimal(out, u32::from(slot))?;
     out.push(b' ')?;
     push_process(out, Naming::Endpoints, table, slot, name)?;
-    push_number(out, u32::from(process.level))?;
-    push_number(out, process.ticks)?;
+    push_number(out, u32::from(process.schedule.level))?;
+    push_number(out, process.schedule.ticks)?;
     out.push(b'\n')?;
     Ok(())
 }
@@ -31,7 +31,7 @@ fn push_slots(out: &mut Vec<u8>, table: &Table, services: &[Service]) -> Result<
     requires { length services.now ≡ length table.now.slots }
     ensures { OnOk result (out.new.items ≡ out.old.items ++ slot_lines table.now 0 services.now) }
 {
-    for slot in 0..table.used() {
+    for slot in 0..table.slot_count() {
         push_slot(out, table, slot, &services[slot as usize].name.bytes)?;
     }
     Ok(())

@@ -40,7 +40,7 @@ fn make_turn(machine: &mut Machine, next: Option<Event>) -> bool
 {
     machine.sound();
     let cpus = machine.kernel().cpus();
-    let slots = u32::from(machine.kernel().table().used());
+    let slots = u32::from(machine.kernel().table().slot_count());
     let is_full = offer_takes(machine, cpus);
     offer_runs(machine, cpus);
     if is_full {

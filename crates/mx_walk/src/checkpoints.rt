@@ -56,7 +56,7 @@ fn checkpoint_bytes(machine: &Machine) -> usize
 {
     let table = machine.kernel().table();
     let mut bytes = TABLE_BYTES;
-    for slot in 0..table.used() {
+    for slot in 0..table.slot_count() {
         let image = image_bytes(&table.process(slot).image);
         bytes = bytes.saturating_add(SLOT_BYTES).saturating_add(image);
     }
