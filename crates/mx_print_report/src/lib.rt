@@ -1,5 +1,5 @@
-//! The words in which a process is printed, and the report of a machine: a line for each service, the uptime,
-//! the console.
+//! The words in which a process is printed, by a naming of endpoints: who it is, its state, partner or cause of
+//! death; pushed numbers; and the report of a machine: a line for each service, the uptime, the console.
 #![tactic(auto)]
 
 mod doing;
