@@ -3,7 +3,7 @@
 ghost use Rattle.std.specs.Prelude.{◌≡◌, ◌≤◌, ◌++◌, [], IfOk, OnOk, length, map};
 ghost use Rattle.mx_app_step.specs.Machine.{world_of};
 ghost use Rattle.mx_machine.specs.History.{replay};
-ghost use Rattle.mx_print_report.specs.declared.fields.Naming.TheVariants as by;
+ghost use Rattle.mx_print_report.specs.declared.doing.Naming.TheVariants as by;
 ghost use Rattle.mx_app_turns.specs.Sweep.{are_alike, end_text, ending_word, kept_text, outcome_text, process_lines, run_of, shown};
 ghost use Rattle.mx_app_turns.specs.Swept.{IsSwept};
 

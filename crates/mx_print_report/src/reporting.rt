@@ -4,7 +4,9 @@ ghost use Rattle.std.specs.Prelude.{◌≡◌, ◌<◌, ◌++◌, OnOk, IfOk, co
 ghost use Rattle.std.specs.Fmt.{decimal};
 ghost use Rattle.mx_print_report.specs.Report.{slot_line, slot_lines, report_text};
 
-use crate::fields::{Naming, push_decimal, push_number, push_process};
+use crate::doing::Naming;
+use crate::fields::push_process;
+use crate::numbers::{push_decimal, push_number};
 use mx_proc::{Console, Slot, Table};
 use mx_respawn::Service;
 use mx_word::NoMemory;
