@@ -20,7 +20,7 @@ use crate::places::push_place;
 use crate::points::Points;
 use crate::sight::Sight;
 use mx_app_failure::{Failure, print_text};
-use mx_app_step::{History, LineReader, Reader, Started, records_are_of_actors, start};
+use mx_app_step::{History, LineReader, Reader, Started, start};
 use mx_walk::{Progress, Walker};
 use std::alloc::Global;
 use std::io::Write;
@@ -131,7 +131,6 @@ pub fn look<R: Reader, L: LineReader, P: Progress, W: Write>(
         × (P.shown progress.new ≡ P.shown progress.old ++ ps)
         × HasFailed names.entry.config.now names.entry.log.now qs ps f) }
 {
-    records_are_of_actors();
     let Started {
         machine,
         config,

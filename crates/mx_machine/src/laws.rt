@@ -9,7 +9,7 @@ ghost use Rattle.mx_machine.specs.Laws.{ChangePlaces, IsOthers, Replays, RunsAga
 ghost use Rattle.mx_machine.specs.Machine.{world_of};
 
 use crate::machine::Machine;
-use crate::{Kernel, actors_stay};
+use crate::Kernel;
 
 /// Law: while a processor has a process, its step commutes with any event but its own steps, takes and
 /// returns.
@@ -29,6 +29,5 @@ pub fn runs_again(machine: &Machine, kernel: &Kernel)
     ensures { world_of machine.now ≡ kernel.now.boot → RunsAgain (world_of machine.now) kernel.now }
 {
     histories_replay();
-    actors_stay();
     kernel.facts();
 }
