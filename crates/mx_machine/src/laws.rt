@@ -8,8 +8,8 @@ ghost use Rattle.mx_machine.specs.World.{World, HeldProcess, held_by};
 ghost use Rattle.mx_machine.specs.Laws.{ChangePlaces, IsOthers, Replays, RunsAgain};
 ghost use Rattle.mx_machine.specs.Machine.{world_of};
 
-use crate::machine::Machine;
 use crate::Kernel;
+use crate::machine::Machine;
 
 /// Law: while a processor has a process, its step commutes with any event but its own steps, takes and
 /// returns.
