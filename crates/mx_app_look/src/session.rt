@@ -21,7 +21,7 @@ use crate::points::Points;
 use crate::sight::Sight;
 use mx_app_failure::{Failure, print_text};
 use mx_app_start::Channels;
-use mx_app_step::{History, LineReader, Reader, Started, records_are_of_actors, start};
+use mx_app_step::{History, LineReader, Reader, Started, start};
 use mx_walk::{Progress, Walker};
 use std::alloc::Global;
 use std::io::Write;
@@ -136,7 +136,6 @@ pub fn look<R: Reader + Drop, F: Drop, W: Write + Drop, L: LineReader, P: Progre
         × (P.shown progress.new ≡ P.shown progress.old ++ ps)
         × HasFailed wanted.entry.config.now wanted.entry.log.now qs ps f) }
 {
-    records_are_of_actors();
     let Started {
         machine,
         config,

@@ -12,7 +12,7 @@ use crate::faults::{FaultLine, perform_fault_line};
 use crate::outside::coming_of;
 use mx_app_start::NoProgress;
 use mx_app_step::perform_records;
-use mx_machine::{Config, Machine, Record, actors_stay};
+use mx_machine::{Config, Machine, Record};
 use mx_turns::{Ending, Outside, make_turns};
 use mx_word::NoMemory;
 use std::alloc::{AllocError, Global};
@@ -80,7 +80,6 @@ pub(crate) fn run_at(
         HasRun run done.0 done.1 × (text.new.items ≡ text.old.items ++ said_text run.said)) }
     ensures boot { IfOk result (λ done. done.0.kernel.boot ≡ machine.kernel.boot) }
 {
-    actors_stay();
     let mut machine = boot_again(alloc, machine, sweep.config)?;
     if let Err(_) = perform_records(&mut machine, &sweep.records[..position]) {
         unreachable!();

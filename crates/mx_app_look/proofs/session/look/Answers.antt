@@ -2,6 +2,7 @@ use Rattle.std.proofs.Common.{rules, ◌≡◌, ◌∙◌, ◌<◌, ◌++◌, Al
 use Rattle.std.proofs.KnownBytes.{Appends-trans}
 use Rattle.std.proofs.lemmas.List.{append-nil}
 use Rattle.std.proofs.lemmas.Result.{IfErr-weaker, IfOk-weaker, err_from_is_err_and}
+use Rattle.mx_app_step.proofs.ReplayLemmas.{saved_by_actors}
 use Rattle.mx_app_step.specs.Failure.{IsWanting}
 use Rattle.mx_machine.specs.Boot.{world_at_boot}
 use Rattle.mx_machine.specs.History.{BootAndHistory}
@@ -25,7 +26,7 @@ new-requires-clause-actors g c =
     let s = c.in_ok-machine.ensures.started in
     let records = c.in_ok-machine.field-0.lines.items in
     subst (λ (w : World). All (λ (x : Record). x.actor < actors w) records) (sym s.5)
-    (c.records_are_of_actors.ensures c.args.wanted.config.now c.args.wanted.log.now s.0 s.1 s.2 records s.4)
+    (saved_by_actors c.args.wanted.config.now c.args.wanted.log.now s.0 s.1 s.2 records records (world_at_boot s.1 s.2) refl refl s.4)
 
 pub returns-in_err-walker-clause-fault : goal.returns-in_err-walker-clause-fault
 returns-in_err-walker-clause-fault g c =

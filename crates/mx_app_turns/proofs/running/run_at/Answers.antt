@@ -27,7 +27,7 @@ unreachable-requires c =
 pub make_turns-ending-requires : goal.make_turns-ending-requires
 make_turns-ending-requires c =
     alone_still c.args.machine.kernel.boot (world_of c.in_ok-machine.machine) (world_of c.perform_records.new.machine) (world_of c.perform_fault.new.machine) (events_of_history (take c.args.position c.args.sweep.records.now))
-    c.actors_stay.ensures.events c.in_ok-machine.ensures.world c.in_default.ensures.ok.1 c.perform_fault.ensures.actors c.perform_fault.ensures.cpus c.requires.swept.alone
+    c.in_ok-machine.ensures.world c.in_default.ensures.ok.1 c.perform_fault.ensures.actors c.perform_fault.ensures.cpus c.requires.swept.alone
 
 pub returns-clause-run : goal.returns-clause-run
 returns-clause-run c =
