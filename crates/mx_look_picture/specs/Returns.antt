@@ -1,16 +1,14 @@
 -- What a process did on its processor before it came back (our own).
-use Rattle.std.specs.Prelude.{ℕ, ◌+◌, ◌-◌, ◌==◌, ◌&&◌, ◌||◌, not, nat_lt, if◌then◌else◌, Bool, true, false, List, [], ◌∷◌, Option, Some, None, slice_index}
+use Rattle.std.specs.Prelude.{ℕ, ◌+◌, ◌-◌, ◌==◌, ◌&&◌, ◌||◌, not, nat_lt, if◌then◌else◌, Bool, false, List, [], ◌∷◌, Option, Some, None, slice_index}
 use Rattle.mx_image.specs.declared.runs.Stop.{Stop}
 use Rattle.mx_image.specs.declared.runs.Stop.TheVariants as stop
 use Rattle.mx_machine.specs.declared.history.Recorded.{Recorded}
 use Rattle.mx_machine.specs.declared.history.Recorded.TheVariants.{Back}
-use Rattle.mx_print_report.specs.declared.doing.Doing.{Doing}
-use Rattle.mx_print_report.specs.declared.doing.Doing.TheVariants as doing
 use Rattle.mx_look_facts.specs.declared.slot_glances.SlotGlance.{SlotGlance}
 use Rattle.mx_look_facts.specs.declared.glance.CpuGlance.{CpuGlance}
 use Rattle.mx_look_facts.specs.declared.step.Step.{Step}
 use Rattle.mx_look_facts.specs.Step.{slot_in, held_before}
-use Rattle.mx_look_facts.specs.Doings.{is_ready, seen_is}
+use Rattle.mx_look_facts.specs.Doings.{is_doomed, is_ready, seen_is}
 use Rattle.mx_look_facts.specs.Going.{gone_on, is_acted}
 use Rattle.mx_look_facts.specs.Calls.{asks_kernel, kernel_call}
 use Rattle.mx_look_picture.specs.declared.values.Hint.TheVariants as hint
