@@ -9,7 +9,7 @@ mod laws;
 mod moves;
 mod operands;
 mod plain;
-mod stack;
+pub mod stack;
 mod steps;
 mod strings;
 mod text;
