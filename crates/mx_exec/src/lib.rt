@@ -3,8 +3,9 @@
 
 mod arithmetic;
 mod bits;
+mod ending;
 mod image;
-mod jumps;
+pub mod jumps;
 mod laws;
 mod moves;
 mod operands;
@@ -14,7 +15,9 @@ mod steps;
 mod strings;
 mod text;
 
+pub use ending::{TurnEnd, settle};
 pub use image::{Code, Image, Outcome};
 pub use laws::step_lasts;
+pub use operands::Source;
 pub use steps::{act, outcome, perform, step};
 pub use text::{TextSegment, decode_at};

@@ -3,28 +3,44 @@
 ghost use Rattle.std.specs.Prelude.{◌≡◌, ◌^◌, ◌<◌, length, Ok, Err, true, IfOk};
 ghost use Rattle.mx_word.specs.Word.{value_at};
 ghost use Rattle.mx_mem.specs.Segment.{inside, with_value};
-ghost use Rattle.mx_exec.specs.Image.{Performs, Writes, code_bytes, dword_difference, dword_sum};
-ghost use Rattle.mx_exec.specs.Step.{image_after_call, image_after_return};
-ghost use Rattle.mx_exec.specs.Stack.{Calls, Returns, image_after_push, image_after_pop, top_of, image_after_drop, has_room, has_dwords, with_pushed, pushad_words, pushad, popad, popad_words};
+ghost use Rattle.mx_exec.specs.Image.{Performs, dword_difference, dword_sum};
+ghost use Rattle.mx_exec.specs.Ending.{Leads};
+ghost use Rattle.mx_exec.specs.Step.{after, image_after_push_of};
+ghost use Rattle.mx_exec.specs.Stack.{top_of, image_after_drop, has_room, has_dwords, with_pushed, pushad_words, pushad, popad, popad_words};
 
-use crate::Image;
 use crate::image::{dword_difference, dword_sum};
-use mx_mem::{GENERAL_PROTECTION, OutOfLimit, STACK_FAULT, Segment};
+use crate::{Image, Source, TurnEnd};
+use mx_insn::Insn;
+use mx_mem::{OutOfLimit, STACK_FAULT, Segment};
 use mx_regs::Regs;
 use mx_word::{Register, Size};
 
-/// Pushes a dword on the image's stack. Answers where it is.
+/// PUSH of a value.
 #[inline(always)]
-pub fn push(image: &mut Image, value: u32) -> Result<u32, u8>
-    ensures { Writes image.old (image_after_push value image.old) result image.new }
+pub fn push(image: &mut Image, value: u32) -> TurnEnd
+    ensures { (next : ℕ) → Leads next image.old (after (Insn.PushImmediate value) next image.old)
+        result image.new }
 {
     let top = dword_difference(image.register(Register::Esp), 4);
     match image.memory.write(top, Size::Dword, value) {
         Ok(()) => {
             image.set_register(Register::Esp, top);
-            Ok(top)
+            TurnEnd::Wrote { at: top }
         }
-        Err(OutOfLimit) => Err(STACK_FAULT),
+        Err(OutOfLimit) => TurnEnd::Fault(STACK_FAULT),
+    }
+}
+
+/// PUSH of what an instruction reads.
+#[inline(always)]
+pub fn push_from<S: Source>(image: &mut Image, from: &S) -> TurnEnd
+    requires { S.IsSound from.now }
+    ensures { (next : ℕ) → Leads next image.old (image_after_push_of (S.read from.now image.old Dword) next image.old)
+        result image.new }
+{
+    match from.value(image, Size::Dword) {
+        Ok(value) => push(image, value),
+        Err(vector) => TurnEnd::Fault(vector),
     }
 }
 
@@ -42,46 +58,20 @@ pub fn top(image: &Image) -> Result<u32, u8>
     }
 }
 
-/// Takes a dword off the image's stack, into a register.
+/// POP.
 #[inline(always)]
-pub fn pop(image: &mut Image, to: Register) -> Result<(), u8>
-    ensures { Performs image.old (image_after_pop to image.old) result image.new }
+pub fn pop(image: &mut Image, to: Register) -> TurnEnd
+    ensures { (next : ℕ) → Leads next image.old (after (Insn.Pop to) next image.old)
+        result image.new }
 {
-    let value = top(image)?;
-    drop_bytes(image, 4);
-    image.set_register(to, value);
-    Ok(())
-}
-
-/// Pushes the address that a call comes back to: tests the place on the stack, then the target, and writes last.
-/// Answers where it is.
-#[inline(always)]
-pub fn push_return(image: &mut Image, target: u32, next: u32, limit: usize) -> Result<u32, u8>
-    requires { limit ≡ length (code_bytes image.old) }
-    ensures { Calls target image.old (image_after_call target next image.old) result image.new }
-{
-    let top = dword_difference(image.register(Register::Esp), 4);
-    if !image.memory.holds(top, Size::Dword) {
-        return Err(STACK_FAULT);
+    match top(image) {
+        Ok(value) => {
+            drop_bytes(image, 4);
+            image.set_register(to, value);
+            TurnEnd::Next
+        }
+        Err(vector) => TurnEnd::Fault(vector),
     }
-    if target as usize >= limit {
-        return Err(GENERAL_PROTECTION);
-    }
-    push(image, next)
-}
-
-/// Takes the address that a call comes back to off the image's stack, and bytes after it. Answers the address.
-#[inline(always)]
-pub fn pop_return(image: &mut Image, count: u32, limit: usize) -> Result<u32, u8>
-    requires { limit ≡ length (code_bytes image.old) }
-    ensures { Returns image.old (image_after_return count image.old) result image.new }
-{
-    let target = top(image)?;
-    if target as usize >= limit {
-        return Err(GENERAL_PROTECTION);
-    }
-    drop_bytes(image, dword_sum(4, count));
-    Ok(target)
 }
 
 /// Takes bytes off the image's stack.

@@ -11,7 +11,7 @@ ghost use Rattle.mx_exec.specs.Text.{Fetches};
 use crate::arithmetic::CountedShift;
 use crate::bits::Filler;
 use crate::image::dword_sum;
-use crate::{Image, Outcome, arithmetic, bits, jumps, moves, plain, strings};
+use crate::{Image, Outcome, arithmetic, bits, jumps, moves, plain, settle, stack, strings};
 use mx_decode::DecodeFault;
 use mx_insn::{Insn, Plain};
 use mx_mem::{GENERAL_PROTECTION, INVALID_OPCODE};
@@ -123,9 +123,18 @@ fn calculate(image: &mut Image, insn: &Insn, next: u32) -> Result<(), u8>
         Insn::SetCondition { condition, operand } => {
             moves::set_condition(image, *condition, operand, next)
         }
-        Insn::Push(operand) => moves::push_operand(image, operand, next),
-        Insn::PushImmediate(value) => moves::push_immediate(image, *value, next),
-        Insn::Pop(register) => moves::pop(image, *register, next),
+        Insn::Push(operand) => {
+            let end = stack::push_from(image, operand);
+            settle(image, end, next)
+        }
+        Insn::PushImmediate(value) => {
+            let end = stack::push(image, *value);
+            settle(image, end, next)
+        }
+        Insn::Pop(register) => {
+            let end = stack::pop(image, *register);
+            settle(image, end, next)
+        }
         Insn::ExtendAccumulator(size) => {
             moves::extend_accumulator(image, *size);
             image.eip = next;
@@ -152,14 +161,29 @@ pub fn perform(image: &mut Image, insn: &Insn, next: u32) -> Result<(), u8>
             displacement,
         } => { jumps::jump_if(image, *condition, *displacement, next) }
         Insn::Jump(displacement) => image.jump(dword_sum(next, *displacement)),
-        Insn::Call(displacement) => jumps::call(image, dword_sum(next, *displacement), next),
-        Insn::JumpTo(operand) => jumps::jump_to(image, operand),
-        Insn::CallTo(operand) => jumps::call_to(image, operand, next),
+        Insn::Call(displacement) => {
+            let limit = image.code_limit();
+            let end = jumps::call(image, dword_sum(next, *displacement), next, limit);
+            settle(image, end, next)
+        }
+        Insn::JumpTo(operand) => {
+            let end = jumps::jump_to(image, operand, image.code_limit());
+            settle(image, end, next)
+        }
+        Insn::CallTo(operand) => {
+            let limit = image.code_limit();
+            let end = jumps::call_to(image, operand, next, limit);
+            settle(image, end, next)
+        }
         Insn::Loop {
             operation,
             displacement,
         } => { jumps::loop_to(image, *operation, *displacement, next) }
-        Insn::Return(count) => jumps::return_from(image, *count),
+        Insn::Return(count) => {
+            let limit = image.code_limit();
+            let end = jumps::return_from(image, *count, limit);
+            settle(image, end, next)
+        }
         Insn::Interrupt(number) => jumps::interrupt(image, *number, next),
         Insn::Transfer {
             operation,
