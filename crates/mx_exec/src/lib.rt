@@ -1,13 +1,13 @@
 //! One step: what one instruction does to a process's registers, flags and memory.
 #![tactic(auto)]
 
-mod arithmetic;
+pub mod arithmetic;
 mod bits;
 mod ending;
 mod image;
 pub mod jumps;
 mod laws;
-mod moves;
+pub mod moves;
 mod operands;
 mod plain;
 pub mod stack;
@@ -18,6 +18,6 @@ mod text;
 pub use ending::{TurnEnd, settle};
 pub use image::{Code, Image, Outcome};
 pub use laws::step_lasts;
-pub use operands::Source;
+pub use operands::{Place, Source};
 pub use steps::{act, outcome, perform, step};
 pub use text::{TextSegment, decode_at};
