@@ -1,8 +1,7 @@
-//! Tests that machines take no memory after they have booted: a soak by eight threads until the
-//! history is full, and events of one thread while every allocation is refused. A line `mark` on
-//! standard error shows from where on no memory may be taken, and another to where;
-//! checks/faults/after_boot counts or refuses allocations between them. Without words it does
-//! nothing.
+//! Tests that machines take no memory after they have booted: a soak, a course of roles for eight threads until
+//! the history is full, and events of one thread while every allocation is refused. A line `mark` on standard
+//! error shows from where on no memory may be taken, and another to where; checks/faults/after_boot counts or
+//! refuses allocations between them. Without words it does nothing.
 #![tactic(auto)]
 
 mod booting;

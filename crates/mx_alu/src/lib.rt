@@ -1,5 +1,5 @@
-//! What arithmetic, logic, shifts, products and quotients give: the result, and the flags after it.
-//! No call takes memory.
+//! What arithmetic, logic, shifts by so many places, products, quotients and their `DivideFault` give at a
+//! size, signed or not: the result, and the flags after it. No call takes memory.
 #![tactic(auto)]
 
 ghost use Rattle.std.specs.Prelude.{◌≡◌, ◌^◌, ◌<◌};

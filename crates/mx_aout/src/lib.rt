@@ -1,4 +1,5 @@
-//! Program files, in the 80386 layout of MINIX's `a.out.h`: read, checked and written.
+//! Program files, in the 80386 layout of MINIX's `a.out.h`: header, sections, symbols and total are read,
+//! checked, which may answer a `FileError`, and written.
 #![tactic(auto)]
 
 mod file;

@@ -1,4 +1,5 @@
-//! All subcommands of `mx`: what the words of a command line do, from files to status.
+//! All subcommands of `mx`: what a `CommandRequest` asks of reader, files and channels, from the words of a
+//! command line to what is done: a status and perhaps a `Complaint`.
 #![tactic(auto)]
 
 mod asking;

@@ -1,4 +1,5 @@
-//! The command line: which subcommand is asked for, with which values; and its help.
+//! The command line: which subcommand is asked for, with which arguments and values that clap matches; and its
+//! help, with examples.
 #![tactic(auto)]
 
 mod grammar;

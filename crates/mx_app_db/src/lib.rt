@@ -1,4 +1,5 @@
-//! `mx db`: a machine under a debugger.
+//! `mx db`: a machine under a debugger, by a `DebugScript` of `DebugLine`s; each look prints and changes
+//! nothing.
 #![tactic(auto)]
 
 mod driving;

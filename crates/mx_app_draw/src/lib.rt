@@ -1,4 +1,5 @@
-//! `mx draw`: the picture of a saved history, as text in SVG 1.1.
+//! `mx draw`: the picture of a saved history, a scene of figures, arrows, hints and marks, as text in SVG 1.1:
+//! texts, classes, attributes, fonts and strokes.
 #![tactic(auto)]
 
 mod classes;

@@ -1,5 +1,6 @@
-//! Explains: what a configuration's services may do, which machine a history is of, and the second line of a
-//! failure.
+//! Explains: what a configuration's services may do; which machine a history is of, by sums of files and their
+//! faults; and a failure's second line, an advice on the found word, its subject, its place and what was
+//! wanted.
 //!
 //! `mx explain` prints what the masks of a configuration allow: `services_text` names each bit, by the names
 //! that a trace has. The second line of a failure names the file that it is about, by the word that has its

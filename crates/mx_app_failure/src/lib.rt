@@ -1,4 +1,4 @@
-//! Why a command of `mx` fails: its line on standard error, and its status.
+//! Why a command of `mx` fails, as a `Failure` with a `Problem`: its line on standard error, and its status.
 //!
 //! For example, a program file is shorter than its header says: the line is `mx: 20 Truncated`, and the
 //! status is 1.

@@ -1,4 +1,5 @@
-//! `mx look`: a saved history, looked at forward and back.
+//! `mx look`: a saved history, looked at forward and back: a session of `Request`s with `Verb`s, typed at a
+//! prompt, over a `Sight` with a walker, points, watches and what is happening here; and what text has grown.
 #![tactic(auto)]
 
 mod answering;

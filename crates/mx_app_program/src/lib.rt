@@ -1,5 +1,5 @@
-//! `mx one`, `mx as`, `mx dis` and `mx nm`: what is done with one program; and the whole way around, on which a text
-//! is assembled, written, read, loaded and listed, and comes back as it was.
+//! `mx one`, `mx as`, `mx dis` and `mx nm`: what is done with one program; and the journey around, on which a
+//! text is assembled, written, read, loaded and listed, and comes back as it was.
 #![tactic(auto)]
 
 mod assembly;

@@ -1,4 +1,5 @@
-//! `mx run`: a machine whose processors are threads, and its history, saved at the end.
+//! `mx run`: a machine whose processors are threads, by a plan of rounds, ticks and outside calls at a gate;
+//! and its history, saved at the end.
 #![tactic(auto)]
 
 mod calls;

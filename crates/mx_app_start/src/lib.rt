@@ -1,4 +1,5 @@
-//! From files' names to a booted machine: all files are read and checked in order.
+//! From files' names to a booted machine: all files are asked for, read and checked in order, answers are
+//! noted, what is written replaces files, and progress is shown.
 #![tactic(auto)]
 
 mod channels;

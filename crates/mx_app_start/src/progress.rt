@@ -14,6 +14,9 @@ const PATIENCE: u64 = 1000;
 /// How many milliseconds a line of progress stays as it is.
 const PAUSE: u64 = 100;
 
+/// When a line is due before the first part of a work is shown: then the work begins.
+const NOT_BEGUN: u64 = u64::MAX;
+
 /// Goes back to the beginning of the line, and empties it.
 const EMPTY_LINE: &str = "\r\x1b[K";
 
@@ -27,8 +30,8 @@ pub trait SharedProgress {
         ensures { was_shown self.now part };
 }
 
-/// One line of the runtime's standard error, which any thread may print anew: from a second after it was made on, and
-/// not twice in a tenth of a second.
+/// One line of the runtime's standard error, which any thread may print again: a second after it was made, or after
+/// the first part that a later work shows, and not twice in a tenth of a second.
 #[derive(Drop)]
 struct ProgressLine<'a, R> {
     rt: &'a R,
@@ -57,7 +60,7 @@ impl<'a, R: Clock> ProgressLine<'a, R> {
         }
     }
 
-    /// Whether the line is due. Of threads that ask at once one alone is answered with yes.
+    /// Whether the line is due. If several threads ask at once, only one is answered with yes.
     fn is_due(&self) -> bool {
         let Some(began) = self.began else {
             return false;
@@ -67,13 +70,17 @@ impl<'a, R: Clock> ProgressLine<'a, R> {
         };
         let now = u64::try_from(passed.as_millis()).unwrap_or(u64::MAX);
         let due = self.due.load(Ordering::SeqCst);
-        if now < due {
+        let has_begun = due != NOT_BEGUN;
+        if has_begun && now < due {
             return false;
         }
-        let next = now.saturating_add(PAUSE);
-        self.due
+        let pause = if has_begun { PAUSE } else { PATIENCE };
+        let next = now.saturating_add(pause);
+        let is_first = self
+            .due
             .compare_exchange(due, next, Ordering::SeqCst, Ordering::SeqCst)
-            .is_ok()
+            .is_ok();
+        has_begun && is_first
     }
 }
 
@@ -88,16 +95,17 @@ impl<'a, R: Clock + Eprint> ProgressLine<'a, R> {
         }
     }
 
-    /// Takes the line away.
+    /// Takes the line away. A later work begins with its first part: a session may wait for its reader between them.
     fn clear(&self) {
+        self.due.store(NOT_BEGUN, Ordering::SeqCst);
         if self.is_printed.swap(false, Ordering::SeqCst) {
             let _ = eprint!(self.rt; "{EMPTY_LINE}");
         }
     }
 }
 
-/// Prints how far a command is, in one line of the runtime's standard error: if that is a terminal, and from
-/// a second after it was made on.
+/// Prints how far a command is, in one line of the runtime's standard error: if that is a terminal, and a second after
+/// the command, or a later line of its session, has begun.
 #[derive(Drop)]
 pub struct RuntimeProgress<'a, R> {
     line: ProgressLine<'a, R>,

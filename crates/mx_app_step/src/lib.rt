@@ -1,4 +1,5 @@
-//! `mx step`, `mx replay` and `mx trace`: a machine driven by a script, or by a saved history.
+//! `mx step`, `mx replay` and `mx trace`: a started machine that a performer drives by a script's lines, or by
+//! the records of a saved history, numbered or not.
 #![tactic(auto)]
 
 mod driving;

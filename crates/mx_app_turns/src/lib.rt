@@ -1,5 +1,5 @@
-//! `mx turns` and `mx sweep`: a machine that one thread drives in turns, and a saved history with a fault at
-//! each of its positions.
+//! `mx turns` and `mx sweep`: a machine that one thread drives in turns, and a saved history with a fault, a
+//! `FaultLine`, at each position of a range, with blocks of positions that end alike.
 //!
 //! `specs/Sweep.antt` says what the outcome of a position is, and how outcomes are printed.
 #![tactic(auto)]

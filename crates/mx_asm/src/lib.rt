@@ -1,4 +1,5 @@
-//! The assembler: from a text to a program, by the addresses of its labels, or its first fault.
+//! The assembler: from a text to a program, by the `Layout` of its sections, the addresses above each line and
+//! its branches; or its first fault, an `AsmError`.
 //!
 //! # Two passes
 //!

@@ -1,4 +1,5 @@
-//! A line of assembler: its tokens, the statement that they form, and the instruction that it names.
+//! A line of assembler: its tokens, the `Statement` with `Argument`s that they form, the spot of what is wrong,
+//! and the instruction that it names.
 #![tactic(auto)]
 
 mod argument;

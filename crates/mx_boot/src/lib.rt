@@ -1,5 +1,5 @@
-//! Everything that is read or written as text about a machine, in one place: configurations,
-//! scripts, histories, reports.
+//! Everything that is read or written as text about a machine, in one place: configurations with `ConfigItem`s
+//! and rules, scripts with `Verb`s, histories saved through a sink, reports.
 #![tactic(auto)]
 
 mod address_word;

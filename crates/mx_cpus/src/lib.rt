@@ -1,5 +1,5 @@
-//! One machine that many threads share: each call takes the lock, does one thing to the kernel, and
-//! shows the caller's seat what is in the history now; and the loops of the threads that drive it.
+//! One machine that many threads share: each call takes the lock, by a seat's side and door, and shows the seat
+//! what is in the history now; and the threads' loops, with a gate that ends them.
 //!
 //! # How sharing begins and ends
 //!

@@ -1,4 +1,5 @@
-//! Breakpoints: a process is run until it halts at one. Nothing is written into its memory.
+//! Breakpoints: a process is run, mark by mark, until it halts at one, with a `HaltCause`. Nothing is written
+//! into its memory.
 #![tactic(auto)]
 
 mod error;

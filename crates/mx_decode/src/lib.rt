@@ -1,4 +1,5 @@
-//! From bytes to the instruction that they begin with.
+//! From bytes to the instruction that they begin with: prefixes, opcode, the `Pattern` of its row, the ModRM
+//! byte, displacement and immediate; or a `DecodeFault`.
 //!
 //! # One table
 //!

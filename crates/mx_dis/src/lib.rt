@@ -1,5 +1,5 @@
-//! The listing of a program's instructions, and of its symbols. Each line is appended to one `String`; parts
-//! aren't collected.
+//! The listing of a program's instructions, line by line and in parts of its text, and of its symbols. Each
+//! line is appended to one `String`; parts aren't collected.
 #![tactic(auto)]
 
 mod laws;

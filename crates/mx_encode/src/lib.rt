@@ -1,5 +1,6 @@
-//! From an instruction to bytes: of all spellings of it, the chosen one. `choice` finds the encoding,
-//! `operands`, `single`, `jumps` and their like make it, and `writing` writes its bytes.
+//! From an instruction to bytes: of all its forms the chosen `Encoding`, which is laid out as opcode, ModRM
+//! byte, displacement and immediate. `choice` finds the encoding, `operands`, `single`, `jumps` and their like
+//! make it, and `writing` writes its bytes.
 #![tactic(auto)]
 
 ghost use Rattle.std.specs.Prelude.{◌≡◌};

@@ -1,4 +1,5 @@
-//! One step: what one instruction does to a process's registers, flags and memory.
+//! One step: what one instruction, by its `Operands` and operation, does (`Performs`) to an `Image`, which is a
+//! process's registers, flags, memory and segment, and the next EIP.
 #![tactic(auto)]
 
 pub mod arithmetic;

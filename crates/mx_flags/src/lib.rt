@@ -1,4 +1,5 @@
-//! The processor's seven flags, what operations make of them, and the conditions that jumps test.
+//! The processor's seven `Flags` (carry, parity, auxiliary, zero, sign, direction, overflow), what operations
+//! of a size make of them, and the conditions that jumps test.
 //!
 //! # Lazy flags
 //!

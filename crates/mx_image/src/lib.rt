@@ -1,4 +1,5 @@
-//! Many steps in a row, counted, and how they end; and what a caller may read of an image.
+//! Many steps in a row, within a budget, counted, and how they end, as a `Stop`; and what a caller may read of
+//! an image.
 #![tactic(auto)]
 
 mod joining;

@@ -1,4 +1,5 @@
-//! An instruction as a value, and the table of rows that defines which bytes spell it.
+//! An instruction as a value, `Insn`, with its operands; and the table of rows that defines which bytes spell
+//! it.
 #![tactic(auto)]
 
 mod insn;

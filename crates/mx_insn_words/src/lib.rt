@@ -1,4 +1,5 @@
-//! The words of instructions, and how an instruction is printed.
+//! The words of instructions (`Mnemonic`, `Directive`), and how an instruction is printed, with its written
+//! operands.
 #![tactic(auto)]
 
 mod laws;

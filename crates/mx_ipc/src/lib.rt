@@ -1,5 +1,6 @@
-//! The traps SEND, RECEIVE, SENDREC and NOTIFY: checks, delivery, blocking. Each of the four makes all six
-//! checks itself (`checks`), so its caller needs to know nothing of the destination.
+//! The traps SEND, RECEIVE, SENDREC and NOTIFY: the checks of a call and of its other `Party`, delivery,
+//! blocking, going on with a result. Each of the four makes all six checks itself (`checks`), so its caller
+//! needs to know nothing of the destination.
 #![tactic(auto)]
 
 ghost use Rattle.std.specs.Prelude.{◌≡◌, ◌≢◌, ℕ, ◌<◌, Some, None, true, false, length};

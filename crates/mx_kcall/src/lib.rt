@@ -1,6 +1,7 @@
-//! Calls to the kernel, interrupt lines, and the clock with its alarms. `rows` has the table of calls. A call is
-//! refused by its type, then by the mask of calls, then by reasons of its own (`refusals`); else `serving`
-//! changes the table and writes the reply.
+//! Calls to the kernel, as `KernelCall`s and rows of `CallName`s: reasons against them, grants, copies, words
+//! of replies; interrupt lines; and the clock with its alarms. `rows` has the table of calls. A call is refused
+//! by its type, then by the mask of calls, then by reasons of its own (`refusals`); else `serving` changes the
+//! table and writes the reply.
 #![tactic(auto)]
 
 mod clock;

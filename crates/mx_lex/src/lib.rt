@@ -1,4 +1,5 @@
-//! From an assembler text to its tokens: words, numbers, marks and quoted texts.
+//! From an assembler text to its `Token`s: words, numbers, marks and quoted texts with escapes; or a
+//! `LexError`.
 #![tactic(auto)]
 
 mod gaps;

@@ -1,4 +1,5 @@
-//! From a program to the image that a process begins with; and copies of images.
+//! From a program to the image that a process begins with, with room for its text, data and segment; and copies
+//! of images for a purpose.
 #![tactic(auto)]
 
 mod copying;

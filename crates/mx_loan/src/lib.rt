@@ -1,5 +1,5 @@
-//! Lending desk of the machine: a processor's process goes out as a loan and must come back to the
-//! desk, and it comes back as it was lent, advanced by exactly the steps that it counts.
+//! Lending desk of the machine: a process goes out as a loan and comes back, advanced by exactly the steps that
+//! it counts; by announcements on a board of actors' words, whose seats and founder know what was shown.
 //!
 //! It works like a library's cards: the librarian's list shows what is lent, and each reader's card shows
 //! what the reader has. `kinds` and `steps` define how list and cards agree, and six kinds of step that

@@ -1,5 +1,5 @@
-//! What is shown of a process, by its program's symbols: lines of its code as it is in memory now, its stack and
-//! its variables; and why an instruction faults.
+//! What is shown of a process by its program's symbols: lines of its code as it is in memory now, its stack and
+//! its variables; and why an instruction faults, as by a dword outside.
 #![tactic(auto)]
 
 mod accesses;

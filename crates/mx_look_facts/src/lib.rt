@@ -1,4 +1,5 @@
-//! What an event did: glances at the worlds before and after it, and the facts of the step between them.
+//! What an event did: a `Glance` at the worlds before and after it, with slots and processors, what each is
+//! doing, and the facts of the step between them.
 //!
 //! # In place
 //!

@@ -1,4 +1,5 @@
-//! The picture of a run: what is drawn of its records, as a list of values with whole coordinates.
+//! The picture of a run: the `Scene` of strips, spots, bars, hints, labels and deeds (calls that failed, fates,
+//! returns) that is drawn of its steps, as a list of values with whole coordinates on paper.
 #![tactic(auto)]
 
 mod bars;

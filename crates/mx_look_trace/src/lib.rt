@@ -1,4 +1,5 @@
-//! The trace: what a record of a history did, in words.
+//! The trace: what a record of a history did, in words: of its step, the parties, their endpoints, the numbers
+//! and names of calls and results, with a margin and counted things.
 #![tactic(auto)]
 
 mod faults;

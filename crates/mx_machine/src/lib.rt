@@ -1,5 +1,5 @@
-//! The model of the whole machine, the kernel that makes each event and records all of them, and the
-//! machine of one thread.
+//! The model of the whole machine, the kernel that makes each `Event` with an `Answer` and records all of them,
+//! with leases of what is out at the present; and the machine of one thread.
 //!
 //! # The model
 //!

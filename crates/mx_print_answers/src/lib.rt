@@ -1,5 +1,5 @@
-//! How a machine's answers are printed: registers, flags and stops, and the answers to events, to runs
-//! and to questions about memory and messages.
+//! How a machine's answers are printed, as a `Said`: registers, flags and stops, refusals, halts, and the
+//! answers to events, to runs and to questions about memory and messages.
 #![tactic(auto)]
 
 mod messages;

@@ -1,4 +1,5 @@
-//! The report of a machine: a line for each service, the uptime, the console.
+//! The report of a machine: a line of pushed fields for each service, with state and partner, by a naming of
+//! endpoints; the uptime, the console.
 #![tactic(auto)]
 
 mod fields;

@@ -1,4 +1,6 @@
-//! The table of processes: slots, ready lists, blocked sends, devices, and the last deliveries.
+//! The table of processes: slots, each with a `Process` of a state, level and generation; ready lists and
+//! blocked sends, which are linked; pending sources, windows, devices, the last deliveries; and the frame of
+//! each move.
 //!
 //! # A sound table
 //!

@@ -1,4 +1,4 @@
-//! The eight registers of 32 bits, and their low halves and bytes.
+//! The eight registers of 32 bits, `Regs`, and their low halves and bytes.
 #![tactic(auto)]
 
 ghost use Rattle.std.specs.Prelude.{◌≡◌, ◌<◌, ◌^◌};

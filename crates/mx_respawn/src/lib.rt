@@ -1,4 +1,4 @@
-//! How a process dies, and how its service gets a new one.
+//! How a process dies, which receivers then wake, and how its service gets a new one, if it isn't worn out.
 #![tactic(auto)]
 
 mod death;

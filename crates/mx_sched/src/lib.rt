@@ -1,4 +1,5 @@
-//! Scheduling: how a process is queued, and which one runs next.
+//! Scheduling: how a process is queued, at the front or end of the ready list of its level, and which one runs
+//! next.
 #![tactic(auto)]
 
 ghost use Rattle.std.specs.Prelude.{◌≡◌, ◌≢◌, ℕ, ◌<◌, true, false, length, IfSome};

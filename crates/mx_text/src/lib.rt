@@ -1,5 +1,5 @@
-//! What every text that is read shares: lines, the fields of a line, numbers, names, and the error
-//! of a line.
+//! What every text that is read shares: lines, the fields of a line, words, digits in a base, numbers, names,
+//! and the error of a line.
 #![tactic(auto)]
 
 mod error;

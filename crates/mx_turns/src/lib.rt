@@ -1,4 +1,5 @@
-//! Turns: one thread drives a whole machine, always in the same order.
+//! Turns: one thread drives a whole machine, always in the same order: each actor is offered an event, and
+//! those that are coming follow.
 //!
 //! `specs/Turns.antt` says which events come of turns.
 #![tactic(auto)]

@@ -1,4 +1,5 @@
-//! Steps that a real processor took, read from a text, and compared with ours.
+//! Steps that a real processor took, read from a text as a `Case` with masks and wanted changes, compared with
+//! ours, and counted in a `Tally`.
 //!
 //! Each is taken three times: as one step, as the only step of a run that decodes it, and in
 //! another run, which finds it cached.

@@ -1,4 +1,5 @@
-//! A machine that walks a saved history, forward and back.
+//! A machine that walks the records of a saved history, forward and back, from here to a `Position`, or from
+//! the boot: marks that are met, searches, checkpoints, and progress that is shown.
 #![tactic(auto)]
 
 mod booting;

@@ -1,5 +1,5 @@
-//! Numbers of 8, 16 and 32 bits: their sums, signs and bytes; and the names of registers,
-//! conditions and operations.
+//! Numbers of 8, 16 and 32 bits: their `Size` and width in bits, sums with carry and borrow, signs, halves and
+//! bytes; and the names of registers, conditions and operations.
 #![tactic(auto)]
 
 mod bits;
