@@ -24,7 +24,8 @@ impl Debugger {
     /// The value of a program's first symbol of a name, at which a breakpoint may be set; `NoSymbol` if
     /// the program has none of that name.
     pub fn address(program: &Program, name: &[u8]) -> Result<u32, DebugError>
-        ensures found { IfOk result (λ value. first_named program.now.symbols name.now ≡ Some value) }
+        ensures found { IfOk result (λ value.
+            first_named program.now.symbols name.now ≡ Some value) }
         ensures none { OnErr result (first_named program.now.symbols name.now ≡ None) }
         ensures error { IfErr result (λ e. e ≡ errors.NoSymbol) }
     {

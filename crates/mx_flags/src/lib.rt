@@ -597,7 +597,8 @@ fn auxiliary_of(auxiliary: bool) -> Auxiliary
 /// The kind after which overflow is a value, and sign and parity are as before.
 #[inline(always)]
 fn with_overflow_value(kind: Kind) -> Kind
-    ensures shown { (shown given : Bool) → shown_from result shown given ≡ shown_from kind shown given }
+    ensures shown { (shown given : Bool)
+        → shown_from result shown given ≡ shown_from kind shown given }
     ensures overflow { (size : Size) (x y k n : ℕ) (given : Bool)
         → overflow_from result size x y k n given ≡ given }
 {

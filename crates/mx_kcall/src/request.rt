@@ -179,7 +179,8 @@ fn request_of(call: CallName, words: MessageWords) -> KernelCall
 /// The request that words make under these rules.
 pub(crate) fn request_under(rules: Rules, words: MessageWords) -> Option<KernelCall>
     ensures value { result ≡ kernel_call_under rules words }
-    ensures place { IfSome result (λ _. (FIRST_CALL ≤ words.kind) × (words.kind < FIRST_CALL + 32)) }
+    ensures place { IfSome result (λ _.
+        (FIRST_CALL ≤ words.kind) × (words.kind < FIRST_CALL + 32)) }
 {
     let row = call_row(words.kind)?;
     if !is_there(rules, row) {

@@ -81,7 +81,8 @@ pub fn slot_named(machine: &Machine, slot: u32) -> Result<Slot, Refused>
 
 /// The value of the first symbol of a name in the program of a slot's service.
 fn value_of(kernel: &Kernel, slot: Slot, name: &[u8]) -> Option<u32>
-    ensures { result ≡ first_named (symbols_by (slice_get (replay kernel.now).services slot)) name.now }
+    ensures { result
+        ≡ first_named (symbols_by (slice_get (replay kernel.now).services slot)) name.now }
 {
     kernel.facts();
     match kernel.services().get(slot as usize) {
@@ -92,7 +93,8 @@ fn value_of(kernel: &Kernel, slot: Slot, name: &[u8]) -> Option<u32>
 
 /// The same, if the name isn't too long for a symbol.
 fn value_named(kernel: &Kernel, slot: Slot, name: &Option<SymbolName>) -> Option<u32>
-    ensures { result ≡ value_named (symbols_by (slice_get (replay kernel.now).services slot)) name.now }
+    ensures { result
+        ≡ value_named (symbols_by (slice_get (replay kernel.now).services slot)) name.now }
 {
     match name {
         Some(name) => value_of(kernel, slot, name.as_slice()),
@@ -115,7 +117,8 @@ fn address_after(value: Option<u32>, after: u32) -> Result<u32, Refused>
 
 /// The address that is named in the program of a slot's service, or why there is none.
 fn address_in(kernel: &Kernel, slot: Slot, asked: &AddressWord) -> Result<u32, Refused>
-    ensures { result ≡ address_in (symbols_by (slice_get (replay kernel.now).services slot)) asked.now }
+    ensures { result
+        ≡ address_in (symbols_by (slice_get (replay kernel.now).services slot)) asked.now }
 {
     match asked {
         AddressWord::Number(at) => Ok(*at),

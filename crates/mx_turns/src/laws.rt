@@ -43,7 +43,8 @@ pub fn turn_of_one()
 pub fn turns_are_few()
     ensures { (n : ℕ) (w : World) (coming : List Event) → 0 < length w.cpus
         → (turns n w coming).ending ≡ endings.Turns
-        → n + w.records ≤ (world_after_events w (turns n w coming).made).records + refusable coming }
+        → n + w.records
+        ≤ (world_after_events w (turns n w coming).made).records + refusable coming }
 {
     held_runs_join();
 }

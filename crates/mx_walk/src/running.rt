@@ -121,7 +121,8 @@ impl<'a, M: Mark> Tool for Searcher<'a, M> {
     ghost use Rattle.std.specs.Prelude.{◌≡◌};
     ghost use Rattle.mx_walk.specs.Running.{HasRun, steps_to_mark};
 
-    ghost steps = { λ tool out. steps_to_mark (M.marks_step tool.mark.now) tool.steps (record { slot = tool.slot; out = out }) };
+    ghost steps = { λ tool out. steps_to_mark (M.marks_step tool.mark.now) tool.steps
+        (record { slot = tool.slot; out = out }) };
 
     ghost Becomes = { λ old out new. (new.mark.ghost_name ≡ old.mark.ghost_name)
         × (M.marks new.mark.now ≡ M.marks old.mark.now)
