@@ -2,51 +2,9 @@
 
 use crate::{Image, Place, Source, TurnEnd};
 use mx_alu::{DivideFault, Signedness, alu, divide, multiply, multiply_low, shift, unary};
-use mx_flags::Flags;
 use mx_insn::{Count, Operands, Product};
 use mx_mem::DIVIDE_ERROR;
 use mx_word::{Arithmetic, Register, Shift, Size, Unary};
-
-/// What an instruction's two operands hold. If the first is in memory it is read first, else last.
-#[inline(always)]
-fn both<P: Place, S: Source>(
-    image: &Image,
-    at: u32,
-    size: Size,
-    to: &P,
-    from: &S,
-) -> Result<(u32, u32), u8> {
-    if P::IS_MEMORY {
-        let x = to.load(image, at, size)?;
-        let y = from.value(image, size)?;
-        Ok((x, y))
-    } else {
-        let y = from.value(image, size)?;
-        let x = to.load(image, at, size)?;
-        Ok((x, y))
-    }
-}
-
-/// Writes a result, and then flags; or neither.
-#[inline(always)]
-pub fn finish<P: Place>(
-    image: &mut Image,
-    at: u32,
-    size: Size,
-    to: &P,
-    (value, flags): (u32, Flags),
-) -> TurnEnd {
-    if !P::IS_MEMORY {
-        image.flags = flags;
-        return to.store(image, at, size, value);
-    }
-    let end = to.store(image, at, size, value);
-    let TurnEnd::Fault(_) = end else {
-        image.flags = flags;
-        return end;
-    };
-    end
-}
 
 /// An operation on two operands. The result of CMP is kept nowhere.
 #[inline(always)]
@@ -58,7 +16,7 @@ pub fn operate<P: Place, S: Source>(
     from: &S,
 ) -> TurnEnd {
     let at = to.address(&image.regs);
-    let (x, y) = match both(image, at, size, to, from) {
+    let (x, y) = match to.load_both(image, at, size, from) {
         Ok(values) => values,
         Err(vector) => return TurnEnd::Fault(vector),
     };
@@ -67,7 +25,7 @@ pub fn operate<P: Place, S: Source>(
         image.flags = flags;
         return TurnEnd::Next;
     }
-    finish(image, at, size, to, (value, flags))
+    to.store_result(image, at, size, (value, flags))
 }
 
 /// The same, with the size looked at once.
@@ -120,7 +78,7 @@ pub fn operate_alone<P: Place>(image: &mut Image, operation: Unary, size: Size, 
     match to.load(image, at, size) {
         Ok(x) => {
             let result = unary(operation, size, x, &image.flags);
-            finish(image, at, size, to, result)
+            to.store_result(image, at, size, result)
         }
         Err(vector) => TurnEnd::Fault(vector),
     }
@@ -149,7 +107,7 @@ pub fn shift_by<P: Place>(
         Ok(x) => {
             let places = count_of(image, count);
             let result = shift(operation, size, x, places, &image.flags);
-            finish(image, at, size, to, result)
+            to.store_result(image, at, size, result)
         }
         Err(vector) => TurnEnd::Fault(vector),
     }

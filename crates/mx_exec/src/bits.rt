@@ -1,6 +1,6 @@
 //! Bit tests, bit scans and double shifts.
 
-use crate::arithmetic::{count_of, finish};
+use crate::arithmetic::count_of;
 use crate::{Image, Place, Source, TurnEnd};
 use mx_alu::{bit_scan, bit_test, double_shift};
 use mx_insn::Count;
@@ -25,7 +25,7 @@ pub fn test_bit<P: Place>(
             TurnEnd::Next
         }
         BitTest::Bts | BitTest::Btr | BitTest::Btc => {
-            finish(image, at, Size::Dword, operand, result)
+            operand.store_result(image, at, Size::Dword, result)
         }
     }
 }
@@ -67,5 +67,5 @@ pub fn shift_double<P: Place>(
     let bits = image.register(filler.register);
     let count = count_of(image, filler.count);
     let result = double_shift(operation, x, bits, count, &image.flags);
-    finish(image, at, Size::Dword, to, result)
+    to.store_result(image, at, Size::Dword, result)
 }
