@@ -15,8 +15,7 @@ pub fn operate<P: Place, S: Source>(
     to: &P,
     from: &S,
 ) -> TurnEnd {
-    let at = to.address(&image.regs);
-    let (x, y) = match to.load_both(image, at, size, from) {
+    let (at, x, y) = match to.load_both(image, size, from) {
         Ok(values) => values,
         Err(vector) => return TurnEnd::Fault(vector),
     };
@@ -74,7 +73,7 @@ pub fn test<P: Source, S: Source>(image: &mut Image, size: Size, one: &P, other:
 /// An operation on one operand.
 #[inline(always)]
 pub fn operate_alone<P: Place>(image: &mut Image, operation: Unary, size: Size, to: &P) -> TurnEnd {
-    let at = to.address(&image.regs);
+    let at = to.spot(&image.regs);
     match to.load(image, at, size) {
         Ok(x) => {
             let result = unary(operation, size, x, &image.flags);
@@ -102,7 +101,7 @@ pub fn shift_by<P: Place>(
     to: &P,
     count: Count,
 ) -> TurnEnd {
-    let at = to.address(&image.regs);
+    let at = to.spot(&image.regs);
     match to.load(image, at, size) {
         Ok(x) => {
             let places = count_of(image, count);

@@ -13,7 +13,7 @@ pub fn test_bit<P: Place>(
     operand: &P,
     number: u32,
 ) -> TurnEnd {
-    let at = operand.address(&image.regs);
+    let at = operand.spot(&image.regs);
     let x = match operand.load(image, at, Size::Dword) {
         Ok(x) => x,
         Err(vector) => return TurnEnd::Fault(vector),
@@ -59,7 +59,7 @@ pub fn shift_double<P: Place>(
     to: &P,
     filler: Filler,
 ) -> TurnEnd {
-    let at = to.address(&image.regs);
+    let at = to.spot(&image.regs);
     let x = match to.load(image, at, Size::Dword) {
         Ok(x) => x,
         Err(vector) => return TurnEnd::Fault(vector),
