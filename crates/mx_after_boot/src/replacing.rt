@@ -45,13 +45,13 @@ const WHOIS: Turn = (0, 13, 5);
 /// Whether a process that is at home has this number at a place.
 fn holds(machine: &Machine, slot: u8, place: u32, size: Size, number: u32) -> bool {
     let table = machine.kernel().table();
-    slot < table.used() && table.process(slot).image.memory.read(place, size) == Ok(number)
+    slot < table.slot_count() && table.process(slot).image.memory.read(place, size) == Ok(number)
 }
 
 /// Whether the client's last call was answered so.
 fn is_told(machine: &Machine, answer: u32) -> bool {
     let table = machine.kernel().table();
-    CLIENT < table.used() && table.process(CLIENT).image.register(Register::Eax) == answer
+    CLIENT < table.slot_count() && table.process(CLIENT).image.register(Register::Eax) == answer
 }
 
 /// Whether the client awaits the driver, has the notice of its death, and the driver's data are the

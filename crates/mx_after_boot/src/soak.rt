@@ -48,19 +48,26 @@ impl Role {
 /// The line that a service of the machine owns.
 const LINE: u32 = 5;
 
-/// One event of an actor, about a slot.
+/// An event of an actor: what its role does, about a slot.
+#[derive(Clone, Copy)]
+struct RoleEvent {
+    role: Role,
+    slot: u8,
+}
+
+/// Makes one event of an actor.
 fn act_once<M: Naming>(
     rt: &impl Wait,
     shared: &Shared<M>,
     seat: ActorSeat,
     course: &Course,
-    role: Role,
-    slot: u8,
+    event: RoleEvent,
 ) -> (ActorSeat, Result<Answer, Refusal>)
     requires { seat.table ≡ M.table }
     ensures { result.0.table ≡ M.table }
 {
-    match role {
+    let slot = event.slot;
+    match event.role {
         Role::Ticks => shared.tick(rt, seat),
         Role::Lines => shared.line(rt, seat, LINE),
         Role::Kills => shared.kill(rt, seat, course.endpoint(slot)),
@@ -87,7 +94,8 @@ fn act_until_full<M: Naming, R: Wait>(
     let mut seat = seat;
     let mut slot: u8 = 0;
     for _ in rt.forever() {
-        let (next, answer) = act_once(rt, shared, seat, course, role, slot);
+        let event = RoleEvent { role, slot };
+        let (next, answer) = act_once(rt, shared, seat, course, event);
         seat = next;
         if answer == Err(Refusal::LogFull) || (role != Role::Ticks && course.is_full()) {
             break;

@@ -1,5 +1,5 @@
 -- What is done of a request, from what its subcommand does.
-use Rattle.std.proofs.Common.{◌≡◌, ◌⊎◌, ◌++◌, ℕ, Bool, List, [], ◌∷◌, Option, Some, None, Result, Ok, Err, IfErr, OnOk, false, inr, refl, subst, sym, take}
+use Rattle.std.proofs.Common.{◌≡◌, ◌∙◌, ◌⊎◌, ◌++◌, ℕ, Bool, List, [], ◌∷◌, Option, Some, None, Result, Ok, Err, IfErr, OnOk, false, inr, refl, subst, sym, take}
 use Rattle.std.specs.Prelude.{IfOk}
 use Rattle.std.specs.Io.KnownBytes.{Appends}
 use Rattle.std.proofs.lemmas.List.{append-nil}
@@ -31,7 +31,7 @@ use Rattle.mx_app_db.specs.Records.{IsReplayPrinted as IsReplayPrinted}
 use Rattle.mx_app_db.specs.Traces.{IsTracePrinted}
 use Rattle.mx_app_db.specs.Replayed.{Replayed}
 use Rattle.mx_app_db.specs.DebugLines.{DebuggedWorld, debug_lines_made}
-use Rattle.mx_app_db.specs.Told.{debug_lines_text}
+use Rattle.mx_app_db.specs.LineTexts.{debug_lines_text}
 use Rattle.mx_app_draw.specs.Scenes.{IsDrawingPrinted}
 use Rattle.mx_app_look.specs.Sessions.{HasFailed, IsBegun, IsSession, IsWhole, begun_text, sight_at}
 use Rattle.mx_app_run.specs.Run.{Runs}
@@ -70,19 +70,25 @@ untyped (Turns config log ticks events bound) asks qs ws Prints r h = absurd h
 untyped (Sweep config log fault bound from to strict save) asks qs ws Prints r h = absurd h
 untyped request asks qs ws Prints r h = (refl, refl, h)
 
--- what is done of the request that was asked for
-pub as_asked : {given : List (Option (List ℕ))} {shown : List Part} (asks : Bool) (asked now : List Asked) (files written : List Written) (Prints : List ℕ → Type 0) (r : Result Done Kind) (request known : CommandRequest) → request ≡ known
+-- what is done of the request that this one is
+pub as_known : (asked now : List Asked) (files written : List Written) (Prints : List ℕ → Type 0) (r : Result Done Kind) (request known : CommandRequest) → request ≡ known
     → AsksAndWrites asked now files written (λ qs ws. PerformsUntyped known qs ws Prints r)
+    → AsksAndWrites asked now files written (λ qs ws. PerformsUntyped request qs ws Prints r)
+as_known asked now files written Prints r request known same done =
+    subst (λ (x : CommandRequest). AsksAndWrites asked now files written (λ qs ws. PerformsUntyped x qs ws Prints r)) (sym same) done
+
+-- what is done of it, if no lines are typed and no progress is shown
+pub as_asked : {given : List (Option (List ℕ))} {shown : List Part} (asks : Bool) (asked now : List Asked) (files written : List Written) (Prints : List ℕ → Type 0) (r : Result Done Kind) (request : CommandRequest)
+    → AsksAndWrites asked now files written (λ qs ws. PerformsUntyped request qs ws Prints r)
     → Grows asked now files written given given shown shown (λ did. Performs request asks did Prints r)
-as_asked {given} {shown} asks asked now files written Prints r request known same done =
-    let d = subst (λ (x : CommandRequest). AsksAndWrites asked now files written (λ qs ws. PerformsUntyped x qs ws Prints r)) (sym same) done in (
-      record { asked = d.0; written = d.1; typed = []; shown = [] },
-      d.2,
-      d.3,
-      sym (append-nil given),
-      sym (append-nil shown),
-      untyped request asks d.0 d.1 Prints r d.4,
-    )
+as_asked {given} {shown} asks asked now files written Prints r request done = (
+  record { asked = done.0; written = done.1; typed = []; shown = [] },
+  done.2,
+  done.3,
+  sym (append-nil given),
+  sym (append-nil shown),
+  untyped request asks done.0 done.1 Prints r done.4,
+)
 
 -- the same, if the list of what was shown stays
 pub as_run : (asked now : List Asked) (files written : List Written) (given : List (Option (List ℕ))) (shown later : List Part) (asks : Bool) (Prints : List ℕ → Type 0) (r : Result Done Kind) (request known : CommandRequest) → later ≡ shown → request ≡ known
@@ -90,7 +96,7 @@ pub as_run : (asked now : List Asked) (files written : List Written) (given : Li
     → Grows asked now files written given given shown later (λ did. Performs request asks did Prints r)
 as_run asked now files written given shown later asks Prints r request known same is done =
     subst (λ (l : List Part). Grows asked now files written given given shown l (λ did. Performs request asks did Prints r)) (sym same)
-    (as_asked {given = given} {shown = shown} asks asked now files written Prints r request known is done)
+    (as_asked {given = given} {shown = shown} asks asked now files written Prints r request (as_known asked now files written Prints r request known is done))
 
 -- and of one that takes lines or shows progress
 pub as_typed : (asked now : List Asked) (files written : List Written) (given typed : List (Option (List ℕ))) (shown later : List Part) (asks : Bool) (Prints : List ℕ → Type 0) (r : Result Done Kind) (request known : CommandRequest) → request ≡ known
@@ -100,17 +106,17 @@ as_typed asked now files written given typed shown later asks Prints r request k
     subst (λ (x : CommandRequest). Grows asked now files written given typed shown later (λ did. Performs x asks did Prints r)) (sym same) done
 
 -- a session was held, or its machine wasn't started
-pub looks : (asked now : List Asked) (files : List Written) (given given_now : List (Option (List ℕ))) (shown later : List Part) (config log : List ℕ) (asks : Bool) (x y : Option (List ℕ)) (d : Result (Unit {0}) Kind) (r : Result Done Kind)
+pub looks : (asked now : List Asked) (files files_now : List Written) (given given_now : List (Option (List ℕ))) (shown later : List Part) (config log : List ℕ) (asks : Bool) (x y : Option (List ℕ)) (d : Result (Unit {0}) Kind) (r : Result Done Kind)
     → OnOk d ((qs : List Asked) × (c : Config) × (vs : List Service) × (records : List Record) × (k : Walk) × (typed : List (Option (List ℕ))) × (text : List ℕ) × (ps : List Part)
     × (now ≡ asked ++ qs) × (given_now ≡ given ++ typed) × IsWhole typed × (later ≡ shown ++ (walk_shown k.records k.last ++ ps)) × IsStart IsSaved config log qs c vs records × IsBegun (world_at_boot c vs) records k
     × IsSession asks (sight_at k) typed text ps × Appends x y (begun_text asks k ++ text))
     → IfErr d (λ f. (qs : List Asked) × (typed : List (Option (List ℕ))) × (ps : List Part) × (now ≡ asked ++ qs) × (given_now ≡ given ++ typed) × (later ≡ shown ++ ps) × HasFailed config log qs ps f)
-    → r ≡ done_after_work d
-    → Grows asked now files files given given_now shown later (λ did. (e : Result (Unit {0}) Kind) × (did.written ≡ []) × Looks config log asks did.asked did.typed did.shown (λ text. Appends x y text) e × (r ≡ done_after_work e))
-looks asked now files given given_now shown later config log asks x y (Ok u) r p f e =
-    (record { asked = p.0; written = []; typed = p.5; shown = walk_shown p.4.records p.4.last ++ p.7 }, p.8, sym (append-nil files), p.9, p.11, (Ok u, refl, (p.1, p.2, p.3, p.4, p.6, p.7, p.12, p.13, refl, p.10, p.14, p.15), e))
-looks asked now files given given_now shown later config log asks x y (Err why) r p f e =
-    (record { asked = f.0; written = []; typed = f.1; shown = f.2 }, f.3, sym (append-nil files), f.4, f.5, (Err why, refl, f.6, e))
+    → r ≡ done_after_work d → files_now ≡ files
+    → Grows asked now files files_now given given_now shown later (λ did. (e : Result (Unit {0}) Kind) × (did.written ≡ []) × Looks config log asks did.asked did.typed did.shown (λ text. Appends x y text) e × (r ≡ done_after_work e))
+looks asked now files files_now given given_now shown later config log asks x y (Ok u) r p f e same =
+    (record { asked = p.0; written = []; typed = p.5; shown = walk_shown p.4.records p.4.last ++ p.7 }, p.8, same ∙ sym (append-nil files), p.9, p.11, (Ok u, refl, (p.1, p.2, p.3, p.4, p.6, p.7, p.12, p.13, refl, p.10, p.14, p.15), e))
+looks asked now files files_now given given_now shown later config log asks x y (Err why) r p f e same =
+    (record { asked = f.0; written = []; typed = f.1; shown = f.2 }, f.3, same ∙ sym (append-nil files), f.4, f.5, (Err why, refl, f.6, e))
 
 -- a text was assembled, and nothing printed
 pub assembled : (asked now : List Asked) (files written : List Written) (known : Option (List ℕ)) (text file : List ℕ) (d : Result (Unit {0}) Kind) (r : Result Done Kind)

@@ -2,7 +2,7 @@ mod Services
 mod Shown
 mod Doing
 mod Explained
-mod Told
+mod Complaints
 mod Grown
 mod Moved
 mod Summed

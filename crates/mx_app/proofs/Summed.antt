@@ -19,7 +19,7 @@ use Rattle.mx_app_explain.specs.declared.sums_fault.SumsFault.TheVariants.{NameT
 use Rattle.mx_app_explain.specs.declared.sums.PartSum.{PartSum}
 use Rattle.mx_app.specs.Deeds.{Deeds}
 use Rattle.mx_app.specs.Requests.{Performs}
-use Rattle.mx_app.specs.Summing.{ComparesSums, IsCompared, IsUnsummed, PerformsBy, PerformsCompared, PerformsSummed, WritesSums, by_request, names_file, writes_sums}
+use Rattle.mx_app.specs.Summing.{ComparesSums, IsCompared, IsUnsummed, PerformsBy, PerformsCompared, PerformsSummed, PerformsWith, WritesSums, by_request, names_file, writes_sums}
 use Rattle.mx_app.specs.declared.performing.Done.{Done}
 use Rattle.mx_app.specs.declared.summing.LineFailure.{LineFailure}
 use Rattle.mx_app.specs.declared.summing.LineFailure.TheVariants.{Request, Sums}
@@ -119,22 +119,27 @@ module _ (asks : Bool) (request : CommandRequest) (name config : List ℕ) (name
 -- ---- the line
 
 module _ (asks : Bool) (request : CommandRequest) (asked now : List Asked) (files written : List Written) (given given_now : List (Option (List ℕ))) (shown later : List Part) (Prints : List ℕ → Type 0) (r : Result Done LineFailure) where
-  abbrev DoesLine : Option (List ℕ) → Type 0
-  DoesLine sums = Grows asked now files written given given_now shown later (λ did. PerformsBy request sums asks did Prints r)
+  abbrev DoesWith : List ℕ → Type 0
+  DoesWith name = Grows asked now files written given given_now shown later (λ did. PerformsWith request name asks did Prints r)
 
   pub with_summed : (name : List ℕ) → names_file request name ≡ false → writes_sums request ≡ true
       → Grows asked now files written given given_now shown later (λ did. PerformsSummed request name asks did Prints r)
-      → (sums : Option (List ℕ)) → sums ≡ Some name → DoesLine sums
-  with_summed name free writes done sums some = subst DoesLine (sym some) (done.0, done.1, done.2, done.3, done.4, inr (inl (free, writes, done.5)))
+      → DoesWith name
+  with_summed name free writes done = (done.0, done.1, done.2, done.3, done.4, inr (inl (free, writes, done.5)))
 
   pub with_compared : (name : List ℕ) → names_file request name ≡ false → writes_sums request ≡ false
       → Grows asked now files written given given_now shown later (λ did. PerformsCompared request name asks did Prints r)
-      → (sums : Option (List ℕ)) → sums ≡ Some name → DoesLine sums
-  with_compared name free writes done sums some = subst DoesLine (sym some) (done.0, done.1, done.2, done.3, done.4, inr (inr (free, writes, done.5)))
+      → DoesWith name
+  with_compared name free writes done = (done.0, done.1, done.2, done.3, done.4, inr (inr (free, writes, done.5)))
+
+  -- with a file of sums the line is what is done with this file
+  pub with_sums : (name : List ℕ) → DoesWith name → (sums : Option (List ℕ)) → sums ≡ Some name
+      → Grows asked now files written given given_now shown later (λ did. PerformsBy request sums asks did Prints r)
+  with_sums name done sums some =
+      subst (λ (o : Option (List ℕ)). Grows asked now files written given given_now shown later (λ did. PerformsBy request o asks did Prints r)) (sym some) done
 
 pub with_taken : (asks : Bool) (request : CommandRequest) (asked : List Asked) (files : List Written) (given : List (Option (List ℕ))) (shown : List Part) (known : Option (List ℕ)) (r : Result Done LineFailure) (name : List ℕ)
-    → names_file request name ≡ true → r ≡ Err (Sums NameTaken) → (sums : Option (List ℕ)) → sums ≡ Some name
-    → DoesLine asks request asked asked files files given given shown shown (λ text. Appends known known text) r sums
-with_taken asks request asked files given shown known r name taken e sums some =
-    subst (DoesLine asks request asked asked files files given given shown shown (λ text. Appends known known text) r) (sym some)
+    → names_file request name ≡ true → r ≡ Err (Sums NameTaken)
+    → DoesWith asks request asked asked files files given given shown shown (λ text. Appends known known text) r name
+with_taken asks request asked files given shown known r name taken e =
     (nothing_done, sym (append-nil asked), sym (append-nil files), sym (append-nil given), sym (append-nil shown), inl (taken, refl, (refl, refl, refl, appends_nothing known), e))

@@ -4,6 +4,7 @@ use Rattle.std.specs.Io.KnownBytes.{Appends}
 use Rattle.mx_app_db.specs.Asked.{Asked}
 use Rattle.mx_app_db.specs.Written.{Written}
 use Rattle.mx_walk.specs.declared.progress.Part.{Part}
+use Rattle.mx_app_start.specs.declared.channels.Channels.{Channels}
 use Rattle.mx_app.specs.declared.command_io.CommandIo.{CommandIo}
 
 -- What a command did, each in order: the files that it asked for and wrote, the lines that were typed, and the progress
@@ -25,3 +26,10 @@ Does old new asked written contents typed shown Holds =
     × (typed new.lines ≡ typed old.lines ++ d.typed)
     × (shown new.progress ≡ shown old.progress ++ d.shown)
     × Holds d (λ text. Appends (contents old.channels.out) (contents new.channels.out) text)
+
+-- THE SAME of a command that takes no lines and shows no progress, by the files that it asked for and wrote
+abbrev pub DoesUntyped : {R F W : Type 0} → Channels R F W → Channels R F W → (R → List Asked) → (F → List Written) → (W → Option (List ℕ))
+    → (List Asked → List Written → (List ℕ → Type 0) → Type 0) → Type 0
+DoesUntyped old new asked written contents Holds =
+    (qs : List Asked) × (ws : List Written) × (asked new.reader ≡ asked old.reader ++ qs) × (written new.files ≡ written old.files ++ ws)
+    × Holds qs ws (λ text. Appends (contents old.out) (contents new.out) text)

@@ -1,4 +1,4 @@
--- What a reader at a terminal gets beside a command's text (our own).
+-- What a reader at a terminal gets in addition to a command's text (our own).
 use Rattle.std.specs.Prelude.{◌==◌, ◌&&◌, ◌-◌, ℕ, not, if◌then◌else◌, List, [], codes, Option, Some, None, slice_get}
 use Rattle.mx_app.specs.declared.ending.Terminals.{Terminals}
 use Rattle.mx_app.specs.declared.ending.PrintedText.{PrintedText}

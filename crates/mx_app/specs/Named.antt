@@ -9,11 +9,11 @@ use Rattle.mx_app_program.specs.Assembling.{IsAssembledFile, TellsText}
 use Rattle.mx_app_db.specs.Asked.{Asked, file_given, file_missed}
 use Rattle.mx_app_db.specs.Written.{Written}
 
--- the file was missed, and the reason is told
+-- the file was missed, and the reason is the failure
 abbrev pub IsMissing : List ℕ → Asked → Result (Unit {0}) Kind → Type 0
 IsMissing name q r = (kind : ErrorKind) × (q ≡ file_missed name kind) × (r ≡ Err (failure_of_kind kind))
 
--- `one`, `dis` and `nm`: a file that is missed; or what is told of the one that was given, where nothing is told a text that it has is printed
+-- `one`, `dis` and `nm`: a file that is missed; or the failure of the one that was given; without a failure a text that it has is printed
 abbrev pub ShowsFile : (List ℕ → List ℕ → Type 0) → List ℕ → Asked → (List ℕ → Type 0) → Result (Unit {0}) Kind → Type 0
 ShowsFile Has name q Prints r =
     IsMissing name q r

@@ -42,7 +42,7 @@ use Rattle.mx_turns.specs.declared.turns.Ending.{Ending}
 use Rattle.mx_walk.specs.Parts.{walk_shown}
 use Rattle.mx_walk.specs.Walks.{Walk}
 use Rattle.mx_app_db.specs.DebugLines.{DebuggedWorld, debug_lines_made}
-use Rattle.mx_app_db.specs.Told.{debug_lines_text}
+use Rattle.mx_app_db.specs.LineTexts.{debug_lines_text}
 use Rattle.mx_app.specs.Deeds.{Deeds}
 use Rattle.mx_app.specs.Explained.{ExplainsConfig}
 use Rattle.mx_app.specs.Named.{Assembles, ShowsFile}
@@ -77,7 +77,7 @@ done_after_sweep strict (Ok swept.Refused) = Ok (with_status 1)
 done_after_sweep strict (Err f) = Err f
 
 -- ---- machines: the files are as the start wants them, and the text is printed, after the lines' numbers if that is
--- asked; or the first fault is told
+-- asked; or it fails by the first fault
 
 abbrev pub Steps : List ℕ → List ℕ → Bool → List Asked → (List ℕ → Type 0) → Result (Unit {0}) Kind → Type 0
 Steps config script numbered qs Prints (Ok u) =
@@ -122,7 +122,7 @@ Replays config log qs Prints (Ok how) =
     × IsReplayPrinted (world_at_boot c vs) records how Prints
 Replays config log qs Prints (Err f) = IsTold IsSaved TellsSaved config log qs f
 
--- the records up to the range's last are made, and those from its first on are told
+-- the records up to the range's last are made, and those from its first on are printed
 abbrev pub Traces : List ℕ → List ℕ → RecordRange → List Asked → (List ℕ → Type 0) → Result Replayed Kind → Type 0
 Traces config log range qs Prints (Ok how) =
     (c : Config) × (vs : List Service) × (records : List Record) × IsStart IsSaved config log qs c vs records
@@ -148,6 +148,34 @@ Looks config log asks qs typed ps Prints (Ok u) =
 Looks config log asks qs typed ps Prints (Err f) = HasFailed config log qs ps f
 
 -- ---- requests
+
+-- one that works on files, without a machine
+abbrev pub is_on_files : CommandRequest → Bool
+is_on_files (One file steps) = true
+is_on_files (As text file) = true
+is_on_files (Dis file) = true
+is_on_files (Nm file) = true
+is_on_files (Explain config) = true
+is_on_files request = false
+
+-- one that drives a machine by a script
+abbrev pub is_by_script : CommandRequest → Bool
+is_by_script (Step config script save numbered) = true
+is_by_script (Db config script) = true
+is_by_script request = false
+
+-- one that shows a saved history
+abbrev pub is_of_history : CommandRequest → Bool
+is_of_history (Replay config log) = true
+is_of_history (Trace config log range) = true
+is_of_history (Draw config log range) = true
+is_of_history request = false
+
+-- one that makes turns in one thread, or sweeps a history by such turns
+abbrev pub makes_turns : CommandRequest → Bool
+makes_turns (Turns config log ticks events bound) = true
+makes_turns (Sweep config log fault bound from to strict save) = true
+makes_turns request = false
 
 -- a file is read, shown, and none is written
 abbrev pub Shows : (List ℕ → List ℕ → Type 0) → List ℕ → List Asked → List Written → (List ℕ → Type 0) → Result Done Kind → Type 0

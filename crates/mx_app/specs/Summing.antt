@@ -40,17 +40,17 @@ abbrev pub is_named : Option (List ℕ) → List ℕ → Bool
 is_named None name = false
 is_named (Some word) name = bytes_eq word name
 
--- a word beside the first two names this file
-abbrev pub names_beside : CommandRequest → List ℕ → Bool
-names_beside (Step config script save numbered) name = is_named (option_map (λ s. s.now) save) name
-names_beside (Run config log ticks events) name = bytes_eq log.now name
-names_beside (Turns config log ticks events bound) name = bytes_eq log.now name
-names_beside (Sweep config log fault bound from to strict save) name = bytes_eq fault.now name || is_named (option_map (λ s. s.now) save) name
-names_beside r name = false
+-- a word after the first two names this file
+abbrev pub names_later : CommandRequest → List ℕ → Bool
+names_later (Step config script save numbered) name = is_named (option_map (λ s. s.now) save) name
+names_later (Run config log ticks events) name = bytes_eq log.now name
+names_later (Turns config log ticks events bound) name = bytes_eq log.now name
+names_later (Sweep config log fault bound from to strict save) name = bytes_eq fault.now name || is_named (option_map (λ s. s.now) save) name
+names_later r name = false
 
 -- a word of a request on a machine names this file
 abbrev pub names_file : CommandRequest → List ℕ → Bool
-names_file r name = (bytes_eq (first_name r) name || bytes_eq (second_name r) name) || names_beside r name
+names_file r name = (bytes_eq (first_name r) name || bytes_eq (second_name r) name) || names_later r name
 
 -- a request that makes a history has sums written; all others have them compared
 abbrev pub writes_sums : CommandRequest → Bool

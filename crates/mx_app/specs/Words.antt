@@ -1,4 +1,4 @@
--- What is done and told of the words of the command line (our own).
+-- What is done of the words of the command line, and what is answered (our own).
 use Rattle.std.specs.Prelude.{◌≡◌, ◌⊎◌, ◌++◌, ◌||◌, ◌&&◌, not, ℕ, Bool, true, false, List, [], codes, Option, Some, None, Result, Ok, Err, MatchResult, String, option_map, string_bytes}
 use Rattle.std.specs.declared.alloc.Global.{Global}
 use Rattle.std.specs.declared.io.ErrorKind.{ErrorKind}
@@ -47,16 +47,16 @@ both_text =
     ++ codes "Usage: mx turns [OPTIONS] <CONFIG> <LOG>\n\nFor more information, try '--help'.\n"
 
 -- what standard error gets: of a mistake what clap says, which isn't pinned here; of a failure its line, and the line that explains it, or that there is no memory for this line
-abbrev pub complaint_told : Complaint → Option (List ℕ)
-complaint_told (Mistaken e) = None
-complaint_told TicksAndEvents = Some both_text
-complaint_told (Failed f) = Some (line_failure_line f ++ codes "\n")
-complaint_told (Explained f s) = Some (line_failure_line f ++ codes "\n" ++ string_bytes s ++ codes "\n")
-complaint_told (Unexplained f) = Some (line_failure_line f ++ codes "\nmx: memory: wanted more of it\n")
+abbrev pub complaint_text : Complaint → Option (List ℕ)
+complaint_text (Mistaken e) = None
+complaint_text TicksAndEvents = Some both_text
+complaint_text (Failed f) = Some (line_failure_line f ++ codes "\n")
+complaint_text (Explained f s) = Some (line_failure_line f ++ codes "\n" ++ string_bytes s ++ codes "\n")
+complaint_text (Unexplained f) = Some (line_failure_line f ++ codes "\nmx: memory: wanted more of it\n")
 
 -- ---- words that ask for nothing
 
--- help was printed, or what is wanting is told
+-- help was printed, or memory or output is wanting
 abbrev pub IsHelp : Result Done Complaint → Type 0
 IsHelp r = MatchResult r (λ done. done ≡ with_status 0) (λ complaint. (f : Kind) × IsWanting f × (complaint ≡ Failed (Request f)))
 
@@ -91,7 +91,7 @@ abbrev pub explained_line : CommandLine → LineFailure → Noted → List ℕ
 explained_line line (Request f) noted = explained line.request f noted.last noted.is_missed noted.is_unwritten noted.text
 explained_line line (Sums f) noted = fault_explained (word_or_nothing (option_map (λ s. s.now) line.sums)) f
 
--- a failure is told alone; or, if it is to be explained, with the line that explains it, unless there was no memory for this line
+-- a failure without more; or, if it is to be explained, with the line that explains it, unless there was no memory for this line
 abbrev pub IsComplaintOf : CommandLine → Bool → LineFailure → Noted → Complaint → Type 0
 IsComplaintOf line shows f noted c =
     ((explains line shows ≡ false) × (c ≡ Failed f))

@@ -47,9 +47,9 @@ impl Complaint {
 
 /// What standard error gets, in whole lines.
 impl fmt::Display for Complaint {
-    ghost use Rattle.mx_app.specs.Words.{complaint_told};
+    ghost use Rattle.mx_app.specs.Words.{complaint_text};
 
-    ghost output = { complaint_told };
+    ghost output = { complaint_text };
 
     fn fmt<W: fmt::Write>(&self, f: &mut fmt::Formatter<W>) -> fmt::Result {
         match self {

@@ -22,7 +22,7 @@ pub use explain::explain_named;
 pub use mx_app_failure::Failure;
 pub use mx_app_start::NoProgress;
 pub use mx_turns::Ending;
-pub use named::{SavedScript, as_named, dis_named, nm_named, one_named, step_apart};
+pub use named::{as_named, dis_named, nm_named, one_named, step_apart};
 pub use noting::{NotingFiles, NotingReader};
 pub use performing::{Done, perform};
 pub use program::run_program;

@@ -6,10 +6,11 @@ ghost use Rattle.mx_app_db.specs.Asked.{Asked};
 ghost use Rattle.mx_app_db.specs.Written.{Written};
 ghost use Rattle.mx_app_program.specs.One.{IsPrinted};
 ghost use Rattle.mx_app_program.specs.Shown.{HasListing, HasNames, IsShown};
+ghost use Rattle.mx_app.specs.Deeds.{DoesUntyped};
 ghost use Rattle.mx_app.specs.Named.{Assembles, ShowsFile};
 ghost use Rattle.mx_app.specs.Requests.{SavesApart, saves_over};
 
-use mx_app_db::step_saved;
+use mx_app_db::{NamedScript, step_saved};
 use mx_app_failure::Failure;
 use mx_app_program::{assemble_file, print_listing, print_names, print_one};
 use mx_app_start::{Channels, FileWriter, Reader};
@@ -93,40 +94,21 @@ fn saves_over(config: &str, script: &str, log: &str) -> bool
     config == log || script == log
 }
 
-/// A script, with the file that its history is saved to.
-#[derive(Clone, Copy)]
-pub struct SavedScript<'a> {
-    pub config: &'a str,
-    pub script: &'a str,
-    /// The file of the history that the script makes.
-    pub log: &'a str,
-    /// Whether each answer is printed after the number of its line.
-    pub numbered: bool,
-}
-
-/// Does what a script says, and saves the history that it made. No file that is read is written over:
+/// Does what a script says, and saves the history that it made to the file `log`. No file that is read is written over:
 /// if LOG has the name of CONFIG or SCRIPT, nothing is read or written. If it has that of a service's
 /// program, nothing is written or printed.
 pub fn step_apart<R: Reader + Drop, F: FileWriter + Drop, W: Write + Drop>(
     alloc: Global,
     channels: &mut Channels<R, F, W>,
-    saved: SavedScript<'_>,
+    named: NamedScript<'_>,
+    log: &str,
 ) -> Result<(), Failure>
-    ensures { (qs : List Asked) × (ws : List Written)
-        × (R.asked channels.new.reader ≡ R.asked channels.old.reader ++ qs)
-        × (F.written channels.new.files ≡ F.written channels.old.files ++ ws)
-        × SavesApart saved.entry.config.now saved.entry.script.now saved.entry.log.now
-        saved.entry.numbered qs ws
-        (λ text. Appends (W.contents channels.old.out) (W.contents channels.new.out) text) result }
+    ensures { DoesUntyped channels.old channels.new R.asked F.written W.contents
+        (λ qs ws Prints. SavesApart named.entry.config.now named.entry.script.now log.now
+        named.entry.numbered qs ws Prints result) }
 {
-    let SavedScript {
-        config,
-        script,
-        log,
-        numbered,
-    } = saved;
-    if saves_over(config, script, log) {
+    if saves_over(named.config, named.script, log) {
         return Err(Failure::File);
     }
-    step_saved(alloc, channels, config, script, log, numbered)
+    step_saved(alloc, channels, named, log)
 }

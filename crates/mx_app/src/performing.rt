@@ -1,19 +1,19 @@
 //! Does what the program's words ask for.
 
-ghost use Rattle.std.specs.Prelude.{◌≡◌};
-ghost use Rattle.mx_app.specs.Deeds.{Does};
-ghost use Rattle.mx_app.specs.Requests.{Performs, done_after_replay, done_after_sweep, done_after_turns, done_after_work, with_status};
+ghost use Rattle.std.specs.Prelude.{◌≡◌, true};
+ghost use Rattle.mx_app.specs.Deeds.{Does, DoesUntyped};
+ghost use Rattle.mx_app.specs.Requests.{Performs, PerformsUntyped, done_after_replay, done_after_sweep, done_after_turns, done_after_work, is_by_script, is_of_history, is_on_files, makes_turns, with_status};
 
 use crate::command_io::CommandIo;
 use crate::explain::explain_named;
-use crate::named::{SavedScript, as_named, dis_named, nm_named, one_named, step_apart};
+use crate::named::{as_named, dis_named, nm_named, one_named, step_apart};
 use mx_app_command::{CommandRequest, RecordRange};
-use mx_app_db::{HistoryPart, Replayed, db, replay, step, trace};
+use mx_app_db::{HistoryPart, NamedScript, Replayed, db, replay, step, trace};
 use mx_app_draw::draw;
 use mx_app_failure::Failure;
-use mx_app_look::{SessionNames, look};
+use mx_app_look::{SessionWanted, look};
 use mx_app_run::{RunWanted, run};
-use mx_app_start::{FileWriter, LineReader, Reader, SharedProgress};
+use mx_app_start::{Channels, FileWriter, LineReader, Reader, SharedProgress};
 use mx_app_turns::{SweepNames, SweepWanted, Swept, TurnsNames, TurnsWanted, sweep, turns};
 use mx_turns::Ending;
 use mx_walk::Progress;
@@ -91,27 +91,16 @@ fn done_after_sweep(done: Result<Swept, Failure>, strict: bool) -> Result<Done, 
     }
 }
 
-/// Does what a request asks for, and answers the status to end with, and how turns or a run ended. The
-/// processors of `run` are threads. `look` answers the typed lines. It shows its progress, and so do `run`,
-/// `turns` and `sweep`.
-pub fn perform<
-    T: Threads + Wait + Clock + Sync,
-    R: Reader + Drop,
-    F: FileWriter + Drop,
-    W: Write + Drop,
-    L: LineReader + Drop,
-    P: Progress + SharedProgress + Sync + Drop,
->(
-    rt: &T,
+/// Does what a request asks for that works on files, without a machine.
+fn perform_on_files<R: Reader + Drop, F: FileWriter + Drop, W: Write + Drop>(
     alloc: Global,
-    io: &mut CommandIo<R, F, W, L, P>,
+    channels: &mut Channels<R, F, W>,
     request: CommandRequest<'_>,
 ) -> Result<Done, Failure>
-    ensures asks { io.new.asks ≡ io.old.asks }
-    ensures done { Does io.old io.new R.asked F.written W.contents L.given P.shown
-        (λ did Prints. Performs request.entry io.old.asks did Prints result) }
+    requires { is_on_files request ≡ true }
+    ensures { DoesUntyped channels.old channels.new R.asked F.written W.contents
+        (λ qs ws Prints. PerformsUntyped request.entry qs ws Prints result) }
 {
-    let channels = &mut io.channels;
     let reader = &mut channels.reader;
     let out = &mut channels.out;
     match request {
@@ -126,73 +115,59 @@ pub fn perform<
         CommandRequest::Explain { config } => {
             done_after_work(explain_named(alloc, reader, config, out))
         }
+        _ => unreachable!(),
+    }
+}
+
+/// Does what a request asks for that drives a machine by a script.
+fn perform_script<R: Reader + Drop, F: FileWriter + Drop, W: Write + Drop>(
+    alloc: Global,
+    channels: &mut Channels<R, F, W>,
+    request: CommandRequest<'_>,
+) -> Result<Done, Failure>
+    requires { is_by_script request ≡ true }
+    ensures { DoesUntyped channels.old channels.new R.asked F.written W.contents
+        (λ qs ws Prints. PerformsUntyped request.entry qs ws Prints result) }
+{
+    let reader = &mut channels.reader;
+    let out = &mut channels.out;
+    match request {
         CommandRequest::Step {
             config,
             script,
             save,
             numbered,
-        } => match save {
-            None => done_after_work(step(alloc, reader, config, script, numbered, out)),
-            Some(log) => {
-                let saved = SavedScript {
-                    config,
-                    script,
-                    log,
-                    numbered,
-                };
-                done_after_work(step_apart(alloc, channels, saved))
+        } => {
+            let named = NamedScript {
+                config,
+                script,
+                numbered,
+            };
+            match save {
+                None => done_after_work(step(alloc, reader, named, out)),
+                Some(log) => done_after_work(step_apart(alloc, channels, named, log)),
             }
-        },
-        CommandRequest::Run {
-            config,
-            log,
-            ticks,
-            events,
-        } => {
-            let wanted = RunWanted {
-                config,
-                log,
-                events,
-                ticks,
-            };
-            done_after_turns(run(rt, alloc, channels, wanted, &mut io.progress))
         }
-        CommandRequest::Turns {
-            config,
-            log,
-            ticks,
-            events,
-            bound,
-        } => {
-            let names = TurnsNames {
-                config,
-                log,
-                events,
-            };
-            let wanted = TurnsWanted { ticks, bound };
-            let ending = turns(alloc, channels, names, wanted, &mut io.progress);
-            done_after_turns(ending)
-        }
-        CommandRequest::Sweep {
-            config,
-            log,
-            fault,
-            bound,
-            from,
-            to,
-            strict,
-            save,
-        } => {
-            let names = SweepNames {
-                config,
-                log,
-                fault,
-                save,
-            };
-            let wanted = SweepWanted { from, to, bound };
-            let swept = sweep(alloc, channels, &mut io.progress, names, wanted);
-            done_after_sweep(swept, strict)
-        }
+        CommandRequest::Db { config, script } => done_after_work(db(
+            alloc, reader, config, script, out,
+        )),
+        _ => unreachable!(),
+    }
+}
+
+/// Does what a request asks for that shows a saved history.
+fn perform_history<R: Reader + Drop, F: FileWriter + Drop, W: Write + Drop>(
+    alloc: Global,
+    channels: &mut Channels<R, F, W>,
+    request: CommandRequest<'_>,
+) -> Result<Done, Failure>
+    requires { is_of_history request ≡ true }
+    ensures { DoesUntyped channels.old channels.new R.asked F.written W.contents
+        (λ qs ws Prints. PerformsUntyped request.entry qs ws Prints result) }
+{
+    let reader = &mut channels.reader;
+    let out = &mut channels.out;
+    match request {
         CommandRequest::Replay { config, log } => {
             done_after_replay(replay(alloc, reader, config, log, out))
         }
@@ -216,14 +191,122 @@ pub fn perform<
             };
             done_after_replay(draw(alloc, reader, records, out))
         }
-        CommandRequest::Look { config, log } => {
-            let names = SessionNames { config, log };
-            let lines = &mut io.lines;
-            let progress = &mut io.progress;
-            done_after_work(look(alloc, reader, lines, progress, names, io.asks, out))
+        _ => unreachable!(),
+    }
+}
+
+/// Does what a request asks for that makes turns in one thread, or sweeps a history by such turns.
+fn perform_turns<
+    R: Reader + Drop,
+    F: FileWriter + Drop,
+    W: Write + Drop,
+    L: LineReader + Drop,
+    P: Progress + Drop,
+>(
+    alloc: Global,
+    io: &mut CommandIo<R, F, W, L, P>,
+    request: CommandRequest<'_>,
+) -> Result<Done, Failure>
+    requires { makes_turns request ≡ true }
+    ensures asks { io.new.asks ≡ io.old.asks }
+    ensures done { Does io.old io.new R.asked F.written W.contents L.given P.shown
+        (λ did Prints. Performs request.entry io.old.asks did Prints result) }
+{
+    let channels = &mut io.channels;
+    let progress = &mut io.progress;
+    match request {
+        CommandRequest::Turns {
+            config,
+            log,
+            ticks,
+            events,
+            bound,
+        } => {
+            let names = TurnsNames {
+                config,
+                log,
+                events,
+            };
+            let wanted = TurnsWanted { ticks, bound };
+            done_after_turns(turns(alloc, channels, names, wanted, progress))
         }
-        CommandRequest::Db { config, script } => done_after_work(db(
-            alloc, reader, config, script, out,
-        )),
+        CommandRequest::Sweep {
+            config,
+            log,
+            fault,
+            bound,
+            from,
+            to,
+            strict,
+            save,
+        } => {
+            let names = SweepNames { config, log, fault };
+            let wanted = SweepWanted {
+                from,
+                to,
+                bound,
+                save,
+            };
+            let swept = sweep(alloc, channels, progress, names, wanted);
+            done_after_sweep(swept, strict)
+        }
+        _ => unreachable!(),
+    }
+}
+
+/// Does what a request asks for, and answers the status to end with, and how turns or a run ended. The
+/// processors of `run` are threads. `look` answers the typed lines. It shows its progress, and so do `run`,
+/// `turns` and `sweep`.
+pub fn perform<
+    T: Threads + Wait + Clock + Sync,
+    R: Reader + Drop,
+    F: FileWriter + Drop,
+    W: Write + Drop,
+    L: LineReader + Drop,
+    P: Progress + SharedProgress + Sync + Drop,
+>(
+    rt: &T,
+    alloc: Global,
+    io: &mut CommandIo<R, F, W, L, P>,
+    request: CommandRequest<'_>,
+) -> Result<Done, Failure>
+    ensures asks { io.new.asks ≡ io.old.asks }
+    ensures done { Does io.old io.new R.asked F.written W.contents L.given P.shown
+        (λ did Prints. Performs request.entry io.old.asks did Prints result) }
+{
+    let channels = &mut io.channels;
+    match request {
+        CommandRequest::One { .. } => perform_on_files(alloc, channels, request),
+        CommandRequest::As { .. } => perform_on_files(alloc, channels, request),
+        CommandRequest::Dis { .. } => perform_on_files(alloc, channels, request),
+        CommandRequest::Nm { .. } => perform_on_files(alloc, channels, request),
+        CommandRequest::Explain { .. } => perform_on_files(alloc, channels, request),
+        CommandRequest::Step { .. } => perform_script(alloc, channels, request),
+        CommandRequest::Run {
+            config,
+            log,
+            ticks,
+            events,
+        } => {
+            let wanted = RunWanted {
+                config,
+                log,
+                events,
+                ticks,
+            };
+            done_after_turns(run(rt, alloc, channels, wanted, &mut io.progress))
+        }
+        CommandRequest::Turns { .. } => perform_turns(alloc, io, request),
+        CommandRequest::Sweep { .. } => perform_turns(alloc, io, request),
+        CommandRequest::Replay { .. } => perform_history(alloc, channels, request),
+        CommandRequest::Trace { .. } => perform_history(alloc, channels, request),
+        CommandRequest::Draw { .. } => perform_history(alloc, channels, request),
+        CommandRequest::Look { config, log } => {
+            let asks = io.asks;
+            let wanted = SessionWanted { config, log, asks };
+            let lines = &mut io.lines;
+            done_after_work(look(alloc, channels, lines, &mut io.progress, wanted))
+        }
+        CommandRequest::Db { .. } => perform_script(alloc, channels, request),
     }
 }

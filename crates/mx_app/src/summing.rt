@@ -8,7 +8,7 @@ ghost use Rattle.mx_app_db.specs.Setup.{IsSetup};
 ghost use Rattle.mx_app_db.specs.Written.{Written};
 ghost use Rattle.mx_app_explain.specs.Sums.{machine_sums, sums_text};
 ghost use Rattle.mx_app.specs.Deeds.{Does};
-ghost use Rattle.mx_app.specs.Summing.{ComparesSums, IsCompared, IsUnsummed, PerformsCompared, PerformsLine, PerformsSummed, WritesSums, line_failure_status, names_file, writes_sums};
+ghost use Rattle.mx_app.specs.Summing.{ComparesSums, IsCompared, IsUnsummed, PerformsLine, PerformsWith, WritesSums, line_failure_status, names_file, writes_sums};
 
 use crate::command_io::CommandIo;
 use crate::performing::{Done, perform};
@@ -200,8 +200,9 @@ fn write_sums<F: FileWriter>(
     }
 }
 
-/// Does what a request asks for if its machine has the sums of a file.
-fn perform_compared<
+/// Does what a request asks for, with a file of sums, which no other word may name. If the request makes a history,
+/// its machine's sums are written to the file once it is done; any other is done only of a machine with its sums.
+fn perform_with_sums<
     T: Threads + Wait + Clock + Sync,
     R: Reader + Drop,
     F: FileWriter + Drop,
@@ -217,36 +218,21 @@ fn perform_compared<
 ) -> Result<Done, LineFailure>
     ensures asks { io.new.asks ≡ io.old.asks }
     ensures done { Does io.old io.new R.asked F.written W.contents L.given P.shown
-        (λ did Prints. PerformsCompared request.entry name.now io.old.asks did Prints result) }
+        (λ did Prints. PerformsWith request.entry name.now io.old.asks did Prints result) }
 {
-    compare_named(alloc, &mut io.channels.reader, first_name(request), name)?;
-    let done = perform(rt, alloc, io, request)?;
-    Ok(done)
-}
-
-/// Does what a request asks for, and writes the sums of its machine to a file if it is done.
-fn perform_summed<
-    T: Threads + Wait + Clock + Sync,
-    R: Reader + Drop,
-    F: FileWriter + Drop,
-    W: Write + Drop,
-    L: LineReader + Drop,
-    P: Progress + SharedProgress + Sync + Drop,
->(
-    rt: &T,
-    alloc: Global,
-    io: &mut CommandIo<R, F, W, L, P>,
-    request: CommandRequest<'_>,
-    name: &str,
-) -> Result<Done, LineFailure>
-    ensures asks { io.new.asks ≡ io.old.asks }
-    ensures done { Does io.old io.new R.asked F.written W.contents L.given P.shown
-        (λ did Prints. PerformsSummed request.entry name.now io.old.asks did Prints result) }
-{
-    let text = sums_text_named(alloc, &mut io.channels.reader, first_name(request))?;
-    let done = perform(rt, alloc, io, request)?;
-    write_sums(alloc, &mut io.channels.files, name, text.as_slice())?;
-    Ok(done)
+    if names_file(request, name) {
+        return Err(LineFailure::Sums(SumsFault::NameTaken));
+    }
+    let config = first_name(request);
+    if writes_sums(request) {
+        let text = sums_text_named(alloc, &mut io.channels.reader, config)?;
+        let done = perform(rt, alloc, io, request)?;
+        write_sums(alloc, &mut io.channels.files, name, text.as_slice())?;
+        return Ok(done);
+    }
+    compare_named(alloc, &mut io.channels.reader, config, name)?;
+    let compared = perform(rt, alloc, io, request)?;
+    Ok(compared)
 }
 
 /// Does what a command line asks for. With a file of sums, a request that makes a history has the machine's sums
@@ -268,20 +254,11 @@ pub fn perform_line<
     ensures done { Does io.old io.new R.asked F.written W.contents L.given P.shown
         (λ did Prints. PerformsLine line.entry io.old.asks did Prints result) }
 {
-    let request = line.request;
     match line.sums {
         None => {
-            let done = perform(rt, alloc, io, request)?;
+            let done = perform(rt, alloc, io, line.request)?;
             Ok(done)
         }
-        Some(name) => {
-            if names_file(request, name) {
-                Err(LineFailure::Sums(SumsFault::NameTaken))
-            } else if writes_sums(request) {
-                perform_summed(rt, alloc, io, request, name)
-            } else {
-                perform_compared(rt, alloc, io, request, name)
-            }
-        }
+        Some(name) => perform_with_sums(rt, alloc, io, line.request, name),
     }
 }

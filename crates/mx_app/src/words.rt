@@ -85,7 +85,7 @@ fn explained_line(
 }
 
 /// The complaint of a failure, with the line that explains it if that is asked for.
-#[tactic(auto, using(crate::proofs::Told::complaint_plain, crate::proofs::Told::complaint_unexplained))]
+#[tactic(auto, using(crate::proofs::Complaints::complaint_plain, crate::proofs::Complaints::complaint_unexplained))]
 fn complaint_of<'a>(
     alloc: Global,
     line: CommandLine<'a>,

@@ -85,7 +85,7 @@ sweep_shape =
     (required_text (codes "CONFIG") ∷ required_text (codes "LOG") ∷ required_text (codes "FAULT") ∷ number_after (codes "turns") (codes "N") ∷ number_after (codes "from") (codes "A")
     ∷ number_after (codes "to") (codes "B") ∷ flag (codes "strict") ∷ after_name (codes "save") (codes "FILE") ∷ sums_rule ∷ [])
 
--- `NAME CONFIG LOG --from A --to B --sums SUMS`, what is told of a history's records
+-- `NAME CONFIG LOG --from A --to B --sums SUMS`, what is printed of a history's records
 abbrev pub looking_shape : Text → Shape
 looking_shape name =
     subcommand name

@@ -28,7 +28,7 @@ use Rattle.mx_app_db.specs.Going.{HasGone, IsStuck}
 use Rattle.mx_app_db.specs.DebugLines.{DebuggedWorld}
 use Rattle.mx_app_db.specs.Looks.{image_held, look_text}
 use Rattle.mx_app_db.specs.Places.{place_found, breakpoints_after_break, breakpoints_after_clear}
-use Rattle.mx_app_db.specs.Told.{eip_of, halt_text, go_text, debug_line_text}
+use Rattle.mx_app_db.specs.LineTexts.{eip_of, halt_text, go_text, debug_line_text}
 use Rattle.mx_app_db.proofs.Made.{both}
 
 -- ---- a run up to a breakpoint

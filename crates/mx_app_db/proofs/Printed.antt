@@ -8,10 +8,10 @@ use Rattle.mx_app_step.specs.Report.{report_text}
 use Rattle.mx_machine.specs.Boot.{world_at_boot}
 use Rattle.mx_machine.specs.World.{World}
 use Rattle.mx_app_db.specs.DebugLines.{DebuggedWorld, debug_lines_made}
-use Rattle.mx_app_step.specs.Driving.{Driven, lines_done, lines_told}
-use Rattle.mx_app_db.specs.DebugPerformed.{debug_does, debug_tells, debugged}
+use Rattle.mx_app_step.specs.Driving.{Driven, lines_done, lines_text}
+use Rattle.mx_app_db.specs.DebugPerformed.{debug_does, debug_prints, debugged}
 use Rattle.mx_app_db.specs.declared.lines.DebugPerformer.{DebugPerformer}
-use Rattle.mx_app_db.specs.Told.{debug_line_text, debug_lines_text}
+use Rattle.mx_app_db.specs.LineTexts.{debug_line_text, debug_lines_text}
 use Rattle.mx_app_db.proofs.Made.{both}
 
 -- the report on where lines lead
@@ -28,16 +28,16 @@ made_all : (other : ℕ) (ls : List DebugLine) (d : Driven DebugPerformer) → d
 made_all other [] d = refl
 made_all other (l ∷ ls) d = made_all other ls (debug_does other d l)
 
-told_all : (other n : ℕ) (ls : List DebugLine) (d : Driven DebugPerformer) → lines_told (debug_does other) (debug_tells other) false n d ls ≡ debug_lines_text other (debugged d) ls
+told_all : (other n : ℕ) (ls : List DebugLine) (d : Driven DebugPerformer) → lines_text (debug_does other) (debug_prints other) false n d ls ≡ debug_lines_text other (debugged d) ls
 told_all other n [] d = refl
 told_all other n (l ∷ ls) d = ap (λ (t : List ℕ). debug_line_text other (debugged d) l ++ t) (told_all other (n + 1) ls (debug_does other d l))
 
 pub debug_reported : (x z : Option (List ℕ)) (d : Driven DebugPerformer) (other : ℕ) (ls : List DebugLine)
-    → (let e = lines_done (debug_does other) d ls in Appends x z (lines_told (debug_does other) (debug_tells other) false 1 d ls ++ report_text e.world.table e.world.services))
+    → (let e = lines_done (debug_does other) d ls in Appends x z (lines_text (debug_does other) (debug_prints other) false 1 d ls ++ report_text e.world.table e.world.services))
     → Appends x z (text_of other (debugged d) ls)
 debug_reported x z d other ls h =
     subst (λ (t : List ℕ). Appends x z t)
-    (ap (λ (e : DebuggedWorld). lines_told (debug_does other) (debug_tells other) false 1 d ls ++ report_on e) (made_all other ls d)
+    (ap (λ (e : DebuggedWorld). lines_text (debug_does other) (debug_prints other) false 1 d ls ++ report_on e) (made_all other ls d)
     ∙ ap (λ (t : List ℕ). t ++ report_on (debug_lines_made other (debugged d) ls)) (told_all other 1 ls d)) h
 
 pub booted_printed : (x z : Option (List ℕ)) (c : Config) (vs : List Service) (w : World) (other : ℕ) (said lines : List DebugLine)

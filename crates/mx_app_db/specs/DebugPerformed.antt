@@ -2,7 +2,7 @@
 use Rattle.std.specs.Prelude.{ℕ, List}
 use Rattle.mx_app_step.specs.Driving.{Driven}
 use Rattle.mx_app_db.specs.DebugLines.{DebuggedWorld, debug_line_kept, debug_line_made}
-use Rattle.mx_app_db.specs.Told.{debug_line_text}
+use Rattle.mx_app_db.specs.LineTexts.{debug_line_text}
 use Rattle.mx_app_db.specs.declared.lines.DebugPerformer.{DebugPerformer}
 use Rattle.mx_app_db.specs.declared.script.DebugLine.{DebugLine}
 
@@ -15,5 +15,5 @@ debug_does other d l =
     let e = debug_line_made other (debugged d) l in
     record { world = e.world; kernel = debug_line_kept d.kernel d.world other l; own = record { debugger = e.points } }
 
-abbrev pub debug_tells : ℕ → Driven DebugPerformer → DebugLine → List ℕ
-debug_tells other d l = debug_line_text other (debugged d) l
+abbrev pub debug_prints : ℕ → Driven DebugPerformer → DebugLine → List ℕ
+debug_prints other d l = debug_line_text other (debugged d) l

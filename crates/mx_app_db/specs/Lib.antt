@@ -4,7 +4,7 @@ pub mod LastMessages
 pub mod Looks
 pub mod DebugScript
 pub mod DebugLines
-pub mod Told
+pub mod LineTexts
 pub mod DebugPerformed
 pub use Rattle.mx_app_step.specs.Asked
 pub use Rattle.mx_app_step.specs.Setup

@@ -12,7 +12,7 @@ ghost use Rattle.mx_app_step.specs.Setup.{IsStart};
 ghost use Rattle.mx_app_step.specs.Telling.{IsTold};
 ghost use Rattle.mx_machine.specs.Boot.{world_at_boot};
 ghost use Rattle.mx_app_db.specs.DebugLines.{DebuggedWorld, debug_lines_made};
-ghost use Rattle.mx_app_db.specs.Told.{debug_lines_text};
+ghost use Rattle.mx_app_db.specs.LineTexts.{debug_lines_text};
 
 use crate::lines::DebugPerformer;
 use crate::script::DebugScript;

@@ -15,6 +15,8 @@ pub use going::go;
 pub use mx_app_start::{
     Channels, Failure, InputLines, KeptFile, MemoryWriter, NamedFile, NamedFiles, Script, start,
 };
-pub use mx_app_step::{HistoryPart, Replayed, make_steps, replay, step, step_saved, trace};
+pub use mx_app_step::{
+    HistoryPart, NamedScript, Replayed, make_steps, replay, step, step_saved, trace,
+};
 pub use places::{clear_breakpoint, set_breakpoint};
 pub use script::{debug_script, own_words_are_apart};

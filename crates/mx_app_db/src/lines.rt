@@ -4,7 +4,7 @@ ghost use Rattle.std.specs.Prelude.{◌≡◌, ◌<◌, ◌++◌, OnOk, string_b
 ghost use Rattle.mx_app_step.specs.Machine.{world_of};
 ghost use Rattle.mx_machine.specs.World.{actors, held_by};
 ghost use Rattle.mx_app_db.specs.DebugLines.{world_after_go, debug_line_made, debug_line_kept};
-ghost use Rattle.mx_app_db.specs.Told.{eip_of, go_text, debug_line_text};
+ghost use Rattle.mx_app_db.specs.LineTexts.{eip_of, go_text, debug_line_text};
 
 use crate::going::go;
 use crate::looks::push_look;
@@ -97,13 +97,13 @@ pub(crate) struct DebugPerformer {
 }
 
 impl Performs for DebugPerformer {
-    ghost use Rattle.mx_app_db.specs.DebugPerformed.{debug_does, debug_tells};
+    ghost use Rattle.mx_app_db.specs.DebugPerformed.{debug_does, debug_prints};
 
     type Line = DebugLine;
 
     ghost does = { debug_does };
 
-    ghost tells = { debug_tells };
+    ghost prints = { debug_prints };
 
     fn perform(
         &mut self,

@@ -10,7 +10,7 @@ use Rattle.mx_look_trace.specs.Trace.{head_line, change_line, delivery_line, kep
 use Rattle.mx_look_picture.specs.declared.scene_values.Scene.{Scene}
 use Rattle.mx_look_picture.specs.declared.scene_values.Standing.{Standing}
 use Rattle.mx_look_picture.specs.declared.values.Hint.{Hint}
-use Rattle.mx_look_picture.specs.declared.values.Hint.TheVariants.{Nothing, Record, Change, Delivery, Kept, Console, Standing as Stands}
+use Rattle.mx_look_picture.specs.declared.values.Hint.TheVariants.{Nothing, Record, Change, Delivery, Kept, Console, Standing as StandingHint}
 use Rattle.mx_app_draw.specs.Shown.{shown}
 use Rattle.mx_app_draw.specs.Texts.{standing_text}
 
@@ -46,22 +46,22 @@ standing_hint a n = standing_text a ++ on_processor a.cpu ++ codes " after recor
 
 unfoldable pub hint_line : Scene → Hint → List ℕ
 hint_line v Nothing = []
-hint_line v (Stands a n) = standing_hint a n
+hint_line v (StandingHint a n) = standing_hint a n
 hint_line v (Record i) = placed_line v i (Record i)
 hint_line v (Change i s) = placed_line v i (Change i s)
 hint_line v (Delivery i s) = placed_line v i (Delivery i s)
 hint_line v (Kept i s place) = placed_line v i (Kept i s place)
 hint_line v (Console i) = placed_line v i (Console i)
 
-abbrev pub told : Scene → Hint → List ℕ
-told v h = codes "<title>" ++ shown (hint_line v h) ++ codes "</title>"
+abbrev pub hint_title : Scene → Hint → List ℕ
+hint_title v h = codes "<title>" ++ shown (hint_line v h) ++ codes "</title>"
 
 -- A HINT, if it has any text
 unfoldable pub hint_text : Scene → Hint → List ℕ
 hint_text v Nothing = []
-hint_text v h = told v h
+hint_text v h = hint_title v h
 
 -- the end of a figure that has nothing in it but a hint
 unfoldable pub end_text : Scene → List ℕ → Hint → List ℕ
 end_text v tag Nothing = codes "/>\n"
-end_text v tag h = codes ">" ++ told v h ++ codes "</" ++ tag ++ codes ">\n"
+end_text v tag h = codes ">" ++ hint_title v h ++ codes "</" ++ tag ++ codes ">\n"

@@ -1,13 +1,13 @@
 -- The words of the texts of a picture (our own).
-use Rattle.std.specs.Prelude.{ℕ, ◌-◌, ◌==◌, nat_lt, if◌then◌else◌, List, [], ◌∷◌, ◌++◌, codes, Option, Some, None, length, slice_get}
+use Rattle.std.specs.Prelude.{ℕ, ◌-◌, ◌==◌, if◌then◌else◌, List, [], ◌∷◌, ◌++◌, codes, Option, Some, None, length, slice_get}
 use Rattle.std.specs.Fmt.{decimal, signed_decimal}
 use Rattle.std.specs.Int.{w32, cast_signed}
 use Rattle.mx_machine.specs.declared.events.Refusal.{Refusal}
 use Rattle.mx_machine.specs.Refusals.{code_of_refusal, name_of_refusal}
-use Rattle.mx_print_report.specs.Report.{name_bytes}
+use Rattle.mx_print_report.specs.Numbers.{two_digits}
+use Rattle.mx_print_report.specs.Words.{doing_text, named}
 use Rattle.mx_look_facts.specs.declared.step.Step.{Step}
-use Rattle.mx_look_trace.specs.Numbers.{hex_text}
-use Rattle.mx_look_trace.specs.Words.{doing_text}
+use Rattle.mx_look_trace.specs.Trace.{call_name, name_or}
 use Rattle.mx_look_trace.specs.KernelCalls.{request_name}
 use Rattle.mx_look_picture.specs.declared.scene_values.Scene.{Scene}
 use Rattle.mx_look_picture.specs.declared.scene_values.Standing.{Standing}
@@ -41,35 +41,19 @@ title_text v =
 -- ---- who, and what it does
 
 unfoldable pub who_text : Standing → List ℕ
-who_text a = name_bytes a.name.bytes ++ codes " " ++ decimal a.endpoint
+who_text a = named a.name.bytes a.endpoint
 
 unfoldable pub standing_text : Standing → List ℕ
 standing_text a = who_text a ++ codes " " ++ doing_text a.doing
 
 -- ---- what it did
 
--- a byte in two hexadecimal digits
-unfoldable pub two_digits : ℕ → List ℕ
-two_digits b = (if nat_lt b 16 then codes "0" else []) ++ hex_text b
-
-unfoldable pub call_name : ℕ → List ℕ
-call_name n =
-    if n == 1 then codes "SEND" else if n == 2 then codes "RECEIVE" else
-    if n == 3 then codes "SENDREC" else if n == 4 then codes "NOTIFY" else codes "trap"
-
-abbrev pub name_or_type : List ℕ → List ℕ
-name_or_type [] = codes "type"
-name_or_type name = name
-
-unfoldable pub kernel_name : ℕ → List ℕ
-kernel_name kind = name_or_type (request_name kind)
-
 unfoldable pub deed_word : Deed → List ℕ
 deed_word deed.Spent = codes "spent"
 deed_word deed.Early = codes "early"
 deed_word (deed.Fault v) = codes "fault " ++ decimal v
-deed_word (deed.Call n) = call_name n
-deed_word (deed.Kernel kind) = kernel_name kind
+deed_word (deed.Call n) = name_or (codes "trap") (call_name n)
+deed_word (deed.Kernel kind) = name_or (codes "type") (request_name kind)
 
 -- with a mark if it went wrong, in brackets if it wasn't made
 unfoldable pub deed_text : Deed → Manner → List ℕ

@@ -6,7 +6,7 @@
 //! printed.
 
 ghost use Rattle.std.specs.Prelude.{◌≡◌, ◌++◌, OnOk};
-ghost use Rattle.mx_app_draw.specs.Hints.{step_line, kept_hint, on_processor, standing_hint, placed_line, hint_line, told, hint_text, end_text};
+ghost use Rattle.mx_app_draw.specs.Hints.{step_line, kept_hint, on_processor, standing_hint, placed_line, hint_line, hint_title, hint_text, end_text};
 
 use crate::shown::push_shown;
 use crate::texts::push_standing;
@@ -103,7 +103,7 @@ fn push_hint_line(out: &mut Vec<u8>, scene: &Scene, hint: Hint) -> Result<(), Al
 
 /// Appends the text of a hint, as a title.
 fn push_told(alloc: Global, out: &mut Vec<u8>, scene: &Scene, hint: Hint) -> Result<(), AllocError>
-    ensures { OnOk result (out.new.items ≡ out.old.items ++ told scene.now hint) }
+    ensures { OnOk result (out.new.items ≡ out.old.items ++ hint_title scene.now hint) }
 {
     let mut line = Vec::new(alloc);
     push_hint_line(&mut line, scene, hint)?;

@@ -13,7 +13,7 @@ ghost use Rattle.mx_app_draw.specs.Scenes.{IsSeen, drawn_of, last_drawn};
 
 use mx_app_step::{look_record, resting_step};
 use mx_look_facts::{Glance, Step};
-use mx_machine::{Machine, Record, Refusal, actors_stay};
+use mx_machine::{Machine, Record, Refusal};
 use std::alloc::{AllocError, Global};
 
 /// The most records that are drawn.
@@ -48,6 +48,7 @@ fn keep_step(steps: &mut Vec<Step>, step: &Step, from: u32) -> Result<(), AllocE
 }
 
 /// Makes records up to the first that is refused, and appends each from `from` on as a step.
+#[tactic(auto, using(mx_machine::proofs::ActorLemmas::actors_after_events))]
 pub(crate) fn see_records(
     alloc: Global,
     machine: &mut Machine,
@@ -59,7 +60,6 @@ pub(crate) fn see_records(
     ensures seen { IfOk result (λ seen. IsSeen (world_of machine.old) records.now from seen) }
     ensures few { IfOk result (λ seen. IfSome seen.refused (λ p. p.0 ≤ length records.now)) }
 {
-    actors_stay();
     let mut steps = Vec::new(alloc);
     let mut step = resting_step(machine);
     let mut world = step.after;

@@ -1,28 +1,19 @@
 //! Texts and numbers of an SVG document, between its tags and in them.
 
 ghost use Rattle.std.specs.Prelude.{◌≡◌, ◌<◌, ◌++◌, length, OnOk};
-ghost use Rattle.std.specs.Fmt.{decimal};
 ghost use Rattle.mx_app_draw.specs.Shown.{pair, escaped, is_left_out, shown_byte, shown, attribute};
 
-use itoa::Buffer;
-use mx_print_report::push_decimal;
+use mx_print_report::{push_decimal, push_long};
 use std::alloc::AllocError;
-
-/// Appends a number.
-fn push_number(out: &mut Vec<u8>, number: u64) -> Result<(), AllocError>
-    ensures { OnOk result (out.new.items ≡ out.old.items ++ decimal number) }
-{
-    out.extend_from_slice(Buffer::new().format(number).as_bytes())
-}
 
 /// Appends two numbers, parted by a space.
 #[tactic(auto, unfolding(crate::specs::Shown::pair))]
 pub(crate) fn push_pair(out: &mut Vec<u8>, first: u64, second: u64) -> Result<(), AllocError>
     ensures { OnOk result (out.new.items ≡ out.old.items ++ pair first second) }
 {
-    push_number(out, first)?;
+    push_long(out, first)?;
     out.push(b' ')?;
-    push_number(out, second)
+    push_long(out, second)
 }
 
 /// Appends a byte of a text, between tags.

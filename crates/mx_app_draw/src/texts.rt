@@ -1,17 +1,20 @@
 //! The words of a picture's texts.
 
 ghost use Rattle.std.specs.Prelude.{◌≡◌, ◌++◌, OnOk};
-ghost use Rattle.mx_app_draw.specs.Texts.{counted, span_text, title_text, who_text, standing_text, two_digits, call_name, kernel_name, deed_word, deed_text, refused_text, key_text, text_words};
+ghost use Rattle.mx_look_trace.specs.Trace.{name_or};
+ghost use Rattle.mx_app_draw.specs.Texts.{counted, span_text, title_text, who_text, standing_text, deed_word, deed_text, refused_text, key_text, text_words};
 
 use mx_look_facts::Step;
 use mx_look_picture::{Deed, Item, Manner, Scene, Standing, Text};
-use mx_look_trace::{push_doing, push_hex, push_signed, request_name};
-use mx_print_report::{push_decimal, push_name};
+use mx_look_trace::{call_name, request_name};
+use mx_print_report::{
+    push_counted, push_decimal, push_doing, push_named, push_signed, push_two_digits,
+};
 use std::alloc::AllocError;
 
 /// Appends how many there are of something.
 #[tactic(auto, unfolding(crate::specs::Texts::counted))]
-fn push_counted(out: &mut Vec<u8>, count: u32, word: &[u8]) -> Result<(), AllocError>
+fn push_many(out: &mut Vec<u8>, count: u32, word: &[u8]) -> Result<(), AllocError>
     ensures { OnOk result (out.new.items ≡ out.old.items ++ counted count word.now) }
 {
     push_decimal(out, count)?;
@@ -48,9 +51,9 @@ pub(crate) fn push_title(out: &mut Vec<u8>, scene: &Scene) -> Result<(), AllocEr
     out.extend_from_slice(b" of ")?;
     push_decimal(out, scene.total)?;
     out.extend_from_slice(b", ")?;
-    push_counted(out, scene.services, b"service")?;
+    push_many(out, scene.services, b"service")?;
     out.extend_from_slice(b", ")?;
-    push_counted(out, scene.processors, b"processor")
+    push_many(out, scene.processors, b"processor")
 }
 
 /// Appends a name and an endpoint.
@@ -58,9 +61,7 @@ pub(crate) fn push_title(out: &mut Vec<u8>, scene: &Scene) -> Result<(), AllocEr
 fn push_who(out: &mut Vec<u8>, seen: &Standing) -> Result<(), AllocError>
     ensures { OnOk result (out.new.items ≡ out.old.items ++ who_text seen.now) }
 {
-    push_name(out, &seen.name.bytes)?;
-    out.push(b' ')?;
-    push_decimal(out, seen.endpoint)
+    push_named(out, &seen.name.bytes, seen.endpoint)
 }
 
 /// Appends a name, an endpoint, and what the process does.
@@ -73,39 +74,12 @@ pub(crate) fn push_standing(out: &mut Vec<u8>, seen: &Standing) -> Result<(), Al
     push_doing(out, seen.doing)
 }
 
-/// Appends a byte in two hexadecimal digits.
-#[tactic(auto, unfolding(crate::specs::Texts::two_digits))]
-fn push_two_digits(out: &mut Vec<u8>, byte: u8) -> Result<(), AllocError>
-    ensures { OnOk result (out.new.items ≡ out.old.items ++ two_digits byte) }
+/// Appends a name, or another word if there is none.
+fn push_name_or(out: &mut Vec<u8>, other: &[u8], name: &[u8]) -> Result<(), AllocError>
+    ensures { OnOk result (out.new.items ≡ out.old.items ++ name_or other.now name.now) }
 {
-    if byte < 16 {
-        out.push(b'0')?;
-    }
-    push_hex(out, byte)
-}
-
-/// Appends the name of a call.
-#[tactic(auto, unfolding(crate::specs::Texts::call_name))]
-fn push_call(out: &mut Vec<u8>, call: u32) -> Result<(), AllocError>
-    ensures { OnOk result (out.new.items ≡ out.old.items ++ call_name call) }
-{
-    match call {
-        1 => out.extend_from_slice(b"SEND"),
-        2 => out.extend_from_slice(b"RECEIVE"),
-        3 => out.extend_from_slice(b"SENDREC"),
-        4 => out.extend_from_slice(b"NOTIFY"),
-        _ => out.extend_from_slice(b"trap"),
-    }
-}
-
-/// Appends the name of a kernel call.
-#[tactic(auto, unfolding(crate::specs::Texts::kernel_name))]
-fn push_kernel_name(out: &mut Vec<u8>, kind: u32) -> Result<(), AllocError>
-    ensures { OnOk result (out.new.items ≡ out.old.items ++ kernel_name kind) }
-{
-    let name = request_name(kind);
     if name.is_empty() {
-        out.extend_from_slice(b"type")
+        out.extend_from_slice(other)
     } else {
         out.extend_from_slice(name)
     }
@@ -119,12 +93,9 @@ fn push_deed_word(out: &mut Vec<u8>, deed: Deed) -> Result<(), AllocError>
     match deed {
         Deed::Spent => out.extend_from_slice(b"spent"),
         Deed::Early => out.extend_from_slice(b"early"),
-        Deed::Fault(vector) => {
-            out.extend_from_slice(b"fault ")?;
-            push_decimal(out, u32::from(vector))
-        }
-        Deed::Call(call) => push_call(out, call),
-        Deed::Kernel(kind) => push_kernel_name(out, kind),
+        Deed::Fault(vector) => push_counted(out, b"fault", u32::from(vector)),
+        Deed::Call(call) => push_name_or(out, b"trap", call_name(call)),
+        Deed::Kernel(kind) => push_name_or(out, b"type", request_name(kind)),
     }
 }
 
@@ -202,7 +173,7 @@ pub(crate) fn push_words(out: &mut Vec<u8>, scene: &Scene, text: Text) -> Result
         Text::Outcome(outcome) => push_signed(out, outcome),
         Text::Who(seen) => push_who(out, &seen),
         Text::Standing(seen) => push_standing(out, &seen),
-        Text::Bytes(count) => push_counted(out, count, b"byte"),
+        Text::Bytes(count) => push_many(out, count, b"byte"),
         Text::Deed(deed, manner) => push_deed(out, deed, manner),
         Text::Killed => out.extend_from_slice(b"kill"),
         Text::Character(byte) => {

@@ -9,6 +9,7 @@ ghost use Rattle.mx_app_look.specs.Changes.{as_seen, bytes_of, change_line, chan
 use crate::watches::{Watch, places_of};
 use mx_insn_words::push_eight_digits;
 use mx_machine::Machine;
+use mx_print_answers::push_byte;
 use mx_walk::{BytePlace, byte_in};
 use std::alloc::{AllocError, Global};
 use std::fmt::Write;
@@ -59,13 +60,6 @@ pub(crate) fn all_bytes(
         })?;
     }
     Ok(seen)
-}
-
-/// Appends a byte in two digits after a space.
-fn push_byte(out: &mut String, byte: u8) -> Result<(), AllocError>
-    ensures { OnOk result (string_bytes out.new ≡ string_bytes out.old ++ byte_field byte) }
-{
-    write!(out, " {byte:02x}")
 }
 
 /// Appends each of these bytes.

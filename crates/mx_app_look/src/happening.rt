@@ -6,7 +6,7 @@ ghost use Rattle.mx_look_facts.specs.Doings.{is_down, seen_is};
 ghost use Rattle.mx_look_facts.specs.Step.{slot_in};
 ghost use Rattle.mx_app_look.specs.Happenings.{calls, comes_from, dies, has_type, happens, is_delivered, called_by};
 
-use mx_look_facts::{CpuGlance, Doing, Glance, Step, delivery_to, kernel_call, slot_in};
+use mx_look_facts::{CpuGlance, Glance, Step, delivery_to, is_down, kernel_call, slot_in};
 use mx_proc::{Delivery, slot_of};
 
 /// What `until` looks for in the records of a history.
@@ -52,7 +52,7 @@ fn is_dead(glance: &Glance, slot: u32) -> bool
     ensures { result ≡ seen_is is_down (slot_in glance.now slot) }
 {
     match slot_in(glance, slot) {
-        Some(seen) => matches!(seen.doing, Doing::Down(_)),
+        Some(seen) => is_down(seen.doing),
         None => false,
     }
 }

@@ -10,7 +10,7 @@ ghost use Rattle.mx_walk.specs.Walks.{Walk};
 ghost use Rattle.mx_app_look.specs.Above.{step_above};
 ghost use Rattle.mx_app_look.specs.Sessions.{IsBegun, IsSession, begun_text, sight_at};
 
-use mx_walk::{one_last, positions_replay};
+use mx_walk::positions_replay;
 
 /// Law: what a session prints is determined by the world of the boot, the records of the history and the
 /// lines that are typed.
@@ -20,9 +20,7 @@ pub fn one_session()
         → IsBegun boot records j → IsBegun boot records k
         → IsSession asks (sight_at j) typed s ps → IsSession asks (sight_at k) typed t qs
         → begun_text asks j ++ s ≡ begun_text asks k ++ t }
-{
-    one_last();
-}
+{}
 
 /// Law: what `why` shows of a record is the step that a trace shows.
 pub fn why_is_traced()

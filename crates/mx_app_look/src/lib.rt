@@ -29,4 +29,4 @@ mod world_texts;
 
 pub use halt_laws::{one_halt, searches_return};
 pub use laws::{one_session, why_is_traced};
-pub use session::{SessionNames, look};
+pub use session::{SessionWanted, look};

@@ -1,7 +1,6 @@
 //! Where one is in a history.
 
 ghost use Rattle.std.specs.Prelude.{◌≡◌, ◌++◌, ◌+◌, OnOk, slice_get};
-ghost use Rattle.std.specs.Fmt.{decimal};
 ghost use Rattle.mx_app_step.specs.Log.{lines_above};
 ghost use Rattle.mx_look_code.specs.Code.{code_line};
 ghost use Rattle.mx_machine.specs.World.{held_by};
@@ -10,7 +9,6 @@ ghost use Rattle.mx_walk.specs.Positions.{event_below};
 ghost use Rattle.mx_walk.specs.Walks.{refusal_here, world_here};
 ghost use Rattle.mx_app_look.specs.Places.{below_line, place_text, position_text, process_line, record_line, rest_of_place, step_line};
 
-use itoa::Buffer;
 use mx_aout::Symbol;
 use mx_app_step::refusal_line;
 use mx_boot::lines_above;
@@ -20,26 +18,20 @@ use mx_look_facts::Glance;
 use mx_look_trace::{push_event, push_who};
 use mx_machine::{Event, Machine, Record, Refusal};
 use mx_print_answers::symbols_of;
+use mx_print_report::{push_decimal, push_long};
 use mx_walk::{Position, Walker, next_event};
 use std::alloc::{AllocError, Global};
-
-/// Appends a number.
-fn push_number(out: &mut Vec<u8>, number: usize) -> Result<(), AllocError>
-    ensures { OnOk result (out.new.items ≡ out.old.items ++ decimal number) }
-{
-    out.extend_from_slice(Buffer::new().format(number).as_bytes())
-}
 
 /// Appends a position: `K`, or `K.J` inside the record below.
 pub(crate) fn push_position(out: &mut Vec<u8>, at: Position) -> Result<(), AllocError>
     ensures { OnOk result (out.new.items ≡ out.old.items ++ position_text at) }
 {
-    push_number(out, at.records)?;
+    push_long(out, at.records as u64)?;
     if at.steps == 0 {
         return Ok(());
     }
     out.push(b'.')?;
-    push_number(out, at.steps as usize)
+    push_decimal(out, at.steps)
 }
 
 /// Appends the record below, with its number.
@@ -47,9 +39,9 @@ fn push_record_line(out: &mut Vec<u8>, number: usize, entry: Record) -> Result<(
     ensures { OnOk result (out.new.items ≡ out.old.items ++ record_line number entry) }
 {
     out.extend_from_slice(b", record ")?;
-    push_number(out, number)?;
+    push_long(out, number as u64)?;
     out.extend_from_slice(b": ")?;
-    push_number(out, entry.actor as usize)?;
+    push_decimal(out, u32::from(entry.actor))?;
     out.extend_from_slice(b" ")?;
     push_event(out, entry.event)?;
     out.extend_from_slice(b"\n")
@@ -164,6 +156,6 @@ pub(crate) fn push_place(
     out.extend_from_slice(b"at ")?;
     push_position(out, walker.here())?;
     out.extend_from_slice(b" of ")?;
-    push_number(out, walker.records().len())?;
+    push_long(out, walker.records().len() as u64)?;
     push_rest(alloc, out, walker, refusal)
 }

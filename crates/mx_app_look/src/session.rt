@@ -20,7 +20,8 @@ use crate::places::push_place;
 use crate::points::Points;
 use crate::sight::Sight;
 use mx_app_failure::{Failure, print_text};
-use mx_app_step::{History, LineReader, Reader, Started, records_are_of_actors, start};
+use mx_app_start::Channels;
+use mx_app_step::{History, LineReader, Reader, Started, start};
 use mx_walk::{Progress, Walker};
 use std::alloc::Global;
 use std::io::Write;
@@ -95,55 +96,60 @@ fn converse<L: LineReader, P: Progress, W: Write>(
     Ok(())
 }
 
-/// The names of the files of a configuration and of a saved history.
+/// A session: the names of the files of its configuration and of its saved history.
 #[derive(Clone, Copy)]
-pub struct SessionNames<'a> {
+pub struct SessionWanted<'a> {
     pub config: &'a str,
     pub log: &'a str,
+    /// Whether the position is printed before each line.
+    pub asks: bool,
 }
 
 /// Starts the machine of a saved history, and answers the lines that are typed: requests to go forward and
 /// back in the history, and to show what is there. It takes lines up to `quit` or to the end of the input, and
-/// none after that. With `asks` it prints the position before each line. A session's text is a function of the
-/// configuration, the programs, the history and the lines. At the beginning it walks the history once.
-/// `progress` is shown each record of that walk and of each later one.
-pub fn look<R: Reader, L: LineReader, P: Progress, W: Write>(
+/// none after that, and writes no file. A session's text is a function of the configuration, the programs, the
+/// history and the lines. At the beginning it walks the history once. `progress` is shown each record of that
+/// walk and of each later one.
+pub fn look<R: Reader + Drop, F: Drop, W: Write + Drop, L: LineReader, P: Progress>(
     alloc: Global,
-    reader: &mut R,
+    channels: &mut Channels<R, F, W>,
     lines: &mut L,
     progress: &mut P,
-    names: SessionNames<'_>,
-    asks: bool,
-    out: &mut W,
+    wanted: SessionWanted<'_>,
 ) -> Result<(), Failure>
+    ensures files { channels.new.files ≡ channels.old.files }
     ensures printed { OnOk result ((qs : List Asked) × (c : Configured) × (vs : List Service)
         × (records : List Noted) × (k : Walk) × (typed : List (Option (List ℕ))) × (text : List ℕ)
-        × (ps : List Parts) × (R.asked reader.new ≡ R.asked reader.old ++ qs)
+        × (ps : List Parts)
+        × (R.asked channels.new.reader ≡ R.asked channels.old.reader ++ qs)
         × (L.given lines.new ≡ L.given lines.old ++ typed) × IsWhole typed
         × (P.shown progress.new ≡ P.shown progress.old ++ (walk_shown k.records k.last ++ ps))
-        × IsStart IsSaved names.entry.config.now names.entry.log.now qs c vs records
+        × IsStart IsSaved wanted.entry.config.now wanted.entry.log.now qs c vs records
         × IsBegun (world_at_boot c vs) records k
-        × IsSession asks (sight_at k) typed text ps
-        × Appends (W.contents out.old) (W.contents out.new) (begun_text asks k ++ text)) }
+        × IsSession wanted.entry.asks (sight_at k) typed text ps
+        × Appends (W.contents channels.old.out) (W.contents channels.new.out)
+        (begun_text wanted.entry.asks k ++ text)) }
     ensures fault { IfErr result (λ f. (qs : List Asked) × (typed : List (Option (List ℕ)))
-        × (ps : List Parts) × (R.asked reader.new ≡ R.asked reader.old ++ qs)
+        × (ps : List Parts)
+        × (R.asked channels.new.reader ≡ R.asked channels.old.reader ++ qs)
         × (L.given lines.new ≡ L.given lines.old ++ typed)
         × (P.shown progress.new ≡ P.shown progress.old ++ ps)
-        × HasFailed names.entry.config.now names.entry.log.now qs ps f) }
+        × HasFailed wanted.entry.config.now wanted.entry.log.now qs ps f) }
 {
-    records_are_of_actors();
     let Started {
         machine,
         config,
         other: _,
         lines: records,
-    } = start::<History, R>(alloc, reader, names.config, names.log)?;
+    } = start::<History, R>(alloc, &mut channels.reader, wanted.config, wanted.log)?;
     let mut walker = Walker::new(alloc, machine, config, records, progress)?;
     progress.clear();
-    begin(alloc, &mut walker, asks, out)?;
+    let asks = wanted.asks;
+    begin(alloc, &mut walker, asks, &mut channels.out)?;
     let sight = Sight {
         walker,
         points: Points::new(),
     };
-    converse(alloc, Session { sight, asks }, lines, progress, out)
+    let session = Session { sight, asks };
+    converse(alloc, session, lines, progress, &mut channels.out)
 }

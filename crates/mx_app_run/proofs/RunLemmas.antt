@@ -14,6 +14,7 @@ use Rattle.mx_machine.specs.Move.{world_after_event}
 use Rattle.mx_machine.specs.Rules.{Rules}
 use Rattle.mx_machine.specs.World.{World, actors}
 use Rattle.mx_machine.specs.Service.{Service}
+use Rattle.mx_machine.proofs.ActorLemmas.{actors_after_events}
 use Rattle.mx_cpus.specs.Seats.{SeatView}
 use Rattle.mx_cpus.specs.Boots.{all_seats}
 use Rattle.mx_app_step.specs.Asked.{Asked}
@@ -146,10 +147,10 @@ module _ (config : List ℕ) (events : Option (List ℕ)) (log : List ℕ) (tick
 
 -- ---- its replay
 
-pub actors_of_run : (c : Config) (vs : List Service) (ticks : ℕ) (xs : List OutsideCall) (k : BootAndHistory) → ((w : World) (xs : List (ℕ × Event)) → actors (world_after_events w xs) ≡ actors w)
+pub actors_of_run : (c : Config) (vs : List Service) (ticks : ℕ) (xs : List OutsideCall) (k : BootAndHistory)
     → IsRun c vs ticks xs k → actors (replay k) ≡ c.cpus + c.others
 unfolding replay
-actors_of_run c vs ticks xs k stay r = stay k.boot (events_of_history k.history) ∙ ap actors r.boot ∙ ap (λ n. n + c.others) (length-replicate c.cpus None)
+actors_of_run c vs ticks xs k r = actors_after_events k.boot (events_of_history k.history) ∙ ap actors r.boot ∙ ap (λ n. n + c.others) (length-replicate c.cpus None)
 
 events_both : (xs ys : List Record) → events_of_history (xs ++ ys) ≡ events_of_history xs ++ events_of_history ys
 events_both [] ys = refl

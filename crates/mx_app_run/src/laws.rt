@@ -3,20 +3,13 @@
 ghost use Rattle.mx_app_run.specs.Run.{RunsAreHistories, RunsReplay};
 
 use mx_boot::{history_again, one_history};
-use mx_machine::actors_stay;
 
-/// Law: the text of a run's history is read as that history, by the run's configuration.
-pub fn run_again()
-    ensures { RunsAreHistories }
-{
-    actors_stay();
-    history_again();
-}
-
-/// Law: what a replay prints of the text of a run's history is the report that the run printed.
+/// Law: the text of a run's history is read as that history, by the run's configuration; and what a replay of
+/// that text prints is the report that the run printed.
 pub fn replay_again()
-    ensures { RunsReplay }
+    ensures history { RunsAreHistories }
+    ensures report { RunsReplay }
 {
-    run_again();
+    history_again();
     one_history();
 }

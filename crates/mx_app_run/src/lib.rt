@@ -9,7 +9,7 @@ mod running;
 
 pub use calls::outside_calls;
 pub use gate::{RunGate, RunPlan};
-pub use laws::{replay_again, run_again};
+pub use laws::replay_again;
 pub use mx_app_start::{Channels, MemoryWriter, NamedFile, NamedFiles, NoProgress, setup_of};
 pub use mx_app_step::{Replayed, replay};
 pub use mx_boot::{report, saved_text};

@@ -88,7 +88,7 @@ fn run_machine<T: Threads + Wait + Clock + Sync, P: SharedProgress + Sync>(
 }
 
 /// How a run ended: at rest after all ticks and calls, or with a full history. With calls the history must have room
-/// left for rest to be told: without any, the last call may have been refused.
+/// left for rest to be known: without any, the last call may have been refused.
 fn ending_of(kernel: &Kernel, log: u32, outside: Outside<'_>) -> Ending
     ensures { result ≡ run_ending log outside.entry.ticks outside.entry.calls.now kernel.now }
 {

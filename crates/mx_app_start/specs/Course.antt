@@ -1,4 +1,4 @@
--- The texts that drive a machine, the configuration by which it boots then, and what is told of other texts (our own).
+-- The texts that drive a machine, the configuration by which it boots then, and the failures of other texts (our own).
 use Rattle.std.specs.Prelude.{◌≡◌, ℕ, ◌+◌, List}
 use Rattle.mx_text.specs.Lines.{lines}
 use Rattle.mx_text.specs.declared.error.BootError.{BootError}

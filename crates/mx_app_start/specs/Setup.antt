@@ -28,7 +28,7 @@ IsTextGiven name q text = (q ≡ file_given name text) × ∥ IsUtf8 text ∥₁
 abbrev pub IsNoTextGiven : List ℕ → Asked → Failure → Type 0
 IsNoTextGiven name q f = IsFileMissed name q f ⊎ ((bytes : List ℕ) × (q ≡ file_given name bytes) × (¬ (IsUtf8 bytes)) × (f ≡ File))
 
--- a text of which this is told, as `Tells` has it
+-- a text with this fault, as `Tells` has it
 abbrev pub IsTextFaulty : (List ℕ → BootError → Type 0) → List ℕ → Asked → Failure → Type 0
 IsTextFaulty Tells name q f = (text : List ℕ) × (e : BootError) × IsTextGiven name q text × Tells text e × (f ≡ failure_of_lines e)
 

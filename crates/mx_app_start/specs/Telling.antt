@@ -1,4 +1,4 @@
--- What is told where a machine was driven or couldn't be (our own).
+-- Why a machine wasn't driven, or its history not saved (our own).
 use Rattle.std.specs.Prelude.{◌≡◌, ◌⊎◌, ℕ, List, [], ◌∷◌}
 use Rattle.std.specs.declared.io.ErrorKind.{ErrorKind}
 use Rattle.mx_text.specs.declared.error.BootError.{BootError}

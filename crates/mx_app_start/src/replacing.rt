@@ -10,7 +10,7 @@ use std::{fs, io};
 #[derive(Drop)]
 enum Place {
     /// Into a new file in the same folder, with the permissions of the regular file, if there is one.
-    Beside(Option<Permissions>),
+    Part(Option<Permissions>),
     /// Into the file itself: a device, a pipe, what a link leads to.
     Itself,
 }
@@ -20,27 +20,27 @@ fn place_of(rt: &impl Files, name: &str) -> Place {
     match fs::symlink_metadata(rt, name) {
         Ok(metadata) => {
             if metadata.is_file() {
-                Place::Beside(Some(metadata.permissions()))
+                Place::Part(Some(metadata.permissions()))
             } else {
                 Place::Itself
             }
         }
         Err(error) => match error.kind() {
-            io::ErrorKind::NotFound => Place::Beside(None),
+            io::ErrorKind::NotFound => Place::Part(None),
             _ => Place::Itself,
         },
     }
 }
 
 /// The name for bytes that aren't whole yet: the file's own, with `.part`.
-fn name_beside(alloc: Global, name: &str) -> Result<String, AllocError> {
+fn part_name(alloc: Global, name: &str) -> Result<String, AllocError> {
     format!(in alloc; "{name}.part")
 }
 
 /// The name that a file has while it isn't whole, and its own.
 #[derive(Clone, Copy)]
 struct Names<'a> {
-    beside: &'a str,
+    part: &'a str,
     whole: &'a str,
 }
 
@@ -54,9 +54,9 @@ fn fill_and_rename<R: Files>(
 ) -> io::Result<()> {
     file.write_all(bytes)?;
     if let Some(permissions) = permissions {
-        fs::set_permissions(rt, names.beside, permissions)?;
+        fs::set_permissions(rt, names.part, permissions)?;
     }
-    fs::rename(rt, names.beside, names.whole)
+    fs::rename(rt, names.part, names.whole)
 }
 
 /// Writes bytes to the file that has a name, in place of what it had. If the file is regular or new and a
@@ -68,22 +68,22 @@ pub(crate) fn replace_file<R: Files>(
     name: &str,
     bytes: &[u8],
 ) -> io::Result<()> {
-    let Place::Beside(permissions) = place_of(rt, name) else {
+    let Place::Part(permissions) = place_of(rt, name) else {
         return fs::write(rt, name, bytes);
     };
-    let Ok(beside) = name_beside(alloc, name) else {
+    let Ok(part) = part_name(alloc, name) else {
         return Err(io::Error::from(io::ErrorKind::OutOfMemory));
     };
-    let Ok(file) = fs::File::create_new(rt, beside.as_str()) else {
+    let Ok(file) = fs::File::create_new(rt, part.as_str()) else {
         return fs::write(rt, name, bytes);
     };
     let names = Names {
-        beside: beside.as_str(),
+        part: part.as_str(),
         whole: name,
     };
     let done = fill_and_rename(rt, file, names, permissions, bytes);
     if done.is_err() {
-        let _ = fs::remove_file(rt, names.beside);
+        let _ = fs::remove_file(rt, names.part);
     }
     done
 }

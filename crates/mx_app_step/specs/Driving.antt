@@ -24,7 +24,7 @@ abbrev pub number_text : Bool → ℕ → List ℕ
 number_text true n = decimal n ++ codes ": "
 number_text false n = []
 
--- what is printed of lines in a row, if `tells` says it of one; the first is line n
-abbrev pub lines_told : {S L : Type 0} → (S → L → S) → (S → L → List ℕ) → Bool → ℕ → S → List L → List ℕ
-lines_told does tells numbered n s [] = []
-lines_told does tells numbered n s (l ∷ ls) = (number_text numbered n ++ tells s l) ++ lines_told does tells numbered (n + 1) (does s l) ls
+-- what lines in a row print, if `prints` is what one prints; the first is line n
+abbrev pub lines_text : {S L : Type 0} → (S → L → S) → (S → L → List ℕ) → Bool → ℕ → S → List L → List ℕ
+lines_text does prints numbered n s [] = []
+lines_text does prints numbered n s (l ∷ ls) = (number_text numbered n ++ prints s l) ++ lines_text does prints numbered (n + 1) (does s l) ls

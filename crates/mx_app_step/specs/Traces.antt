@@ -1,4 +1,4 @@
--- What is told of a history, record by record (our own).
+-- What `mx trace` prints of a history, record by record (our own).
 use Rattle.std.specs.Prelude.{◌≡◌, ℕ, ◌+◌, ◌-◌, nat_lt, if◌then◌else◌, List, [], ◌∷◌, ◌++◌, take, Option, Some, None}
 use Rattle.mx_app_start.specs.Log.{lines_above}
 use Rattle.mx_machine.specs.declared.events.Event.{Event}
@@ -17,7 +17,7 @@ use Rattle.mx_app_step.specs.Records.{IsRefusedAt, refused_record_line}
 use Rattle.mx_walk.specs.Positions.{steps_in, steps_of}
 pub use Rattle.mx_walk.specs.Positions.{own_event}
 
--- the steps that a record stands for; its own event comes after them
+-- the steps of a record; its own event comes after them
 abbrev pub steps_before : ℕ → Recorded → List (ℕ × Event)
 steps_before a e = steps_of a (steps_in e)
 
@@ -31,7 +31,7 @@ step_of w n x = record {
   after = glance_of (world_after_events w (events_of x.actor x.event));
 }
 
--- nothing happens, and a world is seen as it stands
+-- nothing happens, and a world is seen as it is
 abbrev pub resting_step : World → Step
 resting_step w = record {
   number = 0;
@@ -41,7 +41,7 @@ resting_step w = record {
   after = glance_of w;
 }
 
--- what is told of a step: nothing of one before `from`
+-- what is printed of a step: nothing of one before `from`
 abbrev pub told_of : ℕ → Step → List ℕ
 told_of from x = if nat_lt x.number from then [] else record_text x
 
@@ -63,6 +63,6 @@ IsTracePrinted w records from replayed.Refused Prints =
     (n : ℕ) × (r : Refusal) × IsRefusedAt w records n r
     × Prints (trace_text from w 1 (take (n - 1) records) ++ refused_record_line (lines_above w.table.rules + n) r)
 
--- TWO PARTS OF A TRACE JOIN: what is told from a to b, and then what is told from the record after b to c, is what is told from a to c
+-- TWO PARTS OF A TRACE JOIN: what is printed from a to b, and then from the record after b to c, is what is printed from a to c
 abbrev pub PartsJoin : World → List Record → ℕ → ℕ → ℕ → Type 0
 PartsJoin w records a b c = trace_text a w 1 (take b records) ++ trace_text (b + 1) w 1 (take c records) ≡ trace_text a w 1 (take c records)

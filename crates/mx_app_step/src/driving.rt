@@ -7,7 +7,7 @@ ghost use Rattle.mx_app_start.specs.Failure.{IsWanting};
 ghost use Rattle.mx_app_start.specs.Machine.{world_of};
 ghost use Rattle.mx_app_start.specs.Report.{report_text};
 ghost use Rattle.mx_machine.specs.World.{actors};
-ghost use Rattle.mx_app_step.specs.Driving.{Driven, driven, lines_done, lines_told, number_text};
+ghost use Rattle.mx_app_step.specs.Driving.{Driven, driven, lines_done, lines_text, number_text};
 ghost use Rattle.mx_app_step.specs.Pieces.{IsPrintedBut};
 
 use crate::printing::{print_piece, print_report};
@@ -25,7 +25,7 @@ pub trait Performs {
     ghost does: { ℕ → Driven Self → Self.Line → Driven Self };
 
     /// What is printed of it.
-    ghost tells: { ℕ → Driven Self → Self.Line → List ℕ };
+    ghost prints: { ℕ → Driven Self → Self.Line → List ℕ };
 
     /// Performs a line, and appends the answer to `text`. If the line names no actor, `other` is the actor of its
     /// event. After an error, which is memory, `text` may have a part of the answer.
@@ -40,7 +40,7 @@ pub trait Performs {
         ensures done { OnOk result (does other (driven machine.old self.old) line.now
             ≡ driven machine.new self.new) }
         ensures text { OnOk result (string_bytes text.new ≡ string_bytes text.old
-            ++ tells other (driven machine.old self.old) line.now) }
+            ++ prints other (driven machine.old self.old) line.now) }
         ensures actors { actors (world_of machine.new) ≡ actors (world_of machine.old) };
 }
 
@@ -78,12 +78,13 @@ fn perform_lines<P: Performs, W: Write>(
 ) -> Result<(), Failure>
     requires { lines.now.other < actors (world_of machine.old) }
     ensures err { IfErr result IsWanting }
-    ensures done { OnOk result (lines_done (P.does lines.now.other) (driven machine.old performer.old)
-        lines.now.lines.now ≡ driven machine.new performer.new) }
+    ensures done { OnOk result (lines_done (P.does lines.now.other)
+        (driven machine.old performer.old) lines.now.lines.now
+        ≡ driven machine.new performer.new) }
     ensures printed { OnOk result (IsPrintedBut (W.contents out.old) (W.contents out.new)
         (string_bytes text.new)
         (string_bytes text.old
-        ++ lines_told (P.does lines.now.other) (P.tells lines.now.other) lines.now.numbered 1
+        ++ lines_text (P.does lines.now.other) (P.prints lines.now.other) lines.now.numbered 1
         (driven machine.old performer.old) lines.now.lines.now)) }
 {
     let mut number = 0;
@@ -107,10 +108,11 @@ pub fn print_said<P: Performs, W: Write>(
 ) -> Result<(), Failure>
     requires { lines.now.other < actors (world_of machine.old) }
     ensures err { IfErr result IsWanting }
-    ensures done { OnOk result (lines_done (P.does lines.now.other) (driven machine.old performer.old)
-        lines.now.lines.now ≡ driven machine.new performer.new) }
+    ensures done { OnOk result (lines_done (P.does lines.now.other)
+        (driven machine.old performer.old) lines.now.lines.now
+        ≡ driven machine.new performer.new) }
     ensures printed { OnOk result (Appends (W.contents out.old) (W.contents out.new)
-        (lines_told (P.does lines.now.other) (P.tells lines.now.other) lines.now.numbered 1
+        (lines_text (P.does lines.now.other) (P.prints lines.now.other) lines.now.numbered 1
         (driven machine.old performer.old) lines.now.lines.now)) }
 {
     let mut text = String::new(alloc);
@@ -136,7 +138,7 @@ pub fn print_lines<P: Performs, W: Write>(
     ensures printed { OnOk result (let d = driven machine.old performer.old in
         let e = lines_done (P.does lines.now.other) d lines.now.lines.now in
         Appends (W.contents out.old) (W.contents out.new)
-        (lines_told (P.does lines.now.other) (P.tells lines.now.other) lines.now.numbered 1 d
+        (lines_text (P.does lines.now.other) (P.prints lines.now.other) lines.now.numbered 1 d
         lines.now.lines.now
         ++ report_text e.world.table e.world.services)) }
 {

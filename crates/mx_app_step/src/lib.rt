@@ -12,8 +12,8 @@ mod stepping;
 mod tracing;
 
 pub use driving::{Lines, Performs, print_lines};
-pub use laws::{parts_of_a_trace_join, records_are_of_actors};
-pub use lines::{perform_line, step};
+pub use laws::parts_of_a_trace_join;
+pub use lines::{NamedScript, perform_line, step};
 pub use mx_app_failure::{Failure, print_text};
 pub use mx_app_start::{
     FileWriter, History, LineReader, Reader, RuntimeFiles, RuntimeWriter, Script, Started,

@@ -54,13 +54,13 @@ pub fn perform_line(machine: &mut Machine, other: u8, line: ScriptLine) -> Said
 pub(crate) struct ScriptPerformer;
 
 impl Performs for ScriptPerformer {
-    ghost use Rattle.mx_app_step.specs.Performed.{script_does, script_tells};
+    ghost use Rattle.mx_app_step.specs.Performed.{script_does, script_prints};
 
     type Line = ScriptLine;
 
     ghost does = { script_does };
 
-    ghost tells = { script_tells };
+    ghost prints = { script_prints };
 
     fn perform(
         &mut self,
@@ -74,33 +74,39 @@ impl Performs for ScriptPerformer {
     }
 }
 
-/// Starts a machine by the names of its configuration and of a script, prints the answer to each line of
-/// the script, after the line's number if answers are numbered, and then the report. What stands printed after
-/// a failure isn't promised.
+/// A script by the names of its files: of the configuration of its machine, and its own.
+#[derive(Clone, Copy)]
+pub struct NamedScript<'a> {
+    pub config: &'a str,
+    pub script: &'a str,
+    /// Whether each answer is printed after the number of its line.
+    pub numbered: bool,
+}
+
+/// Starts a script's machine, prints the answer to each line of the script, after the line's number if answers
+/// are numbered, and then the report. What is printed before a failure isn't promised.
 pub fn step<R: Reader, W: io::Write>(
     alloc: Global,
     reader: &mut R,
-    config: &str,
-    script: &str,
-    numbered: bool,
+    named: NamedScript<'_>,
     out: &mut W,
 ) -> Result<(), Failure>
     ensures printed { OnOk result ((qs : List Asked) × (c : Config) × (vs : List Service)
         × (said : List Line)
         × (R.asked reader.new ≡ R.asked reader.old ++ qs)
-        × IsStart IsScript config.now script.now qs c vs said
+        × IsStart IsScript named.entry.config.now named.entry.script.now qs c vs said
         × (let m = lines_made (world_at_boot c vs) c.cpus said in
-        Appends (W.contents out.old) (W.contents out.new) (answers_text numbered m.0
+        Appends (W.contents out.old) (W.contents out.new) (answers_text named.entry.numbered m.0
         ++ report_text m.1.table m.1.services))) }
     ensures fault { IfErr result (λ f. (qs : List Asked)
         × (R.asked reader.new ≡ R.asked reader.old ++ qs)
-        × IsTold IsScript TellsScript config.now script.now qs f) }
+        × IsTold IsScript TellsScript named.entry.config.now named.entry.script.now qs f) }
 {
-    let mut started = start::<Script, R>(alloc, reader, config, script)?;
+    let mut started = start::<Script, R>(alloc, reader, named.config, named.script)?;
     let lines = Lines {
         lines: started.lines.as_slice(),
         other: started.other,
-        numbered,
+        numbered: named.numbered,
     };
     print_lines(
         alloc,

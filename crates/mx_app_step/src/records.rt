@@ -22,7 +22,7 @@ use crate::printing::print_report;
 use mx_app_failure::{Failure, print_text};
 use mx_app_start::{History, Reader, start};
 use mx_boot::lines_above;
-use mx_machine::{Machine, Record, Refusal, actors_stay};
+use mx_machine::{Machine, Record, Refusal};
 use mx_print_answers::Said;
 use mx_walk::finish_record;
 use std::alloc::{AllocError, Global};
@@ -37,8 +37,9 @@ pub enum Replayed {
     Refused,
 }
 
-/// The events that records stand for, up to the first that is refused. Answers the number of its
+/// Makes the events of records, up to the first that is refused. Answers the number of its
 /// record, the first having the number 1, and why.
+#[tactic(auto, using(mx_machine::proofs::ActorLemmas::actors_after_events))]
 pub fn perform_records(machine: &mut Machine, records: &[Record]) -> Result<(), (usize, Refusal)>
     requires { All (λ (x : Noted). x.actor < actors (world_of machine.old)) records.now }
     ensures ok { OnOk result (AreAccepted (world_of machine.old) (events_of_history records.now)
@@ -49,7 +50,6 @@ pub fn perform_records(machine: &mut Machine, records: &[Record]) -> Result<(), 
     ensures kept { OnOk result (machine.new.kernel
         ≡ kept_of machine.old.kernel (world_of machine.old) (events_of_history records.now)) }
 {
-    actors_stay();
     let mut number = 1;
     for entry in records {
         if let Err(halted) = finish_record(machine, *entry, 0) {

@@ -21,7 +21,7 @@ ghost use Rattle.mx_app_step.specs.Lines.{lines_made};
 ghost use Rattle.mx_app_step.specs.Numbered.{answers_text};
 
 use crate::driving::{Lines, print_said};
-use crate::lines::ScriptPerformer;
+use crate::lines::{NamedScript, ScriptPerformer};
 use crate::printing::print_report;
 use mx_app_failure::Failure;
 use mx_app_start::{Channels, FileWriter, Reader, Script, Started, names_program, start};
@@ -51,25 +51,25 @@ pub fn write_history<F: FileWriter>(
 
 /// On a machine that was started: does what each line of the script says, prints the answer to each, writes
 /// the history to a file, and prints the report.
-fn perform_and_save<F: FileWriter, W: Write>(
+fn perform_and_save<R: Drop, F: FileWriter + Drop, W: Write + Drop>(
     alloc: Global,
+    channels: &mut Channels<R, F, W>,
     started: &mut Started<ScriptLine>,
-    files: &mut F,
     log: &str,
     numbered: bool,
-    out: &mut W,
 ) -> Result<(), Failure>
     requires { started.old.other < actors (world_of started.old.machine) }
-    ensures saved { OnOk result ((F.written files.new ≡ F.written files.old
+    ensures reader { channels.new.reader ≡ channels.old.reader }
+    ensures saved { OnOk result ((F.written channels.new.files ≡ F.written channels.old.files
         ++ kept log.now (text_kept
         (lines_kept started.old.machine.kernel (world_of started.old.machine) started.old.other
         started.old.lines.items)) ∷ [])
         × (let m = lines_made (world_of started.old.machine) started.old.other
         started.old.lines.items in
-        Appends (W.contents out.old) (W.contents out.new) (answers_text numbered m.0
-        ++ report_text m.1.table m.1.services))) }
+        Appends (W.contents channels.old.out) (W.contents channels.new.out)
+        (answers_text numbered m.0 ++ report_text m.1.table m.1.services))) }
     ensures unsaved { IfErr result (λ f. (ws : List Written)
-        × (F.written files.new ≡ F.written files.old ++ ws)
+        × (F.written channels.new.files ≡ F.written channels.old.files ++ ws)
         × IsUnsaved log.now (text_kept
         (lines_kept started.old.machine.kernel (world_of started.old.machine) started.old.other
         started.old.lines.items)) ws f) }
@@ -84,55 +84,48 @@ fn perform_and_save<F: FileWriter, W: Write>(
         &mut ScriptPerformer,
         &mut started.machine,
         &lines,
-        out,
+        &mut channels.out,
     )?;
-    write_history(alloc, started.machine.kernel(), files, log)?;
-    print_report(alloc, &started.machine, out)
+    write_history(alloc, started.machine.kernel(), &mut channels.files, log)?;
+    print_report(alloc, &started.machine, &mut channels.out)
 }
 
-/// Starts a machine by the names of its configuration and of a script, prints the answer to each line
-/// of the script, writes the history that the script made to the file `log`, also where lines were refused,
-/// and then prints the report. What stands printed after a failure isn't promised. The program of a service isn't
-/// written over: if its file has the name of LOG, nothing is written or printed.
+/// Starts a script's machine, prints the answer to each line of the script, writes the history that the script
+/// made to the file `log`, also if lines were refused, and then prints the report. What is printed before a
+/// failure isn't promised. The program of a service isn't written over: if its file has the name of LOG, nothing
+/// is written or printed.
 pub fn step_saved<R: Reader + Drop, F: FileWriter + Drop, W: Write + Drop>(
     alloc: Global,
     channels: &mut Channels<R, F, W>,
-    config: &str,
-    script: &str,
+    named: NamedScript<'_>,
     log: &str,
-    numbered: bool,
 ) -> Result<(), Failure>
     ensures saved { OnOk result ((qs : List Asked) × (c : Config) × (vs : List Service)
         × (said : List Line)
         × (R.asked channels.new.reader ≡ R.asked channels.old.reader ++ qs)
-        × IsStart IsScript config.now script.now qs c vs said × (names_program c log.now ≡ false)
+        × IsStart IsScript named.entry.config.now named.entry.script.now qs c vs said
+        × (names_program c log.now ≡ false)
         × (F.written channels.new.files ≡ F.written channels.old.files
         ++ kept log.now (saved_text c.rules (history_made (world_at_boot c vs) c.cpus said)) ∷ [])
         × (let m = lines_made (world_at_boot c vs) c.cpus said in
-        Appends (W.contents channels.old.out) (W.contents channels.new.out) (answers_text numbered m.0
-        ++ report_text m.1.table m.1.services))) }
+        Appends (W.contents channels.old.out) (W.contents channels.new.out)
+        (answers_text named.entry.numbered m.0 ++ report_text m.1.table m.1.services))) }
     ensures fault { IfErr result (λ f. (qs : List Asked) × (ws : List Written)
         × (R.asked channels.new.reader ≡ R.asked channels.old.reader ++ qs)
         × (F.written channels.new.files ≡ F.written channels.old.files ++ ws)
-        × (((ws ≡ []) × IsNotStarted IsScript TellsScript config.now script.now qs f)
+        × (((ws ≡ [])
+        × IsNotStarted IsScript TellsScript named.entry.config.now named.entry.script.now qs f)
         ⊎ ((c : Config) × (vs : List Service) × (said : List Line)
-        × IsStart IsScript config.now script.now qs c vs said
+        × IsStart IsScript named.entry.config.now named.entry.script.now qs c vs said
         × (SparesProgram c log.now ws
         (λ text. Appends (W.contents channels.old.out) (W.contents channels.new.out) text) f
         ⊎ ((names_program c log.now ≡ false)
         × IsUnsaved log.now (saved_text c.rules (history_made (world_at_boot c vs) c.cpus said)) ws
         f))))) }
 {
-    let mut started = start::<Script, R>(alloc, &mut channels.reader, config, script)?;
+    let mut started = start::<Script, R>(alloc, &mut channels.reader, named.config, named.script)?;
     if names_program(&started.config, log) {
         return Err(Failure::File);
     }
-    perform_and_save(
-        alloc,
-        &mut started,
-        &mut channels.files,
-        log,
-        numbered,
-        &mut channels.out,
-    )
+    perform_and_save(alloc, channels, &mut started, log, named.numbered)
 }

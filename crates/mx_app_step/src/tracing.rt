@@ -22,12 +22,12 @@ use mx_app_failure::{Failure, print_text};
 use mx_app_start::{History, Reader, start};
 use mx_boot::lines_above;
 use mx_look_trace::{Glance, Step, push_record};
-use mx_machine::{Machine, Record, Recorded, Refusal, actors_stay};
+use mx_machine::{Machine, Record, Recorded, Refusal};
 use mx_walk::{make_event, make_steps, own_event, steps_in};
 use std::alloc::Global;
 use std::io::Write;
 
-/// A step to be filled: nothing happens, and the machine is seen as it stands.
+/// A step to be filled: nothing happens, and the machine is seen as it is.
 pub fn resting_step(machine: &Machine) -> Step
     ensures { result ≡ resting_step (world_of machine.now) }
 {
@@ -43,6 +43,7 @@ pub fn resting_step(machine: &Machine) -> Step
 
 /// Makes a record, and fills a step with it: the machine is looked at after the record's steps, and
 /// after its own event.
+#[tactic(auto, using(mx_machine::proofs::ActorLemmas::actors_after_events))]
 pub fn look_record(
     machine: &mut Machine,
     number: u32,
@@ -57,7 +58,6 @@ pub fn look_record(
     ensures err { IfErr result
         (IsFirstRefusal (world_of machine.old) (events_of entry.actor entry.event)) }
 {
-    actors_stay();
     if let Err(halted) = make_steps(machine, entry.actor, steps_in(entry.event)) {
         return Err(halted.refusal);
     }
@@ -70,7 +70,7 @@ pub fn look_record(
     Ok(())
 }
 
-/// Prints what is told of a step: nothing of one before `from`. What was in the text is lost.
+/// Prints a step, or nothing if it is before `from`. What was in the text is lost.
 fn print_step<W: Write>(
     text: &mut Vec<u8>,
     step: &Step,
@@ -90,6 +90,7 @@ fn print_step<W: Write>(
 
 /// Prints what each record did from `from` on, up to the first record that is refused. Answers the
 /// number of this one, the first having the number 1, and why.
+#[tactic(auto, using(mx_machine::proofs::ActorLemmas::actors_after_events))]
 fn print_steps<W: Write>(
     alloc: Global,
     machine: &mut Machine,
@@ -105,7 +106,6 @@ fn print_steps<W: Write>(
         Appends (W.contents out.old) (W.contents out.new) text)) }
     ensures few { IfOk result (λ refused. IfSome refused (λ p. p.0 ≤ length records.now)) }
 {
-    actors_stay();
     let mut step = resting_step(machine);
     let mut text = Vec::new(alloc);
     for (index, entry) in records.iter().enumerate() {

@@ -3,7 +3,7 @@ use Rattle.std.proofs.Common.{◌≡◌, ◌∙◌, ◌<◌, ◌+◌, ℕ, suc, 
 use Rattle.std.proofs.Math.Seq.{drop-cons}
 use Rattle.mx_machine.specs.Proc.TableState.{TableState}
 use Rattle.mx_machine.specs.Service.{Service}
-use Rattle.mx_print_report.specs.declared.fields.Naming.{Naming}
+use Rattle.mx_print_report.specs.declared.doing.Naming.{Naming}
 use Rattle.mx_print_report.specs.Report.{process_words}
 use Rattle.mx_app_turns.specs.Sweep.{indented, process_lines}
 

@@ -23,6 +23,7 @@ use Rattle.mx_print_answers.specs.Said.{said_line}
 use Rattle.mx_turns.specs.declared.turns.Ending.{Ending}
 use Rattle.mx_turns.specs.Made.{HasMade}
 use Rattle.mx_turns.specs.Turns.{turns}
+use Rattle.mx_machine.proofs.ActorLemmas.{actors_after_events}
 use Rattle.mx_turns.proofs.MadeLemmas.{kept_boot, same_boot}
 use Rattle.mx_turns.proofs.TurnLemmas.{cpus_stay}
 use Rattle.mx_app_turns.specs.declared.faults.FaultLine.{FaultLine}
@@ -124,10 +125,10 @@ world_above boot w v records above k up booted is =
     is ∙ ap (λ (u : World). world_after_events u (events_of_history above)) booted ∙ ap (λ (rs : List Record). world_after_events boot (events_of_history rs)) up
 
 -- an actor that is no processor stays
-pub alone_still : (boot w v u : World) (xs : List (ℕ × Event)) → ((z : World) (ys : List (ℕ × Event)) → actors (world_after_events z ys) ≡ actors z) → w ≡ boot → v ≡ world_after_events w xs
+pub alone_still : (boot w v u : World) (xs : List (ℕ × Event)) → w ≡ boot → v ≡ world_after_events w xs
     → actors u ≡ actors v → length u.cpus ≡ length v.cpus → length boot.cpus < actors boot → length u.cpus < actors u
-alone_still boot w v u xs stay booted is same as_many h =
-    let all : actors u ≡ actors boot = same ∙ ap actors is ∙ stay w xs ∙ ap actors booted in
+alone_still boot w v u xs booted is same as_many h =
+    let all : actors u ≡ actors boot = same ∙ ap actors is ∙ actors_after_events w xs ∙ ap actors booted in
     let own : length u.cpus ≡ length boot.cpus = as_many ∙ ap (λ (z : World). length z.cpus) is ∙ cpus_stay w xs ∙ ap (λ (z : World). length z.cpus) booted in
     subst (λ n. n < actors u) (sym own) (subst (λ n. length boot.cpus < n) (sym all) h)
 

@@ -20,6 +20,8 @@ use Rattle.mx_machine.specs.Machine.{MachineState, kept_after, kept_along, recor
 use Rattle.mx_turns.specs.declared.turns.Ending.{Ending}
 use Rattle.mx_turns.specs.declared.turns.Ending.TheVariants.{Turns}
 use Rattle.mx_turns.specs.Made.{HasMade}
+use Rattle.mx_machine.proofs.ActorLemmas.{actors_after_events}
+use Rattle.mx_turns.proofs.GrowthLemmas.{turns_are_few}
 use Rattle.mx_turns.proofs.MadeLemmas.{kept_boot}
 use Rattle.mx_turns.specs.Shown.{turns_shown}
 use Rattle.mx_turns.specs.Turns.{refusable, turns}
@@ -138,9 +140,9 @@ module _ (config : List ℕ) (file : Option (List ℕ)) (log : List ℕ) (ticks 
 
 -- ---- its replay
 
-pub actors_turned : (c : Config) (vs : List Service) (k : BootAndHistory) → ((w : World) (xs : List (ℕ × Event)) → actors (world_after_events w xs) ≡ actors w) → k.boot ≡ world_at_boot c vs → actors (replay k) ≡ c.cpus + c.others
+pub actors_turned : (c : Config) (vs : List Service) (k : BootAndHistory) → k.boot ≡ world_at_boot c vs → actors (replay k) ≡ c.cpus + c.others
 unfolding replay
-actors_turned c vs k stay boot = stay k.boot (events_of_history k.history) ∙ ap actors boot ∙ ap (λ n. n + c.others) (length-replicate c.cpus None)
+actors_turned c vs k boot = actors_after_events k.boot (events_of_history k.history) ∙ ap actors boot ∙ ap (λ n. n + c.others) (length-replicate c.cpus None)
 
 pub printed_whole : (c : Config) (vs : List Service) (k : BootAndHistory) (records : List Record) (how : Replayed) (before after : Option (List ℕ))
     → k.boot ≡ world_at_boot c vs → AreAccepted k.boot (events_of_history k.history) → records ≡ k.history → IsReplayPrinted (world_at_boot c vs) records how (λ text. Appends before after text)
@@ -165,12 +167,11 @@ few_refusable (x ∷ xs) ticks = let rest = few_refusable xs ticks in omega (ari
 
 -- turns don't end by the bound, if it is above what the history has room for and what may be refused
 pub not_by_bound : (c : Config) (vs : List Service) (bound : ℕ) (events : List Event) (ticks : ℕ) (k : BootAndHistory) (ending : Ending)
-    → ((n : ℕ) (w : World) (xs : List Event) → 0 < length w.cpus → (turns n w xs).ending ≡ Turns → n + w.records ≤ (world_after_events w (turns n w xs).made).records + refusable xs)
     → IsTurned c vs bound (coming events ticks) k ending → 2 ^ 20 + length events < bound → ending ≢ Turns
-not_by_bound c vs bound events ticks k ending few made above ends =
+not_by_bound c vs bound events ticks k ending made above ends =
     let w = world_at_boot c vs in
     let cpus : length w.cpus ≡ c.cpus = length-replicate c.cpus None in
     let some : 0 < length w.cpus = omega (arith, cpus, c.some_cpus) in
-    let all = few bound w (coming events ticks) some (sym made.ending ∙ ends) in
+    let all = turns_are_few bound w (coming events ticks) some (sym made.ending ∙ ends) in
     let refused = few_refusable events ticks in
     omega (arith, all, refused, made.world.2, made.room, above)

@@ -15,8 +15,8 @@ use Rattle.mx_machine.specs.World.{World}
 use Rattle.mx_machine.specs.Proc.TableState.{TableState}
 use Rattle.mx_print_answers.specs.declared.said.Said.{Said}
 use Rattle.mx_print_answers.specs.Said.{said_line}
-use Rattle.mx_print_report.specs.declared.fields.Naming.{Naming}
-use Rattle.mx_print_report.specs.declared.fields.Naming.TheVariants.{Endpoints, Slots}
+use Rattle.mx_print_report.specs.declared.doing.Naming.{Naming}
+use Rattle.mx_print_report.specs.declared.doing.Naming.TheVariants.{Endpoints, Slots}
 use Rattle.mx_print_report.specs.Report.{process_words}
 use Rattle.mx_text.specs.Lines.{lines}
 use Rattle.mx_turns.specs.declared.turns.Ending.{Ending}

@@ -28,7 +28,7 @@ fn line_now(machine: &Machine, line: FaultLine) -> Option<ScriptLine>
         FaultLine::Plain(line) => Some(line),
         FaultLine::KillSlot(slot) => {
             let table = machine.kernel().table();
-            if slot < u32::from(table.used()) {
+            if slot < u32::from(table.slot_count()) {
                 Some(ScriptLine::Kill(table.endpoint(slot as u8)))
             } else {
                 None

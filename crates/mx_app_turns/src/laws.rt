@@ -10,14 +10,11 @@ ghost use Rattle.mx_turns.specs.declared.turns.Ending.TheVariants as endings;
 ghost use Rattle.mx_app_turns.specs.Turned.{IsTurned, TurnsReplay, coming};
 
 use mx_boot::{history_again, one_history};
-use mx_machine::actors_stay;
-use mx_turns::turns_are_few;
 
 /// Law: what a replay prints of the text of a history of turns is the report that the turns ended with.
 pub fn turns_again()
     ensures { TurnsReplay }
 {
-    actors_stay();
     history_again();
     one_history();
 }
@@ -29,6 +26,4 @@ pub fn bound_is_not_met()
     ensures { (c : Config) (vs : List Service) (bound : ℕ) (events : List Event) (ticks : ℕ)
         (k : BootAndHistory) (ending : Ending) → IsTurned c vs bound (coming events ticks) k ending
         → 2 ^ 20 + length events < bound → ending ≢ endings.Turns }
-{
-    turns_are_few();
-}
+{}

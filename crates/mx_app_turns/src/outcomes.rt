@@ -3,7 +3,7 @@
 ghost use Rattle.std.specs.Prelude.{◌≡◌, ◌≤◌, ◌++◌, [], IfOk, OnOk, length, map};
 ghost use Rattle.mx_app_step.specs.Machine.{world_of};
 ghost use Rattle.mx_machine.specs.History.{replay};
-ghost use Rattle.mx_print_report.specs.declared.fields.Naming.TheVariants as by;
+ghost use Rattle.mx_print_report.specs.declared.doing.Naming.TheVariants as by;
 ghost use Rattle.mx_app_turns.specs.Sweep.{are_alike, end_text, ending_word, kept_text, outcome_text, process_lines, run_of, shown};
 ghost use Rattle.mx_app_turns.specs.Swept.{IsSwept};
 
@@ -16,9 +16,11 @@ use mx_turns::Ending;
 use mx_word::NoMemory;
 use std::alloc::{AllocError, Global};
 
-/// The outcome of a position: its lines, and whether the same position has this outcome without the fault too.
+/// The outcome of a position: the machine after its run, its lines, and whether the same position has this
+/// outcome without the fault too.
 #[derive(Drop)]
 pub(crate) struct Outcome {
+    pub machine: Machine,
     pub text: Vec<u8>,
     pub is_alike: bool,
 }
@@ -35,7 +37,7 @@ fn push_processes(
     ensures { OnOk result (text.new.items ≡ text.old.items
         ++ process_lines naming table.now 0 services.now) }
 {
-    for slot in 0..table.used() {
+    for slot in 0..table.slot_count() {
         text.extend_from_slice(b"  ")?;
         push_process(
             text,
@@ -146,33 +148,41 @@ fn push_outcome(
     push_kept(text, kept.as_slice())
 }
 
-/// The outcome of a position of a history: without the fault first, and then with it. Answers the machine
-/// after the run with the fault. Takes memory to boot the machine twice.
+/// The outcome of a position of a history: without the fault first, and then with it. Takes memory to boot the
+/// machine twice.
 pub(crate) fn outcome_at(
     alloc: Global,
     machine: Machine,
     sweep: Sweep<'_>,
     position: usize,
-) -> Result<(Machine, Outcome), NoMemory>
+) -> Result<Outcome, NoMemory>
     requires swept { IsSwept sweep machine.kernel.boot }
     requires position { position ≤ length sweep.records.now }
-    ensures boot { IfOk result (λ done. done.0.kernel.boot ≡ machine.kernel.boot) }
-    ensures kernel { IfOk result (λ done. done.0.kernel ≡ (run_of machine.kernel.boot
+    ensures boot { IfOk result (λ done. done.machine.kernel.boot ≡ machine.kernel.boot) }
+    ensures kernel { IfOk result (λ done. done.machine.kernel ≡ (run_of machine.kernel.boot
         sweep.entry.other sweep.entry.records.now sweep.entry.bound sweep.entry.fault.now
         position).kernel) }
-    ensures text { IfOk result (λ done. done.1.text.items ≡ outcome_text
+    ensures text { IfOk result (λ done. done.text.items ≡ outcome_text
         (run_of machine.kernel.boot sweep.entry.other sweep.entry.records.now sweep.entry.bound
         sweep.entry.fault.now position)) }
     ensures alike { IfOk result (λ done. let run = run_of machine.kernel.boot sweep.entry.other
         sweep.entry.records.now sweep.entry.bound in
-        done.1.is_alike ≡ are_alike (run sweep.entry.fault.now position) (run [] position)) }
+        done.is_alike ≡ are_alike (run sweep.entry.fault.now position) (run [] position)) }
 {
     let mut text = Vec::new(alloc);
-    let (machine, ending) = run_at(alloc, machine, sweep, &[], position, &mut text)?;
+    let unharmed = Sweep {
+        fault: &[],
+        ..sweep
+    };
+    let (machine, ending) = run_at(alloc, machine, unharmed, position, &mut text)?;
     let without = seen(alloc, &machine, ending)?;
-    let (machine, ending) = run_at(alloc, machine, sweep, sweep.fault, position, &mut text)?;
+    let (machine, ending) = run_at(alloc, machine, sweep, position, &mut text)?;
     let with = seen(alloc, &machine, ending)?;
     push_outcome(alloc, &mut text, &machine, ending)?;
     let is_alike = with.as_slice() == without.as_slice();
-    Ok((machine, Outcome { text, is_alike }))
+    Ok(Outcome {
+        machine,
+        text,
+        is_alike,
+    })
 }

@@ -12,12 +12,19 @@ use crate::faults::{FaultLine, perform_fault_line};
 use crate::outside::coming_of;
 use mx_app_start::NoProgress;
 use mx_app_step::perform_records;
-use mx_machine::{Config, Machine, Record, actors_stay};
+use mx_machine::{Config, Machine, Record};
 use mx_turns::{Ending, Outside, make_turns};
 use mx_word::NoMemory;
 use std::alloc::{AllocError, Global};
 
-/// What is swept: the history of a machine of this configuration, with a fault at each of its positions, and
+/// Positions of a history: the first, and the one after the last.
+#[derive(Clone, Copy)]
+pub(crate) struct Range {
+    pub from: usize,
+    pub end: usize,
+}
+
+/// What is swept: the history of a machine of this configuration, with a fault at each of these positions, and
 /// then at most `bound` turns.
 #[derive(Clone, Copy)]
 pub(crate) struct Sweep<'a> {
@@ -26,6 +33,7 @@ pub(crate) struct Sweep<'a> {
     pub other: u8,
     pub records: &'a [Record],
     pub fault: &'a [FaultLine],
+    pub range: Range,
     pub bound: u32,
 }
 
@@ -55,30 +63,28 @@ fn perform_fault(
     Ok(())
 }
 
-/// Boots a machine again, makes the first records of the history, does what the fault's lines say, and makes
-/// turns, with the lines and the ticks of the other records to come. Appends what is said of the fault's lines
-/// to a text. Answers the machine, and how the turns ended.
+/// Boots a machine again, makes the records of the history up to a position, does what the fault's lines say, and
+/// makes turns, with the lines and the ticks of the other records to come. Appends the answers to the fault's
+/// lines to a text. Answers the machine, and how the turns ended.
 pub(crate) fn run_at(
     alloc: Global,
     machine: Machine,
     sweep: Sweep<'_>,
-    fault: &[FaultLine],
     position: usize,
     text: &mut Vec<u8>,
 ) -> Result<(Machine, Ending), NoMemory>
     requires swept { IsSwept sweep machine.kernel.boot }
     requires position { position ≤ length sweep.records.now }
     ensures run { IfOk result (λ done. let run = run_of machine.kernel.boot sweep.entry.other
-        sweep.entry.records.now sweep.entry.bound fault.now position in
+        sweep.entry.records.now sweep.entry.bound sweep.entry.fault.now position in
         HasRun run done.0 done.1 × (text.new.items ≡ text.old.items ++ said_text run.said)) }
     ensures boot { IfOk result (λ done. done.0.kernel.boot ≡ machine.kernel.boot) }
 {
-    actors_stay();
     let mut machine = boot_again(alloc, machine, sweep.config)?;
     if let Err(_) = perform_records(&mut machine, &sweep.records[..position]) {
         unreachable!();
     }
-    perform_fault(alloc, &mut machine, sweep.other, fault, text)?;
+    perform_fault(alloc, &mut machine, sweep.other, sweep.fault, text)?;
     let events = coming_of(alloc, &sweep.records[position..])?;
     let outside = Outside {
         events: events.as_slice(),

@@ -21,7 +21,7 @@ use crate::blocks::{Block, Total, push_block, push_total};
 use crate::fault_files::fault_lines;
 use crate::faults::FaultLine;
 use crate::outcomes::{Outcome, outcome_at};
-use crate::running::Sweep;
+use crate::running::{Range, Sweep};
 use mx_app_failure::{Failure, print_text};
 use mx_app_start::{Channels, FileWriter, History, Reader, Started, names_program, start, text_of};
 use mx_app_step::{perform_records, print_refusal, write_history};
@@ -31,22 +31,24 @@ use mx_walk::{Part, Progress};
 use std::alloc::Global;
 use std::io::Write;
 
-/// The names of the files: those of the configuration, of the saved history and of the fault, which are read,
-/// and that of the history with the fault, which is written, if it is named.
+/// The names of the files that are read: of the configuration, of the saved history and of the fault.
 #[derive(Clone, Copy)]
 pub struct SweepNames<'a> {
     pub config: &'a str,
     pub log: &'a str,
     pub fault: &'a str,
-    pub save: Option<&'a str>,
 }
 
-/// The first and the last position, and the most turns after each. Positions that the history hasn't are none.
+/// What is swept and written.
 #[derive(Clone, Copy)]
-pub struct SweepWanted {
+pub struct SweepWanted<'a> {
+    /// The first and the last position. Positions that the history hasn't are none.
     pub from: u32,
     pub to: u32,
+    /// The most turns after each.
     pub bound: u32,
+    /// The file that the history with the fault is written to, if one is named.
+    pub save: Option<&'a str>,
 }
 
 /// How a sweep ended.
@@ -87,11 +89,11 @@ fn begin<R: Reader>(alloc: Global, reader: &mut R, names: SweepNames<'_>) -> Res
 }
 
 /// Whether a file that is read would be written over.
-fn writes_over(names: SweepNames<'_>) -> bool
+fn writes_over(names: SweepNames<'_>, save: Option<&str>) -> bool
     ensures { result ≡ writes_over names.entry.config.now names.entry.log.now names.entry.fault.now
-        (option_map (λ s. s.now) names.entry.save) }
+        (option_map (λ s. s.now) save.entry) }
 {
-    match names.save {
+    match save {
         None => false,
         Some(save) => names.config == save || names.log == save || names.fault == save,
     }
@@ -132,27 +134,28 @@ struct Done {
     total: Total,
 }
 
-/// Sweeps positions, of which the first is swept already, and prints their blocks.
+/// Sweeps positions, of which the first has this outcome, and prints their blocks.
 fn print_more<P: Progress, W: Write>(
     alloc: Global,
-    machine: Machine,
-    sweep: Sweep<'_>,
     first: Outcome,
-    range: Range,
+    sweep: Sweep<'_>,
     progress: &mut P,
     out: &mut W,
 ) -> Result<Done, Failure>
-    requires swept { IsSwept sweep machine.kernel.boot }
-    requires some { range.from < range.end }
-    requires within { range.end ≤ length sweep.records.now + 1 }
-    requires first { (first.text.items ≡ text_at (sweep_of sweep machine.kernel.boot) range.from)
-        × (first.is_alike ≡ is_alike_at (sweep_of sweep machine.kernel.boot) range.from)
-        × (machine.kernel ≡ (run_at (sweep_of sweep machine.kernel.boot) range.from).kernel) }
+    requires swept { IsSwept sweep first.machine.kernel.boot }
+    requires some { sweep.range.from < sweep.range.end }
+    requires within { sweep.range.end ≤ length sweep.records.now + 1 }
+    requires first { let s = sweep_of sweep first.machine.kernel.boot in
+        (first.text.items ≡ text_at s sweep.range.from)
+        × (first.is_alike ≡ is_alike_at s sweep.range.from)
+        × (first.machine.kernel ≡ (run_at s sweep.range.from).kernel) }
     ensures err { IfErr result IsWanting }
-    ensures printed { OnOk result (Appends (W.contents out.old) (W.contents out.new)
-        (flat_map block_text (blocks (text_at (sweep_of sweep.entry machine.kernel.boot))
+    ensures printed { OnOk result (let range = sweep.entry.range in
+        Appends (W.contents out.old) (W.contents out.new)
+        (flat_map block_text (blocks (text_at (sweep_of sweep.entry first.machine.kernel.boot))
         (range.end - range.from) range.from))) }
-    ensures total { IfOk result (λ done. let s = sweep_of sweep.entry machine.kernel.boot in
+    ensures total { IfOk result (λ done. let range = sweep.entry.range in
+        let s = sweep_of sweep.entry first.machine.kernel.boot in
         let n = range.end - range.from in
         done.total ≡ record {
           positions = n;
@@ -160,12 +163,14 @@ fn print_more<P: Progress, W: Write>(
           alike = count_of (is_alike_at s) n range.from;
         }) }
     ensures kernel { IfOk result (λ done. done.machine.kernel
-        ≡ (run_at (sweep_of sweep.entry machine.kernel.boot) (range.end - 1)).kernel) }
-    ensures shown { IsShown (P.shown progress.old) (P.shown progress.new) (range.end - range.from)
-        result }
+        ≡ (run_at (sweep_of sweep.entry first.machine.kernel.boot)
+        (sweep.entry.range.end - 1)).kernel) }
+    ensures shown { IsShown (P.shown progress.old) (P.shown progress.new)
+        (sweep.entry.range.end - sweep.entry.range.from) result }
 {
+    let range = sweep.range;
     let all = range.end - range.from;
-    let mut machine = machine;
+    let mut machine = first.machine;
     let mut alike = usize::from(first.is_alike);
     let mut blocks = 1;
     let mut current = Block {
@@ -175,8 +180,8 @@ fn print_more<P: Progress, W: Write>(
     };
     progress.show(Part { done: 1, all });
     for position in range.from + 1..range.end {
-        let (next, outcome) = outcome_at(alloc, machine, sweep, position)?;
-        machine = next;
+        let outcome = outcome_at(alloc, machine, sweep, position)?;
+        machine = outcome.machine;
         progress.show(Part {
             done: position - range.from + 1,
             all,
@@ -209,29 +214,31 @@ fn print_positions<P: Progress, W: Write>(
     alloc: Global,
     machine: Machine,
     sweep: Sweep<'_>,
-    range: Range,
     progress: &mut P,
     out: &mut W,
 ) -> Result<Done, Failure>
     requires swept { IsSwept sweep machine.kernel.boot }
-    requires within { range.end ≤ length sweep.records.now + 1 }
+    requires within { sweep.range.end ≤ length sweep.records.now + 1 }
     ensures err { IfErr result IsWanting }
-    ensures printed { OnOk result (Appends (W.contents out.old) (W.contents out.new)
+    ensures printed { OnOk result (let range = sweep.entry.range in
+        Appends (W.contents out.old) (W.contents out.new)
         (flat_map block_text (blocks (text_at (sweep_of sweep.entry machine.kernel.boot))
         (range.end - range.from) range.from))) }
-    ensures total { IfOk result (λ done. let s = sweep_of sweep.entry machine.kernel.boot in
+    ensures total { IfOk result (λ done. let range = sweep.entry.range in
+        let s = sweep_of sweep.entry machine.kernel.boot in
         let n = range.end - range.from in
         done.total ≡ record {
           positions = n;
           blocks = length (blocks (text_at s) n range.from);
           alike = count_of (is_alike_at s) n range.from;
         }) }
-    ensures kernel { IfOk result (λ done. range.from < range.end → done.machine.kernel
+    ensures kernel { IfOk result (λ done. let range = sweep.entry.range in
+        range.from < range.end → done.machine.kernel
         ≡ (run_at (sweep_of sweep.entry machine.kernel.boot) (range.end - 1)).kernel) }
-    ensures shown { IsShown (P.shown progress.old) (P.shown progress.new) (range.end - range.from)
-        result }
+    ensures shown { IsShown (P.shown progress.old) (P.shown progress.new)
+        (sweep.entry.range.end - sweep.entry.range.from) result }
 {
-    if range.from >= range.end {
+    if sweep.range.from >= sweep.range.end {
         let total = Total {
             positions: 0,
             blocks: 0,
@@ -239,20 +246,14 @@ fn print_positions<P: Progress, W: Write>(
         };
         return Ok(Done { machine, total });
     }
-    let (machine, first) = outcome_at(alloc, machine, sweep, range.from)?;
-    print_more(alloc, machine, sweep, first, range, progress, out)
-}
-
-/// Positions of a history: the first, and the one after the last.
-#[derive(Clone, Copy)]
-struct Range {
-    from: usize,
-    end: usize,
+    let first = outcome_at(alloc, machine, sweep, sweep.range.from)?;
+    print_more(alloc, first, sweep, progress, out)
 }
 
 /// The positions that are swept of a history, by the number of its records.
-fn range_of(wanted: SweepWanted, records: usize) -> Range
-    ensures { (result.from ≡ wanted.from) × (result.end ≡ min wanted.to records + 1) }
+fn range_of(wanted: SweepWanted<'_>, records: usize) -> Range
+    ensures { (result.from ≡ wanted.entry.from)
+        × (result.end ≡ min wanted.entry.to records + 1) }
 {
     let last = (wanted.to as usize).min(records);
     Range {
@@ -299,22 +300,21 @@ fn save_history<F: FileWriter>(
 
 /// Sweeps a history that is read, prints its blocks and the counts, and then writes a history if that is
 /// wanted.
-fn sweep_begun<F: FileWriter, P: Progress, W: Write>(
+fn sweep_begun<R: Drop, F: FileWriter + Drop, W: Write + Drop, P: Progress>(
     alloc: Global,
-    begun: Begun,
-    files: &mut F,
+    channels: &mut Channels<R, F, W>,
     progress: &mut P,
-    out: &mut W,
-    save: Option<&str>,
-    wanted: SweepWanted,
+    begun: Begun,
+    wanted: SweepWanted<'_>,
 ) -> Result<Swept, Failure>
     requires { is_ready begun }
-    ensures { (ws : List Written) × (ps : List Parts)
-        × (F.written files.new ≡ F.written files.old ++ ws)
+    ensures reader { channels.new.reader ≡ channels.old.reader }
+    ensures done { (ws : List Written) × (ps : List Parts)
+        × (F.written channels.new.files ≡ F.written channels.old.files ++ ws)
         × (P.shown progress.new ≡ P.shown progress.old ++ ps)
-        × IsDone (begun_of begun wanted.bound) wanted.from wanted.to
-        (option_map (λ s. s.now) save.entry) ws ps
-        (λ text. Appends (W.contents out.old) (W.contents out.new) text) result }
+        × IsDone (begun_of begun wanted.entry.bound) wanted.entry.from wanted.entry.to
+        (option_map (λ s. s.now) wanted.entry.save) ws ps
+        (λ text. Appends (W.contents channels.old.out) (W.contents channels.new.out) text) result }
 {
     let Begun { started, fault } = begun;
     let Started {
@@ -326,7 +326,7 @@ fn sweep_begun<F: FileWriter, P: Progress, W: Write>(
     let mut machine = machine;
     let above = lines_above(machine.rules());
     if let Err((number, refusal)) = perform_records(&mut machine, records.as_slice()) {
-        print_refusal(alloc, above + number, refusal, out)?;
+        print_refusal(alloc, above + number, refusal, &mut channels.out)?;
         return Ok(Swept::Refused);
     }
     let sweep = Sweep {
@@ -334,12 +334,12 @@ fn sweep_begun<F: FileWriter, P: Progress, W: Write>(
         other,
         records: records.as_slice(),
         fault: fault.as_slice(),
+        range: range_of(wanted, records.len()),
         bound: wanted.bound,
     };
-    let range = range_of(wanted, records.len());
-    let done = print_positions(alloc, machine, sweep, range, progress, out)?;
-    print_total(alloc, done.total, out)?;
-    save_history(alloc, &done, files, save)?;
+    let done = print_positions(alloc, machine, sweep, progress, &mut channels.out)?;
+    print_total(alloc, done.total, &mut channels.out)?;
+    save_history(alloc, &done, &mut channels.files, wanted.save)?;
     Ok(how_ended(done.total))
 }
 
@@ -367,30 +367,23 @@ pub fn sweep<R: Reader + Drop, F: FileWriter + Drop, W: Write + Drop, P: Progres
     channels: &mut Channels<R, F, W>,
     progress: &mut P,
     names: SweepNames<'_>,
-    wanted: SweepWanted,
+    wanted: SweepWanted<'_>,
 ) -> Result<Swept, Failure>
     ensures { (qs : List Asked) × (ws : List Written) × (ps : List Parts)
         × (R.asked channels.new.reader ≡ R.asked channels.old.reader ++ qs)
         × (F.written channels.new.files ≡ F.written channels.old.files ++ ws)
         × (P.shown progress.new ≡ P.shown progress.old ++ ps)
         × Sweeps names.entry.config.now names.entry.log.now names.entry.fault.now
-        (option_map (λ s. s.now) names.entry.save) wanted.from wanted.to wanted.bound qs ws ps
+        (option_map (λ s. s.now) wanted.entry.save) wanted.entry.from wanted.entry.to
+        wanted.entry.bound qs ws ps
         (λ text. Appends (W.contents channels.old.out) (W.contents channels.new.out) text) result }
 {
-    if writes_over(names) {
+    if writes_over(names, wanted.save) {
         return Err(Failure::File);
     }
     let begun = begin(alloc, &mut channels.reader, names)?;
-    if saves_program(&begun.started.config, names.save) {
+    if saves_program(&begun.started.config, wanted.save) {
         return Err(Failure::File);
     }
-    sweep_begun(
-        alloc,
-        begun,
-        &mut channels.files,
-        progress,
-        &mut channels.out,
-        names.save,
-        wanted,
-    )
+    sweep_begun(alloc, channels, progress, begun, wanted)
 }

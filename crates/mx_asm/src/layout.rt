@@ -55,7 +55,7 @@ impl Layout {
         self.labels.get(name).copied()
     }
 
-    fn stands(&self, label: Option<Name>) -> bool
+    fn is_defined(&self, label: Option<Name>) -> bool
         ensures { result ≡ is_defined (seen_of (above_of self.now)).names label }
     {
         match label {
@@ -79,7 +79,7 @@ impl Layout {
     fn saying_of(&self, line: &Line) -> Saying
         ensures { result ≡ saying_of (seen_of (above_of self.now)) line.now }
     {
-        if self.stands(line.label) || self.is_defined_twice(line.beginning) {
+        if self.is_defined(line.label) || self.is_defined_twice(line.beginning) {
             Saying::Second
         } else {
             Saying::First

@@ -9,11 +9,10 @@ use Rattle.std.specs.Fmt.{decimal}
 use Rattle.std.specs.List.{AllByRecursion}
 use Rattle.mx_text.specs.Lines.{lines}
 use Rattle.mx_text.specs.Fields.{fields, ◌>>=◌}
-use Rattle.mx_text.specs.NumberFields.{number_up_to}
 use Rattle.mx_boot.specs.declared.verb.Verb.{Verb}
 use Rattle.mx_boot.specs.declared.verb.Verb.TheVariants as verbs
-use Rattle.mx_boot.specs.Verbs.{verb_word, verb_of}
-use Rattle.mx_boot.specs.Words.{is_field_word, AreWords, joined_words, lines_of_words}
+use Rattle.mx_boot.specs.Verbs.{verb_word}
+use Rattle.mx_boot.specs.Words.{AreWords, joined_words, lines_of_words}
 use Rattle.mx_boot.specs.Script.{only_count, after_verb}
 use Rattle.mx_machine.specs.Rules.{Rules}
 use Rattle.mx_machine.specs.Rules.TheVariants.{Lenient, Strict}
@@ -22,6 +21,9 @@ use Rattle.mx_machine.specs.declared.history.Recorded.{Recorded}
 use Rattle.mx_machine.specs.declared.history.Recorded.TheVariants.{Take, Back, Line, Tick, Kill, Respawn}
 use Rattle.mx_machine.specs.History.{number_of_record, IsWritable}
 use Rattle.mx_boot.specs.Text.{event_words, record_words, history_text, saved_text}
+use Rattle.mx_boot.proofs.VerbWords.{verb_of-own}
+use Rattle.mx_boot.proofs.WrittenNumbers.{decimal_is_word, number_of_decimal}
+use Rattle.mx_boot.proofs.WrittenWords.{fields_of_joined, lines_of_written, verb_is_word}
 use Rattle.mx_boot.specs.Log.{recorded_of, record_by, record_of, record_line, is_ended, says_strict, rules_of_lines, record_lines, IsHistory}
 
 -- what is a record isn't the line of the rules
@@ -41,15 +43,6 @@ no_rules_above actors (l ∷ ls) [] e = absurd cc
 no_rules_above actors (l ∷ ls) (r ∷ rs) e =
     let first : record_line actors l ≡ Some r = cc in
     rw (no_rules actors (fields l) r first) (refl, refl)
-
--- what is known of words, numbers and verbs
-pub record AreReadAgain : Type 0 where
-  pub fields_again : (ws : List (List ℕ)) → AreWords ws → fields (joined_words ws) ≡ ws
-  pub lines_again : (lists : List (List (List ℕ))) → AllByRecursion AreWords lists → lines (lines_of_words lists) ≡ map joined_words lists
-  pub word_again : (n : ℕ) → n < 2 ^ 64 → is_field_word (decimal n) ≡ true
-  pub number_again : (limit n : ℕ) → n ≤ limit → n < 2 ^ 64 → number_up_to limit 10 (decimal n) ≡ Some n
-  pub verb_word_again : (v : Verb) → is_field_word (verb_word v) ≡ true
-  pub verb_again : (v : Verb) → verb_of (verb_word v) ≡ Some v
 
 chosen : {A : Type 0} (c : Bool) (a b : A) → c ≡ true → cond c a b ≡ a
 chosen true a b h = refl
@@ -83,63 +76,62 @@ by_recursion : (P : Record → Type 0) (xs : List Record) → All P xs → AllBy
 by_recursion P [] h = tt
 by_recursion P (x ∷ xs) h = (h 0 x (omega arith), by_recursion P xs (λ n d l. h (suc n) d (omega (arith, l))))
 
-module _ (k : AreReadAgain) where
-  event_words_are : (e : Recorded) → number_of_record e < 2 ^ 31 → AreWords (event_words e)
-  event_words_are Take h = (k.verb_word_again verbs.Take, tt)
-  event_words_are (Back n) h = (k.verb_word_again verbs.Back, (k.word_again n (omega (arith, h)), tt))
-  event_words_are (Line n) h = (k.verb_word_again verbs.Line, (k.word_again n (omega (arith, h)), tt))
-  event_words_are Tick h = (k.verb_word_again verbs.Tick, tt)
-  event_words_are (Kill n) h = (k.verb_word_again verbs.Kill, (k.word_again n (omega (arith, h)), tt))
-  event_words_are (Respawn n) h = (k.verb_word_again verbs.Respawn, (k.word_again n (omega (arith, h)), tt))
+event_words_are : (e : Recorded) → number_of_record e < 2 ^ 31 → AreWords (event_words e)
+event_words_are Take h = (verb_is_word verbs.Take, tt)
+event_words_are (Back n) h = (verb_is_word verbs.Back, (decimal_is_word n (omega (arith, h)), tt))
+event_words_are (Line n) h = (verb_is_word verbs.Line, (decimal_is_word n (omega (arith, h)), tt))
+event_words_are Tick h = (verb_is_word verbs.Tick, tt)
+event_words_are (Kill n) h = (verb_is_word verbs.Kill, (decimal_is_word n (omega (arith, h)), tt))
+event_words_are (Respawn n) h = (verb_is_word verbs.Respawn, (decimal_is_word n (omega (arith, h)), tt))
 
-  record_words_are : (actors : ℕ) (r : Record) → actors ≤ 256 → IsWritable actors r → AreWords (record_words r)
-  record_words_are actors r few h = (k.word_again r.actor (let a = h.actor in omega (arith, a, few)), event_words_are r.event h.number)
+record_words_are : (actors : ℕ) (r : Record) → actors ≤ 256 → IsWritable actors r → AreWords (record_words r)
+record_words_are actors r few h = (decimal_is_word r.actor (let a = h.actor in omega (arith, a, few)), event_words_are r.event h.number)
 
-  counted_again : (v : Verb) (n : ℕ) (f : ℕ → Recorded) → n < 2 ^ 31
-      → ((fs : List (List ℕ)) → recorded_of v fs ≡ (only_count fs >>= (λ m. Some (f m))))
-      → after_verb recorded_of (verb_word v ∷ decimal n ∷ []) ≡ Some (f n)
-  counted_again v n f h rows =
-      ap (λ o. o >>= (λ u. recorded_of u (decimal n ∷ []))) (k.verb_again v)
-      ∙ rows (decimal n ∷ [])
-      ∙ ap (λ o. o >>= (λ m. Some (f m))) (k.number_again 2147483647 n (omega (arith, h)) (omega (arith, h)))
+counted_again : (v : Verb) (n : ℕ) (f : ℕ → Recorded) → n < 2 ^ 31
+    → ((fs : List (List ℕ)) → recorded_of v fs ≡ (only_count fs >>= (λ m. Some (f m))))
+    → after_verb recorded_of (verb_word v ∷ decimal n ∷ []) ≡ Some (f n)
+counted_again v n f h rows =
+    ap (λ o. o >>= (λ u. recorded_of u (decimal n ∷ []))) (verb_of-own v)
+    ∙ rows (decimal n ∷ [])
+    ∙ ap (λ o. o >>= (λ m. Some (f m))) (number_of_decimal 2147483647 n (omega (arith, h)) (omega (arith, h)))
 
-  recorded_again : (e : Recorded) → number_of_record e < 2 ^ 31 → after_verb recorded_of (event_words e) ≡ Some e
-  recorded_again Take h = ap (λ o. o >>= (λ u. recorded_of u [])) (k.verb_again verbs.Take)
-  recorded_again (Back n) h = counted_again verbs.Back n Back h (λ fs. refl)
-  recorded_again (Line n) h = counted_again verbs.Line n Line h (λ fs. refl)
-  recorded_again Tick h = ap (λ o. o >>= (λ u. recorded_of u [])) (k.verb_again verbs.Tick)
-  recorded_again (Kill n) h = counted_again verbs.Kill n Kill h (λ fs. refl)
-  recorded_again (Respawn n) h = counted_again verbs.Respawn n Respawn h (λ fs. refl)
+recorded_again : (e : Recorded) → number_of_record e < 2 ^ 31 → after_verb recorded_of (event_words e) ≡ Some e
+recorded_again Take h = ap (λ o. o >>= (λ u. recorded_of u [])) (verb_of-own verbs.Take)
+recorded_again (Back n) h = counted_again verbs.Back n Back h (λ fs. refl)
+recorded_again (Line n) h = counted_again verbs.Line n Line h (λ fs. refl)
+recorded_again Tick h = ap (λ o. o >>= (λ u. recorded_of u [])) (verb_of-own verbs.Tick)
+recorded_again (Kill n) h = counted_again verbs.Kill n Kill h (λ fs. refl)
+recorded_again (Respawn n) h = counted_again verbs.Respawn n Respawn h (λ fs. refl)
 
-  record_again : (actors : ℕ) (r : Record) → actors ≤ 256 → IsWritable actors r → record_of actors (record_words r) ≡ Some r
-  record_again actors r few h =
-      ap (λ o. o >>= (λ a. after_verb recorded_of (event_words r.event) >>= (λ e. record_by actors a e)))
-      (k.number_again 255 r.actor (let a = h.actor in omega (arith, a, few)) (let a = h.actor in omega (arith, a, few)))
-      ∙ ap (λ o. o >>= (λ e. record_by actors r.actor e)) (recorded_again r.event h.number)
-      ∙ chosen (nat_lt r.actor actors) (Some r) None (below_true r.actor actors h.actor)
+record_again : (actors : ℕ) (r : Record) → actors ≤ 256 → IsWritable actors r → record_of actors (record_words r) ≡ Some r
+record_again actors r few h =
+    ap (λ o. o >>= (λ a. after_verb recorded_of (event_words r.event) >>= (λ e. record_by actors a e)))
+    (number_of_decimal 255 r.actor (let a = h.actor in omega (arith, a, few)) (let a = h.actor in omega (arith, a, few)))
+    ∙ ap (λ o. o >>= (λ e. record_by actors r.actor e)) (recorded_again r.event h.number)
+    ∙ chosen (nat_lt r.actor actors) (Some r) None (below_true r.actor actors h.actor)
 
-  all_words : (actors : ℕ) (records : List Record) → actors ≤ 256 → AllByRecursion (IsWritable actors) records → AllByRecursion AreWords (map record_words records)
-  all_words actors [] few h = tt
-  all_words actors (r ∷ rs) few h = (record_words_are actors r few h.0, all_words actors rs few h.1)
+all_words : (actors : ℕ) (records : List Record) → actors ≤ 256 → AllByRecursion (IsWritable actors) records → AllByRecursion AreWords (map record_words records)
+all_words actors [] few h = tt
+all_words actors (r ∷ rs) few h = (record_words_are actors r few h.0, all_words actors rs few h.1)
 
-  all_read : (actors : ℕ) (records : List Record) → actors ≤ 256 → AllByRecursion (IsWritable actors) records
-      → map (record_line actors) (map joined_words (map record_words records)) ≡ map Some records
-  all_read actors [] few h = refl
-  all_read actors (r ∷ rs) few h =
-      ap₂ (λ o os. o ∷ os)
-      (ap (record_of actors) (k.fields_again (record_words r) (record_words_are actors r few h.0)) ∙ record_again actors r few h.0)
-      (all_read actors rs few h.1)
+all_read : (actors : ℕ) (records : List Record) → actors ≤ 256 → AllByRecursion (IsWritable actors) records
+    → map (record_line actors) (map joined_words (map record_words records)) ≡ map Some records
+all_read actors [] few h = refl
+all_read actors (r ∷ rs) few h =
+    ap₂ (λ o os. o ∷ os)
+    (ap (record_of actors) (fields_of_joined (record_words r) (record_words_are actors r few h.0)) ∙ record_again actors r few h.0)
+    (all_read actors rs few h.1)
 
-  records_again : (actors : ℕ) (records : List Record) → actors ≤ 256 → All (IsWritable actors) records → map (record_line actors) (lines (history_text records)) ≡ map Some records
-  records_again actors records few all =
-      let h = by_recursion (IsWritable actors) records all in
-      ap (map (record_line actors)) (ap lines (text_of_words records) ∙ k.lines_again (map record_words records) (all_words actors records few h))
-      ∙ all_read actors records few h
+records_again : (actors : ℕ) (records : List Record) → actors ≤ 256 → All (IsWritable actors) records → map (record_line actors) (lines (history_text records)) ≡ map Some records
+records_again actors records few all =
+    let h = by_recursion (IsWritable actors) records all in
+    ap (map (record_line actors)) (ap lines (text_of_words records) ∙ lines_of_written (map record_words records) (all_words actors records few h))
+    ∙ all_read actors records few h
 
-  pub read_again : (actors : ℕ) (rules : Rules) (records : List Record) → actors ≤ 256 → All (IsWritable actors) records → IsHistory actors (saved_text rules records) rules records
-  read_again actors Lenient records few all =
-      let said = records_again actors records few all in
-      let none = no_rules_above actors (lines (history_text records)) records said in
-      (ap (map (record_line actors)) none.1 ∙ said, text_is_ended records, sym none.0)
-  read_again actors Strict records few all =
-      (records_again actors records few all, ended_after (codes "rules 2") (history_text records) (text_is_ended records), refl)
+pub read_again : (actors : ℕ) (rules : Rules) (records : List Record) → actors ≤ 256 → All (IsWritable actors) records → IsHistory actors (saved_text rules records) rules records
+read_again actors Lenient records few all =
+    let said = records_again actors records few all in
+    let none = no_rules_above actors (lines (history_text records)) records said in
+    (ap (map (record_line actors)) none.1 ∙ said, text_is_ended records, sym none.0)
+read_again actors Strict records few all =
+    (records_again actors records few all, ended_after (codes "rules 2") (history_text records) (text_is_ended records), refl)

@@ -7,8 +7,6 @@ ghost use Rattle.mx_machine.specs.Rules.{Rules};
 ghost use Rattle.mx_boot.specs.Text.{saved_text};
 ghost use Rattle.mx_boot.specs.Log.{IsHistory, IsHistoryFault};
 
-use crate::{number_again, verb_again, words_again};
-
 /// Law: a text is one history at most, by one of the rules, and none if it has a fault.
 pub fn one_history()
     ensures one { (actors : ℕ) (t : List ℕ) (r s : Rules) (a b : List Record)
@@ -22,11 +20,7 @@ pub fn history_again()
     ensures { (actors : ℕ) (rules : Rules) (records : List Record) → actors ≤ 256
         → All (IsWritable actors) records
         → IsHistory actors (saved_text rules records) rules records }
-{
-    words_again();
-    number_again();
-    verb_again();
-}
+{}
 
 /// Law: what is saved of a history is saved of no other, nor by other rules.
 pub fn one_text()

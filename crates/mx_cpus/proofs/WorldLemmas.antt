@@ -14,6 +14,7 @@ use Rattle.mx_machine.specs.declared.history.Recorded.{Recorded}
 use Rattle.mx_machine.specs.declared.history.Recorded.TheVariants as recorded
 use Rattle.mx_machine.specs.declared.holding.Out.{Out}
 use Rattle.mx_machine.specs.Held.{IsBack, IsRunOf, out_after_step}
+use Rattle.mx_machine.proofs.ActorLemmas.{actors_after_events}
 use Rattle.mx_machine.proofs.ProcessorLemmas.{cpus_after}
 use Rattle.mx_machine.proofs.WorldStepLemmas.{holds_in, set_twice}
 use Rattle.mx_machine.specs.History.{AreAccepted, BootAndHistory, world_after_events, events_of, replay, events_of_history, with_record}
@@ -186,6 +187,6 @@ event_outs w u a e h is = ap outs_of is ∙ ap (map out_of_lent) (cpus_after w a
 -- ---- actors
 
 -- who has a seat is one of the actors
-pub actor_there : (k : BootAndHistory) (a n : ℕ) → ((w : World) (xs : List (ℕ × Event)) → actors (world_after_events w xs) ≡ actors w) → n ≡ actors k.boot → a < n → a < actors (replay k)
+pub actor_there : (k : BootAndHistory) (a n : ℕ) → n ≡ actors k.boot → a < n → a < actors (replay k)
 unfolding replay
-actor_there k a n stay same b = omega (arith, stay k.boot (events_of_history k.history), same, b)
+actor_there k a n same b = omega (arith, actors_after_events k.boot (events_of_history k.history), same, b)

@@ -8,7 +8,7 @@ ghost use Rattle.mx_cpus.specs.Calls.{IsRefusedCall, IsRestCall, IsSameSeat, IsT
 
 use crate::naming::Naming;
 use mx_loan::{ActorSeat, Desk, Loan};
-use mx_machine::{Answer, Event, Kernel, Refusal, actors_stay, recorded_as};
+use mx_machine::{Answer, Event, Kernel, Refusal, recorded_as};
 use std::marker::{Model, PhantomData};
 
 /// What lies under the lock: the kernel, in the state to which its history leads, and its desk,
@@ -144,7 +144,6 @@ impl<M: Naming> Locked<M> {
         ensures ok { IfOk result.1 (λ x. IsAnsweredCall M.boot seat result.0 event x) }
         ensures err { IfErr result.1 (λ r. IsRefusedCall M.boot seat result.0 event r) }
     {
-        actors_stay();
         // The seat sees the history first, also if the event is refused.
         let seat = self.desk.note(seat);
         seat.facts();

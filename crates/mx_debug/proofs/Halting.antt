@@ -13,7 +13,8 @@ use Rattle.mx_debug.specs.declared.halt.HaltCause.TheVariants as cause
 use Rattle.mx_debug.specs.declared.halt.Halt.{Halt}
 use Rattle.mx_debug.specs.Points.{is_at, has_breakpoint, has_any}
 use Rattle.mx_debug.specs.Halts.{held_after, has_stopped, is_over, is_reached, is_end, is_spent, least_from, steps_to_halt, cause_of, Halts}
-use Rattle.mx_debug.proofs.Running.{Joins, run_count, run_stop, run_all, over_none, none_same, before_over, IsFront, run_front}
+use Rattle.mx_machine.proofs.JoinLemmas.{held_runs_join}
+use Rattle.mx_debug.proofs.Running.{run_count, run_stop, run_all, over_none, none_same, before_over, IsFront, run_front}
 
 -- ---- the least number
 
@@ -80,9 +81,9 @@ none_reached points slot (suc n) k o le (inl e) = absurd (omega (arith, e))
 none_reached points slot (suc n) k o le (inr e) = and_right (nat_lt 0 (suc n)) (has_breakpoint points slot o.image.eip) (none_stands points slot o.image.eip e)
 
 -- all steps at once
-pub run_halts : Joins → (k n : ℕ) (s : Stop) (o left : Out) (c : HaltCause) → held_run k o ≡ ((n, s), left) → c ≡ cause_of s false
+pub run_halts : (k n : ℕ) (s : Stop) (o left : Out) (c : HaltCause) → held_run k o ≡ ((n, s), left) → c ≡ cause_of s false
     → (points : List Breakpoint) (slot : ℕ) → (k ≡ 0) ⊎ (has_any points slot ≡ false) → Halts points slot k o (record { count = n; cause = c }) left
-run_halts law k n s o left c run told points slot free = halts_by points slot k o left (record { count = n; cause = c }) within before (here (run_all k o)) made is_left
+run_halts k n s o left c run told points slot free = halts_by points slot k o left (record { count = n; cause = c }) within before (here (run_all k o)) made is_left
     (told ∙ ap (λ (x : Stop). cause_of x false) (sym stop_is ∙ run_stop k o ∙ ap (λ (x : Out). x.stop) left_is) ∙ ap (cause_of left.stop) (sym (none_reached points slot n k left within free)))
   where
     count_is : (held_run k o).0.0 ≡ n
@@ -98,7 +99,7 @@ run_halts law k n s o left c run told points slot free = halts_by points slot k 
     within = let l = run_count k o in omega (arith, l, count_is)
 
     front : IsFront (held_run k o).0.0 o (held_after k o)
-    front = run_front law k o
+    front = run_front k o
 
     made : (held_run n o).0.0 ≡ n
     made = subst (λ (x : ℕ). (held_run x o).0.0 ≡ x) count_is front.made
@@ -108,7 +109,7 @@ run_halts law k n s o left c run told points slot free = halts_by points slot k 
 
     before : (i : ℕ) → i < n → is_end points slot o i ≡ false
     before i l = or_false (is_over (held_after i o)) (is_reached points slot i (held_after i o))
-        (not_true (is_over (held_after i o)) (λ over. before_over law k i o (omega (arith, l, count_is)) over))
+        (not_true (is_over (held_after i o)) (λ over. before_over k i o (omega (arith, l, count_is)) over))
         (none_reached points slot i k (held_after i o) (omega (arith, l, within)) free)
 
     or_over : (a b : Bool) → a ≡ true → (a || b) ≡ true
@@ -170,15 +171,15 @@ pub record OneMore (points : List Breakpoint) (slot c : ℕ) (o left : Out) : Ty
   pub left_is : held_after (c + 1) o ≡ left
   pub before : (i : ℕ) → i < c + 1 → is_end points slot o i ≡ false
 
-pub one_more : Joins → (points : List Breakpoint) (slot c : ℕ) (o here left : Out) (s : Stop) (n : ℕ) → Stepped points slot c o here → held_run 1 here ≡ ((n, s), left) → n ≢ 0 → OneMore points slot c o left
-one_more law points slot c o here left s n x run some = record {
+pub one_more : (points : List Breakpoint) (slot c : ℕ) (o here left : Out) (s : Stop) (n : ℕ) → Stepped points slot c o here → held_run 1 here ≡ ((n, s), left) → n ≢ 0 → OneMore points slot c o left
+one_more points slot c o here left s n x run some = record {
   made = ap (λ (y : (ℕ × Stop) × Out). y.0.0) joined ∙ omega (arith, x.made, one);
   left_is = ap (λ (y : (ℕ × Stop) × Out). y.1) joined ∙ ap (held_after 1) x.here_is ∙ ap (λ (y : (ℕ × Stop) × Out). y.1) run;
   before = λ i p. by_order i (cases_lt i c) p;
 }
   where
     joined : held_run (c + 1) o ≡ then_held (held_run c o) 1
-    joined = law c 1 o
+    joined = held_runs_join c 1 o
 
     count_is : (held_run 1 here).0.0 ≡ n
     count_is = ap (λ (y : (ℕ × Stop) × Out). y.0.0) run

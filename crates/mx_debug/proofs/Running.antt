@@ -12,11 +12,8 @@ use Rattle.mx_image.specs.declared.runs.Stop.TheVariants as stop
 use Rattle.mx_image.specs.Run.{run_of, RunEnd, run_end_from}
 use Rattle.mx_machine.specs.declared.holding.Out.{Out}
 use Rattle.mx_machine.specs.Held.{held_run, then_held, run_by_stop, out_after_run}
+use Rattle.mx_machine.proofs.JoinLemmas.{held_runs_join}
 use Rattle.mx_debug.specs.Halts.{held_after, has_stopped, is_over}
-
--- runs of what is held join
-abbrev pub Joins : Type 0
-Joins = (a b : ℕ) (o : Out) → held_run (a + b) o ≡ then_held (held_run a o) b
 
 -- ---- an image's run
 
@@ -151,11 +148,11 @@ none_same k o h = none_by k o o.stop refl h
 -- ---- a run's front
 
 -- before its last step more can be made
-pub before_over : Joins → (k i : ℕ) (o : Out) → i < (held_run k o).0.0 → is_over (held_after i o) ≡ true → ⊥
-before_over law k i o less over =
+pub before_over : (k i : ℕ) (o : Out) → i < (held_run k o).0.0 → is_over (held_after i o) ≡ true → ⊥
+before_over k i o less over =
     let c : (held_run k o).0.0 ≤ k = run_count k o in
     let n : k ≡ i + (k - i) = omega arith in
-    let j : held_run k o ≡ then_held (held_run i o) (k - i) = ap (λ (x : ℕ). held_run x o) n ∙ law i (k - i) o in
+    let j : held_run k o ≡ then_held (held_run i o) (k - i) = ap (λ (x : ℕ). held_run x o) n ∙ held_runs_join i (k - i) o in
     let d : (held_run k o).0.0 ≡ (held_run i o).0.0 + (held_run (k - i) (held_after i o)).0.0 = ap (λ (x : (ℕ × Stop) × Out). x.0.0) j in
     let e : (held_run (k - i) (held_after i o)).0.0 ≡ 0 = over_none (k - i) (held_after i o) over in
     let f : (held_run i o).0.0 ≤ i = run_count i o in
@@ -166,8 +163,8 @@ pub record IsFront (n : ℕ) (o left : Out) : Type 0 where
   pub made : (held_run n o).0.0 ≡ n
   pub left_is : held_after n o ≡ left
 
-pub run_front : Joins → (k : ℕ) (o : Out) → IsFront (held_run k o).0.0 o (held_after k o)
-run_front law k o = by_all (run_all n o)
+pub run_front : (k : ℕ) (o : Out) → IsFront (held_run k o).0.0 o (held_after k o)
+run_front k o = by_all (run_all n o)
   where
     n : ℕ
     n = (held_run k o).0.0
@@ -176,7 +173,7 @@ run_front law k o = by_all (run_all n o)
     within = run_count k o
 
     joined : held_run k o ≡ then_held (held_run n o) (k - n)
-    joined = let e : k ≡ n + (k - n) = omega (arith, within) in ap (λ (x : ℕ). held_run x o) e ∙ law n (k - n) o
+    joined = let e : k ≡ n + (k - n) = omega (arith, within) in ap (λ (x : ℕ). held_run x o) e ∙ held_runs_join n (k - n) o
 
     sum : n ≡ (held_run n o).0.0 + (held_run (k - n) (held_after n o)).0.0
     sum = ap (λ (x : (ℕ × Stop) × Out). x.0.0) joined

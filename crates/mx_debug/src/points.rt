@@ -68,7 +68,7 @@ impl Debugger {
     }
 
     /// Whether a slot has a breakpoint at an address.
-    pub fn stands(&self, slot: Slot, address: u32) -> bool
+    pub fn has_breakpoint(&self, slot: Slot, address: u32) -> bool
         ensures { result ≡ has_breakpoint self.now slot address }
     {
         self.points
@@ -84,7 +84,7 @@ impl Debugger {
         ensures unchanged { OnErr result (self.new ≡ self.old) }
         ensures error { IfErr result (λ e. e ≡ errors.TooMany) }
     {
-        if self.stands(slot, address) {
+        if self.has_breakpoint(slot, address) {
             return Ok(());
         }
         if self.points.is_full() {

@@ -8,7 +8,7 @@ ghost use Rattle.mx_debug.specs.Halts.{Halts, is_breakpoint};
 
 use crate::halt::{Halt, HaltCause, NextPlace, cause_of};
 use crate::points::Debugger;
-use mx_machine::{Held, held_runs_join};
+use mx_machine::Held;
 use mx_proc::Slot;
 
 /// How many marks there are, one for each remainder of an address.
@@ -20,7 +20,6 @@ fn run_on<H: Held>(held: &mut H, k: u32) -> Halt
         → Halts points slot k (H.out held.old) result (H.out held.new) }
     ensures loan { H.loan held.new ≡ H.loan held.old }
 {
-    held_runs_join();
     let (count, stop) = held.run(k);
     Halt {
         count,
@@ -53,7 +52,7 @@ impl Debugger {
         if !marks[address as usize % MARKS] {
             return false;
         }
-        self.stands(slot, address)
+        self.has_breakpoint(slot, address)
     }
 
     /// Whether the address of the slot's next instruction is at a breakpoint.
@@ -75,7 +74,6 @@ impl Debugger {
         ensures halts { Halts self.now slot k (H.out held.old) result (H.out held.new) }
         ensures loan { H.loan held.new ≡ H.loan held.old }
     {
-        held_runs_join();
         let marks = self.marks(slot);
         // The first step is made also at a breakpoint: so a process at one goes on.
         for count in 0..k {

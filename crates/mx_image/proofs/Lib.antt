@@ -1,3 +1,3 @@
 pub mod Ended
+pub mod Joining
 pub mod RunLemmas
-pub use Rattle.mx_exec.proofs.Lasting

@@ -81,7 +81,7 @@ is_outside w s = nat_lt (length (memory_at w s)) (buffer_at w s + 36)
 
 -- the send mask of s leaves out d
 abbrev pub is_masked : TableState → ℕ → ℕ → Bool
-is_masked w s d = not (has_bit (process_at w s).terms.masks.sends d)
+is_masked w s d = not (has_bit (process_at w s).schedule.terms.masks.sends d)
 
 -- a process that is named has a slot
 abbrev pub HasUsedSlot : TableState → Party → Type 0
@@ -96,7 +96,7 @@ MayBeSentTo w s _ = Unit {0}
 -- THE SIX CHECKS of a call by s, in order, each with the error that is its result if it holds
 abbrev pub checks : TableState → ℕ → Call → Option Party → List (Bool × Errno)
 checks w s call party =
-    (not (has_bit (process_at w s).terms.masks.traps (call_number call)) || of_party party (to_pseudo call), Denied)
+    (not (has_bit (process_at w s).schedule.terms.masks.traps (call_number call)) || of_party party (to_pseudo call), Denied)
     ∷ (is_none party || of_party party (out_of_place call), BadEndpoint)
     ∷ (not (is_notify call) && is_outside w s, BadAddress)
     ∷ (of_process party (λ d g. not (is_receive call) && is_masked w s d), Denied)

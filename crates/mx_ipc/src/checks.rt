@@ -99,7 +99,12 @@ fn check_process(
         ≡ None) (λ e. process_refusal table.now slot call to generation ≡ Some e) }
     ensures free { IfOk result (λ _. PassedProcess table.now slot call to) }
 {
-    if !is_receive(call) && !has_bit(table.process(slot).terms.masks.sends, u32::from(to)) {
+    if !is_receive(call)
+        && !has_bit(
+            table.process(slot).schedule.terms.masks.sends,
+            u32::from(to),
+        )
+    {
         return Err(Errno::Denied);
     }
     if !table.is_current(to, generation) {
@@ -145,7 +150,10 @@ pub(crate) fn check(table: &Table, slot: Slot, call: Call, number: u32) -> Resul
         call_refusal table.now slot call (party_of table.now number) ≡ Some e) }
     ensures passed { IfOk result (λ party. Passed table.now slot call party) }
 {
-    if !has_bit(table.process(slot).terms.masks.traps, call.number()) {
+    if !has_bit(
+        table.process(slot).schedule.terms.masks.traps,
+        call.number(),
+    ) {
         return Err(Errno::Denied);
     }
     let party = party_of(table, number).ok_or(Errno::BadEndpoint)?;

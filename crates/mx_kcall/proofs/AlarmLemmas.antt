@@ -20,7 +20,7 @@ kept (x ∷ xs) (suc d) p e (suc t) = kept xs d p e t
 
 queued-alarm : (w : TableState) (s t : ℕ) → (process_at (table_after_queueing w s) t).alarm ≡ (process_at w t).alarm
 unfolding table_after_queueing
-queued-alarm w s t = let p = process_at w s in let l = next_level p (is_last_renewed w s) in elim (cases_Bool (nat_lt 0 p.ticks)) [
+queued-alarm w s t = let p = process_at w s in let l = next_level p (is_last_renewed w s) in elim (cases_Bool (nat_lt 0 p.schedule.ticks)) [
   | inl y ↦ rw y (kept w.slots s _ refl t)
   | inr n ↦ rw n (kept w.slots s _ refl t)
 ]

@@ -70,7 +70,7 @@ refusal_of_kernel_call w s r = first_error (kernel_call_reasons w s r)
 -- of a call with this bit
 abbrev pub kernel_call_refusal_by : TableState → ℕ → ℕ → Option KernelCall → Option Errno
 kernel_call_refusal_by w s bit None = Some BadRequest
-kernel_call_refusal_by w s bit (Some r) = first_error ((not (has_bit (process_at w s).terms.masks.calls bit), Denied) ∷ kernel_call_reasons w s r)
+kernel_call_refusal_by w s bit (Some r) = first_error ((not (has_bit (process_at w s).schedule.terms.masks.calls bit), Denied) ∷ kernel_call_reasons w s r)
 
 -- THE REFUSAL of the call at the buffer of a process, or none
 unfoldable pub kernel_call_refusal : TableState → ℕ → Option Errno

@@ -61,7 +61,7 @@ pub fn tick(table: &mut Table)
     ensures settled { NoneComesHome table.old table.new }
 {
     table.advance();
-    for slot in 0..table.used() {
+    for slot in 0..table.slot_count() {
         ring(table, slot);
     }
 }

@@ -174,7 +174,7 @@ fn check_whois(table: &Table, slot: Slot, named: u32) -> Result<(), Errno>
         first_error (kernel_call_reasons table.now slot (requests.Whois named)) ≡ Some e) }
     ensures permitted { IfOk result (λ _. named < length table.now.slots) }
 {
-    if named >= u32::from(table.used()) {
+    if named >= u32::from(table.slot_count()) {
         return Err(Errno::Invalid);
     }
     if table.process(named as u8).state.is_down() {
@@ -247,7 +247,7 @@ pub(crate) fn check(table: &Table, slot: Slot) -> Result<KernelCall, Errno>
         None => return Err(Errno::BadRequest),
     };
     if !has_bit(
-        table.process(slot).terms.masks.calls,
+        table.process(slot).schedule.terms.masks.calls,
         words.kind - FIRST_CALL,
     ) {
         return Err(Errno::Denied);

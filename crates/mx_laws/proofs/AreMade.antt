@@ -35,7 +35,8 @@ use Rattle.mx_laws.specs.Items.{items_of_death, items_of_end_of_turn, items_of_n
 use Rattle.mx_laws.specs.DiaryLaws.{IsSlot, IsWritten}
 use Rattle.mx_laws.proofs.EntryLemmas.{receiving_blocked}
 use Rattle.mx_laws.proofs.SoundDiaries.{not_held}
-use Rattle.mx_look_facts.specs.SlotDoing.{doing_of}
+use Rattle.mx_print_report.specs.declared.doing.Naming.TheVariants.{Endpoints}
+use Rattle.mx_print_report.specs.SlotDoing.{doing_of}
 use Rattle.mx_look_facts.specs.Glances.{glance_of, glance_of_slot, held_glance, slot_glance, slot_glances}
 use Rattle.mx_look_facts.specs.Images.{image_glance}
 use Rattle.mx_look_facts.specs.Kept.{latest_deliveries}
@@ -94,7 +95,7 @@ state_kept (p ∷ ps) (suc q) (suc s) x e = state_kept ps q s x e
 
 -- ---- what is seen
 
-listening_is : (t : TableState) (s : ℕ) (st : State) → is_listening (doing_of t s st) ≡ is_receiving st
+listening_is : (t : TableState) (s : ℕ) (st : State) → is_listening (doing_of Endpoints t s st) ≡ is_receiving st
 unfolding doing_of
 listening_is t s Home = refl
 listening_is t s Ready = refl

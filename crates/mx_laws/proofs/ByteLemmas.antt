@@ -235,7 +235,7 @@ part_whole xs at count le = omega (arith, length-take count (drop at xs), length
 
 copy_fits : (t : TableState) (s bit : ℕ) (c : CopyRange) → kernel_call_refusal_by t s bit (Some (Vircopy c)) ≡ None → IsAllowed t s (copy_made t c)
 copy_fits t s bit c e =
-    let h = none_holds ((not (has_bit (process_at t s).terms.masks.calls bit), Denied) ∷ kernel_call_reasons t s (Vircopy c)) e in
+    let h = none_holds ((not (has_bit (process_at t s).schedule.terms.masks.calls bit), Denied) ∷ kernel_call_reasons t s (Vircopy c)) e in
     let from = c.source.endpoint in let to = c.target.endpoint in
     record {
       windows = λ strict. record {

@@ -191,9 +191,9 @@ current_same h = λ i d g. (ap (λ (p : Process). not (is_down p.state) && (p.ge
 pub call_refusal_same : {q : ℕ} {w v : TableState} → Twins q w v → (s : ℕ) (c : Call) (party : Option Party) → is_slot q s ≡ false → call_refusal w s c party ≡ call_refusal v s c party
 unfolding call_refusal
 call_refusal_same {q} {w} {v} h s c party n =
-    ap (λ (p : Process). first_error (checks_of p.terms.masks (nat_lt (length p.image.memory) (p.image.regs.ebx + 36)) (is_current w) w.waits s c party)) (other_at h s n)
-    ∙ ap (λ f. first_error (checks_of (process_at v s).terms.masks (is_outside v s) f w.waits s c party)) (current_same h)
-    ∙ ap (λ x. first_error (checks_of (process_at v s).terms.masks (is_outside v s) (is_current v) x s c party)) (waits_of h)
+    ap (λ (p : Process). first_error (checks_of p.schedule.terms.masks (nat_lt (length p.image.memory) (p.image.regs.ebx + 36)) (is_current w) w.waits s c party)) (other_at h s n)
+    ∙ ap (λ f. first_error (checks_of (process_at v s).schedule.terms.masks (is_outside v s) f w.waits s c party)) (current_same h)
+    ∙ ap (λ x. first_error (checks_of (process_at v s).schedule.terms.masks (is_outside v s) (is_current v) x s c party)) (waits_of h)
 
 party_same : {q : ℕ} {w v : TableState} → Twins q w v → (n : ℕ) → party_of w n ≡ party_of v n
 unfolding party_of

@@ -11,7 +11,7 @@ use Rattle.mx_proc.specs.Errors.{errno_bits}
 use Rattle.mx_proc.specs.Queues.{list_at}
 use Rattle.mx_proc.specs.Serving.{without_bit_of, owner_but, table_after_forgetting, table_after_burial, with_alarm, with_line, with_tick}
 use Rattle.mx_proc.specs.States.{is_ready, is_sending}
-use Rattle.mx_proc.specs.TableState.{TableState, process_at, table_after_dequeue}
+use Rattle.mx_proc.specs.TableState.{TableState, process_at, stepped, table_after_dequeue}
 use Rattle.mx_kcall.specs.Death.{callers, receivers, receives_from_alone, table_after_taking_out, table_after_freeing, table_after_freeing_all, waiting_for, table_after_death}
 use Rattle.mx_kcall.specs.Respawn.{next_process, table_after_respawn}
 use Rattle.mx_kcall.specs.Service.{Service}
@@ -139,4 +139,4 @@ home_twins {q} {w} {v} h l n =
     let r : Process = record (process_at v l.slot) { state = Home; image = l.out.image } in
     let e : p ≡ r = ap (λ (x : Process). let y : Process = record x { state = Home; image = l.out.image } in y) (all_but_image_at h l.slot) in
     quiet (put h l.slot p r (record { same = ap (process_seen (is_slot q l.slot)) e; limit = refl; left = λ t z. cc; right = λ t z. cc })) l.slot
-    (λ (x : Process). let y : Process = record x { ticks = x.ticks - l.out.count; steps = x.steps + l.out.count } in y) (λ b x. refl) (λ x. refl) (λ x. refl)
+    (stepped l.out.count) (λ b x. refl) (λ x. refl) (λ x. refl)

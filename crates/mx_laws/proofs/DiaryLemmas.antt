@@ -71,7 +71,7 @@ one_given w s x p e = images-set w.slots s p ∙ ap (slice_set (images w) s) (e 
 
 pub queueing_images : (w : TableState) (s : ℕ) → images (table_after_queueing w s) ≡ images w
 unfolding table_after_queueing
-queueing_images w s = either (nat_lt 0 (process_at w s).ticks) _ _ (images-kept w.slots s _ refl) (images-kept w.slots s _ refl)
+queueing_images w s = either (nat_lt 0 (process_at w s).schedule.ticks) _ _ (images-kept w.slots s _ refl) (images-kept w.slots s _ refl)
   where
     either : (b : Bool) (x y : TableState) {ms : List Image} → images x ≡ ms → images y ≡ ms → images (cond b x y) ≡ ms
     either true x y e f = e

@@ -12,7 +12,7 @@ use Rattle.mx_proc.specs.Queues.{tally}
 use Rattle.mx_proc.specs.Serving.{with_alarm, with_tick}
 use Rattle.mx_proc.specs.Sound.{HasBuffer, Sound}
 use Rattle.mx_proc.specs.States.{is_blocked, is_out, is_sending}
-use Rattle.mx_proc.specs.TableState.{TableState, nobody, process_at, table_after_move_home, table_after_notice, table_with_first, table_with_last, with_pending, without_pending, with_process, with_result}
+use Rattle.mx_proc.specs.TableState.{TableState, nobody, process_at, renewed, table_after_move_home, table_after_notice, table_with_first, table_with_last, with_pending, without_pending, with_process, with_result}
 use Rattle.mx_proc.specs.Partners.{order_of_source}
 use Rattle.mx_proc.specs.Waits.{sends_of}
 use Rattle.mx_kcall.specs.Calls.{goes_on, hears, table_after_notifying}
@@ -70,9 +70,6 @@ same_state {w} h s x e = like h (with_process w s x)
 abbrev readied : Process → Process
 readied p = record p { state = Ready }
 
-abbrev renewed : ℕ → Process → Process
-renewed level p = record p { state = Ready; level = level; ticks = p.terms.quantum }
-
 first_scene : {w : TableState} {R M : ℕ → Type 0} → Scene w R M → (s : ℕ) → Scene (table_with_first w s) R M
 first_scene {w} h s = let x = readied (process_at w s) in like h (table_with_first w s) (λ p b. after_set Blocked w.slots s p x b (λ z. cc)) (λ p b. after_set Receives w.slots s p x b (λ z. cc)) refl
 
@@ -88,7 +85,7 @@ unfolding goes_on table_after_queueing
 goes_on_scene {w} {R} {M} h s r =
     let v = with_result w s r in
     let k : Scene v R M = same_state h s _ refl in
-    case_scene (nat_lt 0 (process_at v s).ticks) (table_with_first v s) (table_with_last v s (next_level (process_at v s) (is_last_renewed v s))) (first_scene k s) (last_scene k s (next_level (process_at v s) (is_last_renewed v s)))
+    case_scene (nat_lt 0 (process_at v s).schedule.ticks) (table_with_first v s) (table_with_last v s (next_level (process_at v s) (is_last_renewed v s))) (first_scene k s) (last_scene k s (next_level (process_at v s) (is_last_renewed v s)))
 
 notice_scene : {w : TableState} {R M : ℕ → Type 0} → Scene w R M → (d : ℕ) (x : Source) → Scene (table_after_notice w d x) R M
 unfolding table_after_notice

@@ -148,7 +148,7 @@ quiet false x y u v xs e f = f
 
 queueing_kept : (t : TableState) (s : ℕ) (xs : List Delivery) → table_after_queueing (kept t xs) s ≡ kept (table_after_queueing t s) xs
 unfolding table_after_queueing
-queueing_kept t s xs = quiet (nat_lt 0 (process_at t s).ticks) _ _ (table_with_first t s) (table_with_last t s (next_level (process_at t s) (is_last_renewed t s))) xs refl refl
+queueing_kept t s xs = quiet (nat_lt 0 (process_at t s).schedule.ticks) _ _ (table_with_first t s) (table_with_last t s (next_level (process_at t s) (is_last_renewed t s))) xs refl refl
 
 goes_on_kept : (t : TableState) (s r : ℕ) (xs : List Delivery) → goes_on (kept t xs) s r ≡ kept (goes_on t s r) xs
 unfolding goes_on

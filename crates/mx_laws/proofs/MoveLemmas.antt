@@ -116,7 +116,7 @@ step_same h a None = h
 step_same h a (Some l) = with_held_same h a _ _ refl
 
 taken_alike : {q : ℕ} {t u : TableState} → Twins q t u → (s : ℕ) → held_seen q (Some (held_at_take t s)) ≡ held_seen q (Some (held_at_take u s))
-taken_alike {q} {t} {u} h s = ap (λ (p : Process). let x : HeldProcess = record { slot = s; out = record { image = p.image; budget = p.ticks; count = 0; stop = Spent; decoded = tt } } in Some x) (at h s).same
+taken_alike {q} {t} {u} h s = ap (λ (p : Process). let x : HeldProcess = record { slot = s; out = record { image = p.image; budget = p.schedule.ticks; count = 0; stop = Spent; decoded = tt } } in Some x) (at h s).same
 
 take_world_same : {q : ℕ} {w v : World} → TwinWorlds q w v → (a : ℕ) (s : Option ℕ) → TwinWorlds q (world_after_take w a s) (world_after_take v a s)
 take_world_same h a None = h
@@ -212,7 +212,7 @@ back_answer_hidden q (Some l) = refl
 
 take_answer_same : {q : ℕ} {t u : TableState} → Twins q t u → (s : Option ℕ) → take_answer t s ≡ take_answer u s
 take_answer_same h None = refl
-take_answer_same {q} {t} {u} h (Some s) = ap (λ e. Taken e (process_at t s).ticks) (endpoint_same h s) ∙ ap (λ (p : Process). Taken (endpoint_of u s) p.ticks) (all_but_image_at h s)
+take_answer_same {q} {t} {u} h (Some s) = ap (λ e. Taken e (process_at t s).schedule.ticks) (endpoint_same h s) ∙ ap (λ (p : Process). Taken (endpoint_of u s) p.schedule.ticks) (all_but_image_at h s)
 
 pub answer_same : {q : ℕ} {w v : World} → TwinWorlds q w v → (a : ℕ) (e : Event) → IsApart q w a e → event_answer w a e ≡ event_answer v a e
 unfolding event_answer

@@ -46,7 +46,7 @@ true_false e f = cc
 
 queueing_receives : (t : TableState) (s q : ℕ) → Receives (process_at (table_after_queueing t s) q) → Receives (process_at t q)
 unfolding table_after_queueing
-queueing_receives t s q h = by_bool (nat_lt 0 (process_at t s).ticks) h
+queueing_receives t s q h = by_bool (nat_lt 0 (process_at t s).schedule.ticks) h
   where
     by_bool : (b : Bool) → Receives (process_at (cond b (table_with_first t s) (table_with_last t s (next_level (process_at t s) (is_last_renewed t s)))) q) → Receives (process_at t q)
     by_bool true k = after_set Receives t.slots s q _ k (λ z. cc)

@@ -87,7 +87,7 @@ either false x y e f = f
 
 pub queueing_readies : (w : TableState) (s : ℕ) → readies (table_after_queueing w s) ≡ slice_set (readies w) s true
 unfolding table_after_queueing
-queueing_readies w s = either (nat_lt 0 (process_at w s).ticks) _ _ (readies-set w.slots s _) (readies-set w.slots s _)
+queueing_readies w s = either (nat_lt 0 (process_at w s).schedule.ticks) _ _ (readies-set w.slots s _) (readies-set w.slots s _)
 
 pub goes_on_readies : (w : TableState) (s r : ℕ) → readies (goes_on w s r) ≡ slice_set (readies w) s true
 unfolding goes_on

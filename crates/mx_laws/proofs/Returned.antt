@@ -38,7 +38,7 @@ leases_at (x ∷ xs) (suc a) = leases_at xs a
 pub held_out : (v : World) (a : ℕ) (l : HeldProcess) → IsSound v → held_by v a ≡ Some l → is_out (process_at v.table l.slot).state ≡ true
 held_out v a l h e = by_bool (is_out (process_at v.table l.slot).state) (h.holds.leased a (record { slot = l.slot; budget = l.out.budget }) (leases_at v.cpus a ∙ ap lease_of e))
   where
-    by_bool : (b : Bool) → cond b (Some (process_at v.table l.slot).ticks) None ≡ Some l.out.budget → b ≡ true
+    by_bool : (b : Bool) → cond b (Some (process_at v.table l.slot).schedule.ticks) None ≡ Some l.out.budget → b ≡ true
     by_bool true f = refl
     by_bool false f = cc
 

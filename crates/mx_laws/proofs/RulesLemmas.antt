@@ -56,7 +56,7 @@ by_case w false x y e f = f
 
 queueing_keeps : (w : TableState) (s : ℕ) → Keep w (table_after_queueing w s)
 unfolding table_after_queueing
-queueing_keeps w s = by_case w (nat_lt 0 (process_at w s).ticks) _ _ refl refl
+queueing_keeps w s = by_case w (nat_lt 0 (process_at w s).schedule.ticks) _ _ refl refl
 
 goes_on_keeps : (w : TableState) (s n : ℕ) → Keep w (goes_on w s n)
 unfolding goes_on

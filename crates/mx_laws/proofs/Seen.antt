@@ -10,7 +10,8 @@ use Rattle.mx_proc.specs.TableState.{TableState, process_at}
 use Rattle.mx_kcall.specs.Service.{Service}
 use Rattle.mx_machine.specs.Move.{is_doomed}
 use Rattle.mx_machine.specs.World.{World, held_by}
-use Rattle.mx_look_facts.specs.SlotDoing.{doing_of}
+use Rattle.mx_print_report.specs.declared.doing.Naming.TheVariants.{Endpoints}
+use Rattle.mx_print_report.specs.SlotDoing.{doing_of}
 use Rattle.mx_look_facts.specs.Glances.{cpu_glance, cpu_glances, glance_of, glance_of_slot, held_glance, slot_glance, slot_glances}
 use Rattle.mx_look_facts.specs.Images.{image_glance}
 use Rattle.mx_look_facts.specs.Doings.{is_ready as is_ready_doing, is_out as is_out_doing, is_waiting, seen_is}
@@ -29,7 +30,7 @@ cpu_seen w a lt =
     ap (λ b. cond b (get_or (cpu_glances w) a None) None) (lt-ltb a 8 lt)
     ∙ get_or-map-range_with_len (cpu_glance w) 0 8 a a None lt (omega arith)
 
-waiting_is : (t : TableState) (s : ℕ) (st : State) → is_waiting (doing_of t s st) ≡ is_blocked st
+waiting_is : (t : TableState) (s : ℕ) (st : State) → is_waiting (doing_of Endpoints t s st) ≡ is_blocked st
 unfolding doing_of
 waiting_is t s Home = refl
 waiting_is t s Ready = refl
@@ -41,7 +42,7 @@ waiting_is t s (Receiving p) = refl
 waiting_is t s (Awaiting d) = refl
 waiting_is t s (Down c) = refl
 
-ready_is : (t : TableState) (s : ℕ) (st : State) → is_ready_doing (doing_of t s st) ≡ is_ready st
+ready_is : (t : TableState) (s : ℕ) (st : State) → is_ready_doing (doing_of Endpoints t s st) ≡ is_ready st
 unfolding doing_of
 ready_is t s Home = refl
 ready_is t s Ready = refl
@@ -53,7 +54,7 @@ ready_is t s (Receiving p) = refl
 ready_is t s (Awaiting d) = refl
 ready_is t s (Down c) = refl
 
-out_is : (t : TableState) (s : ℕ) (st : State) → is_out_doing (doing_of t s st) ≡ (is_out st && not (is_doomed st))
+out_is : (t : TableState) (s : ℕ) (st : State) → is_out_doing (doing_of Endpoints t s st) ≡ (is_out st && not (is_doomed st))
 unfolding doing_of
 out_is t s Home = refl
 out_is t s Ready = refl

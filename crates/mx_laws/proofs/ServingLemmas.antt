@@ -102,8 +102,8 @@ message_words_same h s n = ap (λ (p : Process). message_words_of (take 36 (drop
 kernel_call_refusal_by_same : {q : ℕ} {w v : TableState} → Twins q w v → (s bit : ℕ) (r : Option KernelCall) → kernel_call_refusal_by w s bit r ≡ kernel_call_refusal_by v s bit r
 kernel_call_refusal_by_same h s bit None = refl
 kernel_call_refusal_by_same {q} {w} {v} h s bit (Some r) =
-    ap (λ (p : Process). first_error ((not (has_bit p.terms.masks.calls bit), Denied) ∷ kernel_call_reasons w s r)) (all_but_image_at h s)
-    ∙ ap (λ k. first_error ((not (has_bit (process_at v s).terms.masks.calls bit), Denied) ∷ reasons_of k s r)) (known_same h s)
+    ap (λ (p : Process). first_error ((not (has_bit p.schedule.terms.masks.calls bit), Denied) ∷ kernel_call_reasons w s r)) (all_but_image_at h s)
+    ∙ ap (λ k. first_error ((not (has_bit (process_at v s).schedule.terms.masks.calls bit), Denied) ∷ reasons_of k s r)) (known_same h s)
 
 -- ---- what a copy that isn't refused knows
 
@@ -128,7 +128,7 @@ inside_of n k e = leb-true n k (true_of (nat_le n k) e)
 
 copy_fits : (w : TableState) (s bit : ℕ) (c : CopyRange) → kernel_call_refusal_by w s bit (Some (Vircopy c)) ≡ None → c.target.offset + c.count ≤ limit_at w (c.target.endpoint % 1024)
 copy_fits w s bit c e =
-    let h = none_holds ((not (has_bit (process_at w s).terms.masks.calls bit), Denied) ∷ kernel_call_reasons w s (Vircopy c)) e in
+    let h = none_holds ((not (has_bit (process_at w s).schedule.terms.masks.calls bit), Denied) ∷ kernel_call_reasons w s (Vircopy c)) e in
     inside_of (c.target.offset + c.count) (limit_at w (c.target.endpoint % 1024)) h.1.1.1.1.1.1.1.1.1.1.0
 
 -- a copy that isn't refused, under strict rules and of another's memory, reads through an open window
@@ -142,7 +142,7 @@ read_open false own x f e g = cc
 source_is_other : (w : TableState) (q s bit : ℕ) (c : CopyRange) → is_slot q s ≡ false → kernel_call_refusal_by w s bit (Some (Vircopy c)) ≡ None → CopyIsApart q w s (Some (Vircopy c)) None → q ≢ c.source.endpoint % 1024
 source_is_other w q s bit c n e m g =
     let k = not_refused (m (sym g)) in
-    let h = none_holds ((not (has_bit (process_at w s).terms.masks.calls bit), Denied) ∷ kernel_call_reasons w s (Vircopy c)) e in
+    let h = none_holds ((not (has_bit (process_at w s).schedule.terms.masks.calls bit), Denied) ∷ kernel_call_reasons w s (Vircopy c)) e in
     let owner = c.source.endpoint % 1024 in
     let own : (owner == s) ≡ false = ne_eqb owner s (λ z. is_not_itself q s n (g ∙ z)) in
     let reads = read_open (is_strict w.rules) (owner == s) (is_open allows_reading (window_of w owner s) c.source.offset c.count) h.1.1.1.1.1.1.1.0 k.0 own in

@@ -37,7 +37,7 @@ ready_in ((x ∷ xs) ∷ lists) s e = elim (cases_eq x s) [
     some_is x s e = cc
 
 belongs_none : (p : Process) (level : ℕ) → is_ready p.state ≡ false → belongs p level ≡ 0
-belongs_none p level e = ap (λ b. cond b (tally (p.level == level)) 0) e
+belongs_none p level e = ap (λ b. cond b (tally (p.schedule.level == level)) 0) e
 
 ready_stays : (st : State) → is_ready st ≡ true → is_out st ≡ false
 ready_stays Home e = cc
@@ -70,7 +70,7 @@ held_found s (Some l ∷ xs) m e = elim (cases_eq l.slot s) [
 ]
 
 loan_none : (p : Process) (n : ℕ) → is_out p.state ≡ false → loan_of p ≡ Some n → ⊥
-loan_none p n e f = none_some (loan_of p) n (ap (λ b. cond b (Some p.ticks) None) e) f
+loan_none p n e f = none_some (loan_of p) n (ap (λ b. cond b (Some p.schedule.ticks) None) e) f
   where
     none_some : (o : Option ℕ) (n : ℕ) → o ≡ None → o ≡ Some n → ⊥
     none_some o n e f = cc

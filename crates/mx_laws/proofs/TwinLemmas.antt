@@ -16,7 +16,7 @@ use Rattle.mx_proc.specs.Messages.{with_source, type_of}
 use Rattle.mx_proc.specs.Queues.{list_at, without}
 use Rattle.mx_proc.specs.Waits.{without_from}
 use Rattle.mx_proc.specs.States.{is_blocked}
-use Rattle.mx_proc.specs.TableState.{TableState, nobody, process_at, with_process, with_result, with_state, with_pending, table_with_first, table_with_last, table_after_dequeue, table_after_unblock, table_after_block, endpoint_of, with_message, with_delivery_kept, table_after_delivery, message_of, memory_at, buffer_at}
+use Rattle.mx_proc.specs.TableState.{TableState, nobody, process_at, with_process, with_result, with_state, with_pending, renewed, table_with_first, table_with_last, table_after_dequeue, table_after_unblock, table_after_block, endpoint_of, with_message, with_delivery_kept, table_after_delivery, message_of, memory_at, buffer_at}
 use Rattle.mx_kcall.specs.Queueing.{table_after_queueing, next_level, is_last_renewed}
 use Rattle.mx_kcall.specs.Calls.{goes_on}
 use Rattle.mx_laws.specs.Same.{rest_of}
@@ -165,32 +165,32 @@ pending_twins h s place bit = quiet h s (λ (p : Process). let n : Process = rec
 -- ---- queues
 
 abbrev renewed_at : Bool → Process → Process
-renewed_at again p = record p { state = Ready; level = next_level p again; ticks = p.terms.quantum }
+renewed_at again p = renewed (next_level p again) p
 
 pub front_twins : {q : ℕ} {w v : TableState} → Twins q w v → (s : ℕ) → Twins q (table_with_first w s) (table_with_first v s)
 front_twins {q} {w} {v} h s =
-    let lv : (process_at w s).level ≡ (process_at v s).level = ap (λ (p : Process). p.level) (all_but_image_at h s) in
-    requeued (state_twins h s Ready refl) _ _ (ap (λ l. slice_set w.ready l (s ∷ list_at w.ready l)) lv ∙ ap (λ x. slice_set x (process_at v s).level (s ∷ list_at x (process_at v s).level)) (ready_of h))
+    let lv : (process_at w s).schedule.level ≡ (process_at v s).schedule.level = ap (λ (p : Process). p.schedule.level) (all_but_image_at h s) in
+    requeued (state_twins h s Ready refl) _ _ (ap (λ l. slice_set w.ready l (s ∷ list_at w.ready l)) lv ∙ ap (λ x. slice_set x (process_at v s).schedule.level (s ∷ list_at x (process_at v s).schedule.level)) (ready_of h))
 
 pub end_twins : {q : ℕ} {w v : TableState} → Twins q w v → (s : ℕ) (again : Bool) → Twins q (table_with_last w s (next_level (process_at w s) again)) (table_with_last v s (next_level (process_at v s) again))
 end_twins {q} {w} {v} h s again =
-    let lv : next_level (process_at w s) again ≡ next_level (process_at v s) again = ap (λ (p : Process). next_level p again) (all_but_image_at h s) in
+    let lv : (renewed_at again (process_at w s)).schedule.level ≡ (renewed_at again (process_at v s)).schedule.level = ap (λ (p : Process). (renewed_at again p).schedule.level) (all_but_image_at h s) in
     let k = at h s in
     renewed_by (requeued (put h s (renewed_at again (process_at w s)) (renewed_at again (process_at v s)) (record { same = ap (renewed_at again) k.same; limit = k.limit; left = λ t z. cc; right = λ t z. cc })) _ _
-    (ap (λ l. slice_set w.ready l (list_at w.ready l ++ s ∷ [])) lv ∙ ap (λ x. slice_set x (next_level (process_at v s) again) (list_at x (next_level (process_at v s) again) ++ s ∷ [])) (ready_of h))) (Some s)
+    (ap (λ l. slice_set w.ready l (list_at w.ready l ++ s ∷ [])) lv ∙ ap (λ x. slice_set x (renewed_at again (process_at v s)).schedule.level (list_at x (renewed_at again (process_at v s)).schedule.level ++ s ∷ [])) (ready_of h))) (Some s)
 
 again_same : {q : ℕ} {w v : TableState} → Twins q w v → (s : ℕ) → is_last_renewed w s ≡ is_last_renewed v s
 again_same h s = ap (λ (x : TableState). is_last_renewed x s) h.rest
 
 pub queueing_twins : {q : ℕ} {w v : TableState} → Twins q w v → (s : ℕ) → Twins q (table_after_queueing w s) (table_after_queueing v s)
 unfolding table_after_queueing
-queueing_twins {q} {w} {v} h s = by_test _ _ (ap (λ (p : Process). nat_lt 0 p.ticks) (all_but_image_at h s)) (λ t. front_twins h s)
+queueing_twins {q} {w} {v} h s = by_test _ _ (ap (λ (p : Process). nat_lt 0 p.schedule.ticks) (all_but_image_at h s)) (λ t. front_twins h s)
     (λ t. subst (λ b. Twins q (table_with_last w s (next_level (process_at w s) (is_last_renewed w s))) (table_with_last v s (next_level (process_at v s) b))) (again_same h s) (end_twins h s (is_last_renewed w s)))
 
 pub dequeue_twins : {q : ℕ} {w v : TableState} → Twins q w v → (s : ℕ) → Twins q (table_after_dequeue w s) (table_after_dequeue v s)
 dequeue_twins {q} {w} {v} h s =
-    let lv : (process_at w s).level ≡ (process_at v s).level = ap (λ (p : Process). p.level) (all_but_image_at h s) in
-    requeued (state_twins h s Home refl) _ _ (ap (λ l. slice_set w.ready l (without s (list_at w.ready l))) lv ∙ ap (λ x. slice_set x (process_at v s).level (without s (list_at x (process_at v s).level))) (ready_of h))
+    let lv : (process_at w s).schedule.level ≡ (process_at v s).schedule.level = ap (λ (p : Process). p.schedule.level) (all_but_image_at h s) in
+    requeued (state_twins h s Home refl) _ _ (ap (λ l. slice_set w.ready l (without s (list_at w.ready l))) lv ∙ ap (λ x. slice_set x (process_at v s).schedule.level (without s (list_at x (process_at v s).schedule.level))) (ready_of h))
 
 pub unblock_twins : {q : ℕ} {w v : TableState} → Twins q w v → (s : ℕ) → Twins q (table_after_unblock w s) (table_after_unblock v s)
 unblock_twins h s = rewaited (state_twins h s Home refl) _ _ (ap (without_from s) (waits_of h))

@@ -7,7 +7,7 @@ ghost use Rattle.mx_loan.specs.Seats.{HasMadeNoStep, IsAdvanced};
 use crate::shown::Shown;
 use mx_exec::Image;
 use mx_image::Stop;
-use mx_machine::{Held, Out, held_runs_join};
+use mx_machine::{Held, Out};
 use std::marker::Model;
 
 /// A process that is lent to an actor. It can't be dropped or copied: only `Desk::redeem` ends it.
@@ -39,7 +39,6 @@ impl Held for Loan {
 
     /// Takes no memory, and never waits.
     fn run(&mut self, k: u32) -> (u32, Stop) {
-        held_runs_join();
         self.out.run(k)
     }
 

@@ -68,10 +68,10 @@ pub(crate) fn offer(board: &ActorTable, both: &mut TableSeat, said: &Announcemen
     ensures own { JoinedFacts both.old.me.0 × JoinedFacts both.new.me.0 }
 {
     let word = said.record.actor as usize;
-    let told = Shown::of(said);
+    let shown = Shown::of(said);
     board
         .shared
-        .compare_exchange_with::<OfferStep>(both, word, 0, 1, &told);
+        .compare_exchange_with::<OfferStep>(both, word, 0, 1, &shown);
 }
 
 /// Word 1 to 2: the actor notes the record that the history ends with, and holds what is lent.
@@ -88,10 +88,10 @@ pub(crate) fn take(board: &ActorTable, both: &mut TableSeat, said: &Announcement
     ensures own { JoinedFacts both.old.me.0 × JoinedFacts both.new.me.0 }
 {
     let word = said.record.actor as usize;
-    let told = Shown::of(said);
+    let shown = Shown::of(said);
     board
         .shared
-        .compare_exchange_with::<TakeStep>(both, word, 1, 2, &told);
+        .compare_exchange_with::<TakeStep>(both, word, 1, 2, &shown);
 }
 
 /// Word 2 to 3: the actor notes that it brings its process back, and holds nothing.
@@ -107,10 +107,10 @@ pub(crate) fn bring_back(board: &ActorTable, both: &mut TableSeat, said: &Announ
     ensures own { JoinedFacts both.old.me.0 × JoinedFacts both.new.me.0 }
 {
     let word = said.record.actor as usize;
-    let told = Shown::of(said);
+    let shown = Shown::of(said);
     board
         .shared
-        .compare_exchange_with::<ReturnStep>(both, word, 2, 3, &told);
+        .compare_exchange_with::<ReturnStep>(both, word, 2, 3, &shown);
 }
 
 /// Word 3 to 0: the kernel records what the actor noted last, and lends it nothing.
@@ -126,10 +126,10 @@ pub(crate) fn close(board: &ActorTable, both: &mut TableSeat, said: &Announcemen
     ensures own { JoinedFacts both.old.me.0 × JoinedFacts both.new.me.0 }
 {
     let word = said.record.actor as usize;
-    let told = Shown::of(said);
+    let shown = Shown::of(said);
     board
         .shared
-        .compare_exchange_with::<CloseStep>(both, word, 3, 0, &told);
+        .compare_exchange_with::<CloseStep>(both, word, 3, 0, &shown);
 }
 
 /// Word 0 to 4 or 2 to 6: the kernel records another event of the actor.
@@ -145,10 +145,10 @@ pub(crate) fn record_event(board: &ActorTable, both: &mut TableSeat, said: &Anno
     ensures own { JoinedFacts both.old.me.0 × JoinedFacts both.new.me.0 }
 {
     let word = said.record.actor as usize;
-    let told = Shown::of(said);
+    let shown = Shown::of(said);
     board
         .shared
-        .compare_exchange_with::<RecordStep>(both, word, at, at + 4, &told);
+        .compare_exchange_with::<RecordStep>(both, word, at, at + 4, &shown);
 }
 
 /// To word 0 or 2: the actor sees all of the history.
@@ -171,10 +171,10 @@ pub(crate) fn note(
     ensures own { JoinedFacts both.old.me.0 × JoinedFacts both.new.me.0 }
 {
     let word = said.record.actor as usize;
-    let told = Shown::of(said);
+    let shown = Shown::of(said);
     board
         .shared
-        .compare_exchange_with::<NoteStep>(both, word, at, rest, &told);
+        .compare_exchange_with::<NoteStep>(both, word, at, rest, &shown);
 }
 
 /// Makes the seat of the next actor, while the table is made.

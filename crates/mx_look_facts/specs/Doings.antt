@@ -2,10 +2,10 @@
 use Rattle.std.specs.Prelude.{Bool, true, false, ◌==◌, Option, Some, None}
 use Rattle.mx_proc.specs.declared.process.DeathCause.{DeathCause}
 use Rattle.mx_proc.specs.declared.process.DeathCause.TheVariants as cause
-use Rattle.mx_look_facts.specs.declared.doing.Awaited.{Awaited}
-use Rattle.mx_look_facts.specs.declared.doing.Awaited.TheVariants as awaited
-use Rattle.mx_look_facts.specs.declared.doing.Doing.{Doing}
-use Rattle.mx_look_facts.specs.declared.doing.Doing.TheVariants.{Home, Ready, Out, Doomed, Sending, Calling, Receiving, Awaiting, Down}
+use Rattle.mx_print_report.specs.declared.doing.Awaited.{Awaited}
+use Rattle.mx_print_report.specs.declared.doing.Awaited.TheVariants as awaited
+use Rattle.mx_print_report.specs.declared.doing.Doing.{Doing}
+use Rattle.mx_print_report.specs.declared.doing.Doing.TheVariants.{Home, Ready, Out, Doomed, Sending, Calling, Receiving, Awaiting, Down}
 use Rattle.mx_look_facts.specs.declared.slot_glances.SlotGlance.{SlotGlance}
 
 abbrev pub is_ready : Doing → Bool
@@ -30,6 +30,11 @@ is_listening _ = false
 abbrev pub is_out : Doing → Bool
 is_out Out = true
 is_out _ = false
+
+-- on a processor, and killed
+abbrev pub is_doomed : Doing → Bool
+is_doomed Doomed = true
+is_doomed _ = false
 
 abbrev pub is_down : Doing → Bool
 is_down (Down c) = true

@@ -3,12 +3,13 @@ use Rattle.std.specs.Prelude.{ℕ, List, length, map, Option, slice_get}
 use Rattle.std.specs.List.{range_with_len}
 use Rattle.std.specs.Option.{option_map}
 use Rattle.mx_proc.specs.TableState.{TableState, process_at, endpoint_of}
+use Rattle.mx_print_report.specs.declared.doing.Naming.TheVariants.{Endpoints}
+use Rattle.mx_print_report.specs.SlotDoing.{doing_of}
 use Rattle.mx_machine.specs.Service.{Service}
 use Rattle.mx_machine.specs.World.{World, HeldProcess, held_by}
 use Rattle.mx_look_facts.specs.declared.slot_glances.SlotGlance.{SlotGlance}
 use Rattle.mx_look_facts.specs.declared.glance.CpuGlance.{CpuGlance}
 use Rattle.mx_look_facts.specs.declared.glance.Glance.{Glance}
-use Rattle.mx_look_facts.specs.SlotDoing.{doing_of}
 use Rattle.mx_look_facts.specs.Faults.{fault_glances}
 use Rattle.mx_look_facts.specs.Images.{image_glance}
 use Rattle.mx_look_facts.specs.Kept.{last_byte, latest_deliveries}
@@ -18,10 +19,10 @@ unfoldable pub glance_of_slot : TableState → ℕ → Service → SlotGlance
 glance_of_slot t s v = let p = process_at t s in record {
   name = v.name;
   endpoint = endpoint_of t s;
-  traps = p.terms.masks.traps;
-  doing = doing_of t s p.state;
-  level = p.level;
-  ticks = p.ticks;
+  traps = p.schedule.terms.masks.traps;
+  doing = doing_of Endpoints t s p.state;
+  level = p.schedule.level;
+  ticks = p.schedule.ticks;
   pending = p.pending;
   lines = p.lines;
   alarm = p.alarm;

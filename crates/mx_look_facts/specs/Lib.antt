@@ -1,4 +1,3 @@
-pub mod SlotDoing
 pub mod Images
 pub mod Kept
 pub mod Faults

@@ -1,9 +1,10 @@
 //! Kinds of what a process does, and when two of them are equal.
 
 ghost use Rattle.std.specs.Prelude.{◌≡◌};
-ghost use Rattle.mx_look_facts.specs.Doings.{is_ready, is_waiting, is_listening, is_out, is_down, same_cause, same_awaited, same_doing};
+ghost use Rattle.mx_look_facts.specs.Doings.{is_ready, is_waiting, is_listening, is_out, is_doomed, is_down, same_cause, same_awaited, same_doing};
 
-use crate::{Awaited, DeathCause, Doing};
+use mx_print_report::{Awaited, Doing};
+use mx_proc::DeathCause;
 
 /// Whether a process is ready.
 pub fn is_ready(doing: Doing) -> bool
@@ -36,8 +37,15 @@ pub(crate) fn is_out(doing: Doing) -> bool
     matches!(doing, Doing::Out)
 }
 
+/// Whether a process is killed on a processor, and is to come back from it.
+pub fn is_doomed(doing: Doing) -> bool
+    ensures { result ≡ is_doomed doing }
+{
+    matches!(doing, Doing::Doomed)
+}
+
 /// Whether a process is dead.
-pub(crate) fn is_down(doing: Doing) -> bool
+pub fn is_down(doing: Doing) -> bool
     ensures { result ≡ is_down doing }
 {
     matches!(doing, Doing::Down(_))

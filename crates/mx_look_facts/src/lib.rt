@@ -9,7 +9,6 @@
 
 mod calls;
 mod deliveries;
-mod doing;
 mod doings;
 mod faults;
 mod glance;
@@ -22,13 +21,12 @@ mod step;
 
 pub use calls::{asks_kernel, kernel_call};
 pub use deliveries::{delivery_to, is_new_bit};
-pub use doing::{Awaited, Doing};
-pub use doings::{is_ready, same_doing};
+pub use doings::{is_doomed, is_down, is_ready, same_doing};
 pub use faults::FaultGlance;
 pub use glance::{CpuGlance, Glance};
 pub use going::{gone_on, got, is_acted};
 pub use images::ImageGlance;
-pub(crate) use mx_proc::{DeathCause, Delivery};
+pub(crate) use mx_proc::Delivery;
 pub use slot_glances::SlotGlance;
 pub use slots::{has_changed, has_rung, is_renewed};
 pub use step::{Step, about, cpu_in, fault_in, held_after, held_before, slot_in};

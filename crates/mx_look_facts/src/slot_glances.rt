@@ -3,9 +3,9 @@
 ghost use Rattle.std.specs.Prelude.{◌≡◌, ◌<◌, length};
 ghost use Rattle.mx_look_facts.specs.Glances.{glance_of_slot, slot_glance, slot_glances};
 
-use crate::doing::{Doing, doing_of};
 use crate::images::{ImageGlance, image_glance};
 use mx_machine::Service;
+use mx_print_report::{Doing, Naming, doing_of};
 use mx_proc::{Endpoint, Slot, Table};
 use mx_text::Name;
 
@@ -40,10 +40,10 @@ fn glance_of_slot(table: &Table, slot: Slot, service: &Service) -> SlotGlance
     SlotGlance {
         name: service.name,
         endpoint: table.endpoint(slot),
-        traps: process.terms.masks.traps,
-        doing: doing_of(table, slot, process.state),
-        level: process.level,
-        ticks: process.ticks,
+        traps: process.schedule.terms.masks.traps,
+        doing: doing_of(Naming::Endpoints, table, slot, process.state),
+        level: process.schedule.level,
+        ticks: process.schedule.ticks,
         pending: process.pending,
         lines: process.lines,
         alarm: process.alarm,

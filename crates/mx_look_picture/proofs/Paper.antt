@@ -1,8 +1,8 @@
 -- Strips and the legend lie on the paper.
 use Rattle.std.proofs.Common.{ℕ, ◌+◌, ◌-◌, ◌*◌, ◌/◌, ◌%◌, ◌<◌, ◌≤◌, Option, Some, None, [], ◌∷◌, length, arith}
 use Rattle.std.specs.Prelude.{◌==◌, is_some}
-use Rattle.mx_look_facts.specs.declared.doing.Doing.{Doing}
-use Rattle.mx_look_facts.specs.declared.doing.Doing.TheVariants as doing
+use Rattle.mx_print_report.specs.declared.doing.Doing.{Doing}
+use Rattle.mx_print_report.specs.declared.doing.Doing.TheVariants as doing
 use Rattle.mx_look_facts.specs.declared.step.Step.{Step}
 use Rattle.mx_look_picture.specs.declared.values.Hint.{Hint}
 use Rattle.mx_look_picture.specs.declared.values.Hint.TheVariants as hint

@@ -4,10 +4,10 @@ use Rattle.std.specs.Prelude.{◌==◌, ◌&&◌}
 use Rattle.std.proofs.lemmas.Bool.{eqb-true, eq-eqb, and_parts, and_from, false≢true}
 use Rattle.mx_proc.specs.declared.process.DeathCause.{DeathCause}
 use Rattle.mx_proc.specs.declared.process.DeathCause.TheVariants as cause
-use Rattle.mx_look_facts.specs.declared.doing.Awaited.{Awaited}
-use Rattle.mx_look_facts.specs.declared.doing.Awaited.TheVariants as awaited
-use Rattle.mx_look_facts.specs.declared.doing.Doing.{Doing}
-use Rattle.mx_look_facts.specs.declared.doing.Doing.TheVariants.{Home, Ready, Out, Doomed, Sending, Calling, Receiving, Awaiting, Down}
+use Rattle.mx_print_report.specs.declared.doing.Awaited.{Awaited}
+use Rattle.mx_print_report.specs.declared.doing.Awaited.TheVariants as awaited
+use Rattle.mx_print_report.specs.declared.doing.Doing.{Doing}
+use Rattle.mx_print_report.specs.declared.doing.Doing.TheVariants.{Home, Ready, Out, Doomed, Sending, Calling, Receiving, Awaiting, Down}
 use Rattle.mx_look_facts.specs.Doings.{same_cause, same_awaited, same_doing}
 use Rattle.mx_look_picture.specs.declared.scene_values.Standing.{Standing}
 use Rattle.mx_look_picture.specs.Scene.{same_cpu, same_standing, same_seen}

@@ -2,8 +2,8 @@
 -- has one bar; when one of these changes, a new bar begins. A dead process has no bar.
 use Rattle.std.specs.Prelude.{ℕ, IsTrue, find, ◌≡◌, ◌+◌, ◌-◌, ◌*◌, ◌<◌, ◌≤◌, ◌==◌, ◌||◌, not, unwrap_or, if◌then◌else◌, Bool, List, [], ◌∷◌, Option, Some, None}
 use Rattle.std.specs.List.{flat_map, range_with_len}
-use Rattle.mx_look_facts.specs.declared.doing.Doing.{Doing}
-use Rattle.mx_look_facts.specs.declared.doing.Doing.TheVariants as doing
+use Rattle.mx_print_report.specs.declared.doing.Doing.{Doing}
+use Rattle.mx_print_report.specs.declared.doing.Doing.TheVariants as doing
 use Rattle.mx_look_picture.specs.declared.values.Hint.{Hint}
 use Rattle.mx_look_picture.specs.declared.values.Hint.TheVariants as hint
 use Rattle.mx_look_picture.specs.declared.values.BarKind.{BarKind}

@@ -5,8 +5,8 @@ use Rattle.mx_proc.specs.declared.process.DeathCause.{DeathCause}
 use Rattle.mx_proc.specs.declared.process.DeathCause.TheVariants as cause
 use Rattle.mx_machine.specs.declared.history.Recorded.{Recorded}
 use Rattle.mx_machine.specs.declared.history.Recorded.TheVariants as recorded
-use Rattle.mx_look_facts.specs.declared.doing.Doing.{Doing}
-use Rattle.mx_look_facts.specs.declared.doing.Doing.TheVariants as doing
+use Rattle.mx_print_report.specs.declared.doing.Doing.{Doing}
+use Rattle.mx_print_report.specs.declared.doing.Doing.TheVariants as doing
 use Rattle.mx_look_facts.specs.declared.slot_glances.SlotGlance.{SlotGlance}
 use Rattle.mx_look_facts.specs.declared.glance.CpuGlance.{CpuGlance}
 use Rattle.mx_look_facts.specs.declared.step.Step.{Step}

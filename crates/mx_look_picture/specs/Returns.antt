@@ -4,8 +4,8 @@ use Rattle.mx_image.specs.declared.runs.Stop.{Stop}
 use Rattle.mx_image.specs.declared.runs.Stop.TheVariants as stop
 use Rattle.mx_machine.specs.declared.history.Recorded.{Recorded}
 use Rattle.mx_machine.specs.declared.history.Recorded.TheVariants.{Back}
-use Rattle.mx_look_facts.specs.declared.doing.Doing.{Doing}
-use Rattle.mx_look_facts.specs.declared.doing.Doing.TheVariants as doing
+use Rattle.mx_print_report.specs.declared.doing.Doing.{Doing}
+use Rattle.mx_print_report.specs.declared.doing.Doing.TheVariants as doing
 use Rattle.mx_look_facts.specs.declared.slot_glances.SlotGlance.{SlotGlance}
 use Rattle.mx_look_facts.specs.declared.glance.CpuGlance.{CpuGlance}
 use Rattle.mx_look_facts.specs.declared.step.Step.{Step}
@@ -46,10 +46,6 @@ unfoldable pub deed_of : CpuGlance → Deed
 deed_of h = deed_by h h.stop
 
 -- ---- how it ended
-
-abbrev pub is_doomed : Doing → Bool
-is_doomed doing.Doomed = true
-is_doomed _ = false
 
 abbrev pub is_doomed_in : Step → ℕ → Bool
 is_doomed_in x s = seen_is is_doomed (slot_in x.before s)

@@ -8,7 +8,7 @@ use crate::figures::{Point, bar, label};
 use crate::layout::{Strip, column, row};
 use crate::scene::{number_at, same_seen, standing_of, world_at};
 use crate::{Anchor, BarKind, Hint, LabelKind, Scene, Standing, Text, Value};
-use mx_look_facts::Doing;
+use mx_print_report::Doing;
 use std::alloc::AllocError;
 
 /// Where a bar is: its left end is at `x`, and its middle at height `y`.

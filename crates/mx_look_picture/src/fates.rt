@@ -6,8 +6,9 @@ ghost use Rattle.mx_look_picture.specs.Fates.{IsOnPaper, height_of, line_to, not
 use crate::figures::{Point, arrow, label, mark};
 use crate::layout::{Spot, row, row_of, toward};
 use crate::{Anchor, ArrowKind, Hint, LabelKind, MarkKind, Text, Value};
-use mx_look_facts::{Doing, Step, gone_on, held_before, is_acted, slot_in};
+use mx_look_facts::{Step, gone_on, held_before, is_acted, slot_in};
 use mx_machine::Recorded;
+use mx_print_report::Doing;
 use mx_proc::DeathCause;
 use std::alloc::AllocError;
 

@@ -10,7 +10,7 @@ use crate::layout::Spot;
 use crate::{Anchor, Deed, Hint, LabelKind, Manner, Text, Value};
 use mx_image::Stop;
 use mx_look_facts::{
-    CpuGlance, Doing, SlotGlance, Step, asks_kernel, gone_on, held_before, is_acted, is_ready,
+    CpuGlance, SlotGlance, Step, asks_kernel, gone_on, held_before, is_acted, is_doomed, is_ready,
     kernel_call, slot_in,
 };
 use mx_machine::Recorded;
@@ -51,7 +51,7 @@ fn is_doomed_in(step: &Step, slot: u32) -> bool
     ensures { result ≡ is_doomed_in step.now slot }
 {
     match slot_in(&step.before, slot) {
-        Some(seen) => matches!(seen.doing, Doing::Doomed),
+        Some(seen) => is_doomed(seen.doing),
         None => false,
     }
 }

@@ -1,7 +1,8 @@
 //! The scene: the run that a picture is drawn from.
 
-use mx_look_facts::{Doing, Glance, Step};
+use mx_look_facts::{Glance, Step};
 use mx_machine::Refusal;
+use mx_print_report::Doing;
 use mx_text::Name;
 
 /// A run that is drawn: some of its records, one after the other.

@@ -1,19 +1,16 @@
 -- Numbers and results, as a trace has them (our own; the names are those of MINIX's errno.h and com.h).
-use Rattle.std.specs.Prelude.{ℕ, zero, suc, ◌/◌, ◌%◌, ◌==◌, false, if◌then◌else◌, List, [], ◌∷◌, ◌++◌, codes}
+use Rattle.std.specs.Prelude.{ℕ, zero, suc, ◌==◌, if◌then◌else◌, List, [], ◌∷◌, ◌++◌, codes, find, Option, Some, None}
 use Rattle.std.specs.List.{flat_map}
-use Rattle.std.specs.Fmt.{decimal, signed_decimal, digit_glyph}
+use Rattle.std.specs.Fmt.{decimal, signed_decimal}
 use Rattle.std.specs.Int.{w32, cast_signed}
 use Rattle.mx_look_facts.specs.declared.step.Step.{Step}
 use Rattle.mx_proc.specs.Errors.{errno_bits}
+use Rattle.mx_proc.specs.declared.errors.Errno.{Errno}
 use Rattle.mx_proc.specs.declared.errors.Errno.TheVariants.{NotPermitted, BadAddress, Invalid, Locked, BadEndpoint, Denied, Dead, NotReady, BadRequest}
 
 -- a record's number, before a line of what came of it
 unfoldable pub margin : Step → List ℕ
 margin x = decimal x.number ++ codes "   "
-
--- a byte in one hexadecimal digit or two
-unfoldable pub hex_text : ℕ → List ℕ
-hex_text b = if b / 16 == 0 then digit_glyph false (b % 16) ∷ [] else digit_glyph false (b / 16) ∷ digit_glyph false (b % 16) ∷ []
 
 -- numbers, each after a space
 abbrev pub spaced_numbers : List ℕ → List ℕ
@@ -29,20 +26,32 @@ abbrev pub used_count : List ℕ → ℕ
 used_count [] = 0
 used_count (x ∷ xs) = used_before x (used_count xs)
 
+abbrev pub errnos : List Errno
+errnos = NotPermitted ∷ BadAddress ∷ Invalid ∷ Locked ∷ BadEndpoint ∷ Denied ∷ Dead ∷ NotReady ∷ BadRequest ∷ []
+
+-- the error that a result is
+unfoldable pub errno_of : ℕ → Option Errno
+errno_of r = find (λ e. errno_bits e == r) errnos
+
+-- the name of an error, after a space
+abbrev pub errno_name : Errno → List ℕ
+errno_name NotPermitted = codes " EPERM"
+errno_name BadAddress = codes " EFAULT"
+errno_name Invalid = codes " EINVAL"
+errno_name Locked = codes " ELOCKED"
+errno_name BadEndpoint = codes " EBADSRCDST"
+errno_name Denied = codes " ECALLDENIED"
+errno_name Dead = codes " EDEADDST"
+errno_name NotReady = codes " ENOTREADY"
+errno_name BadRequest = codes " EBADREQUEST"
+
+abbrev pub name_of_errno : Option Errno → List ℕ
+name_of_errno None = []
+name_of_errno (Some e) = errno_name e
+
 -- the name of a result, after a space
 unfoldable pub result_name : ℕ → List ℕ
-result_name r =
-    if r == 0 then codes " OK" else
-    if r == errno_bits NotPermitted then codes " EPERM" else
-    if r == errno_bits BadAddress then codes " EFAULT" else
-    if r == errno_bits Invalid then codes " EINVAL" else
-    if r == errno_bits Locked then codes " ELOCKED" else
-    if r == errno_bits BadEndpoint then codes " EBADSRCDST" else
-    if r == errno_bits Denied then codes " ECALLDENIED" else
-    if r == errno_bits Dead then codes " EDEADDST" else
-    if r == errno_bits NotReady then codes " ENOTREADY" else
-    if r == errno_bits BadRequest then codes " EBADREQUEST" else
-    []
+result_name r = if r == 0 then codes " OK" else name_of_errno (errno_of r)
 
 -- A RESULT with its sign, and its name
 abbrev pub result_text : ℕ → List ℕ

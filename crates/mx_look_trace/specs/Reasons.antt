@@ -4,7 +4,7 @@ use Rattle.std.specs.Prelude.{ℕ, ◌+◌, ◌==◌, ◌&&◌, ◌||◌, not, n
 use Rattle.std.specs.Fmt.{decimal}
 use Rattle.mx_word.specs.Bits.{has_bit}
 use Rattle.mx_proc.specs.EndpointNumbers.{slot_of, any_endpoint, hardware_endpoint, system_endpoint, clock_endpoint}
-use Rattle.mx_proc.specs.Errors.{errno_bits}
+use Rattle.mx_proc.specs.declared.errors.Errno.{Errno}
 use Rattle.mx_proc.specs.declared.errors.Errno.TheVariants.{BadAddress, Invalid, BadEndpoint, Denied}
 use Rattle.mx_look_facts.specs.declared.slot_glances.SlotGlance.{SlotGlance}
 use Rattle.mx_look_facts.specs.declared.glance.CpuGlance.{CpuGlance}
@@ -12,6 +12,7 @@ use Rattle.mx_look_facts.specs.declared.glance.Glance.{Glance}
 use Rattle.mx_look_facts.specs.declared.step.Step.{Step}
 use Rattle.mx_look_facts.specs.Step.{slot_in, held_before}
 use Rattle.mx_look_facts.specs.Going.{is_acted}
+use Rattle.mx_look_trace.specs.Numbers.{errno_of}
 use Rattle.mx_look_trace.specs.Words.{party_text}
 
 -- ---- of a trap
@@ -38,12 +39,14 @@ misnamed_text g party =
     if (party == any_endpoint) || is_pseudo party then partner_text g party else codes " (no such slot)"
 
 -- the refusal of a trap that was held, by a process as it was seen: EFAULT is about the 36 bytes at EBX
+abbrev pub trap_reason_by : Glance → CpuGlance → SlotGlance → Option Errno → List ℕ
+trap_reason_by g h v (Some Denied) = denied_text g v.traps h.image.ecx h.image.eax
+trap_reason_by g h v (Some BadEndpoint) = misnamed_text g h.image.eax
+trap_reason_by g h v (Some BadAddress) = codes " (buffer)"
+trap_reason_by g h v _ = []
+
 unfoldable pub trap_reason : Glance → CpuGlance → SlotGlance → ℕ → List ℕ
-trap_reason g h v r =
-    if r == errno_bits Denied then denied_text g v.traps h.image.ecx h.image.eax else
-    if r == errno_bits BadEndpoint then misnamed_text g h.image.eax else
-    if r == errno_bits BadAddress then codes " (buffer)" else
-    []
+trap_reason g h v r = trap_reason_by g h v (errno_of r)
 
 abbrev pub refusal_part_by : Step → Option CpuGlance → Option SlotGlance → ℕ → List ℕ
 refusal_part_by x (Some h) (Some v) r = trap_reason x.before h v r
@@ -90,11 +93,13 @@ outside_text g request =
     if (slice_index request 1 == 0x605) && holds_in (slot_in g (slot_of (slice_index request 2))) (slice_index request 3) (slice_index request 6)
     then codes " (p3, address)" else codes " (p1, address)"
 
+abbrev pub request_reason_by : Glance → List ℕ → Option Errno → List ℕ
+request_reason_by g request (Some Denied) = codes " (call mask)"
+request_reason_by g request (Some Invalid) = invalid_text request
+request_reason_by g request (Some BadEndpoint) = absent_text g request
+request_reason_by g request (Some BadAddress) = outside_text g request
+request_reason_by g request _ = []
+
 -- WHY A REQUEST IS ANSWERED SO, by the machine that has answered it
 unfoldable pub request_reason : Glance → List ℕ → ℕ → List ℕ
-request_reason g request r =
-    if r == errno_bits Denied then codes " (call mask)" else
-    if r == errno_bits Invalid then invalid_text request else
-    if r == errno_bits BadEndpoint then absent_text g request else
-    if r == errno_bits BadAddress then outside_text g request else
-    []
+request_reason g request r = request_reason_by g request (errno_of r)

@@ -8,23 +8,22 @@ use Rattle.mx_image.specs.declared.runs.Stop.TheVariants as stop
 use Rattle.mx_machine.specs.declared.history.Recorded.{Recorded}
 use Rattle.mx_machine.specs.declared.history.Recorded.TheVariants.{Take, Back, Line, Tick, Kill, Respawn}
 use Rattle.mx_proc.specs.declared.deliveries.Delivery.{Delivery}
-use Rattle.mx_proc.specs.declared.deliveries.DeliveryKind.{DeliveryKind}
-use Rattle.mx_proc.specs.declared.deliveries.DeliveryKind.TheVariants.{Message, Notification}
-use Rattle.mx_look_facts.specs.declared.doing.Doing.{Doing}
-use Rattle.mx_look_facts.specs.declared.doing.Doing.TheVariants as doing
+use Rattle.mx_proc.specs.EndpointNumbers.{hardware_endpoint, clock_endpoint}
+use Rattle.mx_print_report.specs.Numbers.{hex_text}
+use Rattle.mx_print_report.specs.Words.{doing_text, kind_word}
 use Rattle.mx_look_facts.specs.declared.slot_glances.SlotGlance.{SlotGlance}
 use Rattle.mx_look_facts.specs.declared.glance.CpuGlance.{CpuGlance}
 use Rattle.mx_look_facts.specs.declared.glance.Glance.{Glance}
 use Rattle.mx_look_facts.specs.declared.step.Step.{Step}
 use Rattle.mx_look_facts.specs.Step.{slot_in, held_before, held_after, about}
-use Rattle.mx_look_facts.specs.Doings.{is_ready}
+use Rattle.mx_look_facts.specs.Doings.{is_doomed, is_ready}
 use Rattle.mx_look_facts.specs.Going.{gone_on}
 use Rattle.mx_look_facts.specs.Deliveries.{delivery_to, is_new_bit}
 use Rattle.mx_look_facts.specs.Calls.{kernel_call}
 use Rattle.mx_look_facts.specs.Slots.{has_changed, has_rung, is_renewed}
 use Rattle.mx_look_trace.specs.Faults.{fault_line}
-use Rattle.mx_look_trace.specs.Numbers.{hex_text, margin, spaced_numbers, used_count, result_text}
-use Rattle.mx_look_trace.specs.Words.{who, who_of, party_text, doing_text}
+use Rattle.mx_look_trace.specs.Numbers.{margin, spaced_numbers, used_count, result_text}
+use Rattle.mx_look_trace.specs.Words.{who, who_of, party_text}
 use Rattle.mx_look_trace.specs.Reasons.{refusal_part}
 use Rattle.mx_look_trace.specs.KernelCalls.{request_text, answer_text}
 
@@ -39,10 +38,19 @@ event_text Tick = codes "tick"
 event_text (Kill e) = codes "kill " ++ decimal e
 event_text (Respawn s) = codes "respawn " ++ decimal s
 
-unfoldable pub call_text : ℕ → List ℕ
-call_text n =
+-- the name of a trap's call, or nothing
+unfoldable pub call_name : ℕ → List ℕ
+call_name n =
     if n == 1 then codes "SEND" else if n == 2 then codes "RECEIVE" else
-    if n == 3 then codes "SENDREC" else if n == 4 then codes "NOTIFY" else decimal n
+    if n == 3 then codes "SENDREC" else if n == 4 then codes "NOTIFY" else []
+
+-- a name, or another text if there is none
+abbrev pub name_or : List ℕ → List ℕ → List ℕ
+name_or other [] = other
+name_or other name = name
+
+unfoldable pub call_text : ℕ → List ℕ
+call_text n = name_or (decimal n) (call_name n)
 
 -- how the steps of a process ended: `early` is before the budget was spent
 abbrev pub stop_text_by : Glance → CpuGlance → Stop → List ℕ
@@ -52,10 +60,6 @@ stop_text_by g h stop.Trap = codes "trap " ++ call_text h.image.ecx ++ codes " "
 
 unfoldable pub stop_text : Glance → CpuGlance → List ℕ
 stop_text g h = stop_text_by g h h.stop
-
-abbrev pub is_doomed : Doing → Bool
-is_doomed doing.Doomed = true
-is_doomed _ = false
 
 abbrev pub doom_text_by : Option SlotGlance → List ℕ
 doom_text_by None = []
@@ -135,10 +139,6 @@ console_line x = if x.before.written == x.after.written then [] else console_lin
 unfoldable pub alarm_line : Step → ℕ → List ℕ
 alarm_line x s = if has_rung x s then margin x ++ codes "alarm " ++ who x.after s ++ codes "\n" else []
 
-abbrev pub kind_text : DeliveryKind → List ℕ
-kind_text Message = codes "message "
-kind_text Notification = codes "notify "
-
 -- numbers without the zeros at the end, if any is left
 unfoldable pub told_words : List ℕ → List ℕ
 told_words xs = if used_count xs == 0 then [] else codes " words" ++ spaced_numbers (take (used_count xs) xs)
@@ -159,7 +159,7 @@ delivered_words seen = delivered_words_by seen
 abbrev pub delivery_line_by : Step → ℕ → Option Delivery → List ℕ
 delivery_line_by x s None = []
 delivery_line_by x s (Some d) =
-    margin x ++ kind_text d.kind ++ party_text x.after d.from ++ codes " to " ++ party_text x.after d.to
+    margin x ++ kind_word d.kind ++ codes " " ++ party_text x.after d.from ++ codes " to " ++ party_text x.after d.to
     ++ codes " type " ++ decimal d.message_type ++ delivered_words (slot_in x.after s) ++ codes "\n"
 
 unfoldable pub delivery_line : Step → ℕ → List ℕ
@@ -167,7 +167,8 @@ delivery_line x s = delivery_line_by x s (delivery_to x s)
 
 -- the source that has a place among the pending bits
 unfoldable pub source_text : Glance → ℕ → List ℕ
-source_text g place = if place == 0 then codes "HARDWARE" else if place == 1 then codes "CLOCK" else who g (place - 2)
+source_text g place =
+    if place == 0 then party_text g hardware_endpoint else if place == 1 then party_text g clock_endpoint else who g (place - 2)
 
 unfoldable pub kept_line : Step → SlotGlance → SlotGlance → ℕ → List ℕ
 kept_line x v u place = if is_new_bit v u place then margin x ++ codes "notify " ++ source_text x.after place ++ codes " to " ++ who_of u ++ codes ", pending\n" else []

@@ -1,14 +1,14 @@
 //! A record's own line.
 
 ghost use Rattle.std.specs.Prelude.{◌≡◌, ◌++◌, OnOk};
-ghost use Rattle.mx_look_trace.specs.Trace.{event_text, call_text, stop_text, doom_text, return_text, take_text, subject_text, about_text, head_line};
+ghost use Rattle.mx_look_trace.specs.Trace.{event_text, call_name, call_text, stop_text, doom_text, return_text, take_text, subject_text, about_text, head_line};
 
 use crate::kernel_calls::push_request;
-use crate::words::{push_counted, push_party, push_who};
+use crate::words::{push_party, push_who};
 use mx_image::Stop;
-use mx_look_facts::{CpuGlance, Doing, Glance, Step, about, held_after, held_before, slot_in};
+use mx_look_facts::{CpuGlance, Glance, Step, about, held_after, held_before, is_doomed, slot_in};
 use mx_machine::Recorded;
-use mx_print_report::push_decimal;
+use mx_print_report::{push_counted, push_decimal};
 use std::alloc::AllocError;
 
 /// Appends what was recorded, as a saved history has it.
@@ -25,17 +25,30 @@ pub fn push_event(out: &mut Vec<u8>, event: Recorded) -> Result<(), AllocError>
     }
 }
 
+/// The name of a trap's call, or nothing.
+#[tactic(auto, unfolding(crate::specs::Trace::call_name))]
+pub fn call_name(call: u32) -> &'static [u8]
+    ensures { result.now ≡ call_name call }
+{
+    match call {
+        1 => b"SEND",
+        2 => b"RECEIVE",
+        3 => b"SENDREC",
+        4 => b"NOTIFY",
+        _ => b"",
+    }
+}
+
 /// Appends the name or the number of a call.
 #[tactic(auto, unfolding(crate::specs::Trace::call_text))]
 pub fn push_call(out: &mut Vec<u8>, call: u32) -> Result<(), AllocError>
     ensures { OnOk result (out.new.items ≡ out.old.items ++ call_text call) }
 {
-    match call {
-        1 => out.extend_from_slice(b"SEND"),
-        2 => out.extend_from_slice(b"RECEIVE"),
-        3 => out.extend_from_slice(b"SENDREC"),
-        4 => out.extend_from_slice(b"NOTIFY"),
-        _ => push_decimal(out, call),
+    let name = call_name(call);
+    if name.is_empty() {
+        push_decimal(out, call)
+    } else {
+        out.extend_from_slice(name)
     }
 }
 
@@ -64,7 +77,7 @@ fn push_doom(out: &mut Vec<u8>, glance: &Glance, slot: u32) -> Result<(), AllocE
     ensures { OnOk result (out.new.items ≡ out.old.items ++ doom_text glance.now slot) }
 {
     match slot_in(glance, slot) {
-        Some(seen) if matches!(seen.doing, Doing::Doomed) => out.extend_from_slice(b", doomed"),
+        Some(seen) if is_doomed(seen.doing) => out.extend_from_slice(b", doomed"),
         _ => Ok(()),
     }
 }

@@ -7,10 +7,9 @@ ghost use Rattle.mx_look_trace.specs.KernelCalls.{answer_count, answer_text, oth
 
 use crate::numbers::{push_result, push_spaced};
 use crate::reasons::request_reason;
-use crate::words::push_counted;
 use mx_kcall::{CallRow, FIRST_CALL, call_row};
 use mx_look_facts::{CpuGlance, Glance, asks_kernel};
-use mx_print_report::push_decimal;
+use mx_print_report::{push_counted, push_decimal};
 use std::alloc::AllocError;
 
 /// The name of the request of a type, or nothing.

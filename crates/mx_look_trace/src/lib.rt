@@ -13,11 +13,10 @@ mod record;
 mod words;
 
 pub use faults::push_fault_line;
-pub use heads::{push_call, push_event, push_head};
+pub use heads::{call_name, push_call, push_event, push_head};
 pub use kernel_calls::request_name;
 pub use lines::{push_change, push_console_line, push_delivery};
 pub use mx_look_facts::{Glance, Step};
-pub use numbers::{push_hex, push_signed};
 pub use pending::push_kept;
 pub use record::push_record;
-pub use words::{push_doing, push_who};
+pub use words::push_who;

@@ -3,18 +3,18 @@
 ghost use Rattle.std.specs.Prelude.{◌≡◌, ◌<◌, ◌++◌, OnOk};
 ghost use Rattle.mx_look_facts.specs.Step.{slot_in};
 ghost use Rattle.mx_look_trace.specs.Numbers.{margin};
-ghost use Rattle.mx_look_trace.specs.Trace.{answered, answer_line, console_text, console_line, alarm_line, kind_text, told_words, delivered_words, delivery_line, result_part, changed, change_line, quantum_line};
+ghost use Rattle.mx_look_trace.specs.Trace.{answered, answer_line, console_text, console_line, alarm_line, told_words, delivered_words, delivery_line, result_part, changed, change_line, quantum_line};
 
 use crate::kernel_calls::push_answer;
-use crate::numbers::{push_hex, push_result, push_spaced, used_count};
+use crate::numbers::{push_result, push_spaced, used_count};
 use crate::reasons::push_refusal;
-use crate::words::{push_counted, push_doing, push_party, push_who, push_who_of};
+use crate::words::{push_party, push_who, push_who_of};
 use mx_look_facts::{
     CpuGlance, SlotGlance, Step, delivery_to, gone_on, has_changed, has_rung, is_ready, is_renewed,
     kernel_call, slot_in,
 };
-use mx_print_report::push_decimal;
-use mx_proc::{Delivery, DeliveryKind};
+use mx_print_report::{kind_word, push_counted, push_decimal, push_doing, push_hex};
+use mx_proc::Delivery;
 use std::alloc::AllocError;
 
 /// Appends a record's number, and three spaces.
@@ -108,16 +108,6 @@ pub(crate) fn push_alarm(out: &mut Vec<u8>, step: &Step, slot: u32) -> Result<()
     Ok(())
 }
 
-/// The word of a kind.
-fn kind_text(kind: DeliveryKind) -> &'static [u8]
-    ensures { result.now ≡ kind_text kind }
-{
-    match kind {
-        DeliveryKind::Message => b"message ",
-        DeliveryKind::Notification => b"notify ",
-    }
-}
-
 /// Appends numbers without the zeros at the end, if any is left.
 #[tactic(auto, unfolding(crate::specs::Trace::told_words))]
 fn push_told_words(out: &mut Vec<u8>, numbers: &[u32]) -> Result<(), AllocError>
@@ -156,7 +146,8 @@ pub fn push_delivery(out: &mut Vec<u8>, step: &Step, slot: u32) -> Result<(), Al
         return Ok(());
     };
     push_margin(out, step)?;
-    out.extend_from_slice(kind_text(delivery.kind))?;
+    out.extend_from_slice(kind_word(delivery.kind).as_bytes())?;
+    out.push(b' ')?;
     push_party(out, &step.after, delivery.from)?;
     out.extend_from_slice(b" to ")?;
     push_party(out, &step.after, delivery.to)?;

@@ -1,53 +1,18 @@
 //! Numbers and results.
 
-ghost use Rattle.std.specs.Prelude.{◌≡◌, ◌<◌, ◌≤◌, ◌++◌, false, length, OnOk};
-ghost use Rattle.std.specs.Fmt.{signed_decimal, digit_glyph};
-ghost use Rattle.std.specs.Int.{w32, cast_signed};
-ghost use Rattle.mx_look_trace.specs.Numbers.{hex_text, spaced_numbers, used_count, result_name, result_text};
+ghost use Rattle.std.specs.Prelude.{◌≡◌, ◌≤◌, ◌++◌, length, OnOk};
+ghost use Rattle.mx_look_trace.specs.Numbers.{errno_name, errno_of, spaced_numbers, used_count, result_name, result_text};
 
-use itoa::Buffer;
-use mx_print_report::push_decimal;
+use mx_print_report::{push_number, push_signed};
+use mx_proc::Errno;
 use std::alloc::AllocError;
-
-/// Appends a number with its sign.
-pub fn push_signed(out: &mut Vec<u8>, number: u32) -> Result<(), AllocError>
-    ensures { OnOk result (out.new.items ≡ out.old.items
-        ++ signed_decimal (cast_signed w32 number)) }
-{
-    out.extend_from_slice(Buffer::new().format(number.cast_signed()).as_bytes())
-}
-
-/// The hexadecimal digit of a number.
-fn digit(number: u8) -> u8
-    requires { number < 16 }
-    ensures { result ≡ digit_glyph false number }
-{
-    if number < 10 {
-        48 + number
-    } else {
-        87 + number
-    }
-}
-
-/// Appends a byte in hexadecimal digits.
-#[tactic(auto, unfolding(crate::specs::Numbers::hex_text))]
-pub fn push_hex(out: &mut Vec<u8>, byte: u8) -> Result<(), AllocError>
-    ensures { OnOk result (out.new.items ≡ out.old.items ++ hex_text byte) }
-{
-    if byte >= 16 {
-        out.push(digit(byte / 16))?;
-    }
-    out.push(digit(byte % 16))?;
-    Ok(())
-}
 
 /// Appends numbers, each after a space.
 pub(crate) fn push_spaced(out: &mut Vec<u8>, numbers: &[u32]) -> Result<(), AllocError>
     ensures { OnOk result (out.new.items ≡ out.old.items ++ spaced_numbers numbers.now) }
 {
     for number in numbers {
-        out.push(b' ')?;
-        push_decimal(out, *number)?;
+        push_number(out, *number)?;
     }
     Ok(())
 }
@@ -66,23 +31,55 @@ pub(crate) fn used_count(numbers: &[u32]) -> usize
     count
 }
 
+/// All errors.
+const ERRNOS: [Errno; 9] = [
+    Errno::NotPermitted,
+    Errno::BadAddress,
+    Errno::Invalid,
+    Errno::Locked,
+    Errno::BadEndpoint,
+    Errno::Denied,
+    Errno::Dead,
+    Errno::NotReady,
+    Errno::BadRequest,
+];
+
+/// The error that a result is, or nothing if it is none.
+#[tactic(auto, unfolding(crate::specs::Numbers::errno_of))]
+pub(crate) fn errno_of(outcome: u32) -> Option<Errno>
+    ensures { result ≡ errno_of outcome }
+{
+    ERRNOS.iter().find(|errno| errno.bits() == outcome).copied()
+}
+
+/// The name of an error, after a space.
+fn errno_name(errno: Errno) -> &'static [u8]
+    ensures { result.now ≡ errno_name errno }
+{
+    match errno {
+        Errno::NotPermitted => b" EPERM",
+        Errno::BadAddress => b" EFAULT",
+        Errno::Invalid => b" EINVAL",
+        Errno::Locked => b" ELOCKED",
+        Errno::BadEndpoint => b" EBADSRCDST",
+        Errno::Denied => b" ECALLDENIED",
+        Errno::Dead => b" EDEADDST",
+        Errno::NotReady => b" ENOTREADY",
+        Errno::BadRequest => b" EBADREQUEST",
+    }
+}
+
 /// The name of a result, after a space, if it has one.
 #[tactic(auto, unfolding(crate::specs::Numbers::result_name))]
 fn result_name(outcome: u32) -> &'static [u8]
     ensures { result.now ≡ result_name outcome }
 {
-    match outcome {
-        0 => b" OK",
-        0xFFFF_FFFF => b" EPERM",
-        0xFFFF_FFF2 => b" EFAULT",
-        0xFFFF_FFEA => b" EINVAL",
-        0xFFFF_FF9B => b" ELOCKED",
-        0xFFFF_FF99 => b" EBADSRCDST",
-        0xFFFF_FF98 => b" ECALLDENIED",
-        0xFFFF_FF97 => b" EDEADDST",
-        0xFFFF_FF96 => b" ENOTREADY",
-        0xFFFF_FF95 => b" EBADREQUEST",
-        _ => b"",
+    if outcome == 0 {
+        return b" OK";
+    }
+    match errno_of(outcome) {
+        Some(errno) => errno_name(errno),
+        None => b"",
     }
 }
 

@@ -4,8 +4,9 @@ ghost use Rattle.std.specs.Prelude.{◌≡◌, ◌++◌, OnOk};
 ghost use Rattle.mx_look_trace.specs.Trace.{source_text, kept_line, kept_between, kept_lines};
 
 use crate::lines::push_margin;
-use crate::words::{push_who, push_who_of};
+use crate::words::{push_party, push_who, push_who_of};
 use mx_look_facts::{Glance, SlotGlance, Step, is_new_bit, slot_in};
+use mx_proc::{CLOCK, HARDWARE};
 use std::alloc::AllocError;
 
 /// Appends the source that has a place among the pending bits.
@@ -14,8 +15,8 @@ fn push_source(out: &mut Vec<u8>, glance: &Glance, place: u32) -> Result<(), All
     ensures { OnOk result (out.new.items ≡ out.old.items ++ source_text glance.now place) }
 {
     match place {
-        0 => out.extend_from_slice(b"HARDWARE"),
-        1 => out.extend_from_slice(b"CLOCK"),
+        0 => push_party(out, glance, HARDWARE),
+        1 => push_party(out, glance, CLOCK),
         _ => push_who(out, glance, place - 2),
     }
 }

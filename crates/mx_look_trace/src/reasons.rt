@@ -5,9 +5,11 @@ ghost use Rattle.std.specs.Prelude.{◌≡◌, ◌++◌, OnOk, option_map};
 ghost use Rattle.mx_look_facts.specs.Step.{slot_in};
 ghost use Rattle.mx_look_trace.specs.Reasons.{is_pseudo, partner_text, denied_text, misnamed_text, trap_reason, refusal_part, invalid_text, names_service, absent_text, holds_in, outside_text, request_reason};
 
-use crate::words::{push_counted, push_party};
+use crate::numbers::errno_of;
+use crate::words::push_party;
 use mx_look_facts::{CpuGlance, Glance, SlotGlance, Step, held_before, is_acted, slot_in};
-use mx_proc::{ANY, CLOCK, HARDWARE, SYSTEM, slot_of};
+use mx_print_report::push_counted;
+use mx_proc::{ANY, CLOCK, Errno, HARDWARE, SYSTEM, slot_of};
 use mx_word::has_bit;
 use std::alloc::AllocError;
 
@@ -78,10 +80,10 @@ fn push_trap_reason(
     ensures { OnOk result (out.new.items ≡ out.old.items
         ++ trap_reason glance.now held.now seen.now outcome) }
 {
-    match outcome {
-        0xFFFF_FF98 => push_denied(out, glance, seen.traps, held.image.ecx, held.image.eax),
-        0xFFFF_FF99 => push_misnamed(out, glance, held.image.eax),
-        0xFFFF_FFF2 => out.extend_from_slice(b" (buffer)"),
+    match errno_of(outcome) {
+        Some(Errno::Denied) => push_denied(out, glance, seen.traps, held.image.ecx, held.image.eax),
+        Some(Errno::BadEndpoint) => push_misnamed(out, glance, held.image.eax),
+        Some(Errno::BadAddress) => out.extend_from_slice(b" (buffer)"),
         _ => Ok(()),
     }
 }
@@ -169,11 +171,11 @@ fn outside_text(glance: &Glance, request: &[u32; 9]) -> &'static [u8]
 pub(crate) fn request_reason(glance: &Glance, request: &[u32; 9], outcome: u32) -> &'static [u8]
     ensures { result.now ≡ request_reason glance.now request.now outcome }
 {
-    match outcome {
-        0xFFFF_FF98 => b" (call mask)",
-        0xFFFF_FFEA => invalid_text(request),
-        0xFFFF_FF99 => absent_text(glance, request),
-        0xFFFF_FFF2 => outside_text(glance, request),
+    match errno_of(outcome) {
+        Some(Errno::Denied) => b" (call mask)",
+        Some(Errno::Invalid) => invalid_text(request),
+        Some(Errno::BadEndpoint) => absent_text(glance, request),
+        Some(Errno::BadAddress) => outside_text(glance, request),
         _ => b"",
     }
 }

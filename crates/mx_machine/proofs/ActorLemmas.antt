@@ -44,15 +44,16 @@ by_event w a Tick = refl
 by_event w a (Kill e) = refl
 by_event w a (Respawn s) = by_respawn w s (slice_get w.services s)
 
-pub by_events : (w : World) (xs : List (ℕ × Event)) → actors (world_after_events w xs) ≡ actors w
-by_events w [] = refl
-by_events w (x ∷ xs) = by_events (world_after_event w x.0 x.1) xs ∙ by_event w x.0 x.1
+-- events in a row
+pub actors_after_events : (w : World) (xs : List (ℕ × Event)) → actors (world_after_events w xs) ≡ actors w
+actors_after_events w [] = refl
+actors_after_events w (x ∷ xs) = actors_after_events (world_after_event w x.0 x.1) xs ∙ by_event w x.0 x.1
 
 by_answer : (w : World) (a : ℕ) (x : Event) (r : Option Refusal) → actors (move_by w a x r).1 ≡ actors w
 by_answer w a x (Some r) = refl
 by_answer w a x None = by_event w a x
 
 -- an event that may be refused
-pub by_move : (w : World) (a : ℕ) (x : Event) → actors (move w a x).1 ≡ actors w
+pub actors_after_move : (w : World) (a : ℕ) (x : Event) → actors (move w a x).1 ≡ actors w
 unfolding move
-by_move w a x = by_answer w a x (event_refusal w a x)
+actors_after_move w a x = by_answer w a x (event_refusal w a x)

@@ -6,19 +6,17 @@ use Rattle.mx_machine.specs.declared.events.Event.TheVariants.{Step, Take, Back,
 use Rattle.mx_machine.specs.declared.history.Record.{Record}
 use Rattle.mx_machine.specs.declared.history.Recorded.{Recorded}
 use Rattle.mx_machine.specs.declared.history.Recorded.TheVariants as recorded
-use Rattle.mx_machine.specs.History.{BootAndHistory, IsWritable, events_of, events_of_history, world_after_events, replay}
+use Rattle.mx_machine.specs.History.{BootAndHistory, IsWritable, events_of, events_of_history, replay}
 use Rattle.mx_machine.specs.World.{World, actors}
 use Rattle.mx_machine.specs.Laws.{Replays, RunsAgain}
 use Rattle.mx_machine.specs.Machine.{IsActor}
+use Rattle.mx_machine.proofs.ActorLemmas.{actors_after_events}
 
 -- ---- events by actors
 
-abbrev pub Stay : Type 0
-Stay = (w : World) (xs : List (ℕ × Event)) → actors (world_after_events w xs) ≡ actors w
-
-actors-replay : Stay → (k : BootAndHistory) → actors (replay k) ≡ actors k.boot
+actors-replay : (k : BootAndHistory) → actors (replay k) ≡ actors k.boot
 unfolding replay
-actors-replay stay k = stay k.boot (events_of_history k.history)
+actors-replay k = actors_after_events k.boot (events_of_history k.history)
 
 abbrev ByActor : World → ℕ × Event → Type 0
 ByActor w x = IsActor w x.0 x.1
@@ -42,9 +40,9 @@ by-actors w (x ∷ xs) h =
 
 -- ---- the run
 
-pub runs-again : Stay → (w : World) (k : BootAndHistory) → w ≡ k.boot → All (IsWritable (actors (replay k))) k.history → Replays k → RunsAgain w k
-runs-again stay w k e written r = subst (λ (v : World). RunsAgain v k) (sym e) (record {
-  may = by-actors k.boot k.history (subst (λ n. All (IsWritable n) k.history) (actors-replay stay k) written);
+pub runs-again : (w : World) (k : BootAndHistory) → w ≡ k.boot → All (IsWritable (actors (replay k))) k.history → Replays k → RunsAgain w k
+runs-again w k e written r = subst (λ (v : World). RunsAgain v k) (sym e) (record {
+  may = by-actors k.boot k.history (subst (λ n. All (IsWritable n) k.history) (actors-replay k) written);
   accepted = r.accepted;
   world = r.world;
 })

@@ -61,16 +61,16 @@ no_loan : (p : Process) → is_out p.state ≡ false → loan_of p ≡ None
 no_loan p h = rw h refl
 
 pub ready_loan : (p : Process) → is_ready p.state ≡ true → loan_of p ≡ None
-ready_loan p h = no_loan p (state_loan p.state p.ticks h)
+ready_loan p h = no_loan p (state_loan p.state p.schedule.ticks h)
 
 pub down_loan : (p : Process) → is_down p.state ≡ true → loan_of p ≡ None
 down_loan p h = no_loan p (down_out p.state h)
 
-pub loan_means : (p : Process) (n : ℕ) → loan_of p ≡ Some n → (is_out p.state ≡ true) × (p.ticks ≡ n)
+pub loan_means : (p : Process) (n : ℕ) → loan_of p ≡ Some n → (is_out p.state ≡ true) × (p.schedule.ticks ≡ n)
 loan_means p n h = go (is_out p.state) refl
   where
-    go : (b : Bool) → is_out p.state ≡ b → (is_out p.state ≡ true) × (p.ticks ≡ n)
-    go true e = (e, let z : Some p.ticks ≡ Some n = sym (let f : loan_of p ≡ Some p.ticks = rw e refl in f) ∙ h in cc)
+    go : (b : Bool) → is_out p.state ≡ b → (is_out p.state ≡ true) × (p.schedule.ticks ≡ n)
+    go true e = (e, let z : Some p.schedule.ticks ≡ Some n = sym (let f : loan_of p ≡ Some p.schedule.ticks = rw e refl in f) ∙ h in cc)
     go false e = let z : None ≡ Some n = sym (no_loan p e) ∙ h in cc
 
 loan_used : (t : TableState) (s n : ℕ) → loan_of (process_at t s) ≡ Some n → s < length t.slots
@@ -83,7 +83,7 @@ loan_used t s n h = elim (cases_lt s (length t.slots)) [
 pub record IsLeased (t : TableState) (x : Lease) : Type 0 where
   pub used : x.slot < length t.slots
   pub out : is_out (process_at t x.slot).state ≡ true
-  pub ticks : (process_at t x.slot).ticks ≡ x.budget
+  pub ticks : (process_at t x.slot).schedule.ticks ≡ x.budget
   pub few : x.budget ≤ 65535
   pub steps : (process_at t x.slot).steps ≤ 65535 * 2 ^ 20
   pub console : t.devices.console.count ≤ 2 ^ 20
@@ -96,7 +96,7 @@ leased_known d n a x v h s e =
       used = loan_used d.table x.slot x.budget l;
       out = m.0;
       ticks = m.1;
-      few = omega (arith, m.1, (s.each x.slot).process.ticks, (process_at d.table x.slot).terms.quantum_fits);
+      few = omega (arith, m.1, (process_at d.table x.slot).schedule.ticks_fit, (process_at d.table x.slot).schedule.terms.quantum_fits);
       steps = omega (arith, h.steps x.slot, h.room, h.size);
       console = omega (arith, h.console, h.room, h.size);
     }
@@ -104,7 +104,7 @@ leased_known d n a x v h s e =
 -- ---- after an event
 
 pub taken_holds : (d n : KernelState) (u : TableState) (a s budget : ℕ) → d ≡ n → HoldsOf d → a < length n.leases → lease_at n.leases a ≡ None → is_ready (process_at n.table s).state ≡ true → 2 ≤ records_left n
-    → IsSent d.table u s → budget ≡ (process_at d.table s).ticks → IsConsistent u (slice_set d.leases a (Some (record { slot = s; budget = budget }))) d.services (d.records + 1) d.capacity
+    → IsSent d.table u s → budget ≡ (process_at d.table s).schedule.ticks → IsConsistent u (slice_set d.leases a (Some (record { slot = s; budget = budget }))) d.services (d.records + 1) d.capacity
 taken_holds d n u a s budget v h below idle ready room sent ticks =
     holds_taken d.table u d.leases d.services d.records d.capacity a s budget h
     (subst (λ (d : KernelState). a < length d.leases) (sym v) below)

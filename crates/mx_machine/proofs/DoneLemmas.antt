@@ -10,7 +10,7 @@ use Rattle.mx_machine.specs.declared.events.Refusal.TheVariants.{AtStop, CpuEmpt
 use Rattle.mx_machine.specs.declared.events.Answer.{Answer}
 use Rattle.mx_machine.specs.declared.events.Answer.TheVariants.{Went}
 use Rattle.mx_machine.specs.declared.holding.Out.{Out}
-use Rattle.mx_machine.specs.Held.{held_run, outcome_of_step, out_after_step, then_held}
+use Rattle.mx_machine.specs.Held.{held_run, outcome_of_step, out_after_step}
 use Rattle.mx_machine.specs.History.{BootAndHistory, replay, with_record}
 use Rattle.std.specs.Option.{option_map}
 use Rattle.mx_machine.specs.Proc.Queues.{first_ready}
@@ -29,6 +29,7 @@ use Rattle.mx_machine.specs.Machine.{HasWorked, IsHeld, IsRunOf, IsMachineState,
 use Rattle.mx_machine.proofs.MachineLemmas.{IsAnyones, anyones-accepted, anyones-refused, empty-refused, held-now, held_now-length, holds_in, none-now, take-refused, with_cpus, world-replaced}
 use Rattle.mx_machine.proofs.RunLemmas.{held-set, stepped-run}
 use Rattle.mx_machine.proofs.StepLemmas.{move-step, step_by}
+use Rattle.mx_machine.proofs.WorldStepLemmas.{held-steps}
 
 abbrev pub on : BootAndHistory → List (Option Out) → MachineState
 on k os = record { kernel = k; outs = os }
@@ -103,14 +104,14 @@ same_set os a x g = ap (slice_set os a) (sym g) ∙ set-get_or os a None
 refused-done : (k : BootAndHistory) (os : List (Option Out)) (a : ℕ) (x : Option Out) (e : Refusal) → IsMachineState (on k os) → get_or os a None ≡ x → move (world_of (on k os)) a Step ≡ (Err e, world_of (on k os)) → IsDone k os (slice_set os a x) a (Err e)
 refused-done k os a x e h g m = subst (λ (ps : List (Option Out)). IsDone k os ps a (Err e)) (sym (same_set os a x g)) (record { running = h; world = m })
 
-went-done : (k : BootAndHistory) (os : List (Option Out)) (a : ℕ) (o p : Out) → ((a b : ℕ) (x : Out) → held_run (a + b) x ≡ then_held (held_run a x) b) → a < length os → IsMachineState (on k os) → get_or os a None ≡ Some o
+went-done : (k : BootAndHistory) (os : List (Option Out)) (a : ℕ) (o p : Out) → a < length os → IsMachineState (on k os) → get_or os a None ≡ Some o
     → at_stop o ≡ false → p ≡ out_after_step o → IsDone k os (slice_set os a (Some p)) a (Ok (Went (outcome_of_step o)))
-went-done k os a o p join b h g goes is =
+went-done k os a o p b h g goes is =
     let l = lends k os a o h g in
     let m : HeldProcess = record l.lent { out = o } in
     let w = world_of (on k os) in
     record {
-      running = running-replaced k os a l.lent p b h l.is (run_more l.lent.out o p 1 join l.runs (is ∙ stepped-run o goes));
+      running = running-replaced k os a l.lent p b h l.is (run_more l.lent.out o p 1 l.runs (is ∙ stepped-run o goes));
       world = move-step w a m (held-now k os a l.lent o l.is g) ∙ ap (step_by w a m) goes
           ∙ ap (λ (x : Out). let r : Result Answer Refusal × World = (Ok (Went (outcome_of_step o)), with_held w a (Some (record l.lent { out = x }))) in r) (sym is)
           ∙ ap (λ (v : World). let r : Result Answer Refusal × World = (Ok (Went (outcome_of_step o)), v) in r) (sym (world-replaced k os a l.lent p b l.is));
@@ -122,27 +123,27 @@ stop-done k os a o h g stops =
     let w = world_of (on k os) in
     refused-done k os a (Some o) AtStop h g (move-step w a (record l.lent { out = o }) (held-now k os a l.lent o l.is g) ∙ ap (step_by w a (record l.lent { out = o })) stops)
 
-some-done : (k : BootAndHistory) (os : List (Option Out)) (a : ℕ) (o : Out) (p : Option Out) (r : Result Answer Refusal) (stops : Bool) → ((a b : ℕ) (x : Out) → held_run (a + b) x ≡ then_held (held_run a x) b) → a < length os
+some-done : (k : BootAndHistory) (os : List (Option Out)) (a : ℕ) (o : Out) (p : Option Out) (r : Result Answer Refusal) (stops : Bool) → a < length os
     → IsMachineState (on k os) → get_or os a None ≡ Some o → at_stop o ≡ stops
     → cond stops (let q : Result Answer Refusal × Option Out = (Err AtStop, Some o) in q) (Ok (Went (outcome_of_step o)), Some (out_after_step o)) ≡ (r, p)
     → IsDone k os (slice_set os a p) a r
-some-done k os a o p r true join b h g s e =
+some-done k os a o p r true b h g s e =
     let re : Err AtStop ≡ r = ap (λ (q : Result Answer Refusal × Option Out). q.0) e in
     let pe : Some o ≡ p = ap (λ (q : Result Answer Refusal × Option Out). q.1) e in
     subst (λ (x : Result Answer Refusal). IsDone k os (slice_set os a p) a x) re (subst (λ (x : Option Out). IsDone k os (slice_set os a x) a (Err AtStop)) pe (stop-done k os a o h g s))
-some-done k os a o p r false join b h g s e =
+some-done k os a o p r false b h g s e =
     let re : Ok (Went (outcome_of_step o)) ≡ r = ap (λ (q : Result Answer Refusal × Option Out). q.0) e in
     let pe : Some (out_after_step o) ≡ p = ap (λ (q : Result Answer Refusal × Option Out). q.1) e in
-    subst (λ (x : Result Answer Refusal). IsDone k os (slice_set os a p) a x) re (subst (λ (x : Option Out). IsDone k os (slice_set os a x) a (Ok (Went (outcome_of_step o)))) pe (went-done k os a o (out_after_step o) join b h g s refl))
+    subst (λ (x : Result Answer Refusal). IsDone k os (slice_set os a p) a x) re (subst (λ (x : Option Out). IsDone k os (slice_set os a x) a (Ok (Went (outcome_of_step o)))) pe (went-done k os a o (out_after_step o) b h g s refl))
 
-pub step-done : (k : BootAndHistory) (os : List (Option Out)) (a : ℕ) (x p : Option Out) (r : Result Answer Refusal) → ((a b : ℕ) (x : Out) → held_run (a + b) x ≡ then_held (held_run a x) b) → a < length os → IsMachineState (on k os)
+pub step-done : (k : BootAndHistory) (os : List (Option Out)) (a : ℕ) (x p : Option Out) (r : Result Answer Refusal) → a < length os → IsMachineState (on k os)
     → get_or os a None ≡ x → hold_after_step x ≡ (r, p) → IsDone k os (slice_set os a p) a r
-step-done k os a None p r join b h g e =
+step-done k os a None p r b h g e =
     let re : Err CpuEmpty ≡ r = ap (λ (q : Result Answer Refusal × Option Out). q.0) e in
     let pe : None ≡ p = ap (λ (q : Result Answer Refusal × Option Out). q.1) e in
     subst (λ (x : Result Answer Refusal). IsDone k os (slice_set os a p) a x) re (subst (λ (x : Option Out). IsDone k os (slice_set os a x) a (Err CpuEmpty)) pe
     (refused-done k os a None CpuEmpty h g (empty-refused (world_of (on k os)) a Step tt (lends_none k os a h g))))
-step-done k os a (Some o) p r join b h g e = some-done k os a o p r (at_stop o) join b h g refl e
+step-done k os a (Some o) p r b h g e = some-done k os a o p r (at_stop o) b h g refl e
 
 -- a step is not recorded
 pub step-kept : (k : BootAndHistory) (a : ℕ) (r : Result Answer Refusal) → k ≡ kept_after k a Step r
@@ -151,17 +152,16 @@ step-kept k a (Err e) = refl
 
 -- ---- a tool's work
 
-pub work-done : (k : BootAndHistory) (os : List (Option Out)) (a j : ℕ) (o p : Out) → ((a b : ℕ) (x : Out) → held_run (a + b) x ≡ then_held (held_run a x) b)
-    → ((w : World) (a k : ℕ) (l : HeldProcess) → held_by w a ≡ Some l → l.out.count ≤ l.out.budget → StepsTo w a (held_run k l.out).0.0 l (held_run k l.out).1)
+pub work-done : (k : BootAndHistory) (os : List (Option Out)) (a j : ℕ) (o p : Out)
     → a < length os → IsMachineState (on k os) → get_or os a None ≡ Some o → p ≡ (held_run j o).1
     → IsMachineState (on k (slice_set os a (Some p))) × (l : HeldProcess) × (l.out ≡ o) × HasWorked (world_of (on k os)) (world_of (on k (slice_set os a (Some p)))) a j l
-work-done k os a j o p join steps b h g is =
+work-done k os a j o p b h g is =
     let l = lends k os a o h g in
     let m : HeldProcess = record l.lent { out = o } in
     let w = world_of (on k os) in
     let held : held_by w a ≡ Some m = held-now k os a l.lent o l.is g in
-    let s : StepsTo w a (held_run j o).0.0 m (held_run j o).1 = steps w a j m held l.runs.within in
-    let run : IsRunOf l.lent.out p = run_more l.lent.out o p j join l.runs is in
+    let s : StepsTo w a (held_run j o).0.0 m (held_run j o).1 = held-steps w a j m held l.runs.within in
+    let run : IsRunOf l.lent.out p = run_more l.lent.out o p j l.runs is in
     let at : get_or (slice_set os a (Some p)) a None ≡ Some p = get_or-set_same os a (Some p) None b in
     let same : Some (record l.lent { out = p }) ≡ Some (record m { out = (held_run j o).1 }) = ap (λ (x : Out). let y : Option HeldProcess = Some (record l.lent { out = x }) in y) is in (
       running-replaced k os a l.lent p b h l.is run,
@@ -320,20 +320,18 @@ pub record IsWorked (k : BootAndHistory) (os : List (Option Out)) (a : ℕ) (new
   pub err : IfErr r (λ e. (e ≡ CpuEmpty) × (held_by (world_of (on k os)) a ≡ None) × (on k (slice_set os a new) ≡ on k os) × Same)
 
 pub worked : (k : BootAndHistory) (os : List (Option Out)) (a : ℕ) (held new : Option Out) (r : Result (Unit {0}) Refusal) (j : Out → ℕ) (B : Out → Type 0) (Same : Type 0)
-    → ((a b : ℕ) (x : Out) → held_run (a + b) x ≡ then_held (held_run a x) b)
-    → ((w : World) (a k : ℕ) (l : HeldProcess) → held_by w a ≡ Some l → l.out.count ≤ l.out.budget → StepsTo w a (held_run k l.out).0.0 l (held_run k l.out).1)
     → a < length os → IsMachineState (on k os) → get_or os a None ≡ held
     → IfErr r (λ e. (e ≡ CpuEmpty) × (held ≡ None) × (new ≡ None) × Same) → OnOk r (HasRun held new j B) → IsWorked k os a new r j B Same
-worked k os a held new (Ok u) j B Same join steps b h at none some =
+worked k os a held new (Ok u) j B Same b h at none some =
     let o = some.0 in
     let p = some.1 in
-    let d = work-done k os a (j o) o p join steps b h (at ∙ some.2) some.4 in
+    let d = work-done k os a (j o) o p b h (at ∙ some.2) some.4 in
     subst (λ (x : Option Out). IsWorked k os a x (Ok u) j B Same) (sym some.3) (record {
       running = d.0;
       ok = (d.1, subst (λ (x : Out). HasWorked (world_of (on k os)) (world_of (on k (slice_set os a (Some p)))) a (j x) d.1) (sym d.2) d.3, subst B (sym d.2) some.5);
       err = tt;
     })
-worked k os a held new (Err e) j B Same join steps b h at none some =
+worked k os a held new (Err e) j B Same b h at none some =
     let gone : get_or os a None ≡ None = at ∙ none.1 in
     let same : slice_set os a new ≡ os = ap (slice_set os a) none.2 ∙ same_set os a None gone in
     record {

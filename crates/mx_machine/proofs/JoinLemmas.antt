@@ -1,16 +1,12 @@
 -- Runs of what is held, one after another.
 use Rattle.std.proofs.Common.{◌≡◌, ◌∙◌, ℕ, ◌+◌, ◌-◌, min, refl, ap, sym, arith}
-use Rattle.mx_image.specs.Image.{Image}
 use Rattle.mx_image.specs.declared.runs.Stop.{Stop}
 use Rattle.mx_image.specs.declared.runs.Stop.TheVariants as stop
-use Rattle.mx_image.specs.Run.{run_of, RunEnd, run_end_after, on_with, then_run}
+use Rattle.mx_image.specs.Run.{run_of, RunEnd, run_end_after, on_with}
+use Rattle.mx_image.proofs.Joining.{runs_join}
 use Rattle.mx_machine.specs.declared.holding.Out.{Out}
 use Rattle.mx_machine.specs.Held.{held_run, then_held, run_by_stop, out_after_run}
 use Rattle.mx_machine.proofs.WorldRunLemmas.{ran_spent}
-
--- runs of an image join
-abbrev Joins : Type 0
-Joins = (a b : ℕ) (m : Image) → run_of (a + b) m ≡ then_run (run_of a m) b
 
 by_stop : (k : ℕ) (o : Out) (s : Stop) → o.stop ≡ s → held_run k o ≡ run_by_stop s k o
 unfolding held_run
@@ -45,18 +41,20 @@ joined_by a b left o r stop.Spent e l n =
 joined_by a b left o r stop.Trap e l n = ended o r b stop.Trap (by_stop b (out_after_run o r).1 stop.Trap e) e
 joined_by a b left o r (stop.Fault v) e l n = ended o r b (stop.Fault v) (by_stop b (out_after_run o r).1 (stop.Fault v) e) e
 
-joined : Joins → (a b : ℕ) (o : Out) (s : Stop) → o.stop ≡ s → held_run (a + b) o ≡ then_held (held_run a o) b
-joined h a b o stop.Trap e = stopped a b o stop.Trap (λ k. by_stop k o stop.Trap e)
-joined h a b o (stop.Fault v) e = stopped a b o (stop.Fault v) (λ k. by_stop k o (stop.Fault v) e)
-joined h a b o stop.Spent e =
+joined : (a b : ℕ) (o : Out) (s : Stop) → o.stop ≡ s → held_run (a + b) o ≡ then_held (held_run a o) b
+joined a b o stop.Trap e = stopped a b o stop.Trap (λ k. by_stop k o stop.Trap e)
+joined a b o (stop.Fault v) e = stopped a b o (stop.Fault v) (λ k. by_stop k o (stop.Fault v) e)
+joined a b o stop.Spent e =
     let left = o.budget - o.count in
     let r = run_of (min a left) o.image in
     let n : min (a + b) left ≡ min a left + (min (a + b) left - min a left) = omega arith in
     by_stop (a + b) o stop.Spent e
     ∙ ap (λ (k : ℕ). out_after_run o (run_of k o.image)) n
-    ∙ ap (out_after_run o) (h (min a left) (min (a + b) left - min a left) o.image)
+    ∙ ap (out_after_run o) (runs_join (min a left) (min (a + b) left - min a left) o.image)
     ∙ joined_by a b left o r r.stop refl refl (ran_spent (min a left) o.image)
     ∙ sym (ap (λ (x : (ℕ × Stop) × Out). then_held x b) (by_stop a o stop.Spent e))
 
-pub joins : Joins → (a b : ℕ) (o : Out) → held_run (a + b) o ≡ then_held (held_run a o) b
-joins h a b o = joined h a b o o.stop refl
+-- A run of at most `a` steps, and after it a run of at most `b` steps, are together one run of at most `a + b`
+-- steps. This holds for every process that a processor can hold.
+pub held_runs_join : (a b : ℕ) (o : Out) → held_run (a + b) o ≡ then_held (held_run a o) b
+held_runs_join a b o = joined a b o o.stop refl

@@ -5,18 +5,14 @@ use Rattle.mx_image.specs.Image.{Image}
 use Rattle.mx_image.specs.Outcome.{Outcome}
 use Rattle.mx_image.specs.Outcome.TheVariants.{Go, Trap, Fault}
 use Rattle.mx_image.specs.Step.{one_step}
-use Rattle.mx_image.proofs.Lasting.{step_keeps}
 use Rattle.mx_image.specs.Run.{run_of, run_end_from, run_end_after}
 use Rattle.mx_image.specs.declared.runs.Stop.{Stop}
 use Rattle.mx_image.specs.declared.runs.Stop.TheVariants as stop
 use Rattle.mx_image.proofs.RunLemmas.{run_lasts}
 use Rattle.mx_machine.specs.declared.holding.Out.{Out}
-use Rattle.mx_machine.specs.Held.{IsBack, IsRunOf, out_after_run, held_run, run_by_stop, then_held}
+use Rattle.mx_machine.specs.Held.{IsBack, IsRunOf, out_after_run, held_run, run_by_stop}
 use Rattle.mx_machine.proofs.WorldRunLemmas.{ran_count}
-
--- runs of what is held join
-abbrev pub HeldRunsJoin : Type 0
-HeldRunsJoin = (a b : ℕ) (o : Out) → held_run (a + b) o ≡ then_held (held_run a o) b
+use Rattle.mx_machine.proofs.JoinLemmas.{held_runs_join}
 
 -- ---- counts
 
@@ -70,14 +66,14 @@ pub run_budget : (lent o : Out) → IsRunOf lent o → o.budget ≡ lent.budget
 run_budget lent o h = ap (λ (x : Out). x.budget) (sym h.back.run) ∙ (run_counts o.count lent).budget
 
 -- a run more
-pub run_more : (lent o p : Out) (j : ℕ) → HeldRunsJoin → IsRunOf lent o → p ≡ (held_run j o).1 → IsRunOf lent p
-run_more lent o p j join h is =
+pub run_more : (lent o p : Out) (j : ℕ) → IsRunOf lent o → p ≡ (held_run j o).1 → IsRunOf lent p
+run_more lent o p j h is =
     let n = (held_run j o).0.0 in
     let c = run_counts j o in
     let count : p.count ≡ o.count + n = ap (λ (x : Out). x.count) is ∙ c.count in
     let budget : p.budget ≡ o.budget = ap (λ (x : Out). x.budget) is ∙ c.budget in
     record {
-      back = record { run = ap (λ i. (held_run i lent).1) count ∙ ap (λ r. r.1) (join o.count n lent) ∙ ap (λ x. (held_run n x).1) h.back.run ∙ again j o ∙ sym is };
+      back = record { run = ap (λ i. (held_run i lent).1) count ∙ ap (λ r. r.1) (held_runs_join o.count n lent) ∙ ap (λ x. (held_run n x).1) h.back.run ∙ again j o ∙ sym is };
       within = let w : o.count ≤ o.budget = h.within in omega (arith, c.few);
     }
 
@@ -104,7 +100,7 @@ run_none lent out e zero_count spent =
 -- ---- what no step changes
 
 lasts_by : (s : Stop) (k : ℕ) (o : Out) → lasting (run_by_stop s k o).1.image ≡ lasting o.image
-lasts_by stop.Spent k o = run_lasts step_keeps (min k (o.budget - o.count)) o.image
+lasts_by stop.Spent k o = run_lasts (min k (o.budget - o.count)) o.image
 lasts_by stop.Trap k o = refl
 lasts_by (stop.Fault v) k o = refl
 

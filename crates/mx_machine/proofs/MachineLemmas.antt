@@ -294,10 +294,10 @@ answer_by : (w v : World) (a e : ℕ) (l : HeldProcess) (out : Out) (first : Opt
 answer_by w v a e l out None idle is h same at = let z : held_by v a ≡ None = ap (λ (u : World). held_by u a) is ∙ idle in cc
 answer_by w v a e l out (Some s) idle is h same at =
     let it : l ≡ held_at_take w.table s = taken_is w v a s l is h in
-    let budget : (process_at w.table s).ticks ≡ out.budget = ap (λ (x : HeldProcess). x.out.budget) (sym it) ∙ ap (λ (o : Out). o.budget) same in
+    let budget : (process_at w.table s).schedule.ticks ≡ out.budget = ap (λ (x : HeldProcess). x.out.budget) (sym it) ∙ ap (λ (o : Out). o.budget) same in
     let endpoint : endpoint_of w.table s ≡ e =
     sym (at ∙ ap (λ (u : World). endpoint_of u.table l.slot) is ∙ ap (λ (x : HeldProcess). endpoint_of (table_after_sending_out w.table s) x.slot) it ∙ endpoint_out w.table s) in
-    ap (λ n. Taken n (process_at w.table s).ticks) endpoint ∙ ap (Taken e) budget
+    ap (λ n. Taken n (process_at w.table s).schedule.ticks) endpoint ∙ ap (Taken e) budget
 
 pub taken-answer : (k n : BootAndHistory) (a e : ℕ) (l : HeldProcess) (out : Out) → event_refusal (replay k) a Take ≡ None → replay n ≡ world_after_event (replay k) a Take → held_by (replay n) a ≡ Some l → l.out ≡ out
     → e ≡ endpoint_of (replay n).table l.slot → event_answer (replay k) a Take ≡ Taken e out.budget

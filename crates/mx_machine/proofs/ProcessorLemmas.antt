@@ -1,16 +1,14 @@
 -- What events leave of what processors hold.
-use Rattle.std.proofs.Common.{◌≡◌, ◌≢◌, ◌∙◌, ℕ, List, Option, Some, None, true, slice_get, get_or, inl, inr, refl, sym, ap}
-use Rattle.std.proofs.lemmas.List.{get_or-set_other, get_or-set_same}
+use Rattle.std.proofs.Common.{◌≡◌, ◌≢◌, ℕ, List, Option, Some, None, true, slice_get, get_or, refl, sym, ap}
+use Rattle.std.proofs.lemmas.List.{get_or-set_other}
 use Rattle.mx_kcall.specs.Proc.Queues.{first_ready}
 use Rattle.mx_kcall.specs.Service.{Service}
 use Rattle.mx_kcall.specs.Refusals.{owner_of}
 use Rattle.mx_machine.specs.declared.events.Event.{Event}
 use Rattle.mx_machine.specs.declared.events.Event.TheVariants.{Step, Take, Back, Line, Tick, Kill, Respawn}
-use Rattle.mx_machine.specs.declared.events.Refusal.{Refusal}
 use Rattle.mx_machine.specs.Held.{out_after_step}
-use Rattle.mx_machine.specs.Move.{world_after_back, world_after_event, world_after_line, world_after_respawn, world_after_step, world_after_take, event_refusal, is_for_all, held_at_take, move, move_by}
+use Rattle.mx_machine.specs.Move.{world_after_back, world_after_event, world_after_line, world_after_respawn, world_after_step, world_after_take, is_for_all, held_at_take}
 use Rattle.mx_machine.specs.World.{World, HeldProcess, held_by}
-use Rattle.mx_machine.proofs.WorldStepLemmas.{holds_in}
 
 -- ---- an event of any actor
 
@@ -58,21 +56,3 @@ held_after w a c (Line l) n = held_by_any w a c (Line l) refl
 held_after w a c Tick n = held_by_any w a c Tick refl
 held_after w a c (Kill e) n = held_by_any w a c (Kill e) refl
 held_after w a c (Respawn s) n = held_by_any w a c (Respawn s) refl
-
-by_answer : (w : World) (a c : ℕ) (x : Event) (r : Option Refusal) → a ≢ c → held_by (move_by w a x r).1 c ≡ held_by w c
-by_answer w a c x (Some r) n = refl
-by_answer w a c x None n = held_after w a c x n
-
-pub held_moved : (w : World) (a c : ℕ) (x : Event) → a ≢ c → held_by (move w a x).1 c ≡ held_by w c
-unfolding move
-held_moved w a c x n = by_answer w a c x (event_refusal w a x) n
-
--- ---- a return
-
-returned_none : (w : World) (a : ℕ) (held : Option HeldProcess) → held_by w a ≡ held → held_by (world_after_back w a held) a ≡ None
-returned_none w a None h = h
-returned_none w a (Some l) h = get_or-set_same w.cpus a None None (holds_in w.cpus a l h)
-
-pub none_after_back : (w : World) (a : ℕ) → held_by (world_after_event w a Back) a ≡ None
-unfolding world_after_event
-none_after_back w a = returned_none w a (held_by w a) refl

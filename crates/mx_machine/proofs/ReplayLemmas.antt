@@ -30,7 +30,7 @@ use Rattle.mx_machine.specs.Sound.{lease_of, lease_at, IsSound}
 use Rattle.mx_machine.specs.Steps.{StepsTo}
 use Rattle.mx_machine.specs.World.{World, HeldProcess, actors, held_by, out_count, free_records}
 use Rattle.mx_machine.proofs.LentLemmas.{back_lasts}
-use Rattle.mx_machine.proofs.WorldStepLemmas.{set_twice}
+use Rattle.mx_machine.proofs.WorldStepLemmas.{held-steps, set_twice}
 use Rattle.mx_machine.specs.Agrees.{AreSound, IsAtReplay, IsFresh, IsEventAccepted}
 use Rattle.mx_machine.specs.KernelState.{KernelState, kernel_state_of, records_left, state_with_record, state_after_take, state_after_back, refusal_to_take, HasTaken, HasAccepted, refusal_to, table_after_line_by, table_after_respawn_by, table_after, answer_to, is_for_all, recorded_as}
 use Rattle.mx_machine.proofs.HoldsLemmas.{holds_in}
@@ -296,16 +296,12 @@ lease_there d room k n a l v h at = ap (λ (d : KernelState). lease_at d.leases 
 pub back_loaded : (d : KernelState) (room : ℕ) (k n : BootAndHistory) (a : ℕ) (l : HeldProcess) (o : Out) (v : Service) → k ≡ n → IsAtReplay d room k → held_by (replay n) a ≡ Some l → IsBack l.out o → slice_get d.services l.slot ≡ Some v → IsLoadedFrom o.image v.program
 back_loaded d room k n a l o v e h at b g = back_lasts l.out o b ∙ (h.fresh a l (ap (λ k. held_by (replay k) a) e ∙ at)).loaded v (ap (λ (d : KernelState). slice_get d.services l.slot) (sym h.present) ∙ g)
 
--- a run of what is lent is that many steps
-abbrev RunsAreSteps : Type 0
-RunsAreSteps = (w : World) (a k : ℕ) (l : HeldProcess) → held_by w a ≡ Some l → l.out.count ≤ l.out.budget → StepsTo w a (held_run k l.out).0.0 l (held_run k l.out).1
-
 -- what came back is what that many steps make of what was lent
-pub back_steps : (d : KernelState) (room : ℕ) (k n : BootAndHistory) (a : ℕ) (l : HeldProcess) (o : Out) → RunsAreSteps → k ≡ n → IsAtReplay d room k → held_by (replay n) a ≡ Some l → IsBack l.out o → StepsTo (replay k) a o.count l o
-back_steps d room k n a l o law v h at b =
+pub back_steps : (d : KernelState) (room : ℕ) (k n : BootAndHistory) (a : ℕ) (l : HeldProcess) (o : Out) → k ≡ n → IsAtReplay d room k → held_by (replay n) a ≡ Some l → IsBack l.out o → StepsTo (replay k) a o.count l o
+back_steps d room k n a l o v h at b =
     let held : held_by (replay k) a ≡ Some l = ap (λ k. held_by (replay k) a) v ∙ at in
     let f = h.fresh a l held in
-    let s = law (replay k) a o.count l held (omega (arith, f.count)) in
+    let s = held-steps (replay k) a o.count l held (omega (arith, f.count)) in
     let count : (held_run o.count l.out).0.0 ≡ o.count = omega (arith, s.count, f.count, ap (λ (o : Out). o.count) b.run) in
     subst (λ (p : Out). StepsTo (replay k) a o.count l p) b.run (subst (λ m. StepsTo (replay k) a m l (held_run o.count l.out).1) count s)
 

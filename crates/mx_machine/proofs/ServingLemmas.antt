@@ -10,7 +10,7 @@ use Rattle.mx_ipc.specs.Proc.declared.process.State.{State}
 use Rattle.mx_ipc.specs.Proc.declared.process.State.TheVariants.{Home, Out, Doomed, Down}
 use Rattle.mx_ipc.specs.Proc.Frame.{Frame, FixedOfProcess, fixed_of, loan_of, frame}
 use Rattle.mx_ipc.specs.Proc.Sound.{NoneComesHome}
-use Rattle.mx_ipc.specs.Proc.TableState.{TableState, nobody, process_at, with_process, with_state, table_after_dequeue, table_after_move_home, table_after_steps}
+use Rattle.mx_ipc.specs.Proc.TableState.{TableState, nobody, process_at, with_process, with_state, stepped, table_after_dequeue, table_after_move_home, table_after_steps}
 use Rattle.mx_machine.specs.Move.{table_after_sending_out, table_after_coming_home}
 use Rattle.mx_machine.specs.World.{HeldProcess}
 use Rattle.mx_machine.specs.declared.holding.Out.{Out as Held}
@@ -52,7 +52,7 @@ sent_keeps t u s e = subst (KeepsBut s t) (sym e) (record {
   used = sent-used t s;
 })
 
-sent_loan : (t u : TableState) (s : ℕ) → u ≡ table_after_sending_out t s → s < length t.slots → loan_of (process_at u s) ≡ Some (process_at t s).ticks
+sent_loan : (t u : TableState) (s : ℕ) → u ≡ table_after_sending_out t s → s < length t.slots → loan_of (process_at u s) ≡ Some (process_at t s).schedule.ticks
 sent_loan t u s e b = ap (λ u. loan_of (process_at u s)) e ∙ ap loan_of (sent-at t s b)
 
 sent_steps : (t u : TableState) (s : ℕ) → u ≡ table_after_sending_out t s → s < length t.slots → (process_at u s).steps ≡ (process_at t s).steps
@@ -86,7 +86,7 @@ is_sent t u s e b = record {
 
 -- as it is then
 abbrev homed : Process → Held → Process
-homed p o = record p { state = Home; image = o.image; ticks = p.ticks - o.count; steps = p.steps + o.count }
+homed p o = stepped o.count (record p { state = Home; image = o.image })
 
 home-at : (t : TableState) (l : HeldProcess) → l.slot < length t.slots → process_at (table_after_coming_home t l) l.slot ≡ homed (process_at t l.slot) l.out
 unfolding table_after_coming_home
@@ -94,21 +94,21 @@ home-at t l b =
     let first : Process = record (process_at t l.slot) { state = Home; image = l.out.image } in
     let m = table_after_move_home t l.slot l.out.image in
     let b' : l.slot < length m.slots = omega (arith, b, put-used t l.slot first) in
-    put-at m l.slot (record (process_at m l.slot) { ticks = (process_at m l.slot).ticks - l.out.count; steps = (process_at m l.slot).steps + l.out.count }) b'
-    ∙ ap (λ (p : Process). let q : Process = record p { ticks = p.ticks - l.out.count; steps = p.steps + l.out.count } in q) (put-at t l.slot first b)
+    put-at m l.slot (stepped l.out.count (process_at m l.slot)) b'
+    ∙ ap (stepped l.out.count) (put-at t l.slot first b)
 
 home-other : (t : TableState) (l : HeldProcess) (q : ℕ) → q ≢ l.slot → process_at (table_after_coming_home t l) q ≡ process_at t q
 unfolding table_after_coming_home
 home-other t l q n =
     let m = table_after_move_home t l.slot l.out.image in
-    put-other m l.slot q (record (process_at m l.slot) { ticks = (process_at m l.slot).ticks - l.out.count; steps = (process_at m l.slot).steps + l.out.count }) n
+    put-other m l.slot q (stepped l.out.count (process_at m l.slot)) n
     ∙ put-other t l.slot q (record (process_at t l.slot) { state = Home; image = l.out.image }) n
 
 home-used : (t : TableState) (l : HeldProcess) → length (table_after_coming_home t l).slots ≡ length t.slots
 unfolding table_after_coming_home
 home-used t l =
     let m = table_after_move_home t l.slot l.out.image in
-    put-used m l.slot (record (process_at m l.slot) { ticks = (process_at m l.slot).ticks - l.out.count; steps = (process_at m l.slot).steps + l.out.count })
+    put-used m l.slot (stepped l.out.count (process_at m l.slot))
     ∙ put-used t l.slot (record (process_at t l.slot) { state = Home; image = l.out.image })
 
 home-keeps : (t : TableState) (l : HeldProcess) → KeepsBut l.slot t (table_after_coming_home t l)

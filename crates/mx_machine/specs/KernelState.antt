@@ -60,7 +60,7 @@ refusal_to_take d a = if nat_lt a (length d.leases) then take_refusal (records_l
 
 -- a slot's process is taken by a processor
 abbrev pub state_after_take : KernelState → ℕ → ℕ → KernelState
-state_after_take d a s = with_lease (state_with_record d (table_after_sending_out d.table s)) a (Some (record { slot = s; budget = (process_at d.table s).ticks }))
+state_after_take d a s = with_lease (state_with_record d (table_after_sending_out d.table s)) a (Some (record { slot = s; budget = (process_at d.table s).schedule.ticks }))
 
 -- It was accepted that a processor takes a process.
 pub record HasTaken (d n : KernelState) (a s : ℕ) (o : Out) : Type 0 where

@@ -106,7 +106,7 @@ table_after_sending_out t s = table_after_move_out (table_after_dequeue t s) s
 
 -- what a processor holds just after a Take: the budget is the ticks that the process has left
 abbrev pub held_at_take : TableState → ℕ → HeldProcess
-held_at_take t s = let p = process_at t s in record { slot = s; out = record { image = p.image; budget = p.ticks; count = 0; stop = Spent; decoded = tt } }
+held_at_take t s = let p = process_at t s in record { slot = s; out = record { image = p.image; budget = p.schedule.ticks; count = 0; stop = Spent; decoded = tt } }
 
 -- killed while on a processor
 abbrev pub is_doomed : State → Bool
@@ -186,7 +186,7 @@ step_answer (Some l) = Went (outcome_of_step l.out)
 
 abbrev pub take_answer : TableState → Option ℕ → Answer
 take_answer t None = Done
-take_answer t (Some s) = Taken (endpoint_of t s) (process_at t s).ticks
+take_answer t (Some s) = Taken (endpoint_of t s) (process_at t s).schedule.ticks
 
 abbrev pub back_answer : Option HeldProcess → Answer
 back_answer None = Done

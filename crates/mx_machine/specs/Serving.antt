@@ -27,7 +27,7 @@ WritesAtMostOne t u = u.devices.console.count ≤ t.devices.console.count + 1
 -- A slot's process was sent out.
 pub record IsSent (t u : TableState) (s : ℕ) : Type 0 where
   pub others : KeepsBut s t u
-  pub loan : loan_of (process_at u s) ≡ Some (process_at t s).ticks
+  pub loan : loan_of (process_at u s) ≡ Some (process_at t s).schedule.ticks
   pub steps : (process_at u s).steps ≡ (process_at t s).steps
   pub settled : Settled t → Settled u
   pub uptime : u.uptime ≡ t.uptime

@@ -227,7 +227,7 @@ impl CurrentState {
         ensures value { self.new ≡ state_after_take self.old cpu slot }
         ensures out { result ≡ (held_at_take self.old.table slot).out }
     {
-        let budget = self.table.process(slot).ticks;
+        let budget = self.table.process(slot).schedule.ticks;
         let image = send_out(&mut self.table, slot);
         self.leases[cpu as usize] = Some(Lease { slot, budget });
         self.records += 1;
@@ -324,7 +324,7 @@ impl CurrentState {
         ensures err { IfErr result (λ refusal. refusal_to self.now (events.Respawn slot)
             ≡ Some refusal) }
     {
-        if slot >= u32::from(self.table.used()) {
+        if slot >= u32::from(self.table.slot_count()) {
             return Err(Refusal::NoService);
         }
         let process = self.table.process(slot as u8);
@@ -366,7 +366,7 @@ fn down_are_worn(table: &Table, services: &[Service]) -> bool
     requires { length services.now ≡ length table.now.slots }
     ensures { result ≡ down_are_worn table.now.slots services.now }
 {
-    for slot in 0..table.used() {
+    for slot in 0..table.slot_count() {
         let process = table.process(slot);
         if process.state.is_down() && !is_worn(process, &services[slot as usize]) {
             return false;

@@ -18,9 +18,7 @@ use crate::booting::first_present;
 use crate::caches::Caches;
 use crate::current::CurrentState;
 use crate::stored::StoredKernel;
-use crate::{
-    Answer, Config, Decoded, Event, Out, Record, Recorded, Refusal, Service, runs_are_steps,
-};
+use crate::{Answer, Config, Decoded, Event, Out, Record, Recorded, Refusal, Service};
 use mx_proc::{Delivery, Rules, Slot, Table};
 use mx_word::NoMemory;
 use std::alloc::Global;
@@ -145,7 +143,6 @@ impl Kernel {
         ensures found { (l : HeldProcess) → held_by (replay self.old) cpu ≡ Some l
             → IsSound (with_held (replay self.old) cpu (Some (record l { out = out }))) }
     {
-        runs_are_steps();
         self.present.facts();
         let count = out.count;
         let decoded = mem::replace(&mut out.decoded, Decoded::nothing());

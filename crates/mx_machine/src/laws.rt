@@ -8,8 +8,8 @@ ghost use Rattle.mx_machine.specs.World.{World, HeldProcess, held_by};
 ghost use Rattle.mx_machine.specs.Laws.{ChangePlaces, IsOthers, Replays, RunsAgain};
 ghost use Rattle.mx_machine.specs.Machine.{world_of};
 
+use crate::Kernel;
 use crate::machine::Machine;
-use crate::{Kernel, actors_stay};
 
 /// Law: while a processor has a process, its step commutes with any event but its own steps, takes and
 /// returns.
@@ -29,6 +29,5 @@ pub fn runs_again(machine: &Machine, kernel: &Kernel)
     ensures { world_of machine.now ≡ kernel.now.boot → RunsAgain (world_of machine.now) kernel.now }
 {
     histories_replay();
-    actors_stay();
     kernel.facts();
 }

@@ -31,7 +31,6 @@ mod machine;
 mod serving;
 mod steps;
 mod stored;
-mod world_laws;
 
 pub use checkpoint::Checkpoint;
 pub use config::{Config, FileName, ServiceLine, ServiceLines};
@@ -48,6 +47,3 @@ pub(crate) use mx_kcall::{call, die, is_worn, raise, respawn, tick};
 pub(crate) use mx_load::load;
 pub(crate) use mx_proc::{Endpoint, Rules, Slot};
 pub use steps::{Tool, at_stop};
-pub use world_laws::{
-    actors_stay, back_empties, held_runs_join, others_keep, parts_join, runs_are_steps,
-};

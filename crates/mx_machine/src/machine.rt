@@ -13,10 +13,7 @@ ghost use Rattle.mx_machine.specs.KernelState.{is_for_all};
 ghost use Rattle.mx_machine.specs.Machine.{AreSound, HasWorked, IsActor, IsMachineState, kept_after, kept_along, world_of};
 
 use crate::steps::{Tool, step_held, work_held};
-use crate::{
-    Answer, Endpoint, Event, Kernel, Out, Refusal, Rules, Slot, actors_stay, held_runs_join,
-    runs_are_steps,
-};
+use crate::{Answer, Endpoint, Event, Kernel, Out, Refusal, Rules, Slot};
 use mx_exec::Image;
 use mx_word::NoMemory;
 use std::marker::Model;
@@ -155,8 +152,6 @@ impl Machine {
         ensures kernel { self.new.kernel ≡ self.old.kernel }
         ensures actors { actors (world_of self.new) ≡ actors (world_of self.old) }
     {
-        held_runs_join();
-        runs_are_steps();
         self.facts();
         if cpu as usize >= self.outs.len() {
             return Err(Refusal::CpuEmpty);
@@ -169,7 +164,6 @@ impl Machine {
         ensures moved { move (world_of self.old) cpu events.Step ≡ (result, world_of self.new) }
         ensures recorded { self.new.kernel ≡ kept_after self.old.kernel cpu events.Step result }
     {
-        held_runs_join();
         self.facts();
         if cpu as usize >= self.outs.len() {
             return Err(Refusal::CpuEmpty);
@@ -216,13 +210,13 @@ impl Machine {
 
     /// One event of an actor: it is refused, and nothing changes, or it is answered. But for a step
     /// the history then has one record more.
+    #[tactic(auto, using(crate::proofs::ActorLemmas::actors_after_move))]
     pub fn apply(&mut self, actor: u8, event: Event) -> Result<Answer, Refusal>
         requires { IsActor (world_of self.old) actor event }
         ensures moved { move (world_of self.old) actor event ≡ (result, world_of self.new) }
         ensures recorded { self.new.kernel ≡ kept_after self.old.kernel actor event result }
         ensures actors { actors (world_of self.new) ≡ actors (world_of self.old) }
     {
-        actors_stay();
         match event {
             Event::Step => self.step(actor),
             Event::Take => self.take(actor),

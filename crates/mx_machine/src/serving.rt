@@ -72,7 +72,7 @@ fn resume(table: &mut Table, slot: Slot, doomed: bool, stop: Stop)
 pub(crate) fn come_home(table: &mut Table, slot: Slot, out: Out)
     requires slot { slot < length table.old.slots }
     requires out { is_out (process_at table.old slot).state ≡ true }
-    requires ticks { out.count ≤ (process_at table.old slot).ticks }
+    requires ticks { out.count ≤ (process_at table.old slot).schedule.ticks }
     requires steps { (process_at table.old slot).steps + out.count < 2 ^ 64 }
     requires room { table.old.devices.console.count + 1 < 2 ^ 32 }
     ensures value { table.new ≡ table_after_back table.old (record { slot = slot; out = out }) }

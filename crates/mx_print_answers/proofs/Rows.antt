@@ -1,9 +1,7 @@
 -- Bytes of a row of memory, and its rows, one more.
-use Rattle.std.proofs.Common.{◌≡◌, ◌∙◌, ◌<◌, ◌≤◌, ◌+◌, ◌-◌, ◌*◌, ℕ, zero, suc, false, List, [], ◌∷◌, ◌++◌, Some, None, take, drop, min, append_assoc, refl, ap, sym, arith}
+use Rattle.std.proofs.Common.{◌≡◌, ◌∙◌, ◌<◌, ◌≤◌, ◌+◌, ◌-◌, ◌*◌, ℕ, zero, suc, List, [], ◌∷◌, ◌++◌, Some, None, take, drop, min, append_assoc, refl, ap, sym, arith}
 use Rattle.std.specs.Prelude.{slice_get, codes}
 use Rattle.std.specs.List.{flat_map, range_with_len}
-use Rattle.std.specs.Fmt.{padded_integral, format_spec, digits}
-use Rattle.std.proofs.lemmas.Fmt.{hex_byte}
 use Rattle.std.proofs.lemmas.Grind.{flat_map-append}
 use Rattle.std.proofs.lemmas.List.{drop-drop, drop-take}
 use Rattle.std.proofs.Math.Seq.{take-add}
@@ -21,9 +19,8 @@ byte_at [] at b h = absurd cc
 byte_at (x ∷ xs) zero b h = ap (λ (y : ℕ). y ∷ []) (same x b h)
 byte_at (x ∷ xs) (suc at) b h = byte_at xs at b h
 
-pub byte_there : (xs : List ℕ) (at b : ℕ) → b < 256 → slice_get xs at ≡ Some b
-    → 32 ∷ padded_integral (format_spec 32 0 4 2 18446744073709551615) false [] (digits 16 false b) ≡ flat_map byte_field (take 1 (drop at xs))
-byte_there xs at b small h = ap (λ (t : List ℕ). 32 ∷ t) (hex_byte false b small) ∙ sym (ap (flat_map byte_field) (byte_at xs at b h))
+pub byte_there : (xs : List ℕ) (at b : ℕ) → slice_get xs at ≡ Some b → byte_field b ≡ flat_map byte_field (take 1 (drop at xs))
+byte_there xs at b h = sym (ap (flat_map byte_field) (byte_at xs at b h))
 
 nothing : (xs : List ℕ) (at : ℕ) → slice_get xs at ≡ None → take 1 (drop at xs) ≡ []
 nothing [] zero h = refl

@@ -4,12 +4,7 @@ use Rattle.std.specs.List.{flat_map}
 use Rattle.std.specs.Fmt.{decimal, signed_decimal}
 use Rattle.std.specs.Int.{w32, cast_signed}
 use Rattle.mx_proc.specs.declared.deliveries.Delivery.{Delivery}
-use Rattle.mx_proc.specs.declared.deliveries.DeliveryKind.{DeliveryKind}
-use Rattle.mx_proc.specs.declared.deliveries.DeliveryKind.TheVariants.{Message, Notification}
-
-abbrev pub kind_word : DeliveryKind → List ℕ
-kind_word Message = codes "message"
-kind_word Notification = codes "notify"
+use Rattle.mx_print_report.specs.Words.{kind_word}
 
 -- a delivery: the endpoints of sender and receiver, the type, and its kind
 unfoldable pub delivery_text : Delivery → List ℕ

@@ -1,10 +1,10 @@
 -- What is printed of a process: its registers, and bytes of its memory (our own).
-use Rattle.std.specs.Prelude.{ℕ, ◌+◌, ◌*◌, ◌/◌, ◌%◌, ◌&&◌, nat_lt, nat_le, if◌then◌else◌, false, List, [], ◌∷◌, ◌++◌, length, take, drop, codes, Option, Some, None}
+use Rattle.std.specs.Prelude.{ℕ, ◌+◌, ◌*◌, ◌&&◌, nat_lt, nat_le, if◌then◌else◌, List, [], ◌∷◌, ◌++◌, length, take, drop, codes, Option, Some, None}
 use Rattle.std.specs.List.{flat_map, range_with_len}
-use Rattle.std.specs.Fmt.{digit_glyph}
 use Rattle.std.specs.Int.{div_ceil}
 use Rattle.mx_exec.specs.declared.image.Image.{Image}
 use Rattle.mx_insn_words.specs.Numbers.{eight_digits}
+use Rattle.mx_print_report.specs.Numbers.{two_digits}
 use Rattle.mx_print_answers.specs.Registers.{register_lines}
 use Rattle.mx_debug.specs.declared.error.DebugError.TheVariants.{NotHere}
 use Rattle.mx_print_answers.specs.declared.refused.Refused.TheVariants.{ByDebugger}
@@ -23,7 +23,7 @@ registers_text (Some m) = register_lines m
 
 -- a byte in two hexadecimal digits, after a space
 abbrev pub byte_field : ℕ → List ℕ
-byte_field b = codes " " ++ digit_glyph false (b / 16) ∷ digit_glyph false (b % 16) ∷ []
+byte_field b = codes " " ++ two_digits b
 
 -- a row: the address in eight digits, then its bytes
 unfoldable pub memory_row : ℕ → List ℕ → List ℕ

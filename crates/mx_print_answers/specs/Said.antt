@@ -30,8 +30,12 @@ answer_line (Returned count) = codes "returned " ++ decimal count
 answer_line Done = codes "done"
 answer_line (Respawned endpoint) = codes "respawned " ++ decimal endpoint
 
+-- a refusal's number and its name
+abbrev pub number_and_name : ℕ → List ℕ → List ℕ
+number_and_name code name = codes "refused " ++ decimal code ++ codes " " ++ name
+
 abbrev pub refusal_line : Refusal → List ℕ
-refusal_line refusal = codes "refused " ++ decimal (code_of_refusal refusal) ++ codes " " ++ name_of_refusal refusal
+refusal_line refusal = number_and_name (code_of_refusal refusal) (name_of_refusal refusal)
 
 abbrev pub said_line : Said → List ℕ
 said_line (Stepped count stop) = codes "stepped " ++ decimal count ++ codes " " ++ stop_word stop

@@ -13,7 +13,7 @@ mod stops;
 
 pub use messages::{push_delivery, push_messages};
 pub use mx_debug::{DebugError, Debugger, Halt, HaltCause};
-pub use processes::{push_memory, push_process};
+pub use processes::{push_byte, push_memory, push_process};
 pub use refused::{Refused, push_done};
 pub use registers::push_registers;
 pub use runs::push_run;

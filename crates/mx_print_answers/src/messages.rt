@@ -2,22 +2,14 @@
 
 ghost use Rattle.std.specs.Prelude.{◌≡◌, ◌++◌, OnOk, string_bytes};
 ghost use Rattle.mx_machine.specs.History.{replay};
-ghost use Rattle.mx_print_answers.specs.Messages.{kind_word, delivery_line, delivery_lines, delivery_text};
+ghost use Rattle.mx_print_answers.specs.Messages.{delivery_line, delivery_lines, delivery_text};
 
 use mx_debug::Debugger;
 use mx_machine::Kernel;
-use mx_proc::{Delivery, DeliveryKind};
+use mx_print_report::kind_word;
+use mx_proc::Delivery;
 use std::alloc::AllocError;
 use std::fmt::Write;
-
-fn kind_word(kind: DeliveryKind) -> &'static str
-    ensures { result.now ≡ kind_word kind }
-{
-    match kind {
-        DeliveryKind::Message => "message",
-        DeliveryKind::Notification => "notify",
-    }
-}
 
 /// Appends a delivery: the endpoints of sender and receiver, the type, and its kind.
 #[tactic(auto, unfolding(crate::specs::Messages::delivery_text))]

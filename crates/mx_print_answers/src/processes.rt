@@ -33,13 +33,20 @@ pub fn push_process(out: &mut String, image: Option<&Image>) -> Result<(), Alloc
     }
 }
 
-/// Appends the byte at an address in two digits after a space, if there is one.
-fn push_byte(out: &mut String, memory: &Segment, at: u32) -> Result<(), AllocError>
+/// Appends a byte in two digits after a space.
+pub fn push_byte(out: &mut String, byte: u8) -> Result<(), AllocError>
+    ensures { OnOk result (string_bytes out.new ≡ string_bytes out.old ++ byte_field byte) }
+{
+    write!(out, " {byte:02x}")
+}
+
+/// Appends the byte at an address, if there is one.
+fn push_byte_at(out: &mut String, memory: &Segment, at: u32) -> Result<(), AllocError>
     ensures { OnOk result (string_bytes out.new ≡ string_bytes out.old
         ++ flat_map byte_field (take 1 (drop at memory.now))) }
 {
     match memory.get(at) {
-        Some(byte) => write!(out, " {byte:02x}"),
+        Some(byte) => push_byte(out, byte),
         None => Ok(()),
     }
 }
@@ -52,7 +59,7 @@ fn push_row(out: &mut String, memory: &Segment, from: u32, count: u32) -> Result
 {
     push_eight_digits(out, from)?;
     for at in from..from + count {
-        push_byte(out, memory, at)?;
+        push_byte_at(out, memory, at)?;
     }
     out.push_str("\n")
 }

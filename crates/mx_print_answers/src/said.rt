@@ -3,6 +3,7 @@
 ghost use Rattle.std.specs.Prelude.{◌≡◌};
 ghost use Rattle.mx_print_answers.specs.Said.{said_of_answer};
 
+use crate::refused::Refused;
 use mx_exec::Outcome;
 use mx_image::Stop;
 use mx_machine::{Answer, Refusal};
@@ -58,9 +59,8 @@ impl fmt::Display for Said {
             Said::Answered(Answer::Done) => write!(f, "done"),
             Said::Answered(Answer::Respawned(endpoint)) => write!(f, "respawned {endpoint}"),
             Said::Refused(refusal) => {
-                let code = refusal.code();
-                let name = refusal.name();
-                write!(f, "refused {code} {name}")
+                let refused = Refused::ByMachine(refusal);
+                write!(f, "{refused}")
             }
         }
     }

@@ -46,7 +46,7 @@ fn image_at_home(machine: &Machine, slot: Slot) -> Option<&Image>
     ensures { option_map (λ m. m.now) result ≡ image_at_home (world_of machine.now) slot }
 {
     let table = machine.kernel().table();
-    if slot >= table.used() {
+    if slot >= table.slot_count() {
         return None;
     }
     Some(&table.process(slot).image)

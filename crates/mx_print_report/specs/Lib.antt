@@ -1,1 +1,4 @@
+pub mod Numbers
+pub mod SlotDoing
+pub mod Words
 pub mod Report

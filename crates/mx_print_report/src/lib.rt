@@ -1,9 +1,17 @@
-//! The report of a machine: a line of pushed fields for each service, with state and partner, by a naming of
-//! endpoints; the uptime, the console.
+//! The words in which a process is printed, by a naming of endpoints: who it is, its state, partner or cause of
+//! death; pushed numbers; and the report of a machine: a line for each service, the uptime, the console.
 #![tactic(auto)]
 
+mod doing;
 mod fields;
+mod numbers;
 mod reporting;
+mod words;
 
-pub use fields::{Naming, push_decimal, push_name, push_process};
+pub use doing::{Awaited, Doing, Naming, doing_of};
+pub use fields::push_process;
+pub use numbers::{
+    push_counted, push_decimal, push_hex, push_long, push_number, push_signed, push_two_digits,
+};
 pub use reporting::{push_console, push_count, report_of};
+pub use words::{kind_word, push_doing, push_name, push_named};

@@ -4,7 +4,9 @@ ghost use Rattle.std.specs.Prelude.{◌≡◌, ◌<◌, ◌++◌, OnOk, IfOk, co
 ghost use Rattle.std.specs.Fmt.{decimal};
 ghost use Rattle.mx_print_report.specs.Report.{slot_line, slot_lines, report_text};
 
-use crate::fields::{Naming, push_decimal, push_number, push_process};
+use crate::doing::Naming;
+use crate::fields::push_process;
+use crate::numbers::{push_decimal, push_number};
 use mx_proc::{Console, Slot, Table};
 use mx_respawn::Service;
 use mx_word::NoMemory;
@@ -19,8 +21,8 @@ fn push_slot(out: &mut Vec<u8>, table: &Table, slot: Slot, name: &[u8]) -> Resul
     push_decimal(out, u32::from(slot))?;
     out.push(b' ')?;
     push_process(out, Naming::Endpoints, table, slot, name)?;
-    push_number(out, u32::from(process.level))?;
-    push_number(out, process.ticks)?;
+    push_number(out, u32::from(process.schedule.level))?;
+    push_number(out, process.schedule.ticks)?;
     out.push(b'\n')?;
     Ok(())
 }
@@ -31,7 +33,7 @@ fn push_slots(out: &mut Vec<u8>, table: &Table, services: &[Service]) -> Result<
     requires { length services.now ≡ length table.now.slots }
     ensures { OnOk result (out.new.items ≡ out.old.items ++ slot_lines table.now 0 services.now) }
 {
-    for slot in 0..table.used() {
+    for slot in 0..table.slot_count() {
         push_slot(out, table, slot, &services[slot as usize].name.bytes)?;
     }
     Ok(())

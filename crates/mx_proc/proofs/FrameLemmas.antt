@@ -23,7 +23,7 @@ map-put f (x ∷ xs) (suc i) p = ap (λ l. f x ∷ l) (map-put f xs i p)
 pub no_loan : (p q : Process) → is_out p.state ≡ false → is_out q.state ≡ false → loan_of p ≡ loan_of q
 no_loan p q a b = rw a (rw b refl)
 
-pub out_loan : (p q : Process) → is_out p.state ≡ true → is_out q.state ≡ true → p.ticks ≡ q.ticks → loan_of p ≡ loan_of q
+pub out_loan : (p q : Process) → is_out p.state ≡ true → is_out q.state ≡ true → p.schedule.ticks ≡ q.schedule.ticks → loan_of p ≡ loan_of q
 out_loan p q a b t = rw a (rw b (ap Some t))
 
 same : (a b : List FixedOfProcess) (c d : List (Option ℕ)) (t : ℕ) (x : Devices) → a ≡ b → c ≡ d
@@ -45,7 +45,7 @@ framed_home w n s q p r v k l is b e fixed a h = framed w n s q p r v k l is e f
 
 -- one that is out before and after
 pub framed_out : (w n : TableState) (s : ℕ) (q p : Process) (r : List (List ℕ)) (v : List (ℕ × ℕ)) (k : Option ℕ) (l : List Delivery) → w ≡ n → s < length n.slots → q ≡ get_or w.slots s q → fixed_of p ≡ fixed_of q
-    → is_out p.state ≡ true → is_out (process_at n s).state ≡ true → p.ticks ≡ q.ticks → frame (record w { slots = slice_set w.slots s p; ready = r; waits = v; renewed = k; deliveries = l }) ≡ frame n
+    → is_out p.state ≡ true → is_out (process_at n s).state ≡ true → p.schedule.ticks ≡ q.schedule.ticks → frame (record w { slots = slice_set w.slots s p; ready = r; waits = v; renewed = k; deliveries = l }) ≡ frame n
 framed_out w n s q p r v k l is b e fixed a h t = framed w n s q p r v k l is e fixed (out_loan p q a (ap (λ (x : Process). is_out x.state) (the_process w n s q is b e) ∙ h) t)
 
 -- one slot is another process's

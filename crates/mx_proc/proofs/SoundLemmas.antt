@@ -64,7 +64,7 @@ changed w w' s p h c = record {
 }
 
 -- a change of a process that stays where it stands
-pub stays : (w : TableState) (s : ℕ) (p : Process) → Sound w → s < length w.slots → p.state ≡ (process_at w s).state → p.level ≡ (process_at w s).level → IsProcess w.uptime p → Sound (with_process w s p)
+pub stays : (w : TableState) (s : ℕ) (p : Process) → Sound w → s < length w.slots → p.state ≡ (process_at w s).state → p.schedule.level ≡ (process_at w s).schedule.level → IsProcess w.uptime p → Sound (with_process w s p)
 stays w s p h b st lv k = changed w (with_process w s p) s p h (record {
   same = process-same w (with_process w s p) s p b refl;
   rest = λ t n. process-other w (with_process w s p) s t p n refl;
@@ -73,7 +73,7 @@ stays w s p h b st lv k = changed w (with_process w s p) s p h (record {
   process = k;
   lists = h.lists;
   idle = h.idle;
-  listed = λ l. (h.each s).listed l ∙ ap (λ st. cond (is_ready st) (tally ((process_at w s).level == l)) 0) (sym st) ∙ ap (λ v. cond (is_ready p.state) (tally (v == l)) 0) (sym lv);
+  listed = λ l. (h.each s).listed l ∙ ap (λ st. cond (is_ready st) (tally ((process_at w s).schedule.level == l)) 0) (sym st) ∙ ap (λ v. cond (is_ready p.state) (tally (v == l)) 0) (sym lv);
   others = λ t l n. refl;
   waiting = (h.each s).waiting ∙ ap (λ st. tally (is_sending st)) (sym st);
   waits = λ t n. refl;
@@ -85,7 +85,7 @@ stays w s p h b st lv k = changed w (with_process w s p) s p h (record {
 
 -- a process that is in no queue stands in none
 pub alone_listed : (w : TableState) (s : ℕ) → Sound w → is_ready (process_at w s).state ≡ false → InNoList w.ready s
-alone_listed w s h r l = (h.each s).listed l ∙ ap (λ b. cond b (tally ((process_at w s).level == l)) 0) r
+alone_listed w s h r l = (h.each s).listed l ∙ ap (λ b. cond b (tally ((process_at w s).schedule.level == l)) 0) r
 
 pub alone_waiting : (w : TableState) (s : ℕ) → Sound w → is_sending (process_at w s).state ≡ false → sends_of s w.waits ≡ 0
 alone_waiting w s h q = (h.each s).waiting ∙ ap tally q
@@ -100,7 +100,7 @@ alone w s p h b o n k = changed w (with_process w s p) s p h (record {
   process = k;
   lists = h.lists;
   idle = h.idle;
-  listed = λ l. alone_listed w s h o.0 l ∙ ap (λ b. cond b (tally (p.level == l)) 0) (sym n.0);
+  listed = λ l. alone_listed w s h o.0 l ∙ ap (λ b. cond b (tally (p.schedule.level == l)) 0) (sym n.0);
   others = λ t l n. refl;
   waiting = alone_waiting w s h o.1 ∙ ap tally (sym n.1);
   waits = λ t n. refl;
@@ -111,7 +111,7 @@ alone w s p h b o n k = changed w (with_process w s p) s p h (record {
 })
 
 -- a process, also one that is new, is put into the list of a level
-placed_at : (w w' : TableState) (s level : ℕ) (list : List ℕ) (p : Process) → Sound w → process_at w' s ≡ p → ((t : ℕ) → t ≢ s → process_at w' t ≡ process_at w t) → length w.slots ≤ length w'.slots → length w'.slots ≤ 32 → IsAlone (process_at w s).state → level ≤ 14 → p.level ≡ level → p.state ≡ Ready → IsProcess w.uptime p
+placed_at : (w w' : TableState) (s level : ℕ) (list : List ℕ) (p : Process) → Sound w → process_at w' s ≡ p → ((t : ℕ) → t ≢ s → process_at w' t ≡ process_at w t) → length w.slots ≤ length w'.slots → length w'.slots ≤ 32 → IsAlone (process_at w s).state → level ≤ 14 → p.schedule.level ≡ level → p.state ≡ Ready → IsProcess w.uptime p
     → w'.ready ≡ slice_set w.ready level list → w'.waits ≡ w.waits → w'.devices ≡ w.devices → w'.uptime ≡ w.uptime → ((t : ℕ) → times t list ≡ tally (s == t) + times t (list_at w.ready level)) → Sound w'
 placed_at w w' s level list p h same rest grows few o low at st k r v d u counts = changed w w' s p h (record {
   same = same;
@@ -141,13 +141,13 @@ placed_at w w' s level list p h same rest grows few o low at st k r v d u counts
 })
   where
     here : (l : ℕ) → l ≡ level → belongs p l ≡ 1
-    here l x = ap (λ st. cond (is_ready st) (tally (p.level == l)) 0) st ∙ tally-same p.level l (at ∙ sym x)
+    here l x = ap (λ st. cond (is_ready st) (tally (p.schedule.level == l)) 0) st ∙ tally-same p.schedule.level l (at ∙ sym x)
 
     there : (l : ℕ) → l ≢ level → belongs p l ≡ 0
-    there l x = ap (λ st. cond (is_ready st) (tally (p.level == l)) 0) st ∙ tally-other p.level l (λ e. x (sym e ∙ at))
+    there l x = ap (λ st. cond (is_ready st) (tally (p.schedule.level == l)) 0) st ∙ tally-other p.schedule.level l (λ e. x (sym e ∙ at))
 
 -- a process that is in no queue is put into the list of a level
-pub placed : (w w' : TableState) (s level : ℕ) (list : List ℕ) (p : Process) → Sound w → s < length w.slots → IsAlone (process_at w s).state → level ≤ 14 → p.level ≡ level → p.state ≡ Ready → IsProcess w.uptime p
+pub placed : (w w' : TableState) (s level : ℕ) (list : List ℕ) (p : Process) → Sound w → s < length w.slots → IsAlone (process_at w s).state → level ≤ 14 → p.schedule.level ≡ level → p.state ≡ Ready → IsProcess w.uptime p
     → w'.slots ≡ slice_set w.slots s p → w'.ready ≡ slice_set w.ready level list → w'.waits ≡ w.waits → w'.devices ≡ w.devices → w'.uptime ≡ w.uptime → ((t : ℕ) → times t list ≡ tally (s == t) + times t (list_at w.ready level)) → Sound w'
 placed w w' s level list p h b o low at st k e r v d u counts =
     placed_at w w' s level list p h (process-same w w' s p b e) (λ t n. process-other w w' s t p n e) (omega (arith, ap length e, length-set w.slots s p)) (omega (arith, ap length e, length-set w.slots s p, h.few)) o low at st k r v d u counts
@@ -156,7 +156,7 @@ nobody_alone : (w : TableState) (s : ℕ) → length w.slots ≤ s → IsAlone (
 nobody_alone w s b = subst (λ (p : Process). IsAlone p.state) (sym (get_or-eq_default w.slots nobody b)) (refl, refl)
 
 -- one slot more, in the list of a level
-pub grown : (w w' : TableState) (level : ℕ) (p : Process) → Sound w → length w.slots < 32 → level ≤ 14 → p.level ≡ level → p.state ≡ Ready → IsProcess w.uptime p
+pub grown : (w w' : TableState) (level : ℕ) (p : Process) → Sound w → length w.slots < 32 → level ≤ 14 → p.schedule.level ≡ level → p.state ≡ Ready → IsProcess w.uptime p
     → w'.slots ≡ w.slots ++ p ∷ [] → w'.ready ≡ slice_set w.ready level (list_at w.ready level ++ length w.slots ∷ []) → w'.waits ≡ w.waits → w'.devices ≡ w.devices → w'.uptime ≡ w.uptime → Sound w'
 grown w w' level p h b low at st k e r v d u =
     let s = length w.slots in
@@ -176,11 +176,11 @@ nobody_listed w h = alone_listed w (length w.slots) h (nobody_alone w (length w.
 
 -- a ready process leaves its list
 pub left : (w w' : TableState) (s : ℕ) (p : Process) → Sound w → s < length w.slots → is_ready (process_at w s).state ≡ true → p.state ≡ Home → IsProcess w.uptime p
-    → w'.slots ≡ slice_set w.slots s p → w'.ready ≡ slice_set w.ready (process_at w s).level (without s (list_at w.ready (process_at w s).level)) → w'.waits ≡ w.waits → w'.devices ≡ w.devices → w'.uptime ≡ w.uptime → Sound w'
+    → w'.slots ≡ slice_set w.slots s p → w'.ready ≡ slice_set w.ready (process_at w s).schedule.level (without s (list_at w.ready (process_at w s).schedule.level)) → w'.waits ≡ w.waits → w'.devices ≡ w.devices → w'.uptime ≡ w.uptime → Sound w'
 left w w' s p h b y st k e r v d u =
-    let level = (process_at w s).level in
+    let level = (process_at w s).schedule.level in
     let list = without s (list_at w.ready level) in
-    let low : level ≤ 14 = (h.each s).process.level in changed w w' s p h (record {
+    let low : level ≤ 14 = (process_at w s).schedule.lowest in changed w w' s p h (record {
       same = process-same w w' s p b e;
       rest = λ t n. process-other w w' s t p n e;
       grows = omega (arith, ap length e, length-set w.slots s p);
@@ -208,7 +208,7 @@ left w w' s p h b y st k e r v d u =
     })
   where
     nowhere : (l : ℕ) → belongs p l ≡ 0
-    nowhere l = ap (λ st. cond (is_ready st) (tally (p.level == l)) 0) st
+    nowhere l = ap (λ st. cond (is_ready st) (tally (p.schedule.level == l)) 0) st
 
     ready_quiet : (st : State) → is_ready st ≡ true → is_sending st ≡ false
     ready_quiet Ready h = refl
@@ -254,7 +254,7 @@ freed w w' s p h b y st k e r v d u = changed w w' s p h (record {
   process = k;
   lists = ap length r ∙ h.lists;
   idle = ap (λ x. list_at x 15) r ∙ h.idle;
-  listed = λ l. ap (λ x. times s (list_at x l)) r ∙ alone_listed w s h (sending_ready (process_at w s).state y) l ∙ ap (λ st. cond (is_ready st) (tally (p.level == l)) 0) (sym st);
+  listed = λ l. ap (λ x. times s (list_at x l)) r ∙ alone_listed w s h (sending_ready (process_at w s).state y) l ∙ ap (λ st. cond (is_ready st) (tally (p.schedule.level == l)) 0) (sym st);
   others = λ t l n. ap (λ x. times t (list_at x l)) r;
   waiting = ap (sends_of s) v ∙ sends-without_same s w.waits ∙ ap (λ st. tally (is_sending st)) (sym st);
   waits = λ t n. ap (sends_of t) v ∙ sends-without_other s t w.waits n;
@@ -275,7 +275,7 @@ waits_for w w' s d p h b i apart free o still sends k e r v f g = changed w w' s
   process = k;
   lists = ap length r ∙ h.lists;
   idle = ap (λ x. list_at x 15) r ∙ h.idle;
-  listed = λ l. ap (λ x. times s (list_at x l)) r ∙ alone_listed w s h o.0 l ∙ ap (λ b. cond b (tally (p.level == l)) 0) (sym still);
+  listed = λ l. ap (λ x. times s (list_at x l)) r ∙ alone_listed w s h o.0 l ∙ ap (λ b. cond b (tally (p.schedule.level == l)) 0) (sym still);
   others = λ t l n. ap (λ x. times t (list_at x l)) r;
   waiting = ap (sends_of s) v ∙ sends-push s s d w.waits ∙ omega (arith, tally-same s s refl, alone_waiting w s h o.1, ap tally sends);
   waits = λ t n. ap (sends_of t) v ∙ sends-push t s d w.waits ∙ omega (arith, tally-other s t (λ e. n (sym e)));
@@ -333,7 +333,7 @@ picked_ready w s h e =
 
 -- a process that begins, whatever of the slot's was replaced
 pub begun : (uptime generation used : ℕ) (image : Image) (terms : Terms) → generation < 2 ^ 20 → IsProcess uptime (record (new_process image terms) { generation = generation; restarts_used = used })
-begun uptime generation used image terms h = record { level = terms.lowest; best = terms.best_above; ticks = omega arith; generation = h; pending = refl; windows = refl; alarm = _; buffer = λ m. cc }
+begun uptime generation used image terms h = record { generation = h; pending = refl; windows = refl; alarm = _; buffer = λ m. cc }
 
 -- ---- a table without processes
 
@@ -342,7 +342,7 @@ no_chain _ _ (one_pair p q h) = h
 no_chain _ _ (and_then p q r h g) = h
 
 nobody_is : (uptime : ℕ) → IsProcess uptime nobody
-nobody_is uptime = record { level = omega arith; best = omega arith; ticks = omega arith; generation = lit< tt; pending = refl; windows = refl; alarm = _; buffer = λ m. cc }
+nobody_is uptime = record { generation = lit< tt; pending = refl; windows = refl; alarm = _; buffer = λ m. cc }
 
 pub founded : (w : TableState) → w.slots ≡ [] → w.ready ≡ replicate 16 [] → w.waits ≡ [] → w.devices ≡ no_devices → Sound w
 founded w a b d e =

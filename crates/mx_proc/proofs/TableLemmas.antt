@@ -2,7 +2,6 @@ use Rattle.std.proofs.Common.{◌≡◌, ◌≢◌, ℕ, ◌+◌, ◌^◌, ◌<�
 use Rattle.std.proofs.lemmas.Bool.{cases_eq}
 use Rattle.mx_proc.specs.declared.process.Process.{Process}
 use Rattle.mx_proc.specs.declared.process.State.{State}
-use Rattle.mx_proc.specs.declared.process.Terms.{Terms}
 use Rattle.mx_proc.specs.declared.process.State.TheVariants.{Home, Ready, Out, Doomed, Sending, Calling, Receiving, Awaiting, Down}
 use Rattle.mx_proc.specs.Queues.{tally, times, without, list_at}
 use Rattle.mx_proc.specs.States.{IsAlone, is_ready, is_sending, is_blocked, is_down, is_out}
@@ -32,10 +31,7 @@ state_set w n s q st v h b e o still room =
     let is = the_process w n s q v b e in
     let k = is_process w n s q v h is in
     renamed w n s (record q { state = st }) v (alone n s (record q { state = st }) (subst Sound v h) b o still (record {
-      level = k.level;
-      best = k.best;
       generation = k.generation;
-      ticks = k.ticks;
       pending = k.pending;
       windows = k.windows;
       alarm = k.alarm;
@@ -45,10 +41,8 @@ state_set w n s q st v h b e o still room =
 -- what a change leaves of what holds of a process
 pub record Alike (q p : Process) : Type 0 where
   pub state : p.state ≡ q.state
-  pub level : p.level ≡ q.level
-  pub terms : p.terms ≡ q.terms
+  pub level : p.schedule.level ≡ q.schedule.level
   pub generation : p.generation ≡ q.generation
-  pub ticks : p.ticks ≡ q.ticks
   pub pending : length p.pending ≡ length q.pending
   pub windows : length p.windows ≡ length q.windows
   pub alarm : p.alarm ≡ q.alarm
@@ -59,11 +53,8 @@ pub alike : (w n : TableState) (s : ℕ) (q p : Process) → w ≡ n → Sound w
 alike w n s q p v h b e a =
     let is = the_process w n s q v b e in
     let k = is_process w n s q v h is in
-    renamed w n s p v (stays n s p (subst Sound v h) b (a.state ∙ ap (λ x. x.state) is) (a.level ∙ ap (λ x. x.level) is) (record {
-      level = omega (arith, k.level, a.level);
-      best = omega (arith, k.best, a.level, ap (λ (t : Terms). t.best) a.terms);
+    renamed w n s p v (stays n s p (subst Sound v h) b (a.state ∙ ap (λ x. x.state) is) (a.level ∙ ap (λ (x : Process). x.schedule.level) is) (record {
       generation = subst (λ g. g < 2 ^ 20) (sym a.generation) k.generation;
-      ticks = omega (arith, k.ticks, a.ticks, ap (λ (t : Terms). t.quantum) a.terms);
       pending = a.pending ∙ k.pending;
       windows = a.windows ∙ k.windows;
       alarm = subst (λ o. IfSome o (λ due. due < n.uptime + 2 ^ 32)) (sym a.alarm) k.alarm;
@@ -75,16 +66,16 @@ pub alarm_set : (w n : TableState) (s : ℕ) (q : Process) (due : Option ℕ) �
 alarm_set w n s q due v h b e bound =
     let is = the_process w n s q v b e in
     let k = is_process w n s q v h is in
-    renamed w n s (record q { alarm = due }) v (stays n s (record q { alarm = due }) (subst Sound v h) b (ap (λ (p : Process). p.state) is) (ap (λ (p : Process). p.level) is)
-    (record { level = k.level; best = k.best; ticks = k.ticks; generation = k.generation; pending = k.pending; windows = k.windows; alarm = bound; buffer = k.buffer }))
+    renamed w n s (record q { alarm = due }) v (stays n s (record q { alarm = due }) (subst Sound v h) b (ap (λ (p : Process). p.state) is) (ap (λ (p : Process). p.schedule.level) is)
+    (record { generation = k.generation; pending = k.pending; windows = k.windows; alarm = bound; buffer = k.buffer }))
 
 -- who is ready stands in the list of its level
-pub ready_listed : (w n : TableState) (s : ℕ) (q : Process) → w ≡ n → Sound w → s < length n.slots → q ≡ get_or w.slots s q → is_ready (process_at n s).state ≡ true → 1 ≤ times s (list_at w.ready q.level)
+pub ready_listed : (w n : TableState) (s : ℕ) (q : Process) → w ≡ n → Sound w → s < length n.slots → q ≡ get_or w.slots s q → is_ready (process_at n s).state ≡ true → 1 ≤ times s (list_at w.ready q.schedule.level)
 ready_listed w n s q v h b e y =
     let same : q ≡ process_at w s = the_process w n s q v b e ∙ ap (λ x. process_at x s) (sym v) in
     let ready : is_ready q.state ≡ true = ap (λ (p : Process). is_ready p.state) same ∙ subst (λ x. is_ready (process_at x s).state ≡ true) (sym v) y in
-    let once : belongs q q.level ≡ 1 = ap (λ r. cond r (tally (q.level == q.level)) 0) ready ∙ tally-same q.level q.level refl in
-    omega (arith, (h.each s).listed q.level, once, ap (λ p. belongs p q.level) same)
+    let once : belongs q q.schedule.level ≡ 1 = ap (λ r. cond r (tally (q.schedule.level == q.schedule.level)) 0) ready ∙ tally-same q.schedule.level q.schedule.level refl in
+    omega (arith, (h.each s).listed q.schedule.level, once, ap (λ p. belongs p q.schedule.level) same)
 
 -- who is sending stands among the blocked sends
 pub sending_waits : (w n : TableState) (s : ℕ) → w ≡ n → Sound w → is_sending (process_at n s).state ≡ true → 1 ≤ sends_of s w.waits
@@ -94,16 +85,13 @@ sending_waits w n s v h y =
 
 -- ready, in the list of a level
 pub listed : (w n w' : TableState) (s level : ℕ) (list : List ℕ) (q p : Process) → w ≡ n → Sound w → s < length n.slots → q ≡ get_or w.slots s q → IsAlone (process_at n s).state
-    → level ≤ 14 → p.level ≡ level → p.state ≡ Ready → p.terms ≡ q.terms → q.terms.best ≤ level → p.generation ≡ q.generation → p.ticks ≤ q.terms.quantum → p.pending ≡ q.pending → p.windows ≡ q.windows → p.alarm ≡ q.alarm
+    → p.schedule.level ≡ level → p.state ≡ Ready → p.generation ≡ q.generation → p.pending ≡ q.pending → p.windows ≡ q.windows → p.alarm ≡ q.alarm
     → w'.slots ≡ slice_set w.slots s p → w'.ready ≡ slice_set w.ready level list → w'.waits ≡ w.waits → w'.devices ≡ w.devices → w'.uptime ≡ w.uptime → ((t : ℕ) → times t list ≡ tally (s == t) + times t (list_at w.ready level)) → Sound w'
-listed w n w' s level list q p v h b e o low at st terms high generation ticks notes panes alarm slots r u f g counts =
+listed w n w' s level list q p v h b e o at st generation notes panes alarm slots r u f g counts =
     let is = the_process w n s q v b e in
     let k = is_process_here w n s q v h is in
-    placed w w' s level list p h (subst (λ (x : TableState). s < length x.slots) (sym v) b) (subst (λ x. IsAlone (process_at x s).state) (sym v) o) low at st (record {
-      level = omega (arith, at, low);
-      best = omega (arith, at, high, ap (λ (t : Terms). t.best) terms);
+    placed w w' s level list p h (subst (λ (x : TableState). s < length x.slots) (sym v) b) (subst (λ x. IsAlone (process_at x s).state) (sym v) o) (omega (arith, at, p.schedule.lowest)) at st (record {
       generation = subst (λ g. g < 2 ^ 20) (sym generation) k.generation;
-      ticks = omega (arith, ticks, ap (λ (t : Terms). t.quantum) terms);
       pending = ap length notes ∙ k.pending;
       windows = ap length panes ∙ k.windows;
       alarm = subst (λ o. IfSome o (λ due. due < w.uptime + 2 ^ 32)) (sym alarm) k.alarm;
@@ -111,15 +99,15 @@ listed w n w' s level list q p v h b e o low at st terms high generation ticks n
     }) slots r u f g counts
 
 homed : (uptime : ℕ) (q : Process) → IsProcess uptime q → IsProcess uptime (record q { state = Home })
-homed uptime q k = record { level = k.level; best = k.best; generation = k.generation; ticks = k.ticks; pending = k.pending; windows = k.windows; alarm = k.alarm; buffer = λ m. cc }
+homed uptime q k = record { generation = k.generation; pending = k.pending; windows = k.windows; alarm = k.alarm; buffer = λ m. cc }
 
 pub unlisted : (w n w' : TableState) (s : ℕ) (q : Process) → w ≡ n → Sound w → s < length n.slots → q ≡ get_or w.slots s q → is_ready (process_at n s).state ≡ true
-    → w'.slots ≡ slice_set w.slots s (record q { state = Home }) → w'.ready ≡ slice_set w.ready q.level (without s (list_at w.ready q.level)) → w'.waits ≡ w.waits → w'.devices ≡ w.devices → w'.uptime ≡ w.uptime → Sound w'
+    → w'.slots ≡ slice_set w.slots s (record q { state = Home }) → w'.ready ≡ slice_set w.ready q.schedule.level (without s (list_at w.ready q.schedule.level)) → w'.waits ≡ w.waits → w'.devices ≡ w.devices → w'.uptime ≡ w.uptime → Sound w'
 unlisted w n w' s q v h b e y slots r u f g =
     let is = the_process w n s q v b e in
     let same : q ≡ process_at w s = is ∙ ap (λ x. process_at x s) (sym v) in
     left w w' s (record q { state = Home }) h (subst (λ (x : TableState). s < length x.slots) (sym v) b) (subst (λ x. is_ready (process_at x s).state ≡ true) (sym v) y) refl (homed w.uptime q (is_process_here w n s q v h is)) slots
-    (r ∙ ap (λ (p : Process). slice_set w.ready p.level (without s (list_at w.ready p.level))) same) u f g
+    (r ∙ ap (λ (p : Process). slice_set w.ready p.schedule.level (without s (list_at w.ready p.schedule.level))) same) u f g
 
 pub unwaiting : (w n w' : TableState) (s : ℕ) (q : Process) → w ≡ n → Sound w → s < length n.slots → q ≡ get_or w.slots s q → is_sending (process_at n s).state ≡ true
     → w'.slots ≡ slice_set w.slots s (record q { state = Home }) → w'.ready ≡ w.ready → w'.waits ≡ without_from s w.waits → w'.devices ≡ w.devices → w'.uptime ≡ w.uptime → Sound w'
@@ -135,10 +123,7 @@ waiting w n w' s d q st v h b e i apart free o still sends room slots r u g same
     let k = is_process_here w n s q v h is in
     waits_for w w' s d (record q { state = st }) h (subst (λ (x : TableState). s < length x.slots) (sym v) b) (subst (λ (x : TableState). d < length x.slots) (sym v) i) apart (λ m. free (subst (λ (x : TableState). Reaches x.waits d s) v m))
     (subst (λ x. IsAlone (process_at x s).state) (sym v) o) still sends (record {
-      level = k.level;
-      best = k.best;
       generation = k.generation;
-      ticks = k.ticks;
       pending = k.pending;
       windows = k.windows;
       alarm = k.alarm;

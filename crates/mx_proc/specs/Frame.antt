@@ -26,10 +26,10 @@ pub record Frame : Type 0 where
   pub devices : Devices
 
 abbrev pub fixed_of : Process → FixedOfProcess
-fixed_of p = record { generation = p.generation; restarts_used = p.restarts_used; steps = p.steps; terms = p.terms; lasting = lasting p.image }
+fixed_of p = record { generation = p.generation; restarts_used = p.restarts_used; steps = p.steps; terms = p.schedule.terms; lasting = lasting p.image }
 
 abbrev pub loan_of : Process → Option ℕ
-loan_of p = if is_out p.state then Some p.ticks else None
+loan_of p = if is_out p.state then Some p.schedule.ticks else None
 
 unfoldable pub frame : TableState → Frame
 frame w = record { fixed = map fixed_of w.slots; loans = map loan_of w.slots; uptime = w.uptime; devices = w.devices }

@@ -8,6 +8,7 @@ pub mod Console
 pub mod Devices
 pub mod Messages
 pub mod States
+pub mod Schedules
 pub mod TableState
 pub mod EndpointNumbers
 pub mod Endpoints

@@ -9,7 +9,7 @@ use Rattle.mx_proc.specs.TableState.{TableState, process_at}
 
 -- how often a process belongs in the list of a level
 abbrev pub belongs : Process → ℕ → ℕ
-belongs p level = if is_ready p.state then tally (p.level == level) else 0
+belongs p level = if is_ready p.state then tally (p.schedule.level == level) else 0
 
 -- the 36 bytes at the buffer lie inside
 abbrev pub HasBuffer : Process → Type 0
@@ -17,9 +17,6 @@ HasBuffer p = p.image.regs.ebx + 36 ≤ length p.image.memory
 
 -- What holds of each process by itself, at an uptime.
 pub record IsProcess (uptime : ℕ) (p : Process) : Type 0 where
-  pub level : p.level ≤ 14
-  pub best : p.terms.best ≤ p.level
-  pub ticks : p.ticks ≤ p.terms.quantum
   pub generation : p.generation < 2 ^ 20
   pub pending : length p.pending ≡ 34
   pub windows : length p.windows ≡ 32

@@ -1,7 +1,6 @@
 -- A table as plain lists (proc.c), and the changes that it is made of.
 use Rattle.std.specs.Prelude.{ℕ, ◌<◌, ◌+◌, ◌-◌, ◌*◌, ◌^◌, ◌++◌, ◌∷◌, Bool, false, List, [], Option, Some, None, slice_index_or, slice_set, length, replicate, take, drop}
 use Rattle.std.specs.Option.{option_map}
-use Rattle.std.proofs.Common.{lit<, lit≤}
 use Rattle.circular_buffer.specs.Buffer.{keep_last}
 use Rattle.mx_exec.specs.declared.image.Image.{Image}
 use Rattle.mx_exec.specs.Image.{blank}
@@ -25,6 +24,7 @@ use Rattle.mx_proc.specs.EndpointNumbers.{endpoint_from, hardware_endpoint, cloc
 use Rattle.mx_proc.specs.Messages.{with_source, type_of, notification}
 use Rattle.mx_proc.specs.Partners.{order_of_source, source_in_order, lines_in_notification, first_pending}
 use Rattle.mx_proc.specs.Queues.{list_at, without}
+use Rattle.mx_proc.specs.Schedules.{first_schedule, no_schedule, renewed_schedule, spent_schedule}
 use Rattle.mx_proc.specs.Waits.{without_from}
 
 -- What a table holds.
@@ -46,30 +46,13 @@ pub record TableState : Type 0 where
 abbrev pub empty_table : Rules → TableState
 empty_table rules = record { slots = []; ready = replicate 16 []; waits = []; renewed = None; uptime = 0; devices = no_devices; deliveries = []; rules = rules }
 
--- the terms of nobody
-abbrev pub no_terms : Terms
-no_terms = record {
-  masks = record { traps = 0; sends = 0; calls = 0 };
-  level = 0;
-  best = 0;
-  quantum = 1;
-  restarts = 0;
-  lowest = lit≤ tt;
-  best_above = lit≤ tt;
-  some_ticks = lit< tt;
-  quantum_fits = lit≤ tt;
-  restarts_fit = lit≤ tt;
-}
-
 -- the process of an index past the table
 abbrev pub nobody : Process
 nobody = record {
   state = Down Exit;
   generation = 0;
   restarts_used = 0;
-  terms = no_terms;
-  level = 0;
-  ticks = 0;
+  schedule = no_schedule;
   steps = 0;
   pending = replicate 34 false;
   lines = 0;
@@ -120,20 +103,24 @@ endpoint_of w s = endpoint_from (process_at w s).generation s
 abbrev pub table_with_first : TableState → ℕ → TableState
 table_with_first w s = let p = process_at w s in record w {
   slots = slice_set w.slots s (record p { state = Ready });
-  ready = slice_set w.ready p.level (s ∷ list_at w.ready p.level);
+  ready = slice_set w.ready p.schedule.level (s ∷ list_at w.ready p.schedule.level);
 }
 
--- a process is ready with a new quantum, at the end of the list of this level
+-- a process that is ready with a new quantum, in the list nearest to a level
+abbrev pub renewed : ℕ → Process → Process
+renewed level p = record p { state = Ready; schedule = renewed_schedule level p.schedule }
+
+-- a process is renewed, at the end of the list of its level
 abbrev pub table_with_last : TableState → ℕ → ℕ → TableState
-table_with_last w s level = let p = process_at w s in record w {
-  slots = slice_set w.slots s (record p { state = Ready; level = level; ticks = p.terms.quantum });
-  ready = slice_set w.ready level (list_at w.ready level ++ s ∷ []);
+table_with_last w s level = let p = renewed level (process_at w s) in record w {
+  slots = slice_set w.slots s p;
+  ready = slice_set w.ready p.schedule.level (list_at w.ready p.schedule.level ++ s ∷ []);
   renewed = Some s;
 }
 
 -- a process leaves the list of its level
 abbrev pub table_after_dequeue : TableState → ℕ → TableState
-table_after_dequeue w s = let level = (process_at w s).level in record (with_state w s Home) { ready = slice_set w.ready level (without s (list_at w.ready level)) }
+table_after_dequeue w s = let level = (process_at w s).schedule.level in record (with_state w s Home) { ready = slice_set w.ready level (without s (list_at w.ready level)) }
 
 -- a send is blocked, after the others
 abbrev pub table_after_block : TableState → ℕ → ℕ → State → TableState
@@ -197,9 +184,13 @@ table_after_move_out w s = with_process w s (record (process_at w s) { state = O
 abbrev pub table_after_move_home : TableState → ℕ → Image → TableState
 table_after_move_home w s image = with_process w s (record (process_at w s) { state = Home; image = image })
 
+-- a process after n steps more
+abbrev pub stepped : ℕ → Process → Process
+stepped n p = record p { schedule = spent_schedule n p.schedule; steps = p.steps + n }
+
 -- n steps were made
 abbrev pub table_after_steps : TableState → ℕ → ℕ → TableState
-table_after_steps w s n = let p = process_at w s in with_process w s (record p { ticks = p.ticks - n; steps = p.steps + n })
+table_after_steps w s n = with_process w s (stepped n (process_at w s))
 
 -- a slot has another image
 abbrev pub with_image : TableState → ℕ → Image → TableState
@@ -209,7 +200,7 @@ with_image w s image = with_process w s (record (process_at w s) { image = image
 
 -- a process as it begins: ready, with a full quantum
 abbrev pub new_process : Image → Terms → Process
-new_process image terms = record nobody { state = Ready; terms = terms; level = terms.level; ticks = terms.quantum; image = image }
+new_process image terms = record nobody { state = Ready; schedule = first_schedule terms; image = image }
 
 -- the process after a dead one: nothing of that is left but its generation and its restarts, each one more
 abbrev pub process_after : Process → Image → Terms → Process
@@ -226,5 +217,5 @@ table_after_add w image terms = record w {
 abbrev pub table_after_revival : TableState → ℕ → Process → TableState
 table_after_revival w s p = record w {
   slots = slice_set w.slots s p;
-  ready = slice_set w.ready p.level (list_at w.ready p.level ++ s ∷ []);
+  ready = slice_set w.ready p.schedule.level (list_at w.ready p.schedule.level ++ s ∷ []);
 }

@@ -36,7 +36,7 @@ pub use endpoints::{
 pub use errors::Errno;
 pub use mx_mem::MESSAGE_SIZE;
 pub use process::{
-    DeathCause, Masks, Partner, Process, ProcessAddress, Slot, Source, State, Terms,
+    DeathCause, Masks, Partner, Process, ProcessAddress, Schedule, Slot, Source, State, Terms,
 };
 pub use table::{Stale, Table};
 pub use windows::{Access, Rules, Window};

@@ -7,6 +7,9 @@ ghost use Rattle.mx_proc.specs.States.{is_ready, is_down};
 use crate::windows::Window;
 use mx_exec::Image;
 
+/// The lowest level of a process. The list below it, 15, is the idle list, and stays empty.
+const LOWEST: u8 = 14;
+
 /// The number of a slot of the table, 0 to 31.
 pub type Slot = u8;
 
@@ -41,7 +44,7 @@ impl Source {
     }
 
     /// Which of these raised lines a notification by it reports: all of them if it is HARDWARE, else none.
-    pub fn lines_told(self, lines: u32) -> u32
+    pub fn lines_reported(self, lines: u32) -> u32
         ensures value { result ≡ lines_in_notification self lines }
         ensures below { result ≤ lines }
     {
@@ -166,6 +169,51 @@ pub struct Terms {
     ghost restarts_fit: { restarts ≤ 1048575 },
 }
 
+/// By which terms a process runs, in which list, and how much of its quantum is left.
+#[derive(Clone, Copy)]
+pub struct Schedule {
+    /// What its service gave it.
+    pub terms: Terms,
+    /// The ready list that it is in when it is ready, `terms.best` to 14.
+    pub level: u8,
+    /// How many ticks of its quantum are left. Each step takes one tick.
+    pub ticks: u32,
+    ghost lowest: { level ≤ 14 },
+    ghost best_above: { terms.best ≤ level },
+    ghost ticks_fit: { ticks ≤ terms.quantum },
+}
+
+impl Schedule {
+    ghost use Rattle.mx_proc.specs.Schedules.{first_schedule, renewed_schedule, spent_schedule};
+
+    /// The schedule of a process that begins: a full quantum, in the list of the terms.
+    pub fn new(terms: Terms) -> Schedule
+        ensures { result ≡ first_schedule terms }
+    {
+        Schedule {
+            terms,
+            level: terms.level,
+            ticks: terms.quantum,
+        }
+    }
+
+    /// A new quantum, in the list nearest to this one of those that the terms allow.
+    pub fn renew(&mut self, level: u8)
+        ensures { self.new ≡ renewed_schedule level self.old }
+    {
+        self.level = level.min(LOWEST).max(self.terms.best);
+        self.ticks = self.terms.quantum;
+    }
+
+    /// Takes these ticks off the quantum.
+    pub fn spend(&mut self, ticks: u32)
+        requires { ticks ≤ self.old.ticks }
+        ensures { self.new ≡ spent_schedule ticks self.old }
+    {
+        self.ticks -= ticks;
+    }
+}
+
 /// A process. While it is on a processor, `image` is blank: the processor has the real one.
 #[derive(Drop)]
 pub struct Process {
@@ -174,12 +222,7 @@ pub struct Process {
     pub generation: u32,
     /// How many of the service's restarts are used up.
     pub restarts_used: u32,
-    /// What its service gave it.
-    pub terms: Terms,
-    /// The ready list that it is in when it is ready, `terms.best` to 14.
-    pub level: u8,
-    /// How many ticks of its quantum are left. Each step takes one tick.
-    pub ticks: u32,
+    pub schedule: Schedule,
     /// How many steps this process has made. (The one before it in the slot doesn't count.)
     pub steps: u64,
     /// Whose notifications are pending for this process. `Source::place` is the index of a source's bit.
@@ -204,9 +247,7 @@ impl Process {
             state: State::Ready,
             generation: 0,
             restarts_used: 0,
-            terms,
-            level: terms.level,
-            ticks: terms.quantum,
+            schedule: Schedule::new(terms),
             steps: 0,
             pending: [false; 34],
             lines: 0,

@@ -171,8 +171,6 @@ impl Table {
         ensures buffer { is_blocked (process_at self.now slot).state ≡ true
             → HasBuffer (process_at self.now slot) }
         ensures generation { (process_at self.now slot).generation < 2 ^ 20 }
-        ensures level { (process_at self.now slot).level ≤ 14 }
-        ensures best { (process_at self.now slot).terms.best ≤ (process_at self.now slot).level }
         ensures alarm { IfSome (process_at self.now slot).alarm (λ due.
             due < self.now.uptime + 2 ^ 32) }
     {
@@ -190,7 +188,7 @@ impl Table {
     }
 
     /// How many slots of the table are used.
-    pub fn used(&self) -> u8
+    pub fn slot_count(&self) -> u8
         ensures value { result ≡ length self.now.slots }
         ensures few { result ≤ 32 }
     {

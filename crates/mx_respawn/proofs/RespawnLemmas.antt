@@ -18,7 +18,7 @@ pub next_is : (w t : TableState) (s : ℕ) (image : _) (v : Service) → s < len
 next_is w t s image v b e f = ap (λ p. process_after p image v.terms) (emptied w t s b e) ∙ ap (λ i. process_after (process_at w s) i v.terms) f
 
 put_twice : (w : TableState) (s : ℕ) (p : Process) → table_after_revival (with_image w s blank) s p ≡ table_after_revival w s p
-put_twice w s p = ap (λ l. let n : TableState = record w { slots = l; ready = slice_set w.ready p.level (list_at w.ready p.level ++ s ∷ []) } in n) (set-set w.slots s _ p)
+put_twice w s p = ap (λ l. let n : TableState = record w { slots = l; ready = slice_set w.ready p.schedule.level (list_at w.ready p.schedule.level ++ s ∷ []) } in n) (set-set w.slots s _ p)
 
 pub respawned_is : (w t n : TableState) (s : ℕ) (p : Process) (v : Service) → t ≡ with_image w s blank → n ≡ table_after_revival t s p → p ≡ next_process (process_at w s) v → n ≡ table_after_respawn w s v
 unfolding table_after_respawn

@@ -94,7 +94,7 @@ fn wake_receivers(table: &mut Table, slot: Slot)
     ensures used { length table.new.slots ≡ length table.old.slots }
     ensures settled { NoneComesHome table.old table.new }
 {
-    for other in 0..table.used() {
+    for other in 0..table.slot_count() {
         wake(table, slot, other);
     }
 }

@@ -12,9 +12,6 @@ ghost use Rattle.mx_sched.specs.Queueing.{table_after_queueing};
 
 use mx_proc::{Slot, State, Table};
 
-/// The lowest level of a process. The list below it, 15, is the idle list, and stays empty.
-const LOWEST: u8 = 14;
-
 /// Queues a process that is at home and in no queue: to the front of its list if ticks are left, else with a
 /// new quantum and perhaps on another level to the end of its list.
 #[tactic(auto, unfolding(crate::specs::Queueing::table_after_queueing))]
@@ -30,22 +27,20 @@ pub fn enqueue(table: &mut Table, slot: Slot)
     ensures others { (s : ℕ) → s ≢ slot → process_at table.new s ≡ process_at table.old s }
 {
     let process = table.process(slot);
-    if process.ticks > 0 {
+    if process.schedule.ticks > 0 {
         // So the one that is queued last comes first: a sender overtakes its receiver on the same level.
         table.to_front(slot);
         return;
     }
-    let (level, best) = (process.level, process.terms.best);
+    let level = process.schedule.level;
     let again = match table.last_renewed() {
         Some(last) => last == slot,
         None => false,
     };
     let next = if again {
-        if level < LOWEST { level + 1 } else { LOWEST }
-    } else if best < level {
-        level - 1
+        level + 1
     } else {
-        best
+        level.saturating_sub(1)
     };
     table.to_end(slot, next);
 }

@@ -159,7 +159,7 @@ static RESUMED: &[(u8, Recorded)] = &[(0, Recorded::Take), (0, Recorded::Back(1)
 /// The state of the process in slot 0.
 fn state(kernel: &Kernel) -> Option<State> {
     let table = kernel.table();
-    if table.used() == 0 {
+    if table.slot_count() == 0 {
         return None;
     }
     Some(table.process(0).state)

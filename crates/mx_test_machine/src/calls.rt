@@ -492,7 +492,7 @@ fn write_words(image: &mut Image, words: &[u32; 6]) {
 /// A ready process makes a kernel call by the buffer that its EBX names. The words are the call's type,
 /// and then p0 to p4.
 pub(crate) fn make_call(rt: &impl Abort, table: &mut Table, slot: Slot, words: &[u32; 6]) -> After {
-    assert!(rt; slot < table.used());
+    assert!(rt; slot < table.slot_count());
     assert!(rt; table.process(slot).state.is_ready());
     dequeue(table, slot);
     let mut image = table.lend(slot);
@@ -513,7 +513,7 @@ pub(crate) enum Trap {
 
 /// A ready process sends to an endpoint, or receives from it.
 pub(crate) fn make_trap(rt: &impl Abort, table: &mut Table, slot: Slot, trap: Trap) {
-    assert!(rt; slot < table.used());
+    assert!(rt; slot < table.slot_count());
     assert!(rt; table.process(slot).state.is_ready());
     dequeue(table, slot);
     match trap {
@@ -524,7 +524,7 @@ pub(crate) fn make_trap(rt: &impl Abort, table: &mut Table, slot: Slot, trap: Tr
 
 /// A ready process goes to a processor.
 pub(crate) fn send_away(rt: &impl Abort, table: &mut Table, slot: Slot) {
-    assert!(rt; slot < table.used());
+    assert!(rt; slot < table.slot_count());
     assert!(rt; table.process(slot).state.is_ready());
     dequeue(table, slot);
     let _image = table.lend(slot);
@@ -541,7 +541,7 @@ fn prepare(rt: &impl Abort, table: &mut Table) {
 /// Whether slot 0 goes on with OK in EAX, and a row's reply is at 512; only a write has put a second
 /// byte on the console.
 fn is_left(rt: &impl Abort, table: &Table, row: &Request) -> bool {
-    assert!(rt; table.used() > 0);
+    assert!(rt; table.slot_count() > 0);
     let is_written = row.words[0] == DEVIO && row.words[1] == 1;
     table.process(0).image.register(Register::Eax) == OK
         && word_at(rt, table, 0, 512) == SYSTEM
@@ -669,14 +669,14 @@ fn state_of_dead(rt: &impl Abort, table: &mut Table, death: &Death) -> State {
         make_trap(rt, table, *slot, Trap::Receive(u32::from(death.dead)));
     }
     make_call(rt, table, 0, &death.words);
-    assert!(rt; death.dead < table.used());
+    assert!(rt; death.dead < table.slot_count());
     table.process(death.dead).state
 }
 
 /// Who is picked next, and with what in EAX it goes on; it is then out of its list.
 fn next_one(rt: &impl Abort, table: &mut Table) -> Option<(Slot, u32)> {
     let slot = pick(table)?;
-    assert!(rt; slot < table.used());
+    assert!(rt; slot < table.slot_count());
     let process = table.process(slot);
     let result = process.image.register(Register::Eax);
     assert!(rt; process.state.is_ready());

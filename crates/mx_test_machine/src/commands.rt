@@ -461,7 +461,7 @@ struct Failed {
     name: &'static str,
     words: &'static [&'static str],
     status: u8,
-    told: &'static str,
+    answer: &'static str,
 }
 
 static FAILED: &[Failed] = &[
@@ -469,67 +469,67 @@ static FAILED: &[Failed] = &[
         name: "one: a file that is cut",
         words: &["mx", "one", "cut", "9"],
         status: 1,
-        told: "mx: 20 Truncated\n",
+        answer: "mx: 20 Truncated\n",
     },
     Failed {
         name: "as: wrong operands",
         words: &["mx", "as", "wrong.s", "new.out"],
         status: 1,
-        told: "mx: 11 BadOperands line 2\n",
+        answer: "mx: 11 BadOperands line 2\n",
     },
     Failed {
         name: "dis: a file that is cut",
         words: &["mx", "dis", "cut"],
         status: 1,
-        told: "mx: 20 Truncated\n",
+        answer: "mx: 20 Truncated\n",
     },
     Failed {
         name: "nm: a file that is cut",
         words: &["mx", "nm", "cut"],
         status: 1,
-        told: "mx: 20 Truncated\n",
+        answer: "mx: 20 Truncated\n",
     },
     Failed {
         name: "explain: a configuration with a bad line",
         words: &["mx", "explain", "bad"],
         status: 1,
-        told: "mx: 70 BadLine line 2\n",
+        answer: "mx: 70 BadLine line 2\n",
     },
     Failed {
         name: "explain: no configuration",
         words: &["mx", "explain"],
         status: 2,
-        told: "",
+        answer: "",
     },
     Failed {
         name: "explain: a script",
         words: &["mx", "explain", "one", "kills"],
         status: 2,
-        told: "",
+        answer: "",
     },
     Failed {
         name: "explain: no such configuration",
         words: &["mx", "explain", "nothing"],
         status: 3,
-        told: "mx: 80 File\n",
+        answer: "mx: 80 File\n",
     },
     Failed {
         name: "step: a script with a bad line",
         words: &["mx", "step", "one", "tock"],
         status: 1,
-        told: "mx: 73 BadRecord line 2\n",
+        answer: "mx: 73 BadRecord line 2\n",
     },
     Failed {
         name: "run: a configuration with a bad line",
         words: &["mx", "run", "bad", "new.log"],
         status: 1,
-        told: "mx: 70 BadLine line 2\n",
+        answer: "mx: 70 BadLine line 2\n",
     },
     Failed {
         name: "run: a program that is cut",
         words: &["mx", "run", "cut_first", "new.log"],
         status: 1,
-        told: "mx: 20 Truncated\n",
+        answer: "mx: 20 Truncated\n",
     },
     Failed {
         name: "sweep: the history would be written over",
@@ -543,7 +543,7 @@ static FAILED: &[Failed] = &[
             "pair_log",
         ],
         status: 3,
-        told: "mx: 80 File\n",
+        answer: "mx: 80 File\n",
     },
     Failed {
         name: "sweep: a service's program isn't written over",
@@ -557,43 +557,43 @@ static FAILED: &[Failed] = &[
             "cli.out",
         ],
         status: 3,
-        told: "mx: 80 File\n",
+        answer: "mx: 80 File\n",
     },
     Failed {
         name: "sweep: a line that is no line of a fault",
         words: &["mx", "sweep", "pair", "pair_log", "no_fault"],
         status: 1,
-        told: "mx: 73 BadRecord line 2\n",
+        answer: "mx: 73 BadRecord line 2\n",
     },
     Failed {
         name: "turns: the configuration would be written over",
         words: &["mx", "turns", "one", "one"],
         status: 3,
-        told: "mx: 80 File\n",
+        answer: "mx: 80 File\n",
     },
     Failed {
         name: "run: the outside events would be written over",
         words: &["mx", "run", "pressed_apart", "apart", "--events", "apart"],
         status: 3,
-        told: "mx: 80 File\n",
+        answer: "mx: 80 File\n",
     },
     Failed {
         name: "run: outside events without a second other actor",
         words: &["mx", "run", "pressed", "new.log", "--events", "apart"],
         status: 1,
-        told: "mx: 73 BadRecord line 1\n",
+        answer: "mx: 73 BadRecord line 1\n",
     },
     Failed {
         name: "turns: the outside events would be written over",
         words: &["mx", "turns", "one", "outside", "--events", "outside"],
         status: 3,
-        told: "mx: 80 File\n",
+        answer: "mx: 80 File\n",
     },
     Failed {
         name: "turns: a line that is no outside event",
         words: &["mx", "turns", "one", "new.log", "--events", "not_outside"],
         status: 1,
-        told: "mx: 73 BadRecord line 2\n",
+        answer: "mx: 73 BadRecord line 2\n",
     },
     Failed {
         name: "turns: ticks and outside events",
@@ -601,7 +601,7 @@ static FAILED: &[Failed] = &[
             "mx", "turns", "one", "new.log", "--ticks", "3", "--events", "outside",
         ],
         status: 2,
-        told: "error: the argument '--ticks <T>' cannot be used with '--events <EVENTS>'\n\n\
+        answer: "error: the argument '--ticks <T>' cannot be used with '--events <EVENTS>'\n\n\
                Usage: mx turns [OPTIONS] <CONFIG> <LOG>\n\n\
                For more information, try '--help'.\n",
     },
@@ -609,151 +609,151 @@ static FAILED: &[Failed] = &[
         name: "turns: no number of turns",
         words: &["mx", "turns", "one", "new.log", "--turns", "x"],
         status: 2,
-        told: "",
+        answer: "",
     },
     Failed {
         name: "replay: no history",
         words: &["mx", "replay", "one", "look"],
         status: 1,
-        told: "mx: 73 BadRecord line 1\n",
+        answer: "mx: 73 BadRecord line 1\n",
     },
     Failed {
         name: "trace: no history, though its bad line is past the range",
         words: &["mx", "trace", "one", "look", "--to", "0"],
         status: 1,
-        told: "mx: 73 BadRecord line 1\n",
+        answer: "mx: 73 BadRecord line 1\n",
     },
     Failed {
         name: "draw: no history, though its bad line is before the range",
         words: &["mx", "draw", "one", "look", "--from", "2"],
         status: 1,
-        told: "mx: 73 BadRecord line 1\n",
+        answer: "mx: 73 BadRecord line 1\n",
     },
     Failed {
         name: "db: a configuration with a bad line",
         words: &["mx", "db", "bad", "look"],
         status: 1,
-        told: "mx: 70 BadLine line 2\n",
+        answer: "mx: 70 BadLine line 2\n",
     },
     Failed {
         name: "one: no number of steps",
         words: &["mx", "one", "a.out"],
         status: 2,
-        told: "",
+        answer: "",
     },
     Failed {
         name: "as: no new file",
         words: &["mx", "as", "sum.s"],
         status: 2,
-        told: "",
+        answer: "",
     },
     Failed {
         name: "dis: no file",
         words: &["mx", "dis"],
         status: 2,
-        told: "",
+        answer: "",
     },
     Failed {
         name: "nm: two files",
         words: &["mx", "nm", "a.out", "b.out"],
         status: 2,
-        told: "",
+        answer: "",
     },
     Failed {
         name: "step: no script",
         words: &["mx", "step", "one"],
         status: 2,
-        told: "",
+        answer: "",
     },
     Failed {
         name: "step: save without a file",
         words: &["mx", "step", "one", "kills", "--save"],
         status: 2,
-        told: "",
+        answer: "",
     },
     Failed {
         name: "run: no history's file",
         words: &["mx", "run", "one"],
         status: 2,
-        told: "",
+        answer: "",
     },
     Failed {
         name: "run: ticks without a number",
         words: &["mx", "run", "one", "new.log", "--ticks"],
         status: 2,
-        told: "",
+        answer: "",
     },
     Failed {
         name: "run: too many ticks",
         words: &["mx", "run", "one", "new.log", "--ticks", "4294967296"],
         status: 2,
-        told: "",
+        answer: "",
     },
     Failed {
         name: "run: ticks that are no number",
         words: &["mx", "run", "one", "new.log", "--ticks", "many"],
         status: 2,
-        told: "",
+        answer: "",
     },
     Failed {
         name: "replay: ticks",
         words: &["mx", "replay", "one", "whole", "--ticks", "1"],
         status: 2,
-        told: "",
+        answer: "",
     },
     Failed {
         name: "replay: save",
         words: &["mx", "replay", "one", "whole", "--save", "new.log"],
         status: 2,
-        told: "",
+        answer: "",
     },
     Failed {
         name: "replay: no history's name",
         words: &["mx", "replay", "one"],
         status: 2,
-        told: "",
+        answer: "",
     },
     Failed {
         name: "draw: a range to -1",
         words: &["mx", "draw", "one", "whole", "--to", "-1"],
         status: 2,
-        told: "",
+        answer: "",
     },
     Failed {
         name: "trace: from without a number",
         words: &["mx", "trace", "one", "whole", "--from"],
         status: 2,
-        told: "",
+        answer: "",
     },
     Failed {
         name: "trace: from too large a number",
         words: &["mx", "trace", "one", "whole", "--from", "4294967296"],
         status: 2,
-        told: "",
+        answer: "",
     },
     Failed {
         name: "trace: to what is no number",
         words: &["mx", "trace", "one", "whole", "--to", "last"],
         status: 2,
-        told: "",
+        answer: "",
     },
     Failed {
         name: "trace: to twice",
         words: &["mx", "trace", "one", "whole", "--to", "1", "--to", "2"],
         status: 2,
-        told: "",
+        answer: "",
     },
     Failed {
         name: "replay: from",
         words: &["mx", "replay", "one", "whole", "--from", "1"],
         status: 2,
-        told: "",
+        answer: "",
     },
     Failed {
         name: "db: no script's name",
         words: &["mx", "db", "pair"],
         status: 2,
-        told: "",
+        answer: "",
     },
 ];
 
@@ -763,151 +763,151 @@ static UNFIT: &[Failed] = &[
         name: "one: no such file",
         words: &["mx", "one", "nothing", "9"],
         status: 3,
-        told: "mx: 80 File\n",
+        answer: "mx: 80 File\n",
     },
     Failed {
         name: "as: the text isn't UTF-8",
         words: &["mx", "as", "no_text.s", "new.out"],
         status: 3,
-        told: "mx: 80 File\n",
+        answer: "mx: 80 File\n",
     },
     Failed {
         name: "step: the configuration isn't UTF-8",
         words: &["mx", "step", "no_text", "kills"],
         status: 3,
-        told: "mx: 80 File\n",
+        answer: "mx: 80 File\n",
     },
     Failed {
         name: "step: the script isn't UTF-8",
         words: &["mx", "step", "one", "no_text"],
         status: 3,
-        told: "mx: 80 File\n",
+        answer: "mx: 80 File\n",
     },
     Failed {
         name: "run: no such configuration",
         words: &["mx", "run", "nothing", "new.log"],
         status: 3,
-        told: "mx: 80 File\n",
+        answer: "mx: 80 File\n",
     },
     Failed {
         name: "run: no such program",
         words: &["mx", "run", "none_first", "new.log"],
         status: 3,
-        told: "mx: 80 File\n",
+        answer: "mx: 80 File\n",
     },
     Failed {
         name: "run: the configuration isn't UTF-8",
         words: &["mx", "run", "no_text", "new.log"],
         status: 3,
-        told: "mx: 80 File\n",
+        answer: "mx: 80 File\n",
     },
     Failed {
         name: "run: a configuration isn't written over by its own history",
         words: &["mx", "run", "one", "one"],
         status: 3,
-        told: "mx: 80 File\n",
+        answer: "mx: 80 File\n",
     },
     Failed {
         name: "run: a service's program isn't written over",
         words: &["mx", "run", "pair", "cli.out"],
         status: 3,
-        told: "mx: 80 File\n",
+        answer: "mx: 80 File\n",
     },
     Failed {
         name: "turns: a service's program isn't written over",
         words: &["mx", "turns", "pair", "cli.out"],
         status: 3,
-        told: "mx: 80 File\n",
+        answer: "mx: 80 File\n",
     },
     Failed {
         name: "turns: the first service's program isn't written over, with outside events",
         words: &["mx", "turns", "pair", "drv.out", "--events", "outside"],
         status: 3,
-        told: "mx: 80 File\n",
+        answer: "mx: 80 File\n",
     },
     Failed {
         name: "turns: a fault of the outside events before a program as LOG",
         words: &["mx", "turns", "pair", "drv.out", "--events", "not_outside"],
         status: 1,
-        told: "mx: 73 BadRecord line 2\n",
+        answer: "mx: 73 BadRecord line 2\n",
     },
     Failed {
         name: "step: a service's program isn't written over",
         words: &["mx", "step", "pair", "kills", "--save", "cli.out"],
         status: 3,
-        told: "mx: 80 File\n",
+        answer: "mx: 80 File\n",
     },
     Failed {
         name: "replay: the history isn't UTF-8",
         words: &["mx", "replay", "one", "no_text"],
         status: 3,
-        told: "mx: 80 File\n",
+        answer: "mx: 80 File\n",
     },
     Failed {
         name: "db: the script isn't UTF-8",
         words: &["mx", "db", "one", "no_text"],
         status: 3,
-        told: "mx: 80 File\n",
+        answer: "mx: 80 File\n",
     },
     Failed {
         name: "as: a text isn't written over by its own file",
         words: &["mx", "as", "sum.s", "sum.s"],
         status: 3,
-        told: "mx: 80 File\n",
+        answer: "mx: 80 File\n",
     },
     Failed {
         name: "dis: no such file",
         words: &["mx", "dis", "nothing"],
         status: 3,
-        told: "mx: 80 File\n",
+        answer: "mx: 80 File\n",
     },
     Failed {
         name: "nm: no such file",
         words: &["mx", "nm", "nothing"],
         status: 3,
-        told: "mx: 80 File\n",
+        answer: "mx: 80 File\n",
     },
     Failed {
         name: "step: no such configuration",
         words: &["mx", "step", "nothing", "kills"],
         status: 3,
-        told: "mx: 80 File\n",
+        answer: "mx: 80 File\n",
     },
     Failed {
         name: "step: no such script",
         words: &["mx", "step", "one", "nothing", "--save", "new.log"],
         status: 3,
-        told: "mx: 80 File\n",
+        answer: "mx: 80 File\n",
     },
     Failed {
         name: "replay: no such history",
         words: &["mx", "replay", "one", "nothing"],
         status: 3,
-        told: "mx: 80 File\n",
+        answer: "mx: 80 File\n",
     },
     Failed {
         name: "sums: another program",
         words: &["mx", "replay", "one", "whole", "--sums", "calls_sums"],
         status: 1,
-        told: "mx: 64 OtherMachine a\n",
+        answer: "mx: 64 OtherMachine a\n",
     },
     Failed {
         name: "sums: another configuration",
         words: &["mx", "trace", "again", "whole", "--sums", "one_sums"],
         status: 1,
-        told: "mx: 64 OtherMachine configuration\n",
+        answer: "mx: 64 OtherMachine configuration\n",
     },
     Failed {
         name: "sums: a line is missing",
         words: &["mx", "draw", "one", "whole", "--sums", "short_sums"],
         status: 1,
-        told: "mx: 64 OtherMachine a\n",
+        answer: "mx: 64 OtherMachine a\n",
     },
     Failed {
         name: "sums: a line more",
         words: &["mx", "look", "one", "whole", "--sums", "long_sums"],
         status: 1,
-        told: "mx: 64 OtherMachine configuration\n",
+        answer: "mx: 64 OtherMachine configuration\n",
     },
     Failed {
         name: "sums: the fault isn't read",
@@ -921,31 +921,31 @@ static UNFIT: &[Failed] = &[
             "calls_sums",
         ],
         status: 1,
-        told: "mx: 64 OtherMachine a\n",
+        answer: "mx: 64 OtherMachine a\n",
     },
     Failed {
         name: "sums: no such file",
         words: &["mx", "replay", "one", "whole", "--sums", "nothing"],
         status: 3,
-        told: "mx: 80 File\n",
+        answer: "mx: 80 File\n",
     },
     Failed {
         name: "sums: a file that is read",
         words: &["mx", "step", "one", "kills", "--sums", "kills"],
         status: 3,
-        told: "mx: 80 File\n",
+        answer: "mx: 80 File\n",
     },
     Failed {
         name: "sums: of a program",
         words: &["mx", "one", "a.out", "9", "--sums", "one_sums"],
         status: 2,
-        told: "",
+        answer: "",
     },
     Failed {
         name: "db: no such script",
         words: &["mx", "db", "pair", "nothing"],
         status: 3,
-        told: "mx: 80 File\n",
+        answer: "mx: 80 File\n",
     },
 ];
 
@@ -955,14 +955,14 @@ static EXPLAINED: &[Failed] = &[
         name: "one: a file that is cut",
         words: &["mx", "one", "--explain", "cut", "9"],
         status: 1,
-        told: "mx: 20 Truncated\n\
+        answer: "mx: 20 Truncated\n\
                mx: FILE cut: wanted a whole header, and a file as long as it says\n",
     },
     Failed {
         name: "as: wrong operands",
         words: &["mx", "as", "wrong.s", "new.out", "--explain"],
         status: 1,
-        told: "mx: 11 BadOperands line 2\n\
+        answer: "mx: 11 BadOperands line 2\n\
                mx: TEXT wrong.s: wanted operands that the statement takes: registers, numbers that \
                fit, and at most one bracket, with byte, word or dword \
                before it if no register has the size; a comment begins with \
@@ -972,45 +972,45 @@ static EXPLAINED: &[Failed] = &[
         name: "as: a text isn't written over by its own file",
         words: &["mx", "as", "sum.s", "sum.s", "--explain"],
         status: 3,
-        told: "mx: 80 File\nmx: FILE sum.s: wanted another file than the one that is read\n",
+        answer: "mx: 80 File\nmx: FILE sum.s: wanted another file than the one that is read\n",
     },
     Failed {
         name: "dis: no such file",
         words: &["mx", "dis", "nothing", "--explain"],
         status: 3,
-        told: "mx: 80 File\nmx: FILE nothing: wanted a file that can be read\n",
+        answer: "mx: 80 File\nmx: FILE nothing: wanted a file that can be read\n",
     },
     Failed {
         name: "nm: explain before the subcommand",
         words: &["mx", "--explain", "nm", "cut"],
         status: 2,
-        told: "",
+        answer: "",
     },
     Failed {
         name: "explain: no such configuration",
         words: &["mx", "explain", "nothing", "--explain"],
         status: 3,
-        told: "mx: 80 File\nmx: CONFIG nothing: wanted a file that can be read\n",
+        answer: "mx: 80 File\nmx: CONFIG nothing: wanted a file that can be read\n",
     },
     Failed {
         name: "step: a script with a bad line",
         words: &["mx", "step", "one", "tock", "--explain"],
         status: 1,
-        told: "mx: 73 BadRecord line 2\nmx: SCRIPT tock: \
+        answer: "mx: 73 BadRecord line 2\nmx: SCRIPT tock: \
                wanted an event: take C, step C K, back C, line L, tick, kill E or respawn S\n",
     },
     Failed {
         name: "step: the script isn't UTF-8",
         words: &["mx", "step", "--explain", "one", "no_text"],
         status: 3,
-        told: "mx: 80 File\nmx: SCRIPT no_text: \
+        answer: "mx: 80 File\nmx: SCRIPT no_text: \
                wanted UTF-8 in what is read, and room for what is printed\n",
     },
     Failed {
         name: "run: no such program",
         words: &["mx", "run", "none_first", "new.log", "--explain"],
         status: 3,
-        told: "mx: 80 File\nmx: a service's program none: wanted a file that can be read\n",
+        answer: "mx: 80 File\nmx: a service's program none: wanted a file that can be read\n",
     },
     Failed {
         name: "run: a program that is cut",
@@ -1024,7 +1024,7 @@ static EXPLAINED: &[Failed] = &[
             "2",
         ],
         status: 1,
-        told: "mx: 20 Truncated\n\
+        answer: "mx: 20 Truncated\n\
                mx: a service's program cut: \
                wanted a whole header, and a file as long as it says\n",
     },
@@ -1040,7 +1040,7 @@ static EXPLAINED: &[Failed] = &[
             "--explain",
         ],
         status: 1,
-        told: "mx: 73 BadRecord line 2\nmx: EVENTS not_outside: \
+        answer: "mx: 73 BadRecord line 2\nmx: EVENTS not_outside: \
                wanted line L, tick, kill E or wait N; --events wants others 2 or more in CONFIG\n",
     },
     Failed {
@@ -1055,7 +1055,7 @@ static EXPLAINED: &[Failed] = &[
             "--explain",
         ],
         status: 3,
-        told: "mx: 80 File\nmx: LOG apart: wanted another file than the one that is read\n",
+        answer: "mx: 80 File\nmx: LOG apart: wanted another file than the one that is read\n",
     },
     Failed {
         name: "turns: a line that is no outside event",
@@ -1069,7 +1069,7 @@ static EXPLAINED: &[Failed] = &[
             "--explain",
         ],
         status: 1,
-        told: "mx: 73 BadRecord line 2\nmx: EVENTS not_outside: \
+        answer: "mx: 73 BadRecord line 2\nmx: EVENTS not_outside: \
                wanted an outside event: line L, tick or kill E\n",
     },
     Failed {
@@ -1084,13 +1084,13 @@ static EXPLAINED: &[Failed] = &[
             "--explain",
         ],
         status: 3,
-        told: "mx: 80 File\nmx: LOG outside: wanted another file than the one that is read\n",
+        answer: "mx: 80 File\nmx: LOG outside: wanted another file than the one that is read\n",
     },
     Failed {
         name: "replay: no history",
         words: &["mx", "replay", "one", "look", "--explain"],
         status: 1,
-        told: "mx: 73 BadRecord line 1\nmx: LOG look: \
+        answer: "mx: 73 BadRecord line 1\nmx: LOG look: \
                wanted a record and its line feed: A take, A back N, A line L, A tick, A kill E or \
                A respawn S; or rules 2 on line 1\n",
     },
@@ -1098,25 +1098,25 @@ static EXPLAINED: &[Failed] = &[
         name: "trace: no such history",
         words: &["mx", "trace", "one", "nothing", "--from", "2", "--explain"],
         status: 3,
-        told: "mx: 80 File\nmx: LOG nothing: wanted a file that can be read\n",
+        answer: "mx: 80 File\nmx: LOG nothing: wanted a file that can be read\n",
     },
     Failed {
         name: "nm: no such file",
         words: &["mx", "nm", "--explain", "nothing"],
         status: 3,
-        told: "mx: 80 File\nmx: FILE nothing: wanted a file that can be read\n",
+        answer: "mx: 80 File\nmx: FILE nothing: wanted a file that can be read\n",
     },
     Failed {
         name: "step: a script isn't written over by its history",
         words: &["mx", "step", "one", "kills", "--save", "kills", "--explain"],
         status: 3,
-        told: "mx: 80 File\nmx: LOG kills: wanted another file than the one that is read\n",
+        answer: "mx: 80 File\nmx: LOG kills: wanted another file than the one that is read\n",
     },
     Failed {
         name: "step: a configuration isn't written over",
         words: &["mx", "step", "one", "kills", "--explain", "--save", "one"],
         status: 3,
-        told: "mx: 80 File\nmx: LOG one: wanted another file than the one that is read\n",
+        answer: "mx: 80 File\nmx: LOG one: wanted another file than the one that is read\n",
     },
     Failed {
         name: "sums: another program, explained",
@@ -1130,7 +1130,7 @@ static EXPLAINED: &[Failed] = &[
             "--explain",
         ],
         status: 1,
-        told: "mx: 64 OtherMachine a\nmx: SUMS calls_sums: wanted the configuration and programs whose sums it has\n",
+        answer: "mx: 64 OtherMachine a\nmx: SUMS calls_sums: wanted the configuration and programs whose sums it has\n",
     },
     Failed {
         name: "sums: no such file, explained",
@@ -1144,7 +1144,7 @@ static EXPLAINED: &[Failed] = &[
             "--explain",
         ],
         status: 3,
-        told: "mx: 80 File\nmx: SUMS nothing: wanted a file that can be read\n",
+        answer: "mx: 80 File\nmx: SUMS nothing: wanted a file that can be read\n",
     },
     Failed {
         name: "sums: the history's file",
@@ -1158,7 +1158,7 @@ static EXPLAINED: &[Failed] = &[
             "--explain",
         ],
         status: 3,
-        told: "mx: 80 File\nmx: SUMS new.log: wanted a file that no other word names\n",
+        answer: "mx: 80 File\nmx: SUMS new.log: wanted a file that no other word names\n",
     },
     Failed {
         name: "step: a service's program isn't written over",
@@ -1172,19 +1172,19 @@ static EXPLAINED: &[Failed] = &[
             "--explain",
         ],
         status: 3,
-        told: "mx: 80 File\nmx: LOG drv.out: wanted another file than a service's program\n",
+        answer: "mx: 80 File\nmx: LOG drv.out: wanted another file than a service's program\n",
     },
     Failed {
         name: "run: a service's program isn't written over",
         words: &["mx", "run", "pair", "cli.out", "--explain"],
         status: 3,
-        told: "mx: 80 File\nmx: LOG cli.out: wanted another file than a service's program\n",
+        answer: "mx: 80 File\nmx: LOG cli.out: wanted another file than a service's program\n",
     },
     Failed {
         name: "turns: a service's program isn't written over",
         words: &["mx", "turns", "--explain", "pair", "cli.out"],
         status: 3,
-        told: "mx: 80 File\nmx: LOG cli.out: wanted another file than a service's program\n",
+        answer: "mx: 80 File\nmx: LOG cli.out: wanted another file than a service's program\n",
     },
     Failed {
         name: "sweep: a service's program isn't written over",
@@ -1198,13 +1198,13 @@ static EXPLAINED: &[Failed] = &[
             "--explain",
         ],
         status: 3,
-        told: "mx: 80 File\nmx: FILE drv.out: wanted another file than a service's program\n",
+        answer: "mx: 80 File\nmx: FILE drv.out: wanted another file than a service's program\n",
     },
     Failed {
         name: "db: a configuration with a bad line",
         words: &["mx", "db", "bad", "look", "--explain"],
         status: 1,
-        told: "mx: 70 BadLine line 2\nmx: CONFIG bad: cpus: wanted 1 to 8, stands \"9\"\n",
+        answer: "mx: 70 BadLine line 2\nmx: CONFIG bad: cpus: wanted 1 to 8, stands \"9\"\n",
     },
 ];
 
@@ -1216,12 +1216,12 @@ fn perform<R: Threads + Wait + Clock + Sync>(
     words: &'static [&'static str],
     shows: bool,
 ) -> (u8, String) {
-    let mut told = String::new(alloc);
+    let mut answer = String::new(alloc);
     match perform_words(rt, alloc, words, work, shows) {
-        Ok(done) => (done.status, told),
+        Ok(done) => (done.status, answer),
         Err(complaint) => {
-            let _ = write!(told, "{complaint}");
-            (complaint.status(), told)
+            let _ = write!(answer, "{complaint}");
+            (complaint.status(), answer)
         }
     }
 }
@@ -1243,30 +1243,30 @@ fn is_kept(files: &[KeptFile], wanted: Option<(&str, &[u8])>) -> bool {
 
 fn is_done<R: Threads + Wait + Clock + Sync>(rt: &R, alloc: Global, row: &Done) -> bool {
     let mut work = memory_io(alloc, None);
-    let (status, told) = perform(rt, alloc, &mut work, row.words, false);
+    let (status, answer) = perform(rt, alloc, &mut work, row.words, false);
     status == row.status
-        && told.is_empty()
+        && answer.is_empty()
         && is_printed(&work.channels.out, row.printed)
         && is_kept(work.channels.files.writer().files(), row.file)
 }
 
 /// Whether words fail so, with nothing printed or written, if what takes bytes is broken in this
 /// way; most mistakes in the words have lines of clap's own.
-fn is_told<R: Threads + Wait + Clock + Sync>(
+fn has_failed<R: Threads + Wait + Clock + Sync>(
     rt: &R,
     alloc: Global,
     refusal: Option<io::ErrorKind>,
     row: &Failed,
 ) -> bool {
     let mut work = memory_io(alloc, refusal);
-    let (ended, told) = perform(rt, alloc, &mut work, row.words, false);
-    let is_told = if row.status == 2 && row.told.is_empty() {
-        told.as_str().starts_with("error: ")
+    let (ended, answer) = perform(rt, alloc, &mut work, row.words, false);
+    let is_wanted = if row.status == 2 && row.answer.is_empty() {
+        answer.as_str().starts_with("error: ")
     } else {
-        told.as_str() == row.told
+        answer.as_str() == row.answer
     };
     ended == row.status
-        && is_told
+        && is_wanted
         && is_printed(&work.channels.out, "")
         && is_kept(work.channels.files.writer().files(), None)
 }
@@ -1284,7 +1284,7 @@ fn commands_done(rt: HostRuntime) -> Result<(), Fail> {
 fn commands_failed(rt: HostRuntime) -> Result<(), Fail> {
     for row in FAILED {
         let name = row.name;
-        assert!(rt; is_told(&rt, rt.alloc(), None, row), "{name}");
+        assert!(rt; has_failed(&rt, rt.alloc(), None, row), "{name}");
     }
     Ok(())
 }
@@ -1293,7 +1293,7 @@ fn commands_failed(rt: HostRuntime) -> Result<(), Fail> {
 fn unfit_files_refused(rt: HostRuntime) -> Result<(), Fail> {
     for row in UNFIT {
         let name = row.name;
-        assert!(rt; is_told(&rt, rt.alloc(), None, row), "{name}");
+        assert!(rt; has_failed(&rt, rt.alloc(), None, row), "{name}");
     }
     Ok(())
 }
@@ -1302,7 +1302,7 @@ fn unfit_files_refused(rt: HostRuntime) -> Result<(), Fail> {
 fn failures_explained(rt: HostRuntime) -> Result<(), Fail> {
     for row in EXPLAINED {
         let name = row.name;
-        assert!(rt; is_told(&rt, rt.alloc(), None, row), "{name}");
+        assert!(rt; has_failed(&rt, rt.alloc(), None, row), "{name}");
     }
     Ok(())
 }
@@ -1326,13 +1326,13 @@ static TERMINALS: &[(&[&str], bool, bool)] = &[
 fn terminals_explained(rt: HostRuntime) {
     for (words, shows, is_explained) in TERMINALS {
         let mut work = memory_io(rt.alloc(), None);
-        let (status, told) = perform(&rt, rt.alloc(), &mut work, words, *shows);
+        let (status, answer) = perform(&rt, rt.alloc(), &mut work, words, *shows);
         let wanted = if *is_explained {
             "mx: 80 File\nmx: FILE nothing: wanted a file that can be read\n"
         } else {
             "mx: 80 File\n"
         };
-        assert!(rt; status == 3 && told.as_str() == wanted, "{told}");
+        assert!(rt; status == 3 && answer.as_str() == wanted, "{answer}");
     }
 }
 
@@ -1342,7 +1342,7 @@ fn writing_explained(rt: HostRuntime) {
     let broken = Some(io::ErrorKind::BrokenPipe);
     for row in UNWRITABLE {
         let name = row.name;
-        assert!(rt; is_told(&rt, rt.alloc(), broken, row), "{name}");
+        assert!(rt; has_failed(&rt, rt.alloc(), broken, row), "{name}");
     }
 }
 
@@ -1350,8 +1350,8 @@ fn writing_explained(rt: HostRuntime) {
 #[test]
 fn nothing_explained(rt: HostRuntime) -> Result<(), Fail> {
     let complaint = Complaint::Unexplained(LineFailure::Request(Failure::File));
-    let told = complaint.to_string(rt.alloc())?;
-    assert!(rt; told.as_str() == "mx: 80 File\nmx: memory: wanted more of it\n");
+    let answer = complaint.to_string(rt.alloc())?;
+    assert!(rt; answer.as_str() == "mx: 80 File\nmx: memory: wanted more of it\n");
     assert!(rt; complaint.status() == 3);
     Ok(())
 }
@@ -1362,26 +1362,26 @@ static UNWRITABLE: &[Failed] = &[
         name: "explain: standard output",
         words: &["mx", "explain", "one", "--explain"],
         status: 3,
-        told: "mx: 80 File\nmx: CONFIG one: \
+        answer: "mx: 80 File\nmx: CONFIG one: \
                wanted UTF-8 in what is read, and room for what is printed\n",
     },
     Failed {
         name: "as: a file",
         words: &["mx", "as", "sum.s", "new.out", "--explain"],
         status: 3,
-        told: "mx: 80 File\nmx: FILE new.out: wanted a file that can be written\n",
+        answer: "mx: 80 File\nmx: FILE new.out: wanted a file that can be written\n",
     },
     Failed {
         name: "run: a history",
         words: &["mx", "run", "one", "new.log", "--explain"],
         status: 3,
-        told: "mx: 80 File\nmx: LOG new.log: wanted a file that can be written\n",
+        answer: "mx: 80 File\nmx: LOG new.log: wanted a file that can be written\n",
     },
     Failed {
         name: "dis: standard output",
         words: &["mx", "dis", "a.out", "--explain"],
         status: 3,
-        told: "mx: 80 File\nmx: standard output: wanted room for what is printed\n",
+        answer: "mx: 80 File\nmx: standard output: wanted room for what is printed\n",
     },
 ];
 
@@ -1478,20 +1478,20 @@ fn commands_broken(rt: HostRuntime) -> Result<(), Fail> {
             name,
             words: row.words,
             status: 3,
-            told: "mx: 80 File\n",
+            answer: "mx: 80 File\n",
         };
         let without_memory = Failed {
             name,
             words: row.words,
             status: 4,
-            told: "mx: 90 NoMemory\n",
+            answer: "mx: 90 NoMemory\n",
         };
         assert!(rt;
-            is_told(&rt, rt.alloc(), broken, &unwritten),
+            has_failed(&rt, rt.alloc(), broken, &unwritten),
             "{name}, where writing is refused"
         );
         assert!(rt;
-            is_told(&rt, rt.alloc(), full, &without_memory),
+            has_failed(&rt, rt.alloc(), full, &without_memory),
             "{name}, where writing has no memory"
         );
     }
@@ -1545,9 +1545,9 @@ fn is_unwritten<R: Threads + Wait + Clock + Sync>(rt: &R, alloc: Global, row: &U
         progress,
         asks,
     };
-    let (status, told) = perform(rt, alloc, &mut work, row.words, false);
+    let (status, answer) = perform(rt, alloc, &mut work, row.words, false);
     status == 3
-        && told.as_str() == "mx: 80 File\n"
+        && answer.as_str() == "mx: 80 File\n"
         && is_printed(&work.channels.out, row.printed)
         && is_kept(work.channels.files.writer().files(), None)
 }
@@ -1559,8 +1559,8 @@ fn run_with_ticks(rt: HostRuntime) {
     let alloc = rt.alloc();
     let words: &[&str] = &["mx", "run", "one", "new.log", "--ticks", "3"];
     let mut work = memory_io(alloc, None);
-    let (status, told) = perform(&rt, alloc, &mut work, words, false);
-    assert!(rt; status == 0 && told.is_empty());
+    let (status, answer) = perform(&rt, alloc, &mut work, words, false);
+    assert!(rt; status == 0 && answer.is_empty());
     assert!(rt;
         is_printed(
             &work.channels.out,
@@ -1713,10 +1713,10 @@ docs/use/REFERENCE.md.
 
 fn ends_so<R: Threads + Wait + Clock + Sync>(rt: &R, alloc: Global, row: &Help) -> bool {
     let mut work = memory_io(alloc, None);
-    let (status, told) = perform(rt, alloc, &mut work, row.words, false);
+    let (status, answer) = perform(rt, alloc, &mut work, row.words, false);
     let out = &work.channels.out;
     status == 0
-        && told.is_empty()
+        && answer.is_empty()
         && out.bytes.ends_with(row.ending.as_bytes())
         && out.flushed == out.bytes.len()
 }
@@ -1795,13 +1795,13 @@ static PICTURES: &[Picture] = &[
 
 fn is_drawn<R: Threads + Wait + Clock + Sync>(rt: &R, alloc: Global, row: &Picture) -> bool {
     let mut work = memory_io(alloc, None);
-    let (ended, told) = perform(rt, alloc, &mut work, row.words, false);
+    let (ended, answer) = perform(rt, alloc, &mut work, row.words, false);
     let out = &work.channels.out;
     let Some(rest) = out.bytes.as_slice().strip_prefix(SMALL_PICTURE.as_bytes()) else {
         return false;
     };
     ended == row.status
-        && told.is_empty()
+        && answer.is_empty()
         && rest.starts_with(row.title.as_bytes())
         && rest.ends_with(b"</text>\n</svg>\n")
         && out.flushed == out.bytes.len()

@@ -1,7 +1,7 @@
 //! Machines that are driven by scripts, by histories and under a debugger, and what is printed of them.
 
 use crate::files::reader;
-use mx_app_db::{Failure, Replayed, db, replay, step};
+use mx_app_db::{Failure, NamedScript, Replayed, db, replay, step};
 use mx_boot::BootError;
 use std::alloc::Global;
 use std::test::Fail;
@@ -18,7 +18,7 @@ struct Row {
     config: &'static str,
     text: &'static str,
     by: By,
-    told: Result<Replayed, Failure>,
+    answer: Result<Replayed, Failure>,
     printed: &'static str,
 }
 
@@ -30,7 +30,7 @@ static ROWS: &[Row] = &[
         config: "pair",
         text: "turns",
         by: By::Script,
-        told: DONE,
+        answer: DONE,
         printed: "taken 0 budget 20\nstepped 4 trap\nreturned 4\n\
                   taken 1 budget 20\nstepped 4 trap\nreturned 4\n\
                   taken 0 budget 16\nstepped 3 trap\nreturned 3\n\
@@ -43,7 +43,7 @@ static ROWS: &[Row] = &[
         config: "one",
         text: "sums",
         by: By::Script,
-        told: DONE,
+        answer: DONE,
         printed: "taken 0 budget 5\nstepped 3 trap\nreturned 3\n\
                   taken 0 budget 2\nstepped 1 fault 13\nreturned 1\nrefused 54 NoProcess\n\
                   0 a 0 down fault 13 7 1\nuptime 0\nconsole 0\n",
@@ -53,7 +53,7 @@ static ROWS: &[Row] = &[
         config: "one",
         text: "kills",
         by: By::Script,
-        told: DONE,
+        answer: DONE,
         printed: "done\ndone\nrefused 54 NoProcess\nrefused 41 Worn\nrefused 53 NoLine\n\
                   refused 42 NoService\n0 a 0 down kill 7 5\nuptime 1\nconsole 0\n",
     },
@@ -62,7 +62,7 @@ static ROWS: &[Row] = &[
         config: "again",
         text: "kills",
         by: By::Script,
-        told: DONE,
+        answer: DONE,
         printed: "done\ndone\nrefused 54 NoProcess\nrespawned 1024\nrefused 53 NoLine\n\
                   refused 42 NoService\n0 a 1024 ready 7 5\nuptime 1\nconsole 0\n",
     },
@@ -71,7 +71,7 @@ static ROWS: &[Row] = &[
         config: "one",
         text: "edges",
         by: By::Script,
-        told: DONE,
+        answer: DONE,
         printed: "refused 50 CpuBusy\nstepped 0 go\nrefused 51 CpuEmpty\ntaken 0 budget 5\n\
                   stepped 1 go\nstepped 2 trap\nrefused 55 AtStop\nrefused 51 CpuEmpty\n\
                   0 a 0 out 7 5\nuptime 0\nconsole 0\n",
@@ -81,7 +81,7 @@ static ROWS: &[Row] = &[
         config: "one",
         text: "tock",
         by: By::Script,
-        told: Err(Failure::Misstated(BootError::BadRecord(2))),
+        answer: Err(Failure::Misstated(BootError::BadRecord(2))),
         printed: "",
     },
     Row {
@@ -89,7 +89,7 @@ static ROWS: &[Row] = &[
         config: "one",
         text: "whole",
         by: By::History,
-        told: DONE,
+        answer: DONE,
         printed: "0 a 0 down fault 13 7 1\nuptime 0\nconsole 0\n",
     },
     Row {
@@ -97,7 +97,7 @@ static ROWS: &[Row] = &[
         config: "one",
         text: "early",
         by: By::History,
-        told: Ok(Replayed::Refused),
+        answer: Ok(Replayed::Refused),
         printed: "line 1: refused 51 CpuEmpty\n",
     },
     Row {
@@ -105,7 +105,7 @@ static ROWS: &[Row] = &[
         config: "one",
         text: "long",
         by: By::History,
-        told: Ok(Replayed::Refused),
+        answer: Ok(Replayed::Refused),
         printed: "line 2: refused 55 AtStop\n",
     },
     Row {
@@ -113,7 +113,7 @@ static ROWS: &[Row] = &[
         config: "four_of_eight",
         text: "takes_of_eight",
         by: By::Script,
-        told: DONE,
+        answer: DONE,
         printed: "taken 0 budget 5\ntaken 1 budget 5\ntaken 2 budget 5\ntaken 3 budget 5\n\
                   returned 0\nreturned 0\nreturned 0\nreturned 0\nrefused 52 LogFull\n\
                   0 a 0 ready 7 5\n1 b 1 ready 7 5\n2 c 2 ready 7 5\n3 d 3 ready 7 5\n\
@@ -124,7 +124,7 @@ static ROWS: &[Row] = &[
         config: "four_of_seven",
         text: "takes_of_seven",
         by: By::Script,
-        told: DONE,
+        answer: DONE,
         printed: "taken 0 budget 5\ntaken 1 budget 5\ntaken 2 budget 5\nrefused 52 LogFull\n\
                   done\nreturned 0\nreturned 0\nreturned 0\n\
                   0 a 0 ready 7 5\n1 b 1 ready 7 5\n2 c 2 ready 7 5\n3 d 3 ready 7 5\n\
@@ -135,7 +135,7 @@ static ROWS: &[Row] = &[
         config: "one",
         text: "killed_out",
         by: By::Script,
-        told: DONE,
+        answer: DONE,
         printed: "taken 0 budget 5\ndone\nstepped 1 go\nreturned 1\n\
                   0 a 0 down kill 7 4\nuptime 0\nconsole 0\n",
     },
@@ -144,7 +144,7 @@ static ROWS: &[Row] = &[
         config: "pair",
         text: "waiting_slots",
         by: By::Debugger,
-        told: DONE,
+        answer: DONE,
         printed: "taken 0 budget 20\nstepped 4 trap\nreturned 4\n\
                   EAX 00007ace ECX 00000002 EDX 00000000 EBX 00000000\n\
                   ESP 00001000 EBP 00000000 ESI 00000000 EDI 00000000\n\
@@ -163,7 +163,7 @@ static ROWS: &[Row] = &[
         config: "one",
         text: "killed_at_break",
         by: By::Debugger,
-        told: DONE,
+        answer: DONE,
         printed: "done\ntaken 0 budget 5\nstopped at 00000005 after 1\ndone\nstepped 2 trap\n\
                   returned 3\n0 a 0 down kill 7 2\nuptime 0\nconsole 0\n",
     },
@@ -172,7 +172,7 @@ static ROWS: &[Row] = &[
         config: "one",
         text: "killed_before",
         by: By::Debugger,
-        told: DONE,
+        answer: DONE,
         printed: "done\ntaken 0 budget 5\ndone\nstopped at 00000005 after 1\n\
                   returned 1\n0 a 0 down kill 7 4\nuptime 0\nconsole 0\n",
     },
@@ -181,7 +181,7 @@ static ROWS: &[Row] = &[
         config: "one",
         text: "ninth",
         by: By::History,
-        told: Err(Failure::Misstated(BootError::BadRecord(2))),
+        answer: Err(Failure::Misstated(BootError::BadRecord(2))),
         printed: "",
     },
     Row {
@@ -189,7 +189,7 @@ static ROWS: &[Row] = &[
         config: "lenient_one",
         text: "sums",
         by: By::Script,
-        told: DONE,
+        answer: DONE,
         printed: "taken 0 budget 5\nstepped 3 trap\nreturned 3\n\
                   taken 0 budget 2\nstepped 1 fault 13\nreturned 1\nrefused 54 NoProcess\n\
                   0 a 0 down fault 13 7 1\nuptime 0\nconsole 0\n",
@@ -199,7 +199,7 @@ static ROWS: &[Row] = &[
         config: "one",
         text: "strict_whole",
         by: By::History,
-        told: DONE,
+        answer: DONE,
         printed: "0 a 0 down fault 13 7 1\nuptime 0\nconsole 0\n",
     },
     Row {
@@ -207,7 +207,7 @@ static ROWS: &[Row] = &[
         config: "lenient_one",
         text: "strict_whole",
         by: By::History,
-        told: DONE,
+        answer: DONE,
         printed: "0 a 0 down fault 13 7 1\nuptime 0\nconsole 0\n",
     },
     Row {
@@ -215,7 +215,7 @@ static ROWS: &[Row] = &[
         config: "lenient_crossed",
         text: "crossing",
         by: By::History,
-        told: DONE,
+        answer: DONE,
         printed: "0 a 0 ready 4 28\n1 b 1 ready 14 20\nuptime 0\nconsole 0\n",
     },
     Row {
@@ -223,7 +223,7 @@ static ROWS: &[Row] = &[
         config: "crossed",
         text: "crossing",
         by: By::History,
-        told: DONE,
+        answer: DONE,
         printed: "0 a 0 ready 4 28\n1 b 1 ready 14 20\nuptime 0\nconsole 0\n",
     },
     Row {
@@ -231,7 +231,7 @@ static ROWS: &[Row] = &[
         config: "crossed",
         text: "strict_crossing",
         by: By::History,
-        told: DONE,
+        answer: DONE,
         printed: "0 a 0 down fault 13 4 28\n1 b 1 ready 14 20\nuptime 0\nconsole 0\n",
     },
     Row {
@@ -239,7 +239,7 @@ static ROWS: &[Row] = &[
         config: "lenient_crossed",
         text: "strict_crossing",
         by: By::History,
-        told: DONE,
+        answer: DONE,
         printed: "0 a 0 down fault 13 4 28\n1 b 1 ready 14 20\nuptime 0\nconsole 0\n",
     },
     Row {
@@ -247,7 +247,7 @@ static ROWS: &[Row] = &[
         config: "waits",
         text: "waiting",
         by: By::Script,
-        told: DONE,
+        answer: DONE,
         printed: "taken 1 budget 20\nstepped 4 trap\nreturned 4\n\
                   taken 2 budget 20\nstepped 4 trap\nreturned 4\n\
                   taken 3 budget 20\nstepped 4 trap\nreturned 4\ntaken 0 budget 20\ndone\n\
@@ -259,7 +259,7 @@ static ROWS: &[Row] = &[
         config: "one",
         text: "strict_early",
         by: By::History,
-        told: Ok(Replayed::Refused),
+        answer: Ok(Replayed::Refused),
         printed: "line 2: refused 51 CpuEmpty\n",
     },
     Row {
@@ -267,7 +267,7 @@ static ROWS: &[Row] = &[
         config: "one",
         text: "late_rules",
         by: By::History,
-        told: Err(Failure::Misstated(BootError::BadRecord(2))),
+        answer: Err(Failure::Misstated(BootError::BadRecord(2))),
         printed: "",
     },
     Row {
@@ -275,7 +275,7 @@ static ROWS: &[Row] = &[
         config: "pair",
         text: "breaks",
         by: By::Debugger,
-        told: DONE,
+        answer: DONE,
         printed: "done\ntaken 0 budget 20\nstepped 4 trap\nreturned 4\ntaken 1 budget 20\n\
     stepped 4 trap\nreturned 4\ntaken 0 budget 16\n00000000 01 00 00 00\n\
     EAX 00000000 ECX 00000002 EDX 00000000 EBX 00000000\n\
@@ -290,7 +290,7 @@ static ROWS: &[Row] = &[
         config: "pair",
         text: "refusals",
         by: By::Debugger,
-        told: DONE,
+        answer: DONE,
         printed: "refused 42 NoService\nrefused 60 NoSymbol\nrefused 60 NoSymbol\ndone\n\
     refused 51 CpuEmpty\nrefused 61 NotHere\nrefused 61 NotHere\ntaken 0 budget 20\nstepped 4 trap\n\
     refused 55 AtStop\nstepped 0 go\nrefused 61 NotHere\n\
@@ -302,7 +302,7 @@ static ROWS: &[Row] = &[
         config: "pair",
         text: "many",
         by: By::Debugger,
-        told: DONE,
+        answer: DONE,
         printed: "done\ndone\ndone\ndone\ndone\ndone\ndone\ndone\ndone\ndone\ndone\ndone\ndone\ndone\n\
     done\ndone\ndone\ndone\ndone\ndone\ndone\ndone\ndone\ndone\ndone\ndone\ndone\ndone\n\
     done\ndone\ndone\ndone\ndone\ndone\ndone\ndone\ndone\ndone\ndone\ndone\ndone\ndone\n\
@@ -316,14 +316,21 @@ static ROWS: &[Row] = &[
         config: "pair",
         text: "foo",
         by: By::Debugger,
-        told: Err(Failure::Misstated(BootError::BadRecord(2))),
+        answer: Err(Failure::Misstated(BootError::BadRecord(2))),
         printed: "",
     },
 ];
 
 fn drive(alloc: Global, row: &Row, out: &mut Vec<u8>) -> Result<Replayed, Failure> {
     let made = match row.by {
-        By::Script => step(alloc, &mut reader(), row.config, row.text, false, out),
+        By::Script => {
+            let named = NamedScript {
+                config: row.config,
+                script: row.text,
+                numbered: false,
+            };
+            step(alloc, &mut reader(), named, out)
+        }
         By::Debugger => db(alloc, &mut reader(), row.config, row.text, out),
         By::History => return replay(alloc, &mut reader(), row.config, row.text, out),
     };
@@ -335,7 +342,7 @@ fn drive(alloc: Global, row: &Row, out: &mut Vec<u8>) -> Result<Replayed, Failur
 
 fn is_driven(alloc: Global, row: &Row) -> bool {
     let mut out = Vec::new(alloc);
-    drive(alloc, row, &mut out) == row.told && out.as_slice() == row.printed.as_bytes()
+    drive(alloc, row, &mut out) == row.answer && out.as_slice() == row.printed.as_bytes()
 }
 
 #[test]

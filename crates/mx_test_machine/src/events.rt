@@ -655,11 +655,11 @@ fn are_answered(rt: &impl Abort, machine: &mut Machine, turns: &[Turn]) -> bool 
 }
 
 fn has_end(rt: &impl Abort, table: &Table, end: &End) -> bool {
-    assert!(rt; end.slot < table.used());
+    assert!(rt; end.slot < table.slot_count());
     let process = table.process(end.slot);
     process.state == end.state
-        && process.level == end.level
-        && process.ticks == end.ticks
+        && process.schedule.level == end.level
+        && process.schedule.ticks == end.ticks
         && process.steps == end.steps
         && process.image.register(Register::Eax) == end.eax
         && process.image.memory.read(end.place, Size::Dword) == Ok(end.word)

@@ -40,7 +40,7 @@ fn largest_config(alloc: Global) -> Result<String, Fail> {
 /// Whether a slot's memory has the largest limit, and nothing in its last bytes.
 fn is_large(rt: &impl Abort, machine: &Machine, slot: u8) -> bool {
     let table = machine.kernel().table();
-    assert!(rt; slot < table.used());
+    assert!(rt; slot < table.slot_count());
     let memory = &table.process(slot).image.memory;
     memory.limit() == LARGEST as usize && memory.read(LARGEST - 4, Size::Dword) == Ok(0)
 }
@@ -76,7 +76,7 @@ fn largest_machine(rt: HostRuntime) -> Result<(), Fail> {
     let mut reader = NamedFiles::new(&files);
     let started = start::<Script, _>(rt.alloc(), &mut reader, "largest", "empty");
     let mut machine = started.map_err(|_| "no start")?.machine;
-    assert!(rt; machine.kernel().table().used() == 32);
+    assert!(rt; machine.kernel().table().slot_count() == 32);
     for slot in 0..32_u8 {
         assert!(rt; is_large(&rt, &machine, slot), "slot {slot}");
     }

@@ -94,7 +94,7 @@ fn add_with(
         quantum: 5,
         restarts: 0,
     };
-    assert!(rt; table.used() < 32);
+    assert!(rt; table.slot_count() < 32);
     table.add(alloc, &mut image, terms)?;
     Ok(())
 }
@@ -140,7 +140,7 @@ fn is_copied(rt: &impl Abort, table: &mut Table, copy: &Copied) -> bool {
     let slot = u32::from(copy.slot);
     let words = [VIRCOPY, 0, copy.from, slot, copy.to, copy.count];
     assert!(rt; make_call(rt, table, 0, &words) == After::Reply(OK));
-    assert!(rt; copy.slot < table.used());
+    assert!(rt; copy.slot < table.slot_count());
     let memory = &table.process(copy.slot).image.memory;
     for at in 0..END {
         if memory.get(at) != Some(byte_after(copy, at)) {

@@ -55,7 +55,7 @@ fn is_out(state: State) -> bool
 }
 
 fn endpoint(rt: &impl Abort, table: &Table, slot: Slot) -> u32 {
-    assert!(rt; slot < table.used());
+    assert!(rt; slot < table.slot_count());
     table.endpoint(slot)
 }
 
@@ -65,7 +65,7 @@ fn make_trap(rt: &impl Abort, table: &mut Table, slot: Slot, deed: Deed) {
         Deed::Send(to) | Deed::Ask(to) | Deed::Receive(Some(to)) => endpoint(rt, table, to),
         _ => ANY,
     };
-    assert!(rt; slot < table.used());
+    assert!(rt; slot < table.slot_count());
     assert!(rt; named != SYSTEM && table.process(slot).state.is_ready());
     dequeue(table, slot);
     match deed {
@@ -77,10 +77,10 @@ fn make_trap(rt: &impl Abort, table: &mut Table, slot: Slot, deed: Deed) {
 
 /// The quantum of a ready process ends.
 fn spend(rt: &impl Abort, table: &mut Table, slot: Slot) {
-    assert!(rt; slot < table.used());
+    assert!(rt; slot < table.slot_count());
     assert!(rt; table.process(slot).state.is_ready());
     dequeue(table, slot);
-    let ticks = table.process(slot).ticks;
+    let ticks = table.process(slot).schedule.ticks;
     assert!(rt; table.process(slot).steps < 1_000_000_000);
     table.spend(slot, ticks);
     assert!(rt; table.process(slot).state == State::Home);
@@ -88,14 +88,14 @@ fn spend(rt: &impl Abort, table: &mut Table, slot: Slot) {
 }
 
 fn kill(rt: &impl Abort, table: &mut Table, slot: Slot) {
-    assert!(rt; slot < table.used());
+    assert!(rt; slot < table.slot_count());
     assert!(rt; !is_out(table.process(slot).state));
     die(table, slot, DeathCause::Kill);
 }
 
 /// A new process at level 7 in the place of a dead one.
 fn revive(rt: &impl Abort, table: &mut Table, slot: Slot) {
-    assert!(rt; slot < table.used());
+    assert!(rt; slot < table.slot_count());
     assert!(rt; table.process(slot).state.is_down());
     let image = table.take_image(slot);
     let dead = table.process(slot);
@@ -177,7 +177,7 @@ fn receives(rt: &impl Abort, table: &mut Table, sources: &[u32]) -> bool {
         }
     }
     make_trap(rt, table, 0, Deed::Receive(None));
-    assert!(rt; table.used() > 0);
+    assert!(rt; table.slot_count() > 0);
     table.process(0).state == State::Receiving(Partner::Any)
 }
 
@@ -483,11 +483,11 @@ fn next_event(plain: &Plain, numbers: &mut Numbers) -> (Slot, Deed) {
 /// Whether both have a slot alike: its state and level, as the report prints them, whom it sends
 /// to, its first caller, and the one that another slot is.
 fn is_alike(rt: &impl Abort, table: &Table, plain: &Plain, slot: Slot, other: Slot) -> bool {
-    assert!(rt; slot < table.used());
+    assert!(rt; slot < table.slot_count());
     let process = table.process(slot);
     let only = Partner::Only(Source::Slot(other));
     process.state == plain.state(slot)
-        && process.level == plain.level(slot)
+        && process.schedule.level == plain.level(slot)
         && table.next(slot) == plain.next(slot)
         && table.caller(slot, Partner::Any) == plain.caller(slot, None)
         && table.caller(slot, only) == plain.caller(slot, Some(other))

@@ -29,7 +29,7 @@ pub(crate) fn add_process(
     best: u8,
 ) -> Result<(), Fail> {
     let mut image = image_of(alloc)?;
-    assert!(rt; table.used() < 32 && best <= 7);
+    assert!(rt; table.slot_count() < 32 && best <= 7);
     let terms = Terms {
         masks,
         level: 7,
@@ -43,7 +43,7 @@ pub(crate) fn add_process(
 
 /// The number at a place of a slot's memory.
 pub(crate) fn word_at(rt: &impl Abort, table: &Table, slot: Slot, place: u32) -> u32 {
-    assert!(rt; slot < table.used());
+    assert!(rt; slot < table.slot_count());
     match table.process(slot).image.memory.read(place, Size::Dword) {
         Ok(word) => word,
         Err(_) => 0,

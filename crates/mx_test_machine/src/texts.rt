@@ -3,8 +3,8 @@
 use BootError::{BadLine, BadRecord, TooMany, TwiceNamed};
 use mx_app_db::{debug_script, own_words_are_apart};
 use mx_boot::{
-    BootError, Over, ScriptLine, config, history_again, log, number_again, one_history, one_text,
-    save_history, script, verb_again, words_again,
+    BootError, Over, ScriptLine, config, history_again, log, one_history, one_text, save_history,
+    script,
 };
 use mx_machine::{Config, Record, Recorded};
 use mx_proc::Rules;
@@ -791,9 +791,6 @@ fn scripts_and_histories(rt: HostRuntime) -> Result<(), Fail> {
 
 #[test]
 fn laws() {
-    words_again();
-    number_again();
-    verb_again();
     own_words_are_apart();
     one_history();
     history_again();

@@ -575,7 +575,7 @@ fn make_trap(
     words: (u32, u32, u32),
     message: &[u8],
 ) -> TrapAnswer {
-    assert!(rt; slot < table.used());
+    assert!(rt; slot < table.slot_count());
     assert!(rt; table.process(slot).state.is_ready());
     dequeue(table, slot);
     let mut image = table.lend(slot);
@@ -588,7 +588,7 @@ fn make_trap(
 }
 
 fn look_at(rt: &impl Abort, table: &Table, slot: Slot) -> Seen {
-    assert!(rt; slot < table.used());
+    assert!(rt; slot < table.slot_count());
     let process = table.process(slot);
     match process.state {
         State::Ready => Goes(process.image.register(Register::Eax)),
@@ -823,13 +823,13 @@ static LEVELS: &[Spent] = &[
 
 /// The level of a ready process after a whole quantum.
 fn level_after(rt: &impl Abort, table: &mut Table, slot: Slot) -> u8 {
-    assert!(rt; slot < table.used());
+    assert!(rt; slot < table.slot_count());
     let process = table.process(slot);
-    assert!(rt; process.state.is_ready() && process.steps < 1000 && process.ticks == 5);
+    assert!(rt; process.state.is_ready() && process.steps < 1000 && process.schedule.ticks == 5);
     dequeue(table, slot);
     table.spend(slot, 5);
     enqueue(table, slot);
-    table.process(slot).level
+    table.process(slot).schedule.level
 }
 
 /// Each slot comes to its level.

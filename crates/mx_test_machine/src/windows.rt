@@ -686,7 +686,7 @@ fn deaths_close_windows(rt: HostRuntime) -> Result<(), Fail> {
     ];
     assert!(rt; are_granted(&rt, &mut table, &all));
     make_call(&rt, &mut table, 0, &[EXIT, 0, 0, 0, 0, 0]);
-    assert!(rt; table.used() == 4);
+    assert!(rt; table.slot_count() == 4);
     assert!(rt; table.window(1, 0).is_none() && table.window(0, 1).is_none());
     assert!(rt; table.window(1, 2).is_some() && table.window(2, 1).is_some());
     Ok(())

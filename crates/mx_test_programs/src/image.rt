@@ -3,7 +3,7 @@
 use mx_exec::{Code, Image, TextSegment};
 use mx_exec_cache::Cache;
 use mx_flags::Flags;
-use mx_image::{Runs, Stop, run_with, runs_join};
+use mx_image::{Runs, Stop, run_with};
 use mx_mem::{DIVIDE_ERROR, GENERAL_PROTECTION, INVALID_OPCODE, STACK_FAULT, Segment};
 use mx_regs::Regs;
 use mx_word::{Register, Size};
@@ -1083,7 +1083,6 @@ fn worked_rows(rt: HostRuntime) -> Result<(), Fail> {
     work_all(&rt, rt.alloc(), &mut cache, FAULTS)?;
     work_all(&rt, rt.alloc(), &mut cache, PATCHES)?;
     work_all(&rt, rt.alloc(), &mut cache, BOUNDARIES)?;
-    runs_join();
     Ok(())
 }
 

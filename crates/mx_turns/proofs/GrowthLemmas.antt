@@ -24,7 +24,7 @@ use Rattle.mx_machine.proofs.ReplayLemmas.{after_append}
 use Rattle.mx_turns.specs.declared.turns.Ending.{Ending}
 use Rattle.mx_turns.specs.declared.turns.Ending.TheVariants.{Rest, Turns, Full}
 use Rattle.mx_turns.specs.Turns.{Course, Offered, is_over, most_steps, offered, offered_first, outside, refusable, respawns, run_of, runs, takes, then_offered, then_turns, turn, turns, world_after}
-use Rattle.mx_turns.proofs.OfferLemmas.{Joins, Offers, empty_offered, offered_more, runs_more, steps_offered}
+use Rattle.mx_turns.proofs.OfferLemmas.{Offers, empty_offered, offered_more, runs_more, steps_offered}
 use Rattle.mx_turns.proofs.MadeLemmas.{back_not_full}
 use Rattle.mx_turns.proofs.RoundLemmas.{refusal_of_back, still_held}
 use Rattle.mx_turns.proofs.TurnLemmas.{cpus_stay}
@@ -236,8 +236,8 @@ back_refused : (w : World) (c : ℕ) → held_by w c ≡ None → event_refusal 
 unfolding event_refusal
 back_refused w c h = ap back_refusal h
 
-run_or_none : Joins → (w : World) (c : ℕ) (held : Option HeldProcess) → held_by w c ≡ held → RunOrNone w c
-run_or_none join w c None h =
+run_or_none : (w : World) (c : ℕ) (held : Option HeldProcess) → held_by w c ≡ held → RunOrNone w c
+run_or_none w c None h =
     let end : Offers = (c, Back) ∷ [] in
     let steps = empty_offered w c h most_steps in
     let all : offered w (run_of c) ≡ record { made = []; full = false } =
@@ -245,12 +245,12 @@ run_or_none join w c None h =
     ∙ ap (λ (o : Offered). then_offered w o end) steps
     ∙ ap (λ (q : Option Refusal). let z : Offered = record { made = []; full = false } in offered_first (c, Back) q z (let y : Offered = record { made = []; full = false } in y)) (back_refused w c h) in
     inr (ap (λ (o : Offered). o.made) all, h)
-run_or_none join w c (Some l) h =
+run_or_none w c (Some l) h =
     let n = (held_run most_steps l.out).0.0 in
     let u = world_after_events w (steps_of c n) in
     let end : Offers = (c, Back) ∷ [] in
     let still = still_held n w c l h in
-    let steps = steps_offered join most_steps w c l h in
+    let steps = steps_offered most_steps w c l h in
     let back : event_refusal u c Back ≡ None = refusal_of_back u c still.0 still.1 in
     let all : offered w (run_of c) ≡ record { made = steps_of c n ++ end; full = false } =
     offered_more w (steps_of c most_steps) end (ap (λ (o : Offered). o.full) steps)
@@ -261,22 +261,22 @@ run_or_none join w c (Some l) h =
     let more = one_more u c Back tt back in
     inl (subst (λ (v : World). w.records < v.records) (sym after) (omega (arith, before, more)))
 
-run_not_full : Joins → (w : World) (c : ℕ) (held : Option HeldProcess) → held_by w c ≡ held → (offered w (run_of c)).full ≡ false
-run_not_full join w c None h =
+run_not_full : (w : World) (c : ℕ) (held : Option HeldProcess) → held_by w c ≡ held → (offered w (run_of c)).full ≡ false
+run_not_full w c None h =
     let steps = empty_offered w c h most_steps in
     ap (λ (o : Offered). o.full) (offered_more w (steps_of c most_steps) ((c, Back) ∷ []) (ap (λ (o : Offered). o.full) steps)) ∙ back_not_full (world_after w (offered w (steps_of c most_steps))) c
-run_not_full join w c (Some l) h =
-    let steps = steps_offered join most_steps w c l h in
+run_not_full w c (Some l) h =
+    let steps = steps_offered most_steps w c l h in
     ap (λ (o : Offered). o.full) (offered_more w (steps_of c most_steps) ((c, Back) ∷ []) (ap (λ (o : Offered). o.full) steps)) ∙ back_not_full (world_after w (offered w (steps_of c most_steps))) c
 
-runs_not_full : Joins → (w : World) (n : ℕ) → (offered w (runs n)).full ≡ false
-runs_not_full join w zero = refl
-runs_not_full join w (suc n) =
+runs_not_full : (w : World) (n : ℕ) → (offered w (runs n)).full ≡ false
+runs_not_full w zero = refl
+runs_not_full w (suc n) =
     let s : n + 1 ≡ suc n = omega arith in
     let first = offered w (runs n) in
     ap (λ k. (offered w (runs k)).full) (sym s) ∙ ap (λ (l : Offers). (offered w l).full) (runs_more n)
-    ∙ ap (λ (o : Offered). o.full) (offered_more w (runs n) (run_of n) (runs_not_full join w n))
-    ∙ run_not_full join (world_after w first) n (held_by (world_after w first) n) refl
+    ∙ ap (λ (o : Offered). o.full) (offered_more w (runs n) (run_of n) (runs_not_full w n))
+    ∙ run_not_full (world_after w first) n (held_by (world_after w first) n) refl
 
 last_or_before : (w : World) (n i : ℕ) → ((k : ℕ) → k < n → held_by w k ≡ None) → held_by w n ≡ None → i < suc n → held_by w i ≡ None
 last_or_before w n i each last b = elim (cases_lt i n) [
@@ -284,22 +284,22 @@ last_or_before w n i each last b = elim (cases_lt i n) [
   | inr ge ↦ (let e : i ≡ n = omega (arith, ge, b) in subst (λ k. held_by w k ≡ None) (sym e) last)
 ]
 
-ran_or_none : Joins → (w : World) (n : ℕ) → RanOrNone w n
-ran_or_none join w zero = inr (refl, (λ i b. absurd (omega (arith, b))))
-ran_or_none join w (suc n) =
+ran_or_none : (w : World) (n : ℕ) → RanOrNone w n
+ran_or_none w zero = inr (refl, (λ i b. absurd (omega (arith, b))))
+ran_or_none w (suc n) =
     let s : n + 1 ≡ suc n = omega arith in
     let first = offered w (runs n) in
     let list : runs (suc n) ≡ runs n ++ run_of n = ap runs (sym s) ∙ runs_more n in
-    let whole : offered w (runs (suc n)) ≡ then_offered w first (run_of n) = ap (offered w) list ∙ offered_more w (runs n) (run_of n) (runs_not_full join w n) in
+    let whole : offered w (runs (suc n)) ≡ then_offered w first (run_of n) = ap (offered w) list ∙ offered_more w (runs n) (run_of n) (runs_not_full w n) in
     let after : world_after w (offered w (runs (suc n))) ≡ world_after (world_after w first) (offered (world_after w first) (run_of n)) =
     ap (world_after w) whole ∙ after_append w first.made (offered (world_after w first) (run_of n)).made in
-    elim (ran_or_none join w n) [
+    elim (ran_or_none w n) [
       | inl more ↦
           (let later = no_less_after (world_after w first) (offered (world_after w first) (run_of n)).made in
           inl (subst (λ (v : World). w.records < v.records) (sym after) (omega (arith, more, later))))
       | inr none ↦
           (let same : world_after w first ≡ w = ap (world_after_events w) none.0 in
-          elim (run_or_none join w n (held_by w n) refl) [
+          elim (run_or_none w n (held_by w n) refl) [
             | inl more ↦ inl (subst (λ (v : World). w.records < v.records) (sym (after ∙ ap (λ (u : World). world_after u (offered u (run_of n))) same)) more)
             | inr empty ↦ inr (
               ap (λ (o : Offered). o.made) whole ∙ ap (λ (l : Offers). l ++ (offered (world_after w first) (run_of n)).made) none.0 ∙ ap (λ (u : World). (offered u (run_of n)).made) same ∙ empty.0,
@@ -375,8 +375,8 @@ refused_rest w some take empty respawn =
     subst (λ (q : Process). (not (is_down q.state) || is_worn q v) ≡ true) (at_place w.table.slots i p nobody there) (refused_service w (length w.cpus) i v own refused)))
 
 -- a turn without an outside event makes a record, if the machine isn't at rest
-turn_more : Joins → (w : World) → 0 < length w.cpus → (turn w None).full ≡ false → at_rest w ≡ false → w.records < (world_after w (turn w None)).records
-turn_more join w some h busy =
+turn_more : (w : World) → 0 < length w.cpus → (turn w None).full ≡ false → at_rest w ≡ false → w.records < (world_after w (turn w None)).records
+turn_more w some h busy =
     let none : Option Event = None in
     let cpus = length w.cpus in
     let u = at_takes w none in
@@ -389,7 +389,7 @@ turn_more join w some h busy =
       | inl more ↦ omega (arith, more, ran_on, on)
       | inr untaken ↦
           (let same : u ≡ w = ap (world_after_events w) untaken.0 in
-          elim (ran_or_none join w cpus) [
+          elim (ran_or_none w cpus) [
             | inl more ↦
                 (let ran_more = subst (λ (y : World). w.records < (world_after y (offered y (runs cpus))).records) (sym same) more in
                 omega (arith, ran_more, on))
@@ -426,11 +426,11 @@ tick_more w h =
     ])
 
 -- a turn makes a record, or uses up an event that may be refused
-turn_uses : Joins → (w : World) (coming : List Event) → 0 < length w.cpus → is_over w coming ≡ false → (turn w (slice_get coming 0)).full ≡ false
+turn_uses : (w : World) (coming : List Event) → 0 < length w.cpus → is_over w coming ≡ false → (turn w (slice_get coming 0)).full ≡ false
     → suc (w.records + refusable (drop 1 coming)) ≤ (world_after w (turn w (slice_get coming 0))).records + refusable coming
-turn_uses join w [] some busy h = let more = turn_more join w some h busy in omega (arith, more)
-turn_uses join w (Tick ∷ xs) some busy h = let more = tick_more w h in omega (arith, more)
-turn_uses join w (x ∷ xs) some busy h = let on = no_less_after w (turn w (Some x)).made in omega (arith, on)
+turn_uses w [] some busy h = let more = turn_more w some h busy in omega (arith, more)
+turn_uses w (Tick ∷ xs) some busy h = let more = tick_more w h in omega (arith, more)
+turn_uses w (x ∷ xs) some busy h = let on = no_less_after w (turn w (Some x)).made in omega (arith, on)
 
 -- ---- turns
 
@@ -441,26 +441,28 @@ course_by n w coming over full =
     let later = turns n (world_after w t) (drop 1 coming) in
     cond over (record { made = []; ending = Rest }) (cond full (record { made = t.made; ending = Full }) (record { made = t.made ++ later.made; ending = later.ending }))
 
-few_by : Joins → (n : ℕ) (w : World) (coming : List Event) → 0 < length w.cpus
+few_by : (n : ℕ) (w : World) (coming : List Event) → 0 < length w.cpus
     → (let u = world_after w (turn w (slice_get coming 0)) in let later = turns n u (drop 1 coming) in
     later.ending ≡ Turns → n + u.records ≤ (world_after_events u later.made).records + refusable (drop 1 coming))
     → (over full : Bool) → is_over w coming ≡ over → (turn w (slice_get coming 0)).full ≡ full → (course_by n w coming over full).ending ≡ Turns
     → suc n + w.records ≤ (world_after_events w (course_by n w coming over full).made).records + refusable coming
-few_by join n w coming some rest true full o f e = cc
-few_by join n w coming some rest false true o f e = cc
-few_by join n w coming some rest false false o f e =
+few_by n w coming some rest true full o f e = cc
+few_by n w coming some rest false true o f e = cc
+few_by n w coming some rest false false o f e =
     let t = turn w (slice_get coming 0) in
     let u = world_after w t in
     let later = turns n u (drop 1 coming) in
-    let one = turn_uses join w coming some o f in
+    let one = turn_uses w coming some o f in
     let more = rest e in
     subst (λ (y : World). suc n + w.records ≤ y.records + refusable coming) (sym (after_append w t.made later.made)) (omega (arith, one, more))
 
 -- as many turns as were asked for are at most as many as the records that they make, and the events that may be refused
-pub few : Joins → (n : ℕ) (w : World) (coming : List Event) → 0 < length w.cpus → (turns n w coming).ending ≡ Turns
+-- Each turn makes a record, or uses up a line or a kill. So turns that end since `n` are made are at most as many as
+-- the records that they make, and as the lines and kills that are to come.
+pub turns_are_few : (n : ℕ) (w : World) (coming : List Event) → 0 < length w.cpus → (turns n w coming).ending ≡ Turns
     → n + w.records ≤ (world_after_events w (turns n w coming).made).records + refusable coming
-few join zero w coming some h = omega arith
-few join (suc n) w coming some h =
+turns_are_few zero w coming some h = omega arith
+turns_are_few (suc n) w coming some h =
     let t = turn w (slice_get coming 0) in
     let u = world_after w t in
-    few_by join n w coming some (λ e. few join n u (drop 1 coming) (subst (λ k. 0 < k) (sym (cpus_stay w t.made)) some) e) (is_over w coming) t.full refl refl h
+    few_by n w coming some (λ e. turns_are_few n u (drop 1 coming) (subst (λ k. 0 < k) (sym (cpus_stay w t.made)) some) e) (is_over w coming) t.full refl refl h

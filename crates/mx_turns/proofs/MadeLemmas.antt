@@ -14,7 +14,7 @@ use Rattle.mx_machine.proofs.ReplayLemmas.{accepted_append, after_append}
 use Rattle.mx_machine.specs.Machine.{HasWorked, MachineState, kept_after, kept_along, record_of, with_records, world_of}
 use Rattle.mx_turns.specs.Made.{HasMade, HasOffered, is_full}
 use Rattle.mx_turns.specs.Turns.{Offered, most_steps, offered, offered_first, outside, respawns, then_offered}
-use Rattle.mx_turns.proofs.OfferLemmas.{Joins, Offers, empty_offered, offered_full, offered_more, steps_offered}
+use Rattle.mx_turns.proofs.OfferLemmas.{Offers, empty_offered, offered_full, offered_more, steps_offered}
 
 -- ---- one event
 
@@ -137,18 +137,18 @@ unfolding event_refusal
 back_not_full w c = by_back (event_refusal w c Back) w (world_after_event w c Back) c (held_by w c) refl
 
 -- what comes of steps up to the stop
-pub work_done : (X Y : Type 0) (m n : MachineState) (c : ℕ) (r : Result (Unit {0}) Refusal) → Joins
+pub work_done : (X Y : Type 0) (m n : MachineState) (c : ℕ) (r : Result (Unit {0}) Refusal)
     → OnOk r ((l : HeldProcess) × HasWorked (world_of m) (world_of n) c most_steps l × X)
     → IfErr r (λ e. (e ≡ CpuEmpty) × (held_by (world_of m) c ≡ None) × (n ≡ m) × Y)
     → n.kernel ≡ m.kernel → HasOffered m (offered (world_of m) (steps_of c most_steps)) false n
-work_done X Y m n c (Ok u) join h f k =
+work_done X Y m n c (Ok u) h f k =
     let l = h.0 in
     let w = h.1 in
     let count = (held_run most_steps l.out).0.0 in
-    subst (λ (o : Offered). HasOffered m o false n) (sym (steps_offered join most_steps (world_of m) c l w.held)) (record {
+    subst (λ (o : Offered). HasOffered m o false n) (sym (steps_offered most_steps (world_of m) c l w.held)) (record {
       made = record { accepted = w.accepted; world = w.world; kernel = k ∙ sym (kept_steps m.kernel c count (moves (world_of m) (steps_of c count)).0) };
       full = refl;
     })
-work_done X Y m n c (Err e) join h f k =
+work_done X Y m n c (Err e) h f k =
     subst (λ (o : Offered). HasOffered m o false n) (sym (empty_offered (world_of m) c f.1 most_steps))
     (subst (λ (x : MachineState). HasOffered m (record { made = []; full = false }) false x) (sym f.2) (none_offered m))

@@ -16,11 +16,12 @@ use Rattle.mx_machine.specs.declared.events.Event.TheVariants.{Step, Take, Back,
 use Rattle.mx_machine.specs.declared.events.Refusal.{Refusal}
 use Rattle.mx_machine.specs.declared.events.Refusal.TheVariants.{LogFull, AtStop, CpuEmpty}
 use Rattle.mx_machine.specs.declared.holding.Out.{Out}
-use Rattle.mx_machine.specs.Held.{held_run, run_by_stop, then_held, out_after_step}
+use Rattle.mx_machine.specs.Held.{held_run, run_by_stop, out_after_step}
 use Rattle.mx_machine.specs.History.{world_after_events}
 use Rattle.mx_machine.specs.Move.{at_stop, is_stop, event_refusal, step_refusal, world_after_event, world_after_step, with_held}
 use Rattle.mx_machine.specs.Steps.{steps_of}
 use Rattle.mx_machine.specs.World.{World, HeldProcess, held_by}
+use Rattle.mx_machine.proofs.JoinLemmas.{held_runs_join}
 use Rattle.mx_machine.proofs.WorldStepLemmas.{holds_in}
 use Rattle.mx_machine.proofs.RunLemmas.{stepped-run}
 use Rattle.mx_turns.specs.Turns.{Offered, offered, offered_first, then_offered, takes, run_of as run_of_cpu, runs, respawns}
@@ -59,9 +60,6 @@ offered_full w [] ys h = cc
 offered_full w (x ∷ xs) ys h = first_full (event_refusal w x.0 x.1) w x xs ys (offered_full w xs ys) (offered_full (world_after_event w x.0 x.1) xs ys) h
 
 -- ---- the steps of a processor
-
-abbrev pub Joins : Type 0
-Joins = (a b : ℕ) (o : Out) → held_run (a + b) o ≡ then_held (held_run a o) b
 
 by_stop : (s : Stop) (o : Out) → (is_stop s || nat_le o.budget o.count) ≡ true → (k : ℕ) → (run_by_stop s k o).0.0 ≡ 0
 by_stop stop.Spent o h k =
@@ -111,11 +109,11 @@ unfolding held_run
 one_run o h = one_by o.stop o h
 
 -- a step, and then a run
-more_run : Joins → (k : ℕ) (o : Out) → at_stop o ≡ false → (held_run (suc k) o).0.0 ≡ suc (held_run k (out_after_step o)).0.0
-more_run join k o h =
+more_run : (k : ℕ) (o : Out) → at_stop o ≡ false → (held_run (suc k) o).0.0 ≡ suc (held_run k (out_after_step o)).0.0
+more_run k o h =
     let n : suc k ≡ 1 + k = omega arith in
     let after : (held_run k (held_run 1 o).1).0.0 ≡ (held_run k (out_after_step o)).0.0 = ap (λ (u : Out). (held_run k u).0.0) (sym (stepped-run o h)) in
-    let both : (held_run (suc k) o).0.0 ≡ (held_run 1 o).0.0 + (held_run k (held_run 1 o).1).0.0 = ap (λ i. (held_run i o).0.0) n ∙ ap (λ p. p.0.0) (join 1 k o) in
+    let both : (held_run (suc k) o).0.0 ≡ (held_run 1 o).0.0 + (held_run k (held_run 1 o).1).0.0 = ap (λ i. (held_run i o).0.0) n ∙ ap (λ p. p.0.0) (held_runs_join 1 k o) in
     let one = one_run o h in
     omega (arith, both, one, after)
 
@@ -149,19 +147,19 @@ stopped_offered w c l h s (suc k) =
     step_skipped w c k (Some AtStop) (refusal_of_step w c (Some l) h ∙ ap (λ b. cond b (Some AtStop) None) s) (made_steps c 0) again again
 
 -- STEPS: those of the run are made
-pub steps_offered : Joins → (k : ℕ) (w : World) (c : ℕ) (l : HeldProcess) → held_by w c ≡ Some l → offered w (steps_of c k) ≡ made_steps c (held_run k l.out).0.0
-steps_offered join zero w c l h = ap (made_steps c) (sym (none_run l.out))
-steps_offered join (suc k) w c l h = elim (cases_Bool (at_stop l.out)) [
+pub steps_offered : (k : ℕ) (w : World) (c : ℕ) (l : HeldProcess) → held_by w c ≡ Some l → offered w (steps_of c k) ≡ made_steps c (held_run k l.out).0.0
+steps_offered zero w c l h = ap (made_steps c) (sym (none_run l.out))
+steps_offered (suc k) w c l h = elim (cases_Bool (at_stop l.out)) [
   | inl s ↦ stopped_offered w c l h s (suc k) ∙ ap (made_steps c) (sym (stopped_run l.out (suc k) s))
   | inr g ↦
       let next : HeldProcess = record l { out = out_after_step l.out } in
       let v : World = with_held w c (Some next) in
       let held : held_by v c ≡ Some next = get_or-set_same w.cpus c (Some next) None (holds_in w.cpus c l h) in
-      let again : offered v (steps_of c k) ≡ made_steps c (held_run k next.out).0.0 = steps_offered join k v c next held in
+      let again : offered v (steps_of c k) ≡ made_steps c (held_run k next.out).0.0 = steps_offered k v c next held in
       ap (λ q. offered_first (c, Step) q (offered w (steps_of c k)) (offered (world_after_event w c Step) (steps_of c k))) (refusal_of_step w c (Some l) h ∙ ap (λ b. cond b (Some AtStop) None) g)
       ∙ ap (λ (u : World). offered_first (c, Step) None (offered w (steps_of c k)) (offered u (steps_of c k))) (world_of_step w c (Some l) h)
       ∙ ap (λ (o : Offered). offered_first (c, Step) None (offered w (steps_of c k)) o) again
-      ∙ ap (made_steps c) (sym (more_run join k l.out g))
+      ∙ ap (made_steps c) (sym (more_run k l.out g))
 ]
 
 -- ---- the lists of offers

@@ -20,7 +20,7 @@ use Rattle.mx_machine.specs.Steps.{steps_of}
 use Rattle.mx_machine.specs.World.{World, HeldProcess, free_records, held_by}
 use Rattle.mx_machine.proofs.WorldStepLemmas.{holds_in}
 use Rattle.mx_turns.specs.Turns.{NoneToRespawn, Offered, most_steps, offered, offered_first, outside, respawns, round, run_of, runs, takes, then_offered, turn}
-use Rattle.mx_turns.proofs.OfferLemmas.{Joins, Offers, offered_more, steps_offered, world_of_step}
+use Rattle.mx_turns.proofs.OfferLemmas.{Offers, offered_more, steps_offered, world_of_step}
 
 -- an offer that is accepted, and none after it
 one_made : (w : World) (x : ℕ × Event) → event_refusal w x.0 x.1 ≡ None → offered w (x ∷ []) ≡ record { made = x ∷ []; full = false }
@@ -61,13 +61,13 @@ unfolding event_refusal
 refusal_of_back w c l h = ap back_refusal h
 
 -- what a processor holds makes its steps up to its stop, and comes back
-ran_alone : Joins → (w : World) (l : HeldProcess) → held_by w 0 ≡ Some l → offered w (runs 1) ≡ record { made = steps_of 0 (held_run most_steps l.out).0.0 ++ (0, Back) ∷ []; full = false }
-ran_alone join w l held =
+ran_alone : (w : World) (l : HeldProcess) → held_by w 0 ≡ Some l → offered w (runs 1) ≡ record { made = steps_of 0 (held_run most_steps l.out).0.0 ++ (0, Back) ∷ []; full = false }
+ran_alone w l held =
     let n = (held_run most_steps l.out).0.0 in
     let u = world_after_events w (steps_of 0 n) in
     let still = still_held n w 0 l held in
     let end : Offers = (0, Back) ∷ [] in
-    let steps : offered w (steps_of 0 most_steps) ≡ record { made = steps_of 0 n; full = false } = steps_offered join most_steps w 0 l held in
+    let steps : offered w (steps_of 0 most_steps) ≡ record { made = steps_of 0 n; full = false } = steps_offered most_steps w 0 l held in
     let back : offered u end ≡ record { made = end; full = false } = one_made u (0, Back) (refusal_of_back u 0 still.0 still.1) in
     ap (offered w) (append-nil (run_of 0))
     ∙ offered_more w (steps_of 0 most_steps) end (ap (λ (o : Offered). o.full) steps)
@@ -107,13 +107,13 @@ turn_by w cpus taken =
     let ran = then_offered w taken (runs cpus) in
     cond taken.full (record ran { full = true }) (then_offered w ran (outside cpus None ++ respawns cpus (length w.services)))
 
-pub turn_of_one : Joins → (w : World) (s : ℕ) → length w.cpus ≡ 1 → held_by w 0 ≡ None → first_ready w.table.ready ≡ Some s → 2 ≤ free_records w
+pub turn_of_one : (w : World) (s : ℕ) → length w.cpus ≡ 1 → held_by w 0 ≡ None → first_ready w.table.ready ≡ Some s → 2 ≤ free_records w
     → NoneToRespawn (world_after_events w (round w s)) → turn w None ≡ record { made = round w s; full = false }
-turn_of_one join w s one empty ready room none =
+turn_of_one w s one empty ready room none =
     let v = world_after_event w 0 Take in
     let z = world_after_events w (round w s) in
     let taken : offered w (takes 1) ≡ record { made = (0, Take) ∷ []; full = false } = one_made w (0, Take) (refusal_of_take w s one empty ready room) in
-    let ran = ran_alone join v (held_at_take w.table s) (taken_held w s one ready) in
+    let ran = ran_alone v (held_at_take w.table s) (taken_held w s one ready) in
     let slots = length w.services in
     ap (λ k. turn_by w k (offered w (takes k))) one
     ∙ ap (turn_by w 1) taken

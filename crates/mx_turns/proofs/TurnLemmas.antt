@@ -12,6 +12,7 @@ use Rattle.mx_machine.specs.Move.{world_after_back, world_after_event, world_aft
 use Rattle.mx_machine.specs.Rest.{at_rest, down_are_worn}
 use Rattle.mx_machine.specs.World.{World, HeldProcess, actors, held_by}
 use Rattle.mx_machine.specs.Machine.{MachineState, world_of}
+use Rattle.mx_machine.proofs.ActorLemmas.{actors_after_events}
 use Rattle.mx_machine.proofs.MachineLemmas.{held_now-count, held_now-length}
 use Rattle.mx_turns.specs.declared.turns.Ending.{Ending}
 use Rattle.mx_turns.specs.declared.turns.Ending.TheVariants.{Rest, Turns, Full}
@@ -73,10 +74,10 @@ cpus_stay w [] = refl
 cpus_stay w (x ∷ xs) = cpus_stay (world_after_event w x.0 x.1) xs ∙ by_event w x.0 x.1
 
 -- an actor that is no processor stays
-pub other_stays : (m n : MachineState) (xs : Offers) → HasMade m xs n → ((w : World) (ys : Offers) → actors (world_after_events w ys) ≡ actors w) → length (world_of m).cpus < actors (world_of m) → length (world_of n).cpus < actors (world_of n)
-other_stays m n xs h stay b =
+pub other_stays : (m n : MachineState) (xs : Offers) → HasMade m xs n → length (world_of m).cpus < actors (world_of m) → length (world_of n).cpus < actors (world_of n)
+other_stays m n xs h b =
     let cpus : length (world_of n).cpus ≡ length (world_of m).cpus = ap (λ (w : World). length w.cpus) h.world ∙ cpus_stay (world_of m) xs in
-    let they : actors (world_of n) ≡ actors (world_of m) = ap actors h.world ∙ stay (world_of m) xs in
+    let they : actors (world_of n) ≡ actors (world_of m) = ap actors h.world ∙ actors_after_events (world_of m) xs in
     subst (λ k. k < actors (world_of n)) (sym cpus) (subst (λ k. length (world_of m).cpus < k) (sym they) b)
 
 -- ---- a turn

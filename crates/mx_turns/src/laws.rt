@@ -1,15 +1,13 @@
 //! Laws of turns.
 
-ghost use Rattle.std.specs.Prelude.{◌≡◌, ◌≤◌, ◌<◌, ℕ, ◌+◌, List, None, Some, [], drop, false, length, true};
+ghost use Rattle.std.specs.Prelude.{◌≡◌, ◌≤◌, ℕ, ◌+◌, List, None, Some, [], drop, false, length, true};
 ghost use Rattle.mx_machine.specs.declared.events.Event.{Event};
 ghost use Rattle.mx_machine.specs.History.{world_after_events};
 ghost use Rattle.mx_machine.specs.Proc.Queues.{first_ready};
 ghost use Rattle.mx_machine.specs.Rest.{at_rest};
 ghost use Rattle.mx_machine.specs.World.{World, free_records, held_by};
-ghost use Rattle.mx_turns.specs.Turns.{NoneToRespawn, joined, refusable, round, turn, turns};
+ghost use Rattle.mx_turns.specs.Turns.{NoneToRespawn, joined, round, turn, turns};
 ghost use Rattle.mx_turns.specs.declared.turns.Ending.TheVariants as endings;
-
-use mx_machine::held_runs_join;
 
 /// Law: if `a` turns are made and end for no other reason, then those and `b` more, with the outside events
 /// that are left, are `a + b` turns.
@@ -34,17 +32,4 @@ pub fn turn_of_one()
         → first_ready w.table.ready ≡ Some s → 2 ≤ free_records w
         → NoneToRespawn (world_after_events w (round w s))
         → turn w None ≡ record { made = round w s; full = false } }
-{
-    held_runs_join();
-}
-
-/// Law: each turn makes a record, or uses up a line or a kill. So turns that end since `n` are made are at most
-/// as many as the records that they make, and as the lines and kills that are to come.
-pub fn turns_are_few()
-    ensures { (n : ℕ) (w : World) (coming : List Event) → 0 < length w.cpus
-        → (turns n w coming).ending ≡ endings.Turns
-        → n + w.records
-        ≤ (world_after_events w (turns n w coming).made).records + refusable coming }
-{
-    held_runs_join();
-}
+{}

@@ -9,6 +9,6 @@ mod offers;
 mod outside;
 mod turns;
 
-pub use laws::{rest_is_still, turn_of_one, turns_are_few, turns_join};
+pub use laws::{rest_is_still, turn_of_one, turns_join};
 pub use outside::Outside;
 pub use turns::{Ending, make_turns};

@@ -8,7 +8,7 @@ ghost use Rattle.mx_machine.specs.World.{actors};
 ghost use Rattle.mx_turns.specs.Made.{HasOffered, is_full};
 ghost use Rattle.mx_turns.specs.Turns.{most_steps, offered, outside, respawns, run_of, runs, takes};
 
-use mx_machine::{Answer, Event, Held, Machine, Out, Refusal, Tool, held_runs_join};
+use mx_machine::{Answer, Event, Held, Machine, Out, Refusal, Tool};
 
 /// More steps than any process may make before it comes back.
 const MOST_STEPS: u32 = u32::MAX;
@@ -75,7 +75,6 @@ fn offer_steps(machine: &mut Machine, cpu: u8)
         (offered (world_of machine.old) (steps_of cpu most_steps)) false machine.new }
     ensures actors { actors (world_of machine.new) ≡ actors (world_of machine.old) }
 {
-    held_runs_join();
     let mut runner = Runner;
     let _ = machine.work(cpu, &mut runner);
 }

@@ -10,7 +10,7 @@ ghost use Rattle.mx_turns.specs.Turns.{turn, turns};
 
 use crate::offers::{offer_others, offer_runs, offer_takes};
 use crate::outside::Outside;
-use mx_machine::{Event, Machine, actors_stay};
+use mx_machine::{Event, Machine};
 use mx_walk::{Part, Progress};
 
 /// How turns end.
@@ -40,7 +40,7 @@ fn make_turn(machine: &mut Machine, next: Option<Event>) -> bool
 {
     machine.sound();
     let cpus = machine.kernel().cpus();
-    let slots = u32::from(machine.kernel().table().used());
+    let slots = u32::from(machine.kernel().table().slot_count());
     let is_full = offer_takes(machine, cpus);
     offer_runs(machine, cpus);
     if is_full {
@@ -87,7 +87,6 @@ pub fn make_turns<P: Progress>(
     ensures shown { P.shown progress.new ≡ P.shown progress.old
         ++ turns_shown log bound (world_of machine.old) (outside_events outside.entry) }
 {
-    actors_stay();
     for made in 0..bound {
         let next = outside.get(made);
         if is_over(machine, next) {

@@ -129,6 +129,9 @@ fn code_of(alloc: Global, text: &str) -> Result<Option<Bytes>, CaseError>
     Ok(Some(bytes_of(alloc, text)?))
 }
 
+/// How many fields a line has.
+const FIELD_COUNT: usize = 13;
+
 /// A line's fields, as texts.
 #[derive(Clone, Copy)]
 struct Fields<'a> {
@@ -182,39 +185,25 @@ fn case_of<'a>(alloc: Global, fields: &Fields<'a>) -> Result<Case<'a>, CaseError
 pub fn parse_case<'a>(alloc: Global, line: &'a str) -> Result<Case<'a>, CaseError>
     ensures { IfOk result IsCaseSpelled }
 {
-    let fields: Vec<&'a str> = line.split(" | ").collect(alloc)?;
-    let &[
-        row,
-        spelling,
-        code,
-        memory,
-        words,
-        eip,
-        flags,
-        ends,
-        words_after,
-        eip_after,
-        flags_after,
-        mask,
-        changes,
-    ] = fields.as_slice()
-    else {
+    let parts: Vec<&'a str> = line.split(" | ").collect(alloc)?;
+    let texts = parts.as_slice();
+    if texts.len() != FIELD_COUNT {
         return Err(CaseError::Malformed);
-    };
+    }
     let fields = Fields {
-        row,
-        spelling,
-        code,
-        memory,
-        words,
-        eip,
-        flags,
-        ends,
-        words_after,
-        eip_after,
-        flags_after,
-        mask,
-        changes,
+        row: texts[0],
+        spelling: texts[1],
+        code: texts[2],
+        memory: texts[3],
+        words: texts[4],
+        eip: texts[5],
+        flags: texts[6],
+        ends: texts[7],
+        words_after: texts[8],
+        eip_after: texts[9],
+        flags_after: texts[10],
+        mask: texts[11],
+        changes: texts[12],
     };
     case_of(alloc, &fields)
 }

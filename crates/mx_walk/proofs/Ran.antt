@@ -13,12 +13,9 @@ use Rattle.mx_machine.specs.Run.{run_of, run_end_from}
 use Rattle.mx_machine.specs.Stop.{Stop}
 use Rattle.mx_machine.specs.Stop.TheVariants.{Spent, Trap, Fault}
 use Rattle.mx_machine.specs.World.{HeldProcess}
+use Rattle.mx_machine.proofs.JoinLemmas.{held_runs_join}
 use Rattle.mx_walk.specs.Running.{HasRun, NoneMarkedOf, is_marked_after, out_after_steps, steps_to_mark, with_out}
 use Rattle.mx_walk.proofs.Stepping.{held_most, held_short, ran_most}
-
--- runs of what is held join
-abbrev pub Joins : Type 0
-Joins = (a b : ℕ) (o : Out) → held_run (a + b) o ≡ then_held (held_run a o) b
 
 -- ---- a run of one step
 
@@ -70,13 +67,13 @@ unfolding held_run
 held_same k o e = same_by o.stop k o refl e
 
 -- where one step can't be made, none can
-held_none : Joins → (k : ℕ) (o : Out) → (held_run 1 o).0.0 ≡ 0 → (held_run k o).0.0 ≡ 0
-held_none law zero o e = let h = held_most 0 o in omega (arith, h)
-held_none law (suc k) o e =
+held_none : (k : ℕ) (o : Out) → (held_run 1 o).0.0 ≡ 0 → (held_run k o).0.0 ≡ 0
+held_none zero o e = let h = held_most 0 o in omega (arith, h)
+held_none (suc k) o e =
     let sum : suc k ≡ 1 + k = omega arith in
-    let j : held_run (suc k) o ≡ then_held (held_run 1 o) k = ap (λ i. held_run i o) sum ∙ law 1 k o in
+    let j : held_run (suc k) o ≡ then_held (held_run 1 o) k = ap (λ i. held_run i o) sum ∙ held_runs_join 1 k o in
     let n : (held_run (suc k) o).0.0 ≡ (held_run 1 o).0.0 + (held_run k (held_run 1 o).1).0.0 = ap (λ (r : (ℕ × Stop) × Out). r.0.0) j in
-    let again : (held_run k (held_run 1 o).1).0.0 ≡ 0 = ap (λ (p : Out). (held_run k p).0.0) (held_same 1 o e) ∙ held_none law k o e in
+    let again : (held_run k (held_run 1 o).1).0.0 ≡ 0 = ap (λ (p : Out). (held_run k p).0.0) (held_same 1 o e) ∙ held_none k o e in
     omega (arith, n, again, e)
 
 -- at a stop no run makes a step
@@ -104,42 +101,41 @@ steps_both : (n m : ℕ) (o : Out) → out_after_steps (n + m) o ≡ out_after_s
 steps_both zero m o = let e : 0 + m ≡ m = omega arith in ap (λ k. out_after_steps k o) e
 steps_both (suc n) m o = let e : suc n + m ≡ suc (n + m) = omega arith in ap (λ k. out_after_steps k o) e ∙ steps_both n m (out_after_step o)
 
-module _ (law : Joins) where
-  -- a run that makes all its steps makes one after another
-  all_made : (n : ℕ) (o : Out) → (held_run n o).0.0 ≡ n → (held_run n o).1 ≡ out_after_steps n o
-  all_made zero o e = held_same 0 o e
-  all_made (suc n) o e =
-      let sum : suc n ≡ 1 + n = omega arith in
-      let j : held_run (suc n) o ≡ then_held (held_run 1 o) n = ap (λ i. held_run i o) sum ∙ law 1 n o in
-      let count : (held_run (suc n) o).0.0 ≡ (held_run 1 o).0.0 + (held_run n (held_run 1 o).1).0.0 = ap (λ (r : (ℕ × Stop) × Out). r.0.0) j in
-      let a = held_most 1 o in
-      let b = held_most n (held_run 1 o).1 in
-      let one : (held_run 1 o).0.0 ≡ 1 = omega (arith, count, a, b, e) in
-      let rest : (held_run n (held_run 1 o).1).0.0 ≡ n = omega (arith, count, a, b, e) in
-      ap (λ (r : (ℕ × Stop) × Out). r.1) j ∙ all_made n (held_run 1 o).1 rest ∙ ap (out_after_steps n) (held_one o one)
+-- a run that makes all its steps makes one after another
+all_made : (n : ℕ) (o : Out) → (held_run n o).0.0 ≡ n → (held_run n o).1 ≡ out_after_steps n o
+all_made zero o e = held_same 0 o e
+all_made (suc n) o e =
+    let sum : suc n ≡ 1 + n = omega arith in
+    let j : held_run (suc n) o ≡ then_held (held_run 1 o) n = ap (λ i. held_run i o) sum ∙ held_runs_join 1 n o in
+    let count : (held_run (suc n) o).0.0 ≡ (held_run 1 o).0.0 + (held_run n (held_run 1 o).1).0.0 = ap (λ (r : (ℕ × Stop) × Out). r.0.0) j in
+    let a = held_most 1 o in
+    let b = held_most n (held_run 1 o).1 in
+    let one : (held_run 1 o).0.0 ≡ 1 = omega (arith, count, a, b, e) in
+    let rest : (held_run n (held_run 1 o).1).0.0 ≡ n = omega (arith, count, a, b, e) in
+    ap (λ (r : (ℕ × Stop) × Out). r.1) j ∙ all_made n (held_run 1 o).1 rest ∙ ap (out_after_steps n) (held_one o one)
 
-  -- a run of as many steps as a run made is the same
-  module _ (q m : ℕ) (o : Out) (e : (held_run q o).0.0 ≡ m) where
-    few : m ≤ q
-    few = let a = held_most q o in omega (arith, a, e)
+-- a run of as many steps as a run made is the same
+module _ (q m : ℕ) (o : Out) (e : (held_run q o).0.0 ≡ m) where
+  few : m ≤ q
+  few = let a = held_most q o in omega (arith, a, e)
 
-    parts : held_run q o ≡ then_held (held_run m o) (q - m)
-    parts = let sum : q ≡ m + (q - m) = let a = few in omega (arith, a) in ap (λ i. held_run i o) sum ∙ law m (q - m) o
+  parts : held_run q o ≡ then_held (held_run m o) (q - m)
+  parts = let sum : q ≡ m + (q - m) = let a = few in omega (arith, a) in ap (λ i. held_run i o) sum ∙ held_runs_join m (q - m) o
 
-    count_parts : m ≡ (held_run m o).0.0 + (held_run (q - m) (held_run m o).1).0.0
-    count_parts = sym e ∙ ap (λ (r : (ℕ × Stop) × Out). r.0.0) parts
+  count_parts : m ≡ (held_run m o).0.0 + (held_run (q - m) (held_run m o).1).0.0
+  count_parts = sym e ∙ ap (λ (r : (ℕ × Stop) × Out). r.0.0) parts
 
-    pub front_made : (held_run m o).0.0 ≡ m
-    front_made = elim (cases_lt (held_run m o).0.0 m) [
-      | inl lt ↦ let a = stopped_none (q - m) (held_run m o).1 (held_short m o lt) in let b = count_parts in omega (arith, a, b)
-      | inr ge ↦ let a = held_most m o in omega (arith, a, ge)
-    ]
+  pub front_made : (held_run m o).0.0 ≡ m
+  front_made = elim (cases_lt (held_run m o).0.0 m) [
+    | inl lt ↦ let a = stopped_none (q - m) (held_run m o).1 (held_short m o lt) in let b = count_parts in omega (arith, a, b)
+    | inr ge ↦ let a = held_most m o in omega (arith, a, ge)
+  ]
 
-    pub front_left : (held_run m o).1 ≡ (held_run q o).1
-    front_left =
-        let a = front_made in let b = count_parts in
-        let none : (held_run (q - m) (held_run m o).1).0.0 ≡ 0 = omega (arith, a, b) in
-        sym (ap (λ (r : (ℕ × Stop) × Out). r.1) parts ∙ held_same (q - m) (held_run m o).1 none)
+  pub front_left : (held_run m o).1 ≡ (held_run q o).1
+  front_left =
+      let a = front_made in let b = count_parts in
+      let none : (held_run (q - m) (held_run m o).1).0.0 ≡ 0 = omega (arith, a, b) in
+      sym (ap (λ (r : (ℕ × Stop) × Out). r.1) parts ∙ held_same (q - m) (held_run m o).1 none)
 
 module _ (f : HeldProcess → Out → Bool) where
   abbrev next : HeldProcess → HeldProcess
@@ -187,7 +183,7 @@ pub record HasGone (f : HeldProcess → Out → Bool) (l : HeldProcess) (i : ℕ
   pub steps : o ≡ out_after_steps i l.out
   pub none : NoneMarkedOf f l i
 
-module _ (law : Joins) (f : HeldProcess → Out → Bool) (l : HeldProcess) where
+module _ (f : HeldProcess → Out → Bool) (l : HeldProcess) where
   pub begun : HasGone f l 0 l.out
   begun =
       let h = held_most 0 l.out in
@@ -196,7 +192,7 @@ module _ (law : Joins) (f : HeldProcess → Out → Bool) (l : HeldProcess) wher
 
   module _ (i : ℕ) (o : Out) (h : HasGone f l i o) where
     joined : (n : ℕ) → held_run (i + n) l.out ≡ then_held (held_run i l.out) n
-    joined n = law i n l.out
+    joined n = held_runs_join i n l.out
 
     count_after : (n : ℕ) → (held_run (i + n) l.out).0.0 ≡ i + (held_run n o).0.0
     count_after n =
@@ -211,7 +207,7 @@ module _ (law : Joins) (f : HeldProcess → Out → Bool) (l : HeldProcess) wher
     -- some more of which none is marked
     module _ (q m : ℕ) (made : (held_run q o).0.0 ≡ m) (none : NoneMarkedOf f (with_out l o) q) where
       steps_there : (held_run q o).1 ≡ out_after_steps (i + m) l.out
-      steps_there = sym (front_left law q m o made) ∙ all_made law m o (front_made law q m o made) ∙ ap (out_after_steps m) h.steps ∙ sym (steps_both i m l.out)
+      steps_there = sym (front_left q m o made) ∙ all_made m o (front_made q m o made) ∙ ap (out_after_steps m) h.steps ∙ sym (steps_both i m l.out)
 
       marked_there : (j : ℕ) → is_marked_after f l (i + j) ≡ is_marked_after f (with_out l o) j
       marked_there j =
@@ -221,8 +217,8 @@ module _ (law : Joins) (f : HeldProcess → Out → Bool) (l : HeldProcess) wher
 
       pub many : HasGone f l (i + m) (held_run q o).1
       many = record {
-        made = let a = count_after m in let b = front_made law q m o made in omega (arith, a, b);
-        left = left_after m ∙ front_left law q m o made;
+        made = let a = count_after m in let b = front_made q m o made in omega (arith, a, b);
+        left = left_after m ∙ front_left q m o made;
         steps = steps_there;
         none = λ j lt. elim (cases_lt j i) [
           | inl less ↦ h.none j less
@@ -293,7 +289,7 @@ module _ (law : Joins) (f : HeldProcess → Out → Bool) (l : HeldProcess) wher
         more = more_asked f k i l le h.none
 
         stuck_still : (held_run more.0 o).0.0 ≡ 0
-        stuck_still = held_none law more.0 o stuck
+        stuck_still = held_none more.0 o stuck
 
         pub stuck_left : (held_run (steps_to_mark f k l) l.out).1 ≡ p
         stuck_left = ap (λ m. (held_run m l.out).1) more.1 ∙ left_after more.0 ∙ held_same more.0 o stuck_still ∙ sym (held_same 1 o stuck) ∙ left_is
@@ -320,7 +316,7 @@ module _ (law : Joins) (f : HeldProcess → Out → Bool) (l : HeldProcess) wher
     x = (held_run 1 mid).0.0
 
     parted : held_run (q + 1) o ≡ then_held (held_run q o) 1
-    parted = law q 1 o
+    parted = held_runs_join q 1 o
 
     counted : n ≡ m + x
     counted = sym (ap (λ (r : (ℕ × Stop) × Out). r.0.0) run) ∙ ap (λ (r : (ℕ × Stop) × Out). r.0.0) parted
@@ -366,7 +362,7 @@ module _ (law : Joins) (f : HeldProcess → Out → Bool) (l : HeldProcess) wher
       counts = let a = counted in let b = held_most q o in let c = held_most 1 mid in omega (arith, a, b, c, all)
 
       pub mid_is : mid ≡ out_after_steps q o
-      mid_is = all_made law q o whole
+      mid_is = all_made q o whole
 
       pub last_is : p ≡ out_after_steps (suc q) o
       last_is =

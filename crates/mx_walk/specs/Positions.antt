@@ -110,7 +110,7 @@ IsRefusedFor w x r = event_refusal w x.0 x.1 ≡ Some r
 abbrev pub IsRefused : World → ℕ × Event → Type 0
 IsRefused w x = (r : Refusal) × IsRefusedFor w x r
 
--- A MACHINE STANDS AT A POSITION: its world is the one there, and each event above it was accepted
+-- A MACHINE IS AT A POSITION: its world is the one there, and each event above it was accepted
 pub record IsAt (boot : World) (records : List Record) (p : Position) (m : MachineState) : Type 0 where
   pub position : IsPosition records p
   pub booted : m.kernel.boot ≡ boot

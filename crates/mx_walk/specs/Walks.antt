@@ -12,7 +12,7 @@ use Rattle.mx_machine.specs.Machine.{MachineState, world_of}
 use Rattle.mx_walk.specs.declared.positions.Position.{Position}
 use Rattle.mx_walk.specs.Positions.{IsAt, IsPosition, IsStuck, IsUpTo, event_below, events_above, is_up_to, world_at}
 
--- A WALK: where the history begins, its records, where the walker stands, the last position that it can come to, and
+-- A WALK: where the history begins, its records, where the walker is, the last position that it can come to, and
 -- its marks: the positions, in order, from which it can go on without a walk from the first
 pub record Walk : Type 0 where
   pub boot : World
@@ -35,7 +35,7 @@ last_or p (q ∷ qs) = last_or q qs
 abbrev pub mark_above : List Position → Position → Position
 mark_above marks to = last_or first (filter (λ m. is_up_to m to) marks)
 
--- WHERE A WALK BEGINS: where the walker stands, if it goes on from there; else where a walk back begins
+-- WHERE A WALK BEGINS: where the walker is, if it goes on from there; else where a walk back begins
 abbrev pub start_to : Walk → Position → Position
 start_to k to = if is_up_to k.here to then k.here else mark_above k.marks to
 

@@ -18,15 +18,15 @@ use std::alloc::Global;
 pub const MOST_CHECKPOINTS: usize = 63;
 /// The most bytes that they take in all: 256 MiB.
 pub const MOST_BYTES: usize = 0x1000_0000;
-/// How long a record takes beside its steps, in steps: 0.25 microseconds, where a step takes 3.3 nanoseconds.
+/// How long a record takes in addition to its steps, in steps: 0.25 microseconds, where a step takes 3.3 nanoseconds.
 const RECORD_COST: u64 = 76;
 /// A walk that takes fewer steps, about a second, gets no checkpoint.
 const LEAST_COST: u64 = 300_000_000;
-/// What a page of a segment takes: its bytes, its place in the list of pages, and what an allocation takes beside.
+/// What a page of a segment takes: its bytes, its place in the list of pages, and what an allocation adds.
 const PAGE_BYTES: usize = 4_096 + 32;
-/// What a slot takes beside its pages, whether its process is on a processor or not.
+/// What a slot takes in addition to its pages, whether its process is on a processor or not.
 const SLOT_BYTES: usize = 4_096;
-/// What the table takes beside its slots: the console, the last deliveries and the devices.
+/// What the table takes in addition to its slots: the console, the last deliveries and the devices.
 const TABLE_BYTES: usize = 65_536;
 
 /// A checkpoint, and the position at which it was taken.
@@ -56,7 +56,7 @@ fn checkpoint_bytes(machine: &Machine) -> usize
 {
     let table = machine.kernel().table();
     let mut bytes = TABLE_BYTES;
-    for slot in 0..table.used() {
+    for slot in 0..table.slot_count() {
         let image = image_bytes(&table.process(slot).image);
         bytes = bytes.saturating_add(SLOT_BYTES).saturating_add(image);
     }

@@ -23,10 +23,7 @@ mod watching;
 pub use checkpoints::{MOST_BYTES, MOST_CHECKPOINTS};
 pub use either::Either;
 pub use going::go_on;
-pub use laws::{
-    events_are_made, one_last, positions_alternate, positions_replay, searches_meet,
-    searches_name_one,
-};
+pub use laws::{events_are_made, positions_alternate, positions_replay};
 pub use positions::{
     FIRST, NextEvent, Position, is_position, is_up_to, next_event, own_event, position_before,
     steps_in,

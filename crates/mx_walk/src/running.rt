@@ -13,8 +13,7 @@ ghost use Rattle.mx_walk.specs.Seeking.{NoneMarked, is_marked};
 
 use crate::quiet::{NO_PLACE, PLACES, QuietPlace, quiet_ahead};
 use crate::seeking::Mark;
-use mx_exec::step_lasts;
-use mx_machine::{Held, Machine, Out, Tool, held_runs_join};
+use mx_machine::{Held, Machine, Out, Tool};
 
 /// How many steps have to be left for it to be worth while to decode instructions ahead.
 const WORTH_DECODING: u32 = 256;
@@ -42,7 +41,6 @@ fn unmarked_ahead<M: Mark>(
     ensures quiet { AreQuiet out.now.image.code places.new }
     ensures some { length places.new ≡ 64 }
 {
-    step_lasts();
     if left < WORTH_DECODING {
         return 0;
     }
@@ -63,8 +61,6 @@ fn run_watched<M: Mark>(mark: &mut M, slot: u8, out: &mut Out, steps: u32) -> Se
     ensures same { M.marks mark.new ≡ M.marks mark.old }
     ensures steps { M.marks_step mark.new ≡ M.marks_step mark.old }
 {
-    held_runs_join();
-    step_lasts();
     let mut places = [NO_PLACE; PLACES];
     mark.look_at(slot, out);
     let mut made = 0;

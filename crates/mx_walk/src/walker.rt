@@ -102,8 +102,8 @@ fn machine_again(
     }
 }
 
-/// A machine that stands nowhere below a position, and where it stands: the machine as it is, or that of a
-/// checkpoint, or booted again.
+/// A machine at a position or above it, and where it is: the machine as it is, or that of a checkpoint, or
+/// booted again.
 fn machine_above(
     alloc: Global,
     machine: Machine,
@@ -130,7 +130,7 @@ fn machine_above(
 }
 
 impl Walker {
-    /// Walks a history once to its last position, shows each record that it passes, and stands at its first.
+    /// Walks a history once to its last position, shows each record that it passes, and is then at its first.
     /// Takes memory to boot the machine again, and for checkpoints if the walk is long. If there is none for a
     /// checkpoint, the walker has fewer.
     pub fn new<P: Progress>(
@@ -176,7 +176,7 @@ impl Walker {
         &self.machine
     }
 
-    /// Where the walker stands.
+    /// Where the walker is.
     pub fn here(&self) -> Position
         ensures here { result ≡ self.now.here }
         ensures position { IsPosition self.now.records result }

@@ -46,14 +46,14 @@ impl Table {
     pub fn spend(&mut self, slot: Slot, steps: u32)
         requires slot { slot < length self.old.slots }
         requires home { (process_at self.old slot).state ≡ Home }
-        requires ticks { steps ≤ (process_at self.old slot).ticks }
+        requires ticks { steps ≤ (process_at self.old slot).schedule.ticks }
         requires room { (process_at self.old slot).steps + steps < 2 ^ 64 }
         ensures value { self.new ≡ table_after_steps self.old slot steps }
         ensures frame { frame self.new
             ≡ frame_with_process (frame self.old) slot (process_at self.new slot) }
     {
         let process = &mut self.slots[slot as usize];
-        process.ticks -= steps;
+        process.schedule.spend(steps);
         process.steps += u64::from(steps);
     }
 

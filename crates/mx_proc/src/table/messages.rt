@@ -115,7 +115,7 @@ impl Table {
     {
         let process = &mut self.slots[slot as usize];
         process.pending[source.place() as usize] = false;
-        let told = source.lines_told(process.lines);
+        let told = source.lines_reported(process.lines);
         process.lines -= told;
         told
     }

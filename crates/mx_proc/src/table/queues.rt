@@ -38,15 +38,14 @@ impl Table {
     {
         let process = &mut self.slots[slot as usize];
         process.state = State::Ready;
-        let level = process.level;
+        let level = process.schedule.level;
         self.ready.push_front(level, slot);
     }
 
-    /// Makes a process ready with a new quantum, at the end of the list of a level.
+    /// Makes a process ready with a new quantum, at the end of the list nearest to this one of those that its
+    /// terms allow.
     pub fn to_end(&mut self, slot: Slot, level: u8)
         requires slot { slot < length self.old.slots }
-        requires level { level ≤ 14 }
-        requires best { (process_at self.old slot).terms.best ≤ level }
         requires alone { IsAlone (process_at self.old slot).state }
         requires home { is_out (process_at self.old slot).state ≡ false }
         ensures value { self.new ≡ end_of self.old slot level }
@@ -54,9 +53,9 @@ impl Table {
     {
         let process = &mut self.slots[slot as usize];
         process.state = State::Ready;
-        process.level = level;
-        process.ticks = process.terms.quantum;
-        self.ready.push_back(level, slot);
+        process.schedule.renew(level);
+        let nearest = process.schedule.level;
+        self.ready.push_back(nearest, slot);
         self.renewed = Some(slot);
     }
 
@@ -69,7 +68,7 @@ impl Table {
     {
         let process = &mut self.slots[slot as usize];
         process.state = State::Home;
-        let level = process.level;
+        let level = process.schedule.level;
         self.ready.remove(level, slot);
     }
 

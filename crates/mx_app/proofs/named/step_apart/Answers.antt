@@ -8,5 +8,5 @@ returns-then-saves_over g c = ([], [], sym (append-nil _), sym (append-nil _), i
 
 pub returns : goal.returns
 returns g c =
-    saves _ _ _ _ c.args.saved.config.now c.args.saved.script.now c.args.saved.log.now c.args.saved.numbered _ _ c.step_saved.result
+    saves _ _ _ _ c.args.named.config.now c.args.named.script.now c.args.log.now c.args.named.numbered _ _ c.step_saved.result
     (sym c.saves_over.ensures ∙ c.if-saves_over.false) c.step_saved.ensures.saved c.step_saved.ensures.fault

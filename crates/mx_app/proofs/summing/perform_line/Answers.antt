@@ -1,16 +1,8 @@
-use Rattle.std.proofs.Common.{◌∙◌, ap, refl, sym}
+use Rattle.std.proofs.Common.{ap}
 use Rattle.std.specs.Prelude.{option_map}
-use Rattle.mx_app.proofs.Summed.{with_compared, with_summed, with_taken}
+use Rattle.mx_app.proofs.Summed.{with_sums}
 use Rattle.mx_app.proofs.summing.perform_line.Goals as goal
 
-pub returns-then-names_file-clause-done : goal.returns-then-names_file-clause-done
-returns-then-names_file-clause-done g c =
-    with_taken c.args.io.now.asks c.args.line.request _ _ _ _ _ _ c.in-Some.name.now (sym c.names_file.ensures ∙ c.if-names_file.true) refl _ (ap (option_map (λ s. s.now)) c.in-Some.is)
-
-pub returns-then-writes_sums-clause-done : goal.returns-then-writes_sums-clause-done
-returns-then-writes_sums-clause-done g c =
-    with_summed c.args.io.now.asks c.args.line.request _ _ _ _ _ _ _ _ _ _ c.in-Some.name.now (sym c.names_file.ensures ∙ c.if-names_file.false) (sym c.writes_sums.ensures ∙ c.if-writes_sums.true) c.perform_summed.ensures.done _ (ap (option_map (λ s. s.now)) c.in-Some.is)
-
-pub returns-else-writes_sums-clause-done : goal.returns-else-writes_sums-clause-done
-returns-else-writes_sums-clause-done g c =
-    with_compared c.args.io.now.asks c.args.line.request _ _ _ _ _ _ _ _ _ _ c.in-Some.name.now (sym c.names_file.ensures ∙ c.if-names_file.false) (sym c.writes_sums.ensures ∙ c.if-writes_sums.false) c.perform_compared.ensures.done _ (ap (option_map (λ s. s.now)) c.in-Some.is)
+pub returns-in-Some-clause-done : goal.returns-in-Some-clause-done
+returns-in-Some-clause-done g c =
+    with_sums c.args.io.now.asks c.args.line.request _ _ _ _ _ _ _ _ _ _ c.in-Some.name.now c.perform_with_sums.ensures.done _ (ap (option_map (λ s. s.now)) c.in-Some.is)

@@ -1,6 +1,6 @@
 use Rattle.std.proofs.Common.{◌∙◌, sym}
 use Rattle.mx_app.specs.Noting.{noted_in}
-use Rattle.mx_app.proofs.Told.{complaint_explained}
+use Rattle.mx_app.proofs.Complaints.{complaint_explained}
 use Rattle.mx_app.proofs.words.complaint_of.Goals as goal
 
 pub returns-in-Ok : goal.returns-in-Ok

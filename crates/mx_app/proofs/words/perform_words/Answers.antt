@@ -3,7 +3,7 @@ use Rattle.std.proofs.lemmas.List.{append-nil}
 use Rattle.mx_app.specs.Noting.{Noted}
 use Rattle.mx_app.specs.Words.{IsAnswered}
 use Rattle.mx_app.proofs.Doing.{nothing_done}
-use Rattle.mx_app.proofs.Told.{noted_same}
+use Rattle.mx_app.proofs.Complaints.{noted_same}
 use Rattle.mx_app.proofs.words.perform_words.Goals as goal
 
 pub returns-in-Err-clause-done : goal.returns-in-Err-clause-done

@@ -2,6 +2,7 @@ use Rattle.std.proofs.Common.{rules, ◌≡◌, ◌∙◌, ◌<◌, ◌++◌, Al
 use Rattle.std.proofs.KnownBytes.{Appends-trans}
 use Rattle.std.proofs.lemmas.List.{append-nil}
 use Rattle.std.proofs.lemmas.Result.{IfErr-weaker, IfOk-weaker, err_from_is_err_and}
+use Rattle.mx_app_step.proofs.ReplayLemmas.{saved_by_actors}
 use Rattle.mx_app_step.specs.Failure.{IsWanting}
 use Rattle.mx_machine.specs.Boot.{world_at_boot}
 use Rattle.mx_machine.specs.History.{BootAndHistory}
@@ -25,7 +26,7 @@ new-requires-clause-actors g c =
     let s = c.in_ok-machine.ensures.started in
     let records = c.in_ok-machine.field-0.lines.items in
     subst (λ (w : World). All (λ (x : Record). x.actor < actors w) records) (sym s.5)
-    (c.records_are_of_actors.ensures c.args.names.config.now c.args.names.log.now s.0 s.1 s.2 records s.4)
+    (saved_by_actors c.args.wanted.config.now c.args.wanted.log.now s.0 s.1 s.2 records records (world_at_boot s.1 s.2) refl refl s.4)
 
 pub returns-in_err-walker-clause-fault : goal.returns-in_err-walker-clause-fault
 returns-in_err-walker-clause-fault g c =
@@ -75,8 +76,8 @@ returns-clause-printed g c =
       both_shown _ _ _ _ _ (c.clear.ensures ∙ c.in_ok-walker.ensures.shown) b.6,
       s.4,
       begun,
-      held_by_walk c.args.asks c.begin.new.walker k c.new-2.result b.0 b.1 b.2 c.in_ok-begin.ensures.same c.new-2.ensures.breakpoints c.new-2.ensures.watches b.5,
-      Appends-trans (g.W.Write.contents c.args.out.now) (g.W.Write.contents c.begin.new.out) (g.W.Write.contents c.converse.new.out) (begun_text c.args.asks k) b.1 c.in_ok-begin.ensures.printed b.7,
+      held_by_walk c.args.wanted.asks c.begin.new.walker k c.new-2.result b.0 b.1 b.2 c.in_ok-begin.ensures.same c.new-2.ensures.breakpoints c.new-2.ensures.watches b.5,
+      Appends-trans (g.W.Write.contents c.args.channels.now.out) (g.W.Write.contents c.begin.new.out) (g.W.Write.contents c.converse.new.out) (begun_text c.args.wanted.asks k) b.1 c.in_ok-begin.ensures.printed b.7,
     )) c.converse.ensures.printed
 
 pub returns-clause-fault : goal.returns-clause-fault

@@ -4,7 +4,7 @@ use Rattle.std.proofs.lemmas.Result.{on_ok_weaker}
 use Rattle.std.specs.Io.KnownBytes.{Appends}
 use Rattle.mx_app_start.specs.Report.{report_text}
 use Rattle.mx_machine.specs.World.{World}
-use Rattle.mx_app_step.specs.Driving.{Driven, driven, lines_done, lines_told}
+use Rattle.mx_app_step.specs.Driving.{Driven, driven, lines_done, lines_text}
 use Rattle.mx_app_step.proofs.driving.print_lines.Goals as goal
 
 pub returns-clause-printed : goal.returns-clause-printed
@@ -18,6 +18,6 @@ returns-clause-printed g c =
     let z = g.W.Write.contents c.print_report.new.out in
     let world = ap (λ (s : Driven _). s.world) (sym c.in_ok-print_said.ensures.done) in
     on_ok_weaker c.print_report.result
-    (λ b. Appends-trans x y z (lines_told (g.P.Performs.does other) (g.P.Performs.tells other) c.args.lines.now.numbered 1 d lines) (report_text e.world.table e.world.services)
+    (λ b. Appends-trans x y z (lines_text (g.P.Performs.does other) (g.P.Performs.prints other) c.args.lines.now.numbered 1 d lines) (report_text e.world.table e.world.services)
     c.in_ok-print_said.ensures.printed (subst (λ (w : World). Appends y z (report_text w.table w.services)) world b))
     c.print_report.ensures.bytes

@@ -28,8 +28,8 @@ returns-clause-printed g c =
       c.in_ok-started.started.lines.items,
       s.3,
       s.4,
-      script_printed c.args.numbered x z s.1 s.2 (world_of m) other c.in_ok-started.started.lines.items lines s.5 s.6 c.as_slice.ensures.value
-          (script_reported c.args.numbered x z (driven m _) other lines b),
+      script_printed c.args.named.numbered x z s.1 s.2 (world_of m) other c.in_ok-started.started.lines.items lines s.5 s.6 c.as_slice.ensures.value
+          (script_reported c.args.named.numbered x z (driven m _) other lines b),
     )) c.print_lines.ensures.printed
 
 pub returns-clause-fault : goal.returns-clause-fault

@@ -25,12 +25,12 @@ returns-clause-saved g c =
     let other = c.args.started.now.other in
     let lines = c.as_slice.result.now in
     let items : lines ≡ c.args.started.now.lines.items = c.as_slice.ensures.value in
-    let x = g.W.Write.contents c.args.out.now in
+    let x = g.W.Write.contents c.args.channels.now.out in
     let y = g.W.Write.contents c.print_said.new.out in
     let z = g.W.Write.contents c.print_report.new.out in
     let done = c.in_ok-print_said.ensures.done in
     on_ok_weaker c.print_report.result (λ b. (
-      c.in_ok-write_history.ensures.written ∙ ap (λ (k : BootAndHistory). g.F.FileWriter.written c.args.files.now ++ kept c.args.log.now (text_kept k) ∷ [])
+      c.in_ok-write_history.ensures.written ∙ ap (λ (k : BootAndHistory). g.F.FileWriter.written c.args.channels.now.files ++ kept c.args.log.now (text_kept k) ∷ [])
           (c.kernel.ensures ∙ script_kept m u _ _ other lines done ∙ ap (lines_kept m.kernel w other) items),
       subst (λ (ls : List ScriptLine). (let m = lines_made w other ls in Appends x z (answers_text c.args.numbered m.0 ++ report_text m.1.table m.1.services))) items
           (lines_printed c.args.numbered x y z w (world_of u) other lines (script_said c.args.numbered x y (driven m _) other lines c.in_ok-print_said.ensures.printed) (script_world m u _ _ other lines done) b),
@@ -60,6 +60,6 @@ returns-clause-unsaved g c =
     let other = c.args.started.now.other in
     let items = ap (lines_kept m.kernel (world_of m) other) c.as_slice.ensures.value in
     let kernel = c.kernel.ensures ∙ script_kept m c.print_said.new.machine _ _ other c.as_slice.result.now c.in_ok-print_said.ensures.done ∙ items in
-    let written = c.in_ok-write_history.ensures.written ∙ ap (λ (k : BootAndHistory). g.F.FileWriter.written c.args.files.now ++ kept c.args.log.now (text_kept k) ∷ []) kernel in
+    let written = c.in_ok-write_history.ensures.written ∙ ap (λ (k : BootAndHistory). g.F.FileWriter.written c.args.channels.now.files ++ kept c.args.log.now (text_kept k) ∷ []) kernel in
     let text = text_kept (lines_kept m.kernel (world_of m) other c.args.started.now.lines.items) in
     IfErr-weaker c.print_report.result IsWanting _ (λ f h. (kept c.args.log.now text ∷ [], written, inr (inr (refl, h)))) c.print_report.ensures.err

@@ -32,11 +32,11 @@ returns-clause-saved g c =
       s.1,
       s.2,
       c.in_ok-started.started.lines.items,
-      s.3,
+      ap g.R.Reader.asked c.perform_and_save.ensures.reader ∙ s.3,
       s.4,
       apart,
       b.0 ∙ ap (λ (t : List ℕ). g.F.FileWriter.written c.args.channels.now.files ++ kept c.args.log.now t ∷ []) text,
-      script_printed c.args.numbered (g.W.Write.contents c.args.channels.now.out) (g.W.Write.contents c.perform_and_save.new.out) s.1 s.2 (world_of c.in_ok-started.started.machine) c.in_ok-started.started.other c.in_ok-started.started.lines.items c.in_ok-started.started.lines.items s.5 s.6 refl b.1,
+      script_printed c.args.named.numbered (g.W.Write.contents c.args.channels.now.out) (g.W.Write.contents c.perform_and_save.new.channels.out) s.1 s.2 (world_of c.in_ok-started.started.machine) c.in_ok-started.started.other c.in_ok-started.started.lines.items c.in_ok-started.started.lines.items s.5 s.6 refl b.1,
     )) c.perform_and_save.ensures.saved
 
 pub returns-clause-fault : goal.returns-clause-fault
@@ -44,4 +44,4 @@ returns-clause-fault g c =
     let s = c.in_ok-started.ensures.started in
     let apart : names_program s.1 c.args.log.now ≡ false = ap (λ (k : Config). names_program k c.args.log.now) (sym s.7) ∙ sym c.names_program.ensures ∙ c.if-names_program.false in
     let text = script_history c.in_ok-started.started.machine.kernel s.1 s.2 (world_of c.in_ok-started.started.machine) c.in_ok-started.started.other c.in_ok-started.started.lines.items c.in_ok-started.started.lines.items c.in_ok-started.ensures.kernel s.5 s.6 refl in
-    IfErr-weaker c.perform_and_save.result _ _ (λ f h. (s.0, h.0, s.3, h.1, inr (s.1, s.2, c.in_ok-started.started.lines.items, s.4, inr (apart, subst (λ (t : List ℕ). IsUnsaved c.args.log.now t h.0 f) text h.2)))) c.perform_and_save.ensures.unsaved
+    IfErr-weaker c.perform_and_save.result _ _ (λ f h. (s.0, h.0, ap g.R.Reader.asked c.perform_and_save.ensures.reader ∙ s.3, h.1, inr (s.1, s.2, c.in_ok-started.started.lines.items, s.4, inr (apart, subst (λ (t : List ℕ). IsUnsaved c.args.log.now t h.0 f) text h.2)))) c.perform_and_save.ensures.unsaved

@@ -15,7 +15,7 @@ returns c = λ a d vs bound xs k ending records how before after made saved prin
     let own : IsSaved (saved_text a.rules k.history) a a k.history = (
       a.rules,
       c.history_again.ensures (a.cpus + a.others) a.rules k.history (omega (arith, a.cpus_fit, a.others_fit))
-          (subst (λ n. All (IsWritable n) k.history) (actors_turned a vs k c.actors_stay.ensures.events made.boot) made.written),
+          (subst (λ n. All (IsWritable n) k.history) (actors_turned a vs k made.boot) made.written),
       refl,
     ) in
     let same = c.one_history.ensures.one (a.cpus + a.others) (saved_text a.rules k.history) saved.0 own.0 records k.history saved.1 own.1 in

@@ -27,14 +27,14 @@ unreachable-requires c =
 pub make_turns-ending-requires : goal.make_turns-ending-requires
 make_turns-ending-requires c =
     alone_still c.args.machine.kernel.boot (world_of c.in_ok-machine.machine) (world_of c.perform_records.new.machine) (world_of c.perform_fault.new.machine) (events_of_history (take c.args.position c.args.sweep.records.now))
-    c.actors_stay.ensures.events c.in_ok-machine.ensures.world c.in_default.ensures.ok.1 c.perform_fault.ensures.actors c.perform_fault.ensures.cpus c.requires.swept.alone
+    c.in_ok-machine.ensures.world c.in_default.ensures.ok.1 c.perform_fault.ensures.actors c.perform_fault.ensures.cpus c.requires.swept.alone
 
 pub returns-clause-run : goal.returns-clause-run
 returns-clause-run c =
     let boot = c.args.machine.kernel.boot in
     let other = c.args.sweep.other in
     let records = c.args.sweep.records.now in
-    let fault = c.args.fault.now in
+    let fault = c.args.sweep.fault.now in
     let k = c.args.position in
     let above = world_above boot (world_of c.in_ok-machine.machine) (world_of c.perform_records.new.machine) records (take k records) k refl c.in_ok-machine.ensures.world c.in_default.ensures.ok.1 in
     let below : take (length records - k) (drop k records) ≡ drop k records = take_all (length records - k) (drop k records) (omega (arith, length-drop k records)) in
@@ -49,4 +49,4 @@ returns-clause-run c =
 pub returns-clause-boot : goal.returns-clause-boot
 returns-clause-boot c =
     ap (λ (k : BootAndHistory). k.boot) (returns-clause-run c).0.kernel
-    ∙ run_boot c.args.machine.kernel.boot c.args.sweep.other c.args.sweep.records.now c.args.sweep.bound c.args.fault.now c.args.position
+    ∙ run_boot c.args.machine.kernel.boot c.args.sweep.other c.args.sweep.records.now c.args.sweep.bound c.args.sweep.fault.now c.args.position

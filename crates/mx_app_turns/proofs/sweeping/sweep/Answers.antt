@@ -16,7 +16,7 @@ returns-then-writes_over g c =
 pub returns-in_err-begun : goal.returns-in_err-begun
 returns-in_err-begun g c =
     let names = c.args.names in
-    let save : Option (List ℕ) = option_map (λ s. s.now) names.save in
+    let save : Option (List ℕ) = option_map (λ s. s.now) c.args.wanted.save in
     let wanted = c.args.wanted in
     let apart : writes_over names.config.now names.log.now names.fault.now save ≡ false = sym c.writes_over.ensures ∙ c.if-writes_over.false in
     let h = c.in_err-begun.ensures.fault in (
@@ -33,7 +33,7 @@ returns-in_err-begun g c =
 pub returns-then-saves_program : goal.returns-then-saves_program
 returns-then-saves_program g c =
     let names = c.args.names in
-    let save : Option (List ℕ) = option_map (λ s. s.now) names.save in
+    let save : Option (List ℕ) = option_map (λ s. s.now) c.args.wanted.save in
     let wanted = c.args.wanted in
     let apart : writes_over names.config.now names.log.now names.fault.now save ≡ false = sym c.writes_over.ensures ∙ c.if-writes_over.false in
     let b = c.in_ok-begun.ensures.begun in
@@ -52,19 +52,19 @@ returns-then-saves_program g c =
 pub returns : goal.returns
 returns g c =
     let names = c.args.names in
-    let save : Option (List ℕ) = option_map (λ s. s.now) names.save in
+    let save : Option (List ℕ) = option_map (λ s. s.now) c.args.wanted.save in
     let wanted = c.args.wanted in
     let apart : writes_over names.config.now names.log.now names.fault.now save ≡ false = sym c.writes_over.ensures ∙ c.if-writes_over.false in
     let b = c.in_ok-begun.ensures.begun in
     let begun = c.in_ok-begun.begun in
     let unnamed : saves_program b.1 save ≡ false = ap (λ (k : Config). saves_program k save) (sym b.7) ∙ sym c.saves_program.ensures ∙ c.if-saves_program.false in
-    let d = c.sweep_begun.ensures in (
+    let d = c.sweep_begun.ensures.done in (
       b.0,
       d.0,
       d.1,
-      b.3,
+      ap g.R.Reader.asked c.sweep_begun.ensures.reader ∙ b.3,
       d.2,
       d.3,
-      done names.config.now names.log.now names.fault.now save wanted.from wanted.to wanted.bound b.0 (λ (text : List ℕ). Appends (g.W.Write.contents c.args.channels.now.out) (g.W.Write.contents c.sweep_begun.new.out) text) apart
+      done names.config.now names.log.now names.fault.now save wanted.from wanted.to wanted.bound b.0 (λ (text : List ℕ). Appends (g.W.Write.contents c.args.channels.now.out) (g.W.Write.contents c.sweep_begun.new.channels.out) text) apart
           b.1 b.2 begun.started.lines.items begun.fault.items b.4 unnamed d.0 d.1 (world_of begun.started.machine) begun.started.other c.sweep_begun.result b.5 b.6 d.4,
     )

@@ -8,7 +8,7 @@ use Rattle.mx_machine.proofs.current.down_are_worn.Goals as goal
 
 pub loop-slot-preserved : goal.loop-slot-preserved
 loop-slot-preserved c =
-    let below : c.loop-slot.slot < length c.args.table.now.slots = omega (arith, c.loop-slot-test.true, c.used-slot-end.ensures.value) in
+    let below : c.loop-slot.slot < length c.args.table.now.slots = omega (arith, c.loop-slot-test.true, c.slot_count-slot-end.ensures.value) in
     let served : c.loop-slot.slot < length c.args.services.now = omega (arith, below, c.requires) in
     elim c.else-is_down.branch [
       | else-is_down-via-then-is_down+else-not-is_worn w ↦

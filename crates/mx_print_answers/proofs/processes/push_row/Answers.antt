@@ -6,7 +6,7 @@ use Rattle.mx_print_answers.proofs.processes.push_row.Goals as goal
 
 pub loop-at-preserved : goal.loop-at-preserved
 loop-at-preserved c =
-    next_byte c.args.memory.now c.args.from c.loop-at.at (string_bytes c.push_eight_digits.new.out) (string_bytes c.loop-at.out) (string_bytes c.push_byte.new.out) c.loop-at.auto.at c.loop-at.invariant c.in_ok-push_byte.ensures
+    next_byte c.args.memory.now c.args.from c.loop-at.at (string_bytes c.push_eight_digits.new.out) (string_bytes c.loop-at.out) (string_bytes c.push_byte_at.new.out) c.loop-at.auto.at c.loop-at.invariant c.in_ok-push_byte_at.ensures
 
 pub returns : goal.returns
 returns c =

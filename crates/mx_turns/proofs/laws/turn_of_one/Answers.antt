@@ -2,4 +2,4 @@ use Rattle.mx_turns.proofs.RoundLemmas.{turn_of_one}
 use Rattle.mx_turns.proofs.laws.turn_of_one.Goals as goal
 
 pub returns : goal.returns
-returns c = turn_of_one c.held_runs_join.ensures
+returns c = turn_of_one

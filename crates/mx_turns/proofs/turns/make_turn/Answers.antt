@@ -32,7 +32,7 @@ returns c =
     let full = c.offer_others.result in
     let cpus : c.cpus-cpus.result ≡ length (world_of m).cpus = c.cpus-cpus.ensures ∙ ap (λ (k : BootAndHistory). length (replay k).cpus) c.kernel.ensures ∙ sym (cpus_now m) in
     let slots : c.from-slots.result ≡ length (world_of m).services =
-    c.from-slots.ensures ∙ c.used.ensures.value ∙ ap (λ (t : TableState). length t.slots) (c.table.ensures ∙ ap (λ (k : BootAndHistory). (replay k).table) c.kernel-2.ensures)
+    c.from-slots.ensures ∙ c.slot_count.ensures.value ∙ ap (λ (t : TableState). length t.slots) (c.table.ensures ∙ ap (λ (k : BootAndHistory). (replay k).table) c.kernel-2.ensures)
     ∙ sym (slots_now m) ∙ sym c.sound.ensures.holds.served in
     let taken = subst (λ (b : Bool). HasOffered m (offered (world_of m) (takes c.cpus-cpus.result)) b n) c.if-is_full.false c.offer_takes-is_full.ensures.offered in
     turn_done m n p q c.args.next full (subst (λ (k : ℕ). HasOffered m (offered (world_of m) (takes k)) false n) cpus taken)

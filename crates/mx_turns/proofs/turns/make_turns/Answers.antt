@@ -105,7 +105,7 @@ loop-made-preserved g c =
     let shown = turn_shown c.args.log c.args.machine.now coming made n inv.stands p false before now then c.part_of.result over turned inv.shown c.part_of.ensures c.show.ensures in
     record {
       stands = stands_next c.args.machine.now coming made n inv.stands p over turned;
-      other = other_stays n p (turn (world_of n) (slice_get coming made)).made turned.made c.actors_stay.ensures.events inv.other;
+      other = other_stays n p (turn (world_of n) (slice_get coming made)).made turned.made inv.other;
       shown = shown;
     }
 

@@ -17,7 +17,7 @@ at slot o = record { slot = slot; out = o }
 
 pub loop-made-init : goal.loop-made-init
 loop-made-init g c = record {
-  gone = begun c.held_runs_join.ensures (g.M.Mark.marks_step c.look_at.new.self) (at c.args.slot c.args.out.now);
+  gone = begun (g.M.Mark.marks_step c.look_at.new.self) (at c.args.slot c.args.out.now);
   few = omega arith;
   seen = c.look_at.ensures.seen;
   same = refl;
@@ -46,7 +46,7 @@ returns-then-few-quiet-clause-ran g c =
     let ahead : NoneMarkedOf (g.M.Mark.marks_step c.look_at.new.self) (at c.args.slot c.loop-made.out) c.unmarked_ahead.result =
     subst (λ (f : Marks). NoneMarkedOf f (at c.args.slot c.loop-made.out) c.unmarked_ahead.result) inv.steps c.unmarked_ahead.ensures.ahead.0 in
     subst (λ (f : Marks). (held_run (steps_to_mark f c.args.steps l) l.out).1 ≡ run.new.self) c.look_at.ensures.steps
-    (short_left c.held_runs_join.ensures (g.M.Mark.marks_step c.look_at.new.self) l c.loop-made.made c.loop-made.out inv.gone q run.result.0 run.result.1 run.new.self run.ensures.ran
+    (short_left (g.M.Mark.marks_step c.look_at.new.self) l c.loop-made.made c.loop-made.out inv.gone q run.result.0 run.result.1 run.new.self run.ensures.ran
     (λ j lt. ahead j (omega (arith, lt, e))) c.args.steps t (omega (arith, t, e, b)))
 
 pub returns-then-few-quiet-clause-searched : goal.returns-then-few-quiet-clause-searched
@@ -61,7 +61,7 @@ returns-then-few-quiet-clause-searched g c =
     let ahead : NoneMarkedOf (g.M.Mark.marks_step c.look_at.new.self) (at c.args.slot c.loop-made.out) c.unmarked_ahead.result =
     subst (λ (f : Marks). NoneMarkedOf f (at c.args.slot c.loop-made.out) c.unmarked_ahead.result) inv.steps c.unmarked_ahead.ensures.ahead.0 in
     subst (λ (f : Marks). HasRun f c.args.steps l (c.loop-made.made + run.result.0) false) c.look_at.ensures.steps
-    (short_run c.held_runs_join.ensures (g.M.Mark.marks_step c.look_at.new.self) l c.loop-made.made c.loop-made.out inv.gone q run.result.0 run.result.1 run.new.self run.ensures.ran
+    (short_run (g.M.Mark.marks_step c.look_at.new.self) l c.loop-made.made c.loop-made.out inv.gone q run.result.0 run.result.1 run.new.self run.ensures.ran
     (λ j lt. ahead j (omega (arith, lt, e))) c.args.steps t (omega (arith, t, e, b)))
 
 pub returns-then-look_again-clause-ran : goal.returns-then-look_again-clause-ran
@@ -82,10 +82,10 @@ returns-then-look_again-clause-ran g c =
     let before = at c.args.slot (out_after_steps q o) in
     let seen : g.M.Mark.HasSeenHeld c.loop-made.mark before = c.unmarked_ahead.ensures.ahead.1 q (omega (arith, e)) inv.seen in
     let met : f' before run.new.self ≡ true = sym (ap (λ (f : Marks). f before run.new.self) inv.steps) ∙ sym (c.look_again.ensures.met before seen refl) ∙ c.if-look_again.true in
-    let marked : f' (with_out l (mid c.held_runs_join.ensures f' l c.loop-made.made o inv.gone q n run.result.1 run.new.self run.ensures.ran none)) run.new.self ≡ true =
-    subst (λ (p : Out). f' (with_out l p) run.new.self ≡ true) (sym (mid_is c.held_runs_join.ensures f' l c.loop-made.made o inv.gone q n run.result.1 run.new.self run.ensures.ran none all)) met in
+    let marked : f' (with_out l (mid f' l c.loop-made.made o inv.gone q n run.result.1 run.new.self run.ensures.ran none)) run.new.self ≡ true =
+    subst (λ (p : Out). f' (with_out l p) run.new.self ≡ true) (sym (mid_is f' l c.loop-made.made o inv.gone q n run.result.1 run.new.self run.ensures.ran none all)) met in
     subst (λ (f : Marks). (held_run (steps_to_mark f c.args.steps l) l.out).1 ≡ run.new.self) c.look_at.ensures.steps
-    (met_left c.held_runs_join.ensures f' l c.loop-made.made o inv.gone q n run.result.1 run.new.self run.ensures.ran none all c.args.steps (omega (arith, most, e, b)) marked)
+    (met_left f' l c.loop-made.made o inv.gone q n run.result.1 run.new.self run.ensures.ran none all c.args.steps (omega (arith, most, e, b)) marked)
 
 pub returns-then-look_again-clause-searched : goal.returns-then-look_again-clause-searched
 returns-then-look_again-clause-searched g c =
@@ -105,10 +105,10 @@ returns-then-look_again-clause-searched g c =
     let before = at c.args.slot (out_after_steps q o) in
     let seen : g.M.Mark.HasSeenHeld c.loop-made.mark before = c.unmarked_ahead.ensures.ahead.1 q (omega (arith, e)) inv.seen in
     let met : f' before run.new.self ≡ true = sym (ap (λ (f : Marks). f before run.new.self) inv.steps) ∙ sym (c.look_again.ensures.met before seen refl) ∙ c.if-look_again.true in
-    let marked : f' (with_out l (mid c.held_runs_join.ensures f' l c.loop-made.made o inv.gone q n run.result.1 run.new.self run.ensures.ran none)) run.new.self ≡ true =
-    subst (λ (p : Out). f' (with_out l p) run.new.self ≡ true) (sym (mid_is c.held_runs_join.ensures f' l c.loop-made.made o inv.gone q n run.result.1 run.new.self run.ensures.ran none all)) met in
+    let marked : f' (with_out l (mid f' l c.loop-made.made o inv.gone q n run.result.1 run.new.self run.ensures.ran none)) run.new.self ≡ true =
+    subst (λ (p : Out). f' (with_out l p) run.new.self ≡ true) (sym (mid_is f' l c.loop-made.made o inv.gone q n run.result.1 run.new.self run.ensures.ran none all)) met in
     subst (λ (f : Marks). HasRun f c.args.steps l (c.loop-made.made + n) true) c.look_at.ensures.steps
-    (met_run c.held_runs_join.ensures f' l c.loop-made.made o inv.gone q n run.result.1 run.new.self run.ensures.ran none all c.args.steps (omega (arith, most, e, b)) marked)
+    (met_run f' l c.loop-made.made o inv.gone q n run.result.1 run.new.self run.ensures.ran none all c.args.steps (omega (arith, most, e, b)) marked)
 
 pub loop-made-preserved : goal.loop-made-preserved
 loop-made-preserved g c =
@@ -128,12 +128,12 @@ loop-made-preserved g c =
     let before = at c.args.slot (out_after_steps q o) in
     let seen : g.M.Mark.HasSeenHeld c.loop-made.mark before = c.unmarked_ahead.ensures.ahead.1 q (omega (arith, e)) inv.seen in
     let unmet : f' before run.new.self ≡ false = sym (ap (λ (f : Marks). f before run.new.self) inv.steps) ∙ sym (c.look_again.ensures.met before seen refl) ∙ c.if-look_again.false in
-    let unmarked : f' (with_out l (mid c.held_runs_join.ensures f' l c.loop-made.made o inv.gone q n run.result.1 run.new.self run.ensures.ran none)) run.new.self ≡ false =
-    subst (λ (p : Out). f' (with_out l p) run.new.self ≡ false) (sym (mid_is c.held_runs_join.ensures f' l c.loop-made.made o inv.gone q n run.result.1 run.new.self run.ensures.ran none all)) unmet in
+    let unmarked : f' (with_out l (mid f' l c.loop-made.made o inv.gone q n run.result.1 run.new.self run.ensures.ran none)) run.new.self ≡ false =
+    subst (λ (p : Out). f' (with_out l p) run.new.self ≡ false) (sym (mid_is f' l c.loop-made.made o inv.gone q n run.result.1 run.new.self run.ensures.ran none all)) unmet in
     let code : o.image.code ≡ run.new.self.image.code =
-    sym (ap (λ (p : Out). p.image.code) (last_is c.held_runs_join.ensures f' l c.loop-made.made o inv.gone q n run.result.1 run.new.self run.ensures.ran none all) ∙ code_kept c.step_lasts.ensures (suc q) o) in
+    sym (ap (λ (p : Out). p.image.code) (last_is f' l c.loop-made.made o inv.gone q n run.result.1 run.new.self run.ensures.ran none all) ∙ code_kept (suc q) o) in
     record {
-      gone = gone_far c.held_runs_join.ensures f' l c.loop-made.made o inv.gone q n run.result.1 run.new.self run.ensures.ran none all unmarked;
+      gone = gone_far f' l c.loop-made.made o inv.gone q n run.result.1 run.new.self run.ensures.ran none all unmarked;
       few = omega (arith, most, e, b);
       seen = c.look_again.ensures.seen c.if-look_again.false;
       same = c.look_again.ensures.same ∙ inv.same;
@@ -147,7 +147,7 @@ returns-clause-ran g c =
     let l = at c.args.slot c.args.out.now in
     let all : c.loop-made.made ≡ c.args.steps = let a = c.loop-made-test.false in let b = c.loop-made.invariant.few in omega (arith, a, b) in
     subst (λ (f : Marks). (held_run (steps_to_mark f c.args.steps l) l.out).1 ≡ c.loop-made.out) c.look_at.ensures.steps
-    (spent_left c.held_runs_join.ensures (g.M.Mark.marks_step c.look_at.new.self) l c.args.steps c.loop-made.made c.loop-made.out all c.loop-made.invariant.gone)
+    (spent_left (g.M.Mark.marks_step c.look_at.new.self) l c.args.steps c.loop-made.made c.loop-made.out all c.loop-made.invariant.gone)
 
 pub returns-clause-searched : goal.returns-clause-searched
 returns-clause-searched g c =
@@ -155,4 +155,4 @@ returns-clause-searched g c =
     let all : c.loop-made.made ≡ c.args.steps = let a = c.loop-made-test.false in let b = c.loop-made.invariant.few in omega (arith, a, b) in
     subst (λ (f : Marks). HasRun f c.args.steps l c.loop-made.made false) c.look_at.ensures.steps
     (subst (λ m. HasRun (g.M.Mark.marks_step c.look_at.new.self) c.args.steps l m false) (sym all)
-    (spent_run c.held_runs_join.ensures (g.M.Mark.marks_step c.look_at.new.self) l c.args.steps c.loop-made.made c.loop-made.out all c.loop-made.invariant.gone))
+    (spent_run (g.M.Mark.marks_step c.look_at.new.self) l c.args.steps c.loop-made.made c.loop-made.out all c.loop-made.invariant.gone))

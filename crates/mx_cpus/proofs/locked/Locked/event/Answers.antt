@@ -14,7 +14,7 @@ event-requires-clause-actor g c =
     let table = ap (λ (x : SeatView). x.table) c.note-seat.ensures.seat ∙ c.requires.table in
     let below : a < g.M.Naming.table.words = subst (λ z. a < z.words) table c.facts.ensures.actor in
     subst (λ i. i < actors (replay k)) (sym c.actor.ensures)
-    (actor_there k a g.M.Naming.table.words c.actors_stay.ensures.events (c.self.invariant.1 ∙ ap actors (sym c.self.invariant.0)) below)
+    (actor_there k a g.M.Naming.table.words (c.self.invariant.1 ∙ ap actors (sym c.self.invariant.0)) below)
 
 pub returns-in-Ok-clause-ok : goal.returns-in-Ok-clause-ok
 returns-in-Ok-clause-ok g c =

@@ -15,13 +15,13 @@ returns-then-made-eq0-clause-halts g c =
 
 pub returns-then-not-is_spent-clause-halts : goal.returns-then-not-is_spent-clause-halts
 returns-then-not-is_spent-clause-halts g c =
-    let more = one_more c.held_runs_join.ensures c.args.self.now c.args.slot c.loop-count.count (g.H.Held.out c.args.held.now) (g.H.Held.out c.loop-count.held) (g.H.Held.out c.run-made.new.self) c.run-made.result.1 c.run-made.result.0 c.loop-count.invariant.stepped c.run-made.ensures.ran c.if-made-eq0.false in
+    let more = one_more c.args.self.now c.args.slot c.loop-count.count (g.H.Held.out c.args.held.now) (g.H.Held.out c.loop-count.held) (g.H.Held.out c.run-made.new.self) c.run-made.result.1 c.run-made.result.0 c.loop-count.invariant.stepped c.run-made.ensures.ran c.if-made-eq0.false in
     step_halts c.args.self.now c.args.slot c.args.k c.loop-count.count (g.H.Held.out c.args.held.now) (g.H.Held.out c.loop-count.held) (g.H.Held.out c.run-made.new.self) c.run-made.result.1 c.run-made.result.0 (is_breakpoint c.next_place-place.result) c.cause_of-cause.result
     more (omega arith) c.run-made.ensures.ran (c.next_place-place.ensures ∙ ap (λ (m : Image). has_breakpoint c.args.self.now c.args.slot m.eip) c.image.ensures) c.cause_of-cause.ensures (sym c.is_spent.ensures ∙ c.if-not-is_spent.true)
 
 pub loop-count-preserved : goal.loop-count-preserved
 loop-count-preserved g c =
-    let more = one_more c.held_runs_join.ensures c.args.self.now c.args.slot c.loop-count.count (g.H.Held.out c.args.held.now) (g.H.Held.out c.loop-count.held) (g.H.Held.out c.run-made.new.self) c.run-made.result.1 c.run-made.result.0 c.loop-count.invariant.stepped c.run-made.ensures.ran c.if-made-eq0.false in
+    let more = one_more c.args.self.now c.args.slot c.loop-count.count (g.H.Held.out c.args.held.now) (g.H.Held.out c.loop-count.held) (g.H.Held.out c.run-made.new.self) c.run-made.result.1 c.run-made.result.0 c.loop-count.invariant.stepped c.run-made.ensures.ran c.if-made-eq0.false in
     record {
       stepped = step_goes c.args.self.now c.args.slot c.loop-count.count (g.H.Held.out c.args.held.now) (g.H.Held.out c.loop-count.held) (g.H.Held.out c.run-made.new.self) c.run-made.result.1 c.run-made.result.0 (is_breakpoint c.next_place-place.result) c.cause_of-cause.result
           more c.run-made.ensures.ran (c.next_place-place.ensures ∙ ap (λ (m : Image). has_breakpoint c.args.self.now c.args.slot m.eip) c.image.ensures) c.cause_of-cause.ensures (sym c.is_spent.ensures ∙ c.if-not-is_spent.false);

@@ -14,14 +14,14 @@ invariant_of-self c =
     let os = c.self.inside.outs in
     let below : c.args.cpu < length os = omega (arith, c.self.invariant.places) in
     let at = any_default os c.args.cpu None c.index-self-cpu.result below in
-    (step-done c.self.inside.kernel os c.args.cpu (get_or os c.args.cpu c.index-self-cpu.result) c.step_held.new.held c.step_held.result c.held_runs_join.ensures below c.self.invariant at c.step_held.ensures).running
+    (step-done c.self.inside.kernel os c.args.cpu (get_or os c.args.cpu c.index-self-cpu.result) c.step_held.new.held c.step_held.result below c.self.invariant at c.step_held.ensures).running
 
 pub returns-clause-moved : goal.returns-clause-moved
 returns-clause-moved c =
     let os = c.self.inside.outs in
     let below : c.args.cpu < length os = omega (arith, c.self.invariant.places) in
     let at = any_default os c.args.cpu None c.index-self-cpu.result below in
-    let d = step-done c.self.inside.kernel os c.args.cpu (get_or os c.args.cpu c.index-self-cpu.result) c.step_held.new.held c.step_held.result c.held_runs_join.ensures below c.self.invariant at c.step_held.ensures in
+    let d = step-done c.self.inside.kernel os c.args.cpu (get_or os c.args.cpu c.index-self-cpu.result) c.step_held.new.held c.step_held.result below c.self.invariant at c.step_held.ensures in
     subst (λ (m : MachineState). move (world_of m) c.args.cpu Step ≡ (c.step_held.result, world_of (on c.self.inside.kernel (slice_set os c.args.cpu c.step_held.new.held)))) c.self.view_is d.world
 
 pub returns-clause-recorded : goal.returns-clause-recorded

@@ -13,7 +13,7 @@ invariant_of-self g c =
     let os = c.self.inside.outs in
     let below : c.args.cpu < length os = omega (arith, c.self.invariant.places) in
     (worked c.self.inside.kernel os c.args.cpu (get_or os c.args.cpu c.index-self-cpu.result) c.work_held.new.held c.work_held.result (λ o. g.T.Tool.steps c.args.tool.now o) (λ o. g.T.Tool.Becomes c.args.tool.now o c.work_held.new.tool) (c.work_held.new.tool ≡ c.args.tool.now)
-    c.held_runs_join.ensures c.runs_are_steps.ensures below c.self.invariant (any_default os c.args.cpu None c.index-self-cpu.result below) c.work_held.ensures.none c.work_held.ensures.some).running
+    below c.self.invariant (any_default os c.args.cpu None c.index-self-cpu.result below) c.work_held.ensures.none c.work_held.ensures.some).running
 
 pub returns-clause-ok : goal.returns-clause-ok
 returns-clause-ok g c =
@@ -21,7 +21,7 @@ returns-clause-ok g c =
     let below : c.args.cpu < length os = omega (arith, c.self.invariant.places) in
     subst (λ (m : MachineState). OnOk c.work_held.result ((l : HeldProcess) × HasWorked (world_of m) (world_of (on c.self.inside.kernel (slice_set os c.args.cpu c.work_held.new.held))) c.args.cpu (g.T.Tool.steps c.args.tool.now l.out) l × g.T.Tool.Becomes c.args.tool.now l.out c.work_held.new.tool)) c.self.view_is
     (worked c.self.inside.kernel os c.args.cpu (get_or os c.args.cpu c.index-self-cpu.result) c.work_held.new.held c.work_held.result (λ o. g.T.Tool.steps c.args.tool.now o) (λ o. g.T.Tool.Becomes c.args.tool.now o c.work_held.new.tool) (c.work_held.new.tool ≡ c.args.tool.now)
-    c.held_runs_join.ensures c.runs_are_steps.ensures below c.self.invariant (any_default os c.args.cpu None c.index-self-cpu.result below) c.work_held.ensures.none c.work_held.ensures.some).ok
+    below c.self.invariant (any_default os c.args.cpu None c.index-self-cpu.result below) c.work_held.ensures.none c.work_held.ensures.some).ok
 
 pub returns-clause-err : goal.returns-clause-err
 returns-clause-err g c =
@@ -29,7 +29,7 @@ returns-clause-err g c =
     let below : c.args.cpu < length os = omega (arith, c.self.invariant.places) in
     subst (λ (m : MachineState). IfErr c.work_held.result (λ e. (e ≡ CpuEmpty) × (held_by (world_of m) c.args.cpu ≡ None) × (on c.self.inside.kernel (slice_set os c.args.cpu c.work_held.new.held) ≡ m) × (c.work_held.new.tool ≡ c.args.tool.now))) c.self.view_is
     (worked c.self.inside.kernel os c.args.cpu (get_or os c.args.cpu c.index-self-cpu.result) c.work_held.new.held c.work_held.result (λ o. g.T.Tool.steps c.args.tool.now o) (λ o. g.T.Tool.Becomes c.args.tool.now o c.work_held.new.tool) (c.work_held.new.tool ≡ c.args.tool.now)
-    c.held_runs_join.ensures c.runs_are_steps.ensures below c.self.invariant (any_default os c.args.cpu None c.index-self-cpu.result below) c.work_held.ensures.none c.work_held.ensures.some).err
+    below c.self.invariant (any_default os c.args.cpu None c.index-self-cpu.result below) c.work_held.ensures.none c.work_held.ensures.some).err
 
 pub returns-clause-actors : goal.returns-clause-actors
 returns-clause-actors g c =

@@ -5,10 +5,7 @@ use Rattle.mx_proc.proofs.table.Table.bury.Goals as goal
 
 pub invariant_of-self : goal.invariant_of-self
 invariant_of-self c = alone_changed _ _ c.args.slot c.index_mut-process.result.now _ c.self.view_is c.self.invariant c.requires.slot c.index_mut-process.ensures.value c.requires.alone (refl, refl) (λ k. record {
-  level = k.level;
-  best = k.best;
   generation = k.generation;
-  ticks = k.ticks;
   pending = refl;
   windows = refl;
   alarm = _;

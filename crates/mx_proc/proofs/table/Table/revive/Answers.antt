@@ -21,7 +21,7 @@ pub invariant_of-self : goal.invariant_of-self
 invariant_of-self c =
     placed _ _ c.args.slot c.args.terms.level _ c.after-process.result c.self.invariant (subst (λ (x : TableState). c.args.slot < length x.slots) (sym c.self.view_is) c.requires.slot)
     (subst (λ (x : TableState). IsAlone (process_at x c.args.slot).state) (sym c.self.view_is) (down_alone _ c.requires.down)) c.args.terms.lowest
-    (ap (λ (p : Process). p.level) c.after-process.ensures) (ap (λ (p : Process). p.state) c.after-process.ensures)
+    (ap (λ (p : Process). p.schedule.level) c.after-process.ensures) (ap (λ (p : Process). p.state) c.after-process.ensures)
     (subst (IsProcess c.self.inside.uptime) (sym (the_next c)) (begun c.self.inside.uptime _ _ c.args.image c.args.terms c.requires.generation))
     refl c.push_back.ensures refl refl refl (λ t. times-push t c.args.slot _)
 

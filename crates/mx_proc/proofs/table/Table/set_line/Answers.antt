@@ -7,9 +7,7 @@ pub invariant_of-self : goal.invariant_of-self
 invariant_of-self c = alike _ _ c.args.slot c.index_mut-process.result.now _ c.self.view_is c.self.invariant c.requires.slot c.index_mut-process.ensures.value (record {
   state = refl;
   level = refl;
-  terms = refl;
   generation = refl;
-  ticks = refl;
   pending = refl;
   windows = refl;
   alarm = refl;

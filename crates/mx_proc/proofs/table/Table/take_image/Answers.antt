@@ -11,7 +11,7 @@ invariant_of-self c =
     let is = the_process _ _ c.args.slot q c.self.view_is c.requires.slot c.index_mut-process.ensures.value in
     let down : is_down q.state ≡ true = ap (λ (p : Process). is_down p.state) is ∙ c.requires.down in
     alone_changed _ _ c.args.slot q _ c.self.view_is c.self.invariant c.requires.slot c.index_mut-process.ensures.value (down_alone _ c.requires.down) (down_alone q.state down)
-    (λ k. record { level = k.level; best = k.best; ticks = k.ticks; generation = k.generation; pending = k.pending; windows = k.windows; alarm = k.alarm; buffer = λ m. let f : false ≡ true = down_idle q.state down m in cc })
+    (λ k. record { generation = k.generation; pending = k.pending; windows = k.windows; alarm = k.alarm; buffer = λ m. let f : false ≡ true = down_idle q.state down m in cc })
 
 pub returns-clause-frame : goal.returns-clause-frame
 returns-clause-frame c = put _ _ c.args.slot _ _ c.self.view_is c.requires.slot

@@ -1,5 +1,5 @@
 use Rattle.std.proofs.Common.{◌≡◌, false, sym, subst, refl}
-use Rattle.mx_proc.proofs.TableLemmas.{the_process, is_process, listed}
+use Rattle.mx_proc.proofs.TableLemmas.{listed}
 use Rattle.mx_proc.specs.States.{is_ready}
 use Rattle.mx_proc.specs.TableState.{TableState, process_at}
 use Rattle.mx_proc.proofs.SoundLemmas.{alone_listed}
@@ -11,9 +11,7 @@ push_front-requires-clause-absent c = alone_listed _ c.args.slot c.self.invarian
 
 pub invariant_of-self : goal.invariant_of-self
 invariant_of-self c =
-    let is = the_process _ _ c.args.slot _ c.self.view_is c.requires.slot c.index_mut-process.ensures.value in
-    let k = is_process _ _ c.args.slot _ c.self.view_is c.self.invariant is in
-    listed _ _ _ c.args.slot _ _ c.index_mut-process.result.now _ c.self.view_is c.self.invariant c.requires.slot c.index_mut-process.ensures.value c.requires.alone k.level refl refl refl k.best refl k.ticks refl refl refl refl c.push_front.ensures refl refl refl (λ t. refl)
+    listed _ _ _ c.args.slot _ _ c.index_mut-process.result.now _ c.self.view_is c.self.invariant c.requires.slot c.index_mut-process.ensures.value c.requires.alone refl refl refl refl refl refl refl c.push_front.ensures refl refl refl (λ t. refl)
 
 pub returns-clause-frame : goal.returns-clause-frame
 returns-clause-frame c = framed_home _ _ c.args.slot c.index_mut-process.result.now _ _ _ _ _ c.self.view_is c.requires.slot c.index_mut-process.ensures.value refl refl c.requires.home
