@@ -1,8 +1,16 @@
-//! Arithmetic, logic, shifts, multiplication and division: of what is read, in whatever form.
+//! Arithmetic, logic, shifts, multiplication and division of operands in whatever form.
+
+#![tactic(auto, unfolding(crate::specs::Ending::Leads))]
+
+ghost use Rattle.std.specs.Prelude.{◌≡◌, ℕ, Ok};
+ghost use Rattle.mx_insn.specs.Sizes.{size_of_immediate};
+ghost use Rattle.mx_exec.specs.Accumulator.{division_of_kind, product_of_kind, upper_register};
+ghost use Rattle.mx_exec.specs.Ending.{Leads};
+ghost use Rattle.mx_exec.specs.Step.{after, count_of_shift, multiplied_into, operated, product_by, tested};
 
 use crate::{Image, Place, Source, TurnEnd};
 use mx_alu::{DivideFault, Signedness, alu, divide, multiply, multiply_low, shift, unary};
-use mx_insn::{Count, Operands, Product};
+use mx_insn::{Count, Insn, Operands, Product};
 use mx_mem::DIVIDE_ERROR;
 use mx_word::{Arithmetic, Register, Shift, Size, Unary};
 
@@ -14,7 +22,11 @@ pub fn operate<P: Place, S: Source>(
     size: Size,
     to: &P,
     from: &S,
-) -> TurnEnd {
+) -> TurnEnd
+    requires { S.Fits from.now size }
+    ensures { (next : ℕ) → Leads next image.old
+        (operated operation (P.operand to.now) size (S.read from.now image.old size) next image.old) result image.new }
+{
     let (at, x, y) = match to.load_both(image, size, from) {
         Ok(values) => values,
         Err(vector) => return TurnEnd::Fault(vector),
@@ -34,7 +46,11 @@ fn operate_by_size<P: Place, S: Source>(
     size: Size,
     to: &P,
     from: &S,
-) -> TurnEnd {
+) -> TurnEnd
+    requires { S.Fits from.now size }
+    ensures { (next : ℕ) → Leads next image.old
+        (operated operation (P.operand to.now) size (S.read from.now image.old size) next image.old) result image.new }
+{
     match size {
         Size::Byte => operate(image, operation, Size::Byte, to, from),
         Size::Word => operate(image, operation, Size::Word, to, from),
@@ -42,7 +58,10 @@ fn operate_by_size<P: Place, S: Source>(
     }
 }
 
-pub fn operate_on(image: &mut Image, operation: Arithmetic, operands: &Operands) -> TurnEnd {
+pub fn operate_on(image: &mut Image, operation: Arithmetic, operands: &Operands) -> TurnEnd
+    ensures { (next : ℕ) → Leads next image.old
+        (after (Insn.Arithmetic operation operands.now) next image.old) result image.new }
+{
     match operands {
         Operands::ToRegister { size, to, from } => {
             operate_by_size(image, operation, *size, to, from)
@@ -56,7 +75,12 @@ pub fn operate_on(image: &mut Image, operation: Arithmetic, operands: &Operands)
 
 /// TEST: the flags of AND.
 #[inline(always)]
-pub fn test<P: Source, S: Source>(image: &mut Image, size: Size, one: &P, other: &S) -> TurnEnd {
+pub fn test<P: Source, S: Source>(image: &mut Image, size: Size, one: &P, other: &S) -> TurnEnd
+    requires one { P.Fits one.now size }
+    requires other { S.Fits other.now size }
+    ensures { (next : ℕ) → Leads next image.old
+        (tested size (P.read one.now image.old size) (S.read other.now image.old size) next image.old) result image.new }
+{
     let x = match one.value(image, size) {
         Ok(x) => x,
         Err(vector) => return TurnEnd::Fault(vector),
@@ -72,7 +96,10 @@ pub fn test<P: Source, S: Source>(image: &mut Image, size: Size, one: &P, other:
 
 /// An operation on one operand.
 #[inline(always)]
-pub fn operate_alone<P: Place>(image: &mut Image, operation: Unary, size: Size, to: &P) -> TurnEnd {
+pub fn operate_alone<P: Place>(image: &mut Image, operation: Unary, size: Size, to: &P) -> TurnEnd
+    ensures { (next : ℕ) → Leads next image.old
+        (after (Insn.Unary operation size (P.operand to.now)) next image.old) result image.new }
+{
     let at = to.spot(&image.regs);
     match to.load(image, at, size) {
         Ok(x) => {
@@ -85,7 +112,9 @@ pub fn operate_alone<P: Place>(image: &mut Image, operation: Unary, size: Size, 
 
 /// How far a shift goes.
 #[inline(always)]
-pub fn count_of(image: &Image, count: Count) -> u32 {
+pub fn count_of(image: &Image, count: Count) -> u32
+    ensures { result ≡ count_of_shift count image.now }
+{
     match count {
         Count::Cl => image.regs.get(Size::Byte, Register::Ecx),
         Count::Immediate(number) => u32::from(number),
@@ -100,7 +129,10 @@ pub fn shift_by<P: Place>(
     size: Size,
     to: &P,
     count: Count,
-) -> TurnEnd {
+) -> TurnEnd
+    ensures { (next : ℕ) → Leads next image.old
+        (after (Insn.Shift operation size (P.operand to.now) count) next image.old) result image.new }
+{
     let at = to.spot(&image.regs);
     match to.load(image, at, size) {
         Ok(x) => {
@@ -116,7 +148,9 @@ pub fn shift_by<P: Place>(
 
 /// What is above the accumulator: AH, DX or EDX.
 #[inline(always)]
-fn upper_register(size: Size) -> Register {
+fn upper_register(size: Size) -> Register
+    ensures { result ≡ upper_register size }
+{
     match size {
         Size::Byte => Register::Esp,
         Size::Word | Size::Dword => Register::Edx,
@@ -125,7 +159,11 @@ fn upper_register(size: Size) -> Register {
 
 /// MUL or IMUL of the accumulator.
 #[inline(always)]
-pub fn multiply_by<S: Source>(image: &mut Image, kind: Signedness, size: Size, by: &S) -> TurnEnd {
+pub fn multiply_by<S: Source>(image: &mut Image, kind: Signedness, size: Size, by: &S) -> TurnEnd
+    requires { S.Fits by.now size }
+    ensures { (next : ℕ) → Leads next image.old
+        (product_by (product_of_kind kind) size (S.read by.now image.old size) next image.old) result image.new }
+{
     match by.value(image, size) {
         Ok(y) => {
             let x = image.regs.get(size, Register::Eax);
@@ -141,7 +179,11 @@ pub fn multiply_by<S: Source>(image: &mut Image, kind: Signedness, size: Size, b
 
 /// DIV or IDIV of the accumulator.
 #[inline(always)]
-pub fn divide_by<S: Source>(image: &mut Image, kind: Signedness, size: Size, by: &S) -> TurnEnd {
+pub fn divide_by<S: Source>(image: &mut Image, kind: Signedness, size: Size, by: &S) -> TurnEnd
+    requires { S.Fits by.now size }
+    ensures { (next : ℕ) → Leads next image.old
+        (product_by (division_of_kind kind) size (S.read by.now image.old size) next image.old) result image.new }
+{
     let y = match by.value(image, size) {
         Ok(y) => y,
         Err(vector) => return TurnEnd::Fault(vector),
@@ -160,7 +202,11 @@ pub fn divide_by<S: Source>(image: &mut Image, kind: Signedness, size: Size, by:
     }
 }
 
-pub fn product<S: Source>(image: &mut Image, operation: Product, size: Size, by: &S) -> TurnEnd {
+pub fn product<S: Source>(image: &mut Image, operation: Product, size: Size, by: &S) -> TurnEnd
+    requires { S.Fits by.now size }
+    ensures { (next : ℕ) → Leads next image.old
+        (product_by operation size (S.read by.now image.old size) next image.old) result image.new }
+{
     match operation {
         Product::Mul => multiply_by(image, Signedness::Unsigned, size, by),
         Product::Imul => multiply_by(image, Signedness::Signed, size, by),
@@ -177,7 +223,12 @@ pub fn multiply_into<X: Source, Y: Source>(
     to: Register,
     one: &X,
     other: &Y,
-) -> TurnEnd {
+) -> TurnEnd
+    requires one { X.Fits one.now size }
+    requires other { Y.Fits other.now size }
+    ensures { (next : ℕ) → Leads next image.old
+        (multiplied_into size to (X.read one.now image.old size) (Y.read other.now image.old size) next image.old) result image.new }
+{
     let y = match other.value(image, size) {
         Ok(y) => y,
         Err(vector) => return TurnEnd::Fault(vector),

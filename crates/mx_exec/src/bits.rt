@@ -1,9 +1,15 @@
-//! Bit tests, bit scans and double shifts.
+//! Bit tests, bit scans and double shifts of operands in whatever form.
+
+#![tactic(auto, unfolding(crate::specs::Ending::Leads))]
+
+ghost use Rattle.std.specs.Prelude.{◌≡◌, ℕ};
+ghost use Rattle.mx_exec.specs.Ending.{Leads};
+ghost use Rattle.mx_exec.specs.Step.{after, image_after_bit_test, scanned};
 
 use crate::arithmetic::count_of;
 use crate::{Image, Place, Source, TurnEnd};
 use mx_alu::{bit_scan, bit_test, double_shift};
-use mx_insn::Count;
+use mx_insn::{Count, Insn};
 use mx_word::{BitScan, BitTest, DoubleShift, Register, Size};
 
 /// BT, BTS, BTR or BTC. BT writes only flags.
@@ -12,7 +18,10 @@ pub fn test_bit<P: Place>(
     operation: BitTest,
     operand: &P,
     number: u32,
-) -> TurnEnd {
+) -> TurnEnd
+    ensures { (next : ℕ) → Leads next image.old
+        (image_after_bit_test operation (P.operand operand.now) number next image.old) result image.new }
+{
     let at = operand.spot(&image.regs);
     let x = match operand.load(image, at, Size::Dword) {
         Ok(x) => x,
@@ -31,7 +40,11 @@ pub fn test_bit<P: Place>(
 }
 
 /// BSF or BSR.
-pub fn scan<S: Source>(image: &mut Image, operation: BitScan, to: Register, from: &S) -> TurnEnd {
+pub fn scan<S: Source>(image: &mut Image, operation: BitScan, to: Register, from: &S) -> TurnEnd
+    requires { S.Fits from.now Size.Dword }
+    ensures { (next : ℕ) → Leads next image.old
+        (scanned operation to (S.read from.now image.old Size.Dword) next image.old) result image.new }
+{
     match from.value(image, Size::Dword) {
         Ok(x) => {
             let (found, flags) = bit_scan(operation, x, &image.flags);
@@ -58,7 +71,10 @@ pub fn shift_double<P: Place>(
     operation: DoubleShift,
     to: &P,
     filler: Filler,
-) -> TurnEnd {
+) -> TurnEnd
+    ensures { (next : ℕ) → Leads next image.old
+        (after (Insn.DoubleShift operation (P.operand to.now) filler.register filler.count) next image.old) result image.new }
+{
     let at = to.spot(&image.regs);
     let x = match to.load(image, at, Size::Dword) {
         Ok(x) => x,

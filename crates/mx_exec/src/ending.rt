@@ -1,6 +1,8 @@
 //! How an instruction ended, before EIP is set.
 
-ghost use Rattle.std.specs.Prelude.{◌≡◌, ℕ, Result, Ok, Err};
+#![tactic(auto, unfolding(crate::specs::Ending::Leads))]
+
+ghost use Rattle.std.specs.Prelude.{◌≡◌, ℕ, Result};
 ghost use Rattle.mx_exec.specs.declared.image.Image.{Image};
 ghost use Rattle.mx_exec.specs.Ending.{Leads};
 ghost use Rattle.mx_exec.specs.Image.{Performs};
@@ -34,7 +36,7 @@ pub fn settle(image: &mut Image, end: TurnEnd, next: u32) -> Result<(), u8>
     image.eip = match end {
         TurnEnd::Next | TurnEnd::Wrote { .. } => next,
         TurnEnd::To(to) | TurnEnd::Called { to, .. } => to,
-        TurnEnd::By(distance) => dword_sum(next, distance as u32),
+        TurnEnd::By(distance) => dword_sum(next, (distance % 0x1_0000_0000) as u32),
         TurnEnd::Fault(vector) => return Err(vector),
     };
     Ok(())

@@ -1,6 +1,8 @@
 //! The stack.
 
-ghost use Rattle.std.specs.Prelude.{◌≡◌, ◌^◌, ◌<◌, length, Ok, Err, true, IfOk};
+#![tactic(auto, unfolding(crate::specs::Ending::Leads))]
+
+ghost use Rattle.std.specs.Prelude.{◌≡◌, ◌^◌, ◌<◌, ℕ, length, Ok, Err, true, IfOk};
 ghost use Rattle.mx_word.specs.Word.{value_at};
 ghost use Rattle.mx_mem.specs.Segment.{inside, with_value};
 ghost use Rattle.mx_exec.specs.Image.{Performs, dword_difference, dword_sum};
@@ -34,9 +36,10 @@ pub fn push(image: &mut Image, value: u32) -> TurnEnd
 /// PUSH of what an instruction reads.
 #[inline(always)]
 pub fn push_from<S: Source>(image: &mut Image, from: &S) -> TurnEnd
-    requires { S.IsSound from.now }
-    ensures { (next : ℕ) → Leads next image.old (image_after_push_of (S.read from.now image.old Dword) next image.old)
-        result image.new }
+    requires { S.Fits from.now Size.Dword }
+    ensures { (next : ℕ) → Leads next image.old
+        (image_after_push_of (S.read from.now image.old Size.Dword) next image.old) result
+        image.new }
 {
     match from.value(image, Size::Dword) {
         Ok(value) => push(image, value),

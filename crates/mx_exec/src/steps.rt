@@ -54,7 +54,7 @@ fn calculate(image: &mut Image, insn: &Insn) -> TurnEnd
             register,
         } => moves::exchange(image, *size, operand, *register),
         Insn::LoadAddress { size, to, memory } => {
-            moves::load_address(image, size.size(), *to, memory)
+            moves::load_address(image, size.size(), *to, memory.spot(&image.regs))
         }
         Insn::Unary {
             operation,
@@ -125,7 +125,7 @@ fn calculate(image: &mut Image, insn: &Insn) -> TurnEnd
         Insn::PushImmediate(value) => stack::push(image, *value),
         Insn::Pop(register) => stack::pop(image, *register),
         Insn::ExtendAccumulator(size) => moves::extend_accumulator(image, *size),
-        Insn::SpreadSign(size) => moves::spread_accumulator(image, size.size()),
+        Insn::SpreadSign(size) => moves::spread_accumulator(image, *size),
         _ => unreachable!(),
     }
 }
