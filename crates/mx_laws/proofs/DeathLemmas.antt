@@ -1,5 +1,5 @@
 -- Deaths, new processes, lines and the clock.
-use Rattle.std.proofs.Common.{◌≡◌, ◌∙◌, ℕ, zero, suc, ◌+◌, ◌-◌, ◌==◌, ◌&&◌, Bool, true, false, cond, not, List, [], ◌∷◌, ◌++◌, map, Option, None, refl, ap, subst, slice_set}
+use Rattle.std.proofs.Common.{◌≡◌, ◌∙◌, ℕ, zero, suc, ◌+◌, ◌==◌, ◌&&◌, Bool, true, false, cond, not, List, [], ◌∷◌, ◌++◌, map, Option, None, refl, ap, subst, slice_set}
 use Rattle.std.specs.Prelude.{replicate, bit_or, ◌^◌}
 use Rattle.mx_exec.specs.Image.{blank}
 use Rattle.mx_proc.specs.declared.process.Process.{Process}

@@ -238,7 +238,7 @@ caller_only d s (e ∷ es) f = elim (cases_eq (2 + d) (2 + e.0)) [
 
 pub goes_on_waits : (w : TableState) (s r : ℕ) → (goes_on w s r).waits ≡ w.waits
 unfolding goes_on table_after_queueing
-goes_on_waits w s r = either (nat_lt 0 (process_at (with_result w s r) s).ticks) _ _ refl refl
+goes_on_waits w s r = either (nat_lt 0 (process_at (with_result w s r) s).schedule.ticks) _ _ refl refl
   where
     either : (b : Bool) (x y : TableState) → x.waits ≡ w.waits → y.waits ≡ w.waits → (cond b x y).waits ≡ w.waits
     either true x y e f = e
