@@ -210,7 +210,6 @@ impl Machine {
 
     /// One event of an actor: it is refused, and nothing changes, or it is answered. But for a step
     /// the history then has one record more.
-    #[tactic(auto, using(crate::proofs::ActorLemmas::actors_after_move))]
     pub fn apply(&mut self, actor: u8, event: Event) -> Result<Answer, Refusal>
         requires { IsActor (world_of self.old) actor event }
         ensures moved { move (world_of self.old) actor event ≡ (result, world_of self.new) }
