@@ -1,10 +1,9 @@
 -- Events leave how many actors there are.
-use Rattle.std.proofs.Common.{◌≡◌, ◌∙◌, ℕ, ◌+◌, List, [], ◌∷◌, Option, Some, None, Result, slice_get, refl, ap, sym}
+use Rattle.std.proofs.Common.{◌≡◌, ◌∙◌, ℕ, ◌+◌, List, [], ◌∷◌, Option, Some, None, slice_get, refl, ap}
 use Rattle.std.proofs.lemmas.List.{length-set}
 use Rattle.mx_kcall.specs.Proc.Queues.{first_ready}
 use Rattle.mx_kcall.specs.Service.{Service}
 use Rattle.mx_kcall.specs.Refusals.{owner_of}
-use Rattle.mx_machine.specs.declared.events.Answer.{Answer}
 use Rattle.mx_machine.specs.declared.events.Event.{Event}
 use Rattle.mx_machine.specs.declared.events.Event.TheVariants.{Step, Take, Back, Line, Tick, Kill, Respawn}
 use Rattle.mx_machine.specs.declared.events.Refusal.{Refusal}
@@ -58,7 +57,3 @@ by_answer w a x None = by_event w a x
 pub actors_after_move : (w : World) (a : ℕ) (x : Event) → actors (move w a x).1 ≡ actors w
 unfolding move
 actors_after_move w a x = by_answer w a x (event_refusal w a x)
-
--- and so what is left of it has as many
-pub actors_of_moved : (w v : World) (a : ℕ) (x : Event) (r : Result Answer Refusal) → move w a x ≡ (r, v) → actors v ≡ actors w
-actors_of_moved w v a x r is = sym (ap (λ (p : Result Answer Refusal × World). actors p.1) is) ∙ actors_after_move w a x
