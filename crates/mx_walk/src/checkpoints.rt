@@ -137,8 +137,8 @@ pub(crate) struct Checkpoints {
 }
 
 impl Checkpoints {
-    /// None yet. They are planned at equal distances along these records, if the walk is a long one.
-    pub(crate) fn planned(alloc: Global, machine: &Machine, records: &[Record]) -> Checkpoints
+    /// None yet. They will be taken at equal distances along these records, if the walk is a long one.
+    pub(crate) fn plan(alloc: Global, machine: &Machine, records: &[Record]) -> Checkpoints
         ensures none { result.taken.items ≡ [] }
         ensures most { result.most ≤ 63 }
     {

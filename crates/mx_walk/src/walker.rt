@@ -154,7 +154,7 @@ impl Walker {
             × (P.shown progress.new ≡ P.shown progress.old ++ walk_shown records.items last)) }
     {
         let mut machine = machine;
-        let mut checkpoints = Checkpoints::planned(alloc, &machine, records.as_slice());
+        let mut checkpoints = Checkpoints::plan(alloc, &machine, records.as_slice());
         let walked = records.as_slice();
         let last = walk_first(&mut machine, walked, &mut checkpoints, progress);
         let machine = boot_again(alloc, machine, &config)?;
