@@ -85,7 +85,7 @@ fn push_end(
 }
 
 /// A byte of the console as it is printed.
-fn shown(byte: u8) -> u8
+fn printable(byte: u8) -> u8
     ensures { result ≡ shown byte }
 {
     if (b' '..=b'~').contains(&byte) {
@@ -100,7 +100,7 @@ fn push_shown(text: &mut Vec<u8>, bytes: &[u8]) -> Result<(), AllocError>
     ensures { OnOk result (text.new.items ≡ text.old.items ++ map shown bytes.now) }
 {
     for byte in bytes {
-        text.push(shown(*byte))?;
+        text.push(printable(*byte))?;
     }
     Ok(())
 }
@@ -121,7 +121,7 @@ fn push_kept(text: &mut Vec<u8>, bytes: &[u8]) -> Result<(), AllocError>
 
 /// What is compared of an outcome.
 #[tactic(auto, unfolding(mx_machine::specs::Machine::world_of))]
-fn seen(alloc: Global, machine: &Machine, ending: Ending) -> Result<Vec<u8>, AllocError>
+fn compared_text(alloc: Global, machine: &Machine, ending: Ending) -> Result<Vec<u8>, AllocError>
     ensures { IfOk result (λ seen. seen.items ≡ end_text by.Slots (world_of machine.now) ending
         ++ (world_of machine.now).table.devices.console.kept) }
 {
@@ -175,9 +175,9 @@ pub(crate) fn outcome_at(
         ..sweep
     };
     let (machine, ending) = run_at(alloc, machine, unharmed, position, &mut text)?;
-    let without = seen(alloc, &machine, ending)?;
+    let without = compared_text(alloc, &machine, ending)?;
     let (machine, ending) = run_at(alloc, machine, sweep, position, &mut text)?;
-    let with = seen(alloc, &machine, ending)?;
+    let with = compared_text(alloc, &machine, ending)?;
     push_outcome(alloc, &mut text, &machine, ending)?;
     let is_alike = with.as_slice() == without.as_slice();
     Ok(Outcome {
