@@ -48,7 +48,6 @@ fn keep_step(steps: &mut Vec<Step>, step: &Step, from: u32) -> Result<(), AllocE
 }
 
 /// Makes records up to the first that is refused, and appends each from `from` on as a step.
-#[tactic(auto, using(mx_machine::proofs::ActorLemmas::actors_after_events))]
 pub(crate) fn see_records(
     alloc: Global,
     machine: &mut Machine,

@@ -1,5 +1,5 @@
 -- A history's records again, from what a machine makes.
-use Rattle.std.proofs.Common.{◌≡◌, ◌∙◌, ◌<◌, ◌≤◌, ℕ, zero, suc, ◌+◌, ◌-◌, List, [], ◌∷◌, ◌++◌, length, take, drop, get_or, Some, inl, inr, refl, ap, sym, subst, arith}
+use Rattle.std.proofs.Common.{◌≡◌, ◌∙◌, ◌<◌, ◌≤◌, ℕ, zero, suc, ◌+◌, ◌-◌, List, [], ◌∷◌, ◌++◌, length, take, drop, get_or, All, Some, inl, inr, refl, ap, sym, subst, arith}
 use Rattle.std.proofs.lemmas.Bool.{cases_lt}
 use Rattle.std.proofs.lemmas.List.{take_more}
 use Rattle.mx_machine.specs.declared.events.Event.{Event}
@@ -8,7 +8,8 @@ use Rattle.mx_machine.specs.declared.events.Refusal.{Refusal}
 use Rattle.mx_machine.specs.declared.history.Record.{Record}
 use Rattle.mx_machine.specs.History.{AreAccepted, BootAndHistory, world_after_events, events_of, events_of_history}
 use Rattle.mx_machine.specs.Move.{world_after_event, event_refusal}
-use Rattle.mx_machine.specs.World.{World}
+use Rattle.mx_machine.specs.World.{World, actors}
+use Rattle.mx_machine.proofs.ActorLemmas.{actors_after_events}
 use Rattle.mx_walk.specs.Kept.{kept_of}
 use Rattle.mx_walk.specs.Positions.{HasMade, IsRefusedFor, event_in, own_event, rest_of, steps_in, steps_of}
 use Rattle.mx_walk.proofs.Along.{unfolded_more}
@@ -17,6 +18,13 @@ use Rattle.mx_walk.proofs.Keeping.{kept_both}
 use Rattle.mx_walk.proofs.Made.{accepted_both, made_as, made_as_many}
 pub use Rattle.mx_walk.proofs.Made.{after_both}
 use Rattle.mx_app_step.specs.Records.{IsFirstRefusal, IsRefusedAt}
+
+-- ---- actors
+
+-- the actor of a record is one of them at any record
+pub is_actor_still : (w v : World) (xs : List (ℕ × Event)) (records : List Record) (i : ℕ) (d : Record) → v ≡ world_after_events w xs → All (λ (x : Record). x.actor < actors w) records → i < length records
+    → (get_or records i d).actor < actors v
+is_actor_still w v xs records i d is h b = subst (λ n. (get_or records i d).actor < n) (sym (ap actors is ∙ actors_after_events w xs)) (h i d b)
 
 -- ---- lists of events
 

@@ -39,7 +39,6 @@ pub enum Replayed {
 
 /// Makes the events of records, up to the first that is refused. Answers the number of its
 /// record, the first having the number 1, and why.
-#[tactic(auto, using(mx_machine::proofs::ActorLemmas::actors_after_events))]
 pub fn perform_records(machine: &mut Machine, records: &[Record]) -> Result<(), (usize, Refusal)>
     requires { All (λ (x : Noted). x.actor < actors (world_of machine.old)) records.now }
     ensures ok { OnOk result (AreAccepted (world_of machine.old) (events_of_history records.now)

@@ -43,7 +43,6 @@ pub fn resting_step(machine: &Machine) -> Step
 
 /// Makes a record, and fills a step with it: the machine is looked at after the record's steps, and
 /// after its own event.
-#[tactic(auto, using(mx_machine::proofs::ActorLemmas::actors_after_events))]
 pub fn look_record(
     machine: &mut Machine,
     number: u32,
@@ -90,7 +89,6 @@ fn print_step<W: Write>(
 
 /// Prints what each record did from `from` on, up to the first record that is refused. Answers the
 /// number of this one, the first having the number 1, and why.
-#[tactic(auto, using(mx_machine::proofs::ActorLemmas::actors_after_events))]
 fn print_steps<W: Write>(
     alloc: Global,
     machine: &mut Machine,
