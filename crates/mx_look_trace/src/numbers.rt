@@ -1,6 +1,8 @@
 //! Numbers and results.
 
-ghost use Rattle.std.specs.Prelude.{◌≡◌, ◌≤◌, ◌++◌, length, OnOk};
+ghost use Rattle.std.specs.Prelude.{◌≡◌, ◌≤◌, ◌==◌, ◌++◌, find, length, OnOk};
+ghost use Rattle.std.specs.Option.{option_copied};
+ghost use Rattle.mx_proc.specs.Errors.{errno_bits};
 ghost use Rattle.mx_look_trace.specs.Numbers.{errno_name, errno_of, spaced_numbers, used_count, result_name, result_text};
 
 use mx_print_report::{push_number, push_signed};
@@ -44,12 +46,19 @@ const ERRNOS: [Errno; 9] = [
     Errno::BadRequest,
 ];
 
+/// The first of these errors whose number this is.
+fn first_numbered<'a>(errnos: &'a [Errno], number: u32) -> Option<&'a Errno>
+    ensures { option_copied result ≡ find (λ e. errno_bits e == number) errnos.now }
+{
+    errnos.iter().find(|errno| errno.bits() == number)
+}
+
 /// The error that a result is, or nothing if it is none.
 #[tactic(auto, unfolding(crate::specs::Numbers::errno_of))]
 pub(crate) fn errno_of(outcome: u32) -> Option<Errno>
     ensures { result ≡ errno_of outcome }
 {
-    ERRNOS.iter().find(|errno| errno.bits() == outcome).copied()
+    first_numbered(&ERRNOS, outcome).copied()
 }
 
 /// The name of an error, after a space.
