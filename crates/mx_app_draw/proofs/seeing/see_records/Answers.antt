@@ -1,4 +1,5 @@
-use Rattle.std.proofs.Common.{◌+◌, ◌∙◌, ap, refl, sym}
+use Rattle.std.proofs.Common.{◌+◌, ◌∙◌, ap, refl, sym, take}
+use Rattle.mx_machine.specs.History.{events_of_history}
 use Rattle.mx_app_step.specs.Machine.{world_of}
 use Rattle.mx_app_step.specs.Glances.{glance_of}
 use Rattle.mx_app_step.specs.Step.{Step}
@@ -7,7 +8,9 @@ use Rattle.mx_app_draw.proofs.SeenLemmas.{all_seen, next_seen, refused_seen}
 use Rattle.mx_app_draw.proofs.seeing.see_records.Goals as goal
 
 pub look_record-requires : goal.look_record-requires
-look_record-requires c = is_actor_still (world_of c.args.machine.now) _ _ c.args.records.now c.loop-index.index _ c.loop-index.invariant.reached c.requires.actors c.loop-index-test.true
+look_record-requires c =
+    is_actor_still (world_of c.args.machine.now) (world_of c.loop-index.machine) (events_of_history (take c.loop-index.index c.args.records.now)) c.args.records.now c.loop-index.index _
+    c.loop-index.invariant.reached c.requires.actors c.loop-index-test.true
 
 pub returns-in-Err-clause-seen : goal.returns-in-Err-clause-seen
 returns-in-Err-clause-seen c =

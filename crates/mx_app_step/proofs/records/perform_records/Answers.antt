@@ -1,11 +1,14 @@
-use Rattle.std.proofs.Common.{ap, get_or, ◌+◌}
+use Rattle.std.proofs.Common.{ap, get_or, take, ◌+◌}
+use Rattle.mx_machine.specs.History.{events_of_history}
 use Rattle.mx_app_start.specs.Machine.{world_of}
 use Rattle.mx_walk.proofs.Along.{any_record}
 use Rattle.mx_app_step.proofs.RecordLemmas.{all_kept, all_made, is_actor_still, next_accepted, next_kept, next_world, record_refused, refused_at}
 use Rattle.mx_app_step.proofs.records.perform_records.Goals as goal
 
 pub finish_record-requires-clause-actor : goal.finish_record-requires-clause-actor
-finish_record-requires-clause-actor c = is_actor_still (world_of c.args.machine.now) _ _ c.args.records.now c.loop-entry.entry-index _ c.loop-entry.invariant.world c.requires c.loop-entry-test.true
+finish_record-requires-clause-actor c =
+    is_actor_still (world_of c.args.machine.now) (world_of c.loop-entry.machine) (events_of_history (take c.loop-entry.entry-index c.args.records.now)) c.args.records.now c.loop-entry.entry-index _
+    c.loop-entry.invariant.world c.requires c.loop-entry-test.true
 
 pub returns-in-Err-clause-err : goal.returns-in-Err-clause-err
 returns-in-Err-clause-err c =

@@ -1,11 +1,14 @@
-use Rattle.std.proofs.Common.{◌+◌, refl}
+use Rattle.std.proofs.Common.{◌+◌, refl, take}
+use Rattle.mx_machine.specs.History.{events_of_history}
 use Rattle.mx_app_start.specs.Machine.{world_of}
 use Rattle.mx_app_step.proofs.RecordLemmas.{is_actor_still, next_accepted, next_world, refused_at}
 use Rattle.mx_app_step.proofs.TraceLemmas.{next_printed, refused_printed}
 use Rattle.mx_app_step.proofs.tracing.print_steps.Goals as goal
 
 pub look_record-requires : goal.look_record-requires
-look_record-requires g c = is_actor_still (world_of c.args.machine.now) _ _ c.args.records.now c.loop-index.index _ c.loop-index.invariant.world c.requires.actors c.loop-index-test.true
+look_record-requires g c =
+    is_actor_still (world_of c.args.machine.now) (world_of c.loop-index.machine) (events_of_history (take c.loop-index.index c.args.records.now)) c.args.records.now c.loop-index.index _
+    c.loop-index.invariant.world c.requires.actors c.loop-index-test.true
 
 pub returns-in-Err-clause-printed : goal.returns-in-Err-clause-printed
 returns-in-Err-clause-printed g c =
