@@ -6,6 +6,7 @@ use Rattle.mx_app_step.specs.Machine.{world_of}
 use Rattle.mx_machine.specs.declared.history.Record.{Record}
 use Rattle.mx_machine.specs.History.{AreAccepted, BootAndHistory, events_of_history}
 use Rattle.mx_machine.specs.World.{World, actors}
+use Rattle.mx_machine.proofs.ActorLemmas.{actors_after_events}
 use Rattle.mx_app_turns.specs.Faults.{faults_made}
 use Rattle.mx_app_turns.specs.Sweep.{run_of, said_text}
 use Rattle.mx_app_turns.specs.Swept.{HasRun}
@@ -23,6 +24,13 @@ unreachable-requires c =
     let accepted = subst (λ (w : World). AreAccepted w (events_of_history records)) (sym c.in_ok-machine.ensures.world)
     (front_accepted c.args.machine.kernel.boot c.args.sweep.records.now c.args.position c.requires.swept.accepted) in
     not_refused (world_of c.in_ok-machine.machine) records c.in-Err.field-0.0 c.in-Err.field-0.1 accepted c.in-Err.ensures.err
+
+pub perform_fault-requires : goal.perform_fault-requires
+perform_fault-requires c =
+    let made = events_of_history (take c.args.position c.args.sweep.records.now) in
+    let same : actors (world_of c.perform_records.new.machine) ≡ actors c.args.machine.kernel.boot =
+      ap actors c.in_default.ensures.ok.1 ∙ actors_after_events (world_of c.in_ok-machine.machine) made ∙ ap actors c.in_ok-machine.ensures.world in
+    subst (λ n. c.args.sweep.other < n) (sym same) c.requires.swept.other
 
 pub make_turns-ending-requires : goal.make_turns-ending-requires
 make_turns-ending-requires c =
