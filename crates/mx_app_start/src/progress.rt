@@ -14,8 +14,8 @@ const PATIENCE: u64 = 1000;
 /// How many milliseconds a line of progress stays as it is.
 const PAUSE: u64 = 100;
 
-/// When a line is due before the first part of a work is shown: then the work begins.
-const NOT_BEGUN: u64 = u64::MAX;
+/// A time that never comes.
+const NEVER: u64 = u64::MAX;
 
 /// Goes back to the beginning of the line, and empties it.
 const EMPTY_LINE: &str = "\r\x1b[K";
@@ -41,6 +41,10 @@ struct ProgressLine<'a, R> {
     began: Option<Instant>,
     /// After how many milliseconds it may be printed next.
     due: AtomicU64,
+    /// How many parts were done when it was last shown one.
+    last: AtomicU64,
+    /// After how many milliseconds it was taken away, if that was after the last part; else `NEVER`.
+    cleared: AtomicU64,
     is_printed: AtomicBool,
 }
 
@@ -56,48 +60,62 @@ impl<'a, R: Clock> ProgressLine<'a, R> {
             unit,
             began,
             due: AtomicU64::new(PATIENCE),
+            last: AtomicU64::new(0),
+            cleared: AtomicU64::new(NEVER),
             is_printed: AtomicBool::new(false),
         }
     }
 
+    /// How many milliseconds have passed since it was made; none if it is never printed.
+    fn now(&self) -> Option<u64> {
+        let passed = self.began?.elapsed(self.rt).ok()?;
+        Some(u64::try_from(passed.as_millis()).unwrap_or(NEVER))
+    }
+
+    /// Gives a new work its own second. A part begins one if the line was taken away since the last part, and this one's
+    /// number isn't higher, or it comes after a pause: a session waits for its reader between its lines.
+    fn begin_if_new(&self, now: u64, done: u64) {
+        let cleared = self.cleared.swap(NEVER, Ordering::SeqCst);
+        let last = self.last.swap(done, Ordering::SeqCst);
+        let is_later = now.saturating_sub(cleared) > PAUSE;
+        if cleared != NEVER && (done <= last || is_later) {
+            let due = now.saturating_add(PATIENCE);
+            self.due.store(due, Ordering::SeqCst);
+        }
+    }
+
     /// Whether the line is due. If several threads ask at once, only one is answered with yes.
-    fn is_due(&self) -> bool {
-        let Some(began) = self.began else {
-            return false;
-        };
-        let Ok(passed) = began.elapsed(self.rt) else {
-            return false;
-        };
-        let now = u64::try_from(passed.as_millis()).unwrap_or(u64::MAX);
+    fn is_due(&self, now: u64) -> bool {
         let due = self.due.load(Ordering::SeqCst);
-        let has_begun = due != NOT_BEGUN;
-        if has_begun && now < due {
+        if now < due {
             return false;
         }
-        let pause = if has_begun { PAUSE } else { PATIENCE };
-        let next = now.saturating_add(pause);
-        let is_first = self
-            .due
+        let next = now.saturating_add(PAUSE);
+        self.due
             .compare_exchange(due, next, Ordering::SeqCst, Ordering::SeqCst)
-            .is_ok();
-        has_begun && is_first
+            .is_ok()
     }
 }
 
 impl<'a, R: Clock + Eprint> ProgressLine<'a, R> {
     /// Prints the line, if it is due.
     fn show(&self, part: Part) {
-        if self.is_due() {
-            let Part { done, all } = part;
+        let Some(now) = self.now() else {
+            return;
+        };
+        let Part { done, all } = part;
+        self.begin_if_new(now, done as u64);
+        if self.is_due(now) {
             let unit = self.unit;
             let _ = eprint!(self.rt; "{EMPTY_LINE}mx: {done} of {all} {unit}");
             self.is_printed.store(true, Ordering::SeqCst);
         }
     }
 
-    /// Takes the line away. A later work begins with its first part: a session may wait for its reader between them.
+    /// Takes the line away.
     fn clear(&self) {
-        self.due.store(NOT_BEGUN, Ordering::SeqCst);
+        let now = self.now().unwrap_or(NEVER);
+        self.cleared.store(now, Ordering::SeqCst);
         if self.is_printed.swap(false, Ordering::SeqCst) {
             let _ = eprint!(self.rt; "{EMPTY_LINE}");
         }
