@@ -1,1 +1,2 @@
 pub mod Lasting
+mod Operated

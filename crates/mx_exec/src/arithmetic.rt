@@ -32,11 +32,13 @@ pub fn operate<P: Place, S: Source>(
         Err(vector) => return TurnEnd::Fault(vector),
     };
     let (value, flags) = alu(operation, size, x, y, &image.flags);
-    if operation == Arithmetic::Cmp {
-        image.flags = flags;
-        return TurnEnd::Next;
+    match operation {
+        Arithmetic::Cmp => {
+            image.flags = flags;
+            TurnEnd::Next
+        }
+        _ => to.store_result(image, at, size, (value, flags)),
     }
-    to.store_result(image, at, size, (value, flags))
 }
 
 /// The same, with the size looked at once.

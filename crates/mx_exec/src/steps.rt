@@ -12,7 +12,7 @@ ghost use Rattle.mx_exec.specs.Text.{Fetches};
 use crate::bits::Filler;
 use crate::image::dword_sum;
 use crate::{
-    Image, Outcome, TurnEnd, arithmetic, bits, jumps, moves, plain, settle, stack, strings,
+    Image, Outcome, Place, TurnEnd, arithmetic, bits, jumps, moves, plain, settle, stack, strings,
 };
 use mx_alu::Signedness;
 use mx_decode::DecodeFault;
