@@ -33,9 +33,7 @@ pub fn test_bit<P: Place>(
             image.flags = result.1;
             TurnEnd::Next
         }
-        BitTest::Bts | BitTest::Btr | BitTest::Btc => {
-            operand.store_result(image, at, Size::Dword, result)
-        }
+        _ => operand.store_result(image, at, Size::Dword, result),
     }
 }
 
