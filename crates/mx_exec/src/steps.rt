@@ -54,7 +54,8 @@ fn calculate(image: &mut Image, insn: &Insn) -> TurnEnd
             register,
         } => moves::exchange(image, *size, operand, *register),
         Insn::LoadAddress { size, to, memory } => {
-            moves::load_address(image, size.size(), *to, memory.spot(&image.regs))
+            let at = memory.spot(&image.regs);
+            moves::load_address(image, size.size(), *to, at)
         }
         Insn::Unary {
             operation,
