@@ -29,7 +29,7 @@ pub perform_fault-requires : goal.perform_fault-requires
 perform_fault-requires c =
     let made = events_of_history (take c.args.position c.args.sweep.records.now) in
     let same : actors (world_of c.perform_records.new.machine) ≡ actors c.args.machine.kernel.boot =
-      ap actors c.in_default.ensures.ok.1 ∙ actors_after_events (world_of c.in_ok-machine.machine) made ∙ ap actors c.in_ok-machine.ensures.world in
+    ap actors c.in_default.ensures.ok.1 ∙ actors_after_events (world_of c.in_ok-machine.machine) made ∙ ap actors c.in_ok-machine.ensures.world in
     subst (λ n. c.args.sweep.other < n) (sym same) c.requires.swept.other
 
 pub make_turns-ending-requires : goal.make_turns-ending-requires
