@@ -1,1 +1,3 @@
 pub mod Lasting
+mod Operated
+mod Exchanged

@@ -1,261 +1,119 @@
-//! Arithmetic, logic, shifts, multiplication and division.
+//! Arithmetic, logic, shifts, multiplication and division of operands in whatever form.
 
-ghost use Rattle.std.specs.Prelude.{◌≡◌, ◌^◌, ◌<◌, Ok, Err};
-ghost use Rattle.mx_word.specs.Word.{width};
-ghost use Rattle.mx_exec.specs.Image.{Performs};
-ghost use Rattle.mx_exec.specs.Accumulator.{upper_register, with_halves, image_after_multiply, quotient_taken, product_taken};
-ghost use Rattle.mx_exec.specs.Step.{after, image_with_result, image_after_test, image_after_factor, count_of_shift};
+#![tactic(auto, unfolding(crate::specs::Ending::Leads))]
 
-use crate::Image;
-use crate::operands::RegisterPart;
-use mx_alu::{Signedness, alu, divide, multiply, multiply_low, shift, unary};
-use mx_insn::{
-    Count, Immediate, Insn, Memory, Operand, OperandSize, Operands, Product, WideImmediate,
-};
+ghost use Rattle.std.specs.Prelude.{◌≡◌, ℕ, Ok};
+ghost use Rattle.mx_insn.specs.Sizes.{size_of_immediate};
+ghost use Rattle.mx_exec.specs.Accumulator.{division_of_kind, product_of_kind, upper_register};
+ghost use Rattle.mx_exec.specs.Ending.{Leads};
+ghost use Rattle.mx_exec.specs.Step.{after, count_of_shift, multiplied_into, operated, product_by, tested};
+
+use crate::{Image, Place, Source, TurnEnd};
+use mx_alu::{DivideFault, Signedness, alu, divide, multiply, multiply_low, shift, unary};
+use mx_insn::{Count, Insn, Operands, Product};
 use mx_mem::DIVIDE_ERROR;
 use mx_word::{Arithmetic, Register, Shift, Size, Unary};
 
-/// Writes a result to its operand; that of CMP is kept nowhere.
-fn keep(
+/// An operation on two operands. The result of CMP is kept nowhere.
+#[inline(always)]
+pub fn operate<P: Place, S: Source>(
     image: &mut Image,
     operation: Arithmetic,
-    operand: &Operand,
     size: Size,
-    value: u32,
-) -> Result<(), u8>
-    requires { value < 2 ^ width size }
-    ensures { Performs image.old (image_with_result operation operand.now size value image.old)
-        result image.new }
+    to: &P,
+    from: &S,
+) -> TurnEnd
+    requires { S.Fits from.now size }
+    ensures { (next : ℕ) → Leads next image.old
+        (operated operation (P.operand to.now) size (S.read from.now image.old size) next image.old) result image.new }
 {
-    match operation {
-        Arithmetic::Cmp => Ok(()),
-        Arithmetic::Add
-        | Arithmetic::Or
-        | Arithmetic::Adc
-        | Arithmetic::Sbb
-        | Arithmetic::And
-        | Arithmetic::Sub
-        | Arithmetic::Xor => image.store(operand, size, value),
-    }
-}
-
-/// An operation on a register and what stands in another place, inlined for each size.
-#[inline(always)]
-fn operate_registers(
-    image: &mut Image,
-    operation: Arithmetic,
-    to: RegisterPart,
-    from: &Operand,
-    next: u32,
-) -> Result<(), u8>
-    ensures { Performs image.old
-        (after (Insn.Arithmetic operation (Operands.ToRegister to.size to.register from.now)) next
-        image.old) result image.new }
-{
-    let y = image.value(from, to.size)?;
-    let x = image.regs.get(to.size, to.register);
-    let (value, flags) = alu(operation, to.size, x, y, &image.flags);
-    if operation != Arithmetic::Cmp {
-        image.regs.set(to.size, to.register, value);
-    }
-    image.flags = flags;
-    image.eip = next;
-    Ok(())
-}
-
-/// The same, with the size looked at once.
-fn operate_on_register(
-    image: &mut Image,
-    operation: Arithmetic,
-    to: RegisterPart,
-    from: &Operand,
-    next: u32,
-) -> Result<(), u8>
-    ensures { Performs image.old
-        (after (Insn.Arithmetic operation (Operands.ToRegister to.size to.register from.now)) next
-        image.old) result image.new }
-{
-    match to.size {
-        Size::Byte => operate_registers(image, operation, to.with_size(Size::Byte), from, next),
-        Size::Word => operate_registers(image, operation, to.with_size(Size::Word), from, next),
-        Size::Dword => operate_registers(image, operation, to.with_size(Size::Dword), from, next),
-    }
-}
-
-/// An operation on memory and a register.
-fn operate_on_memory(
-    image: &mut Image,
-    operation: Arithmetic,
-    to: &Memory,
-    from: RegisterPart,
-    next: u32,
-) -> Result<(), u8>
-    ensures { Performs image.old
-        (after (Insn.Arithmetic operation (Operands.ToMemory from.size to.now from.register)) next
-        image.old) result image.new }
-{
-    let operand = Operand::Memory(*to);
-    let x = image.value(&operand, from.size)?;
-    let y = image.regs.get(from.size, from.register);
-    let (value, flags) = alu(operation, from.size, x, y, &image.flags);
-    keep(image, operation, &operand, from.size, value)?;
-    image.flags = flags;
-    image.eip = next;
-    Ok(())
-}
-
-/// An operation on an operand and a number, inlined for each size.
-#[inline(always)]
-fn operate_number(
-    image: &mut Image,
-    operation: Arithmetic,
-    to: &Operand,
-    number: Immediate,
-    next: u32,
-) -> Result<(), u8>
-    ensures { Performs image.old
-        (after (Insn.Arithmetic operation (Operands.Immediate to.now number)) next image.old) result
-        image.new }
-{
-    let size = number.size();
-    let x = image.value(to, size)?;
-    let y = number.value();
+    let (at, x, y) = match to.load_both(image, size, from) {
+        Ok(values) => values,
+        Err(vector) => return TurnEnd::Fault(vector),
+    };
     let (value, flags) = alu(operation, size, x, y, &image.flags);
-    keep(image, operation, to, size, value)?;
-    image.flags = flags;
-    image.eip = next;
-    Ok(())
-}
-
-/// The same, with the size looked at once.
-fn operate_immediate(
-    image: &mut Image,
-    operation: Arithmetic,
-    to: &Operand,
-    number: Immediate,
-    next: u32,
-) -> Result<(), u8>
-    ensures { Performs image.old
-        (after (Insn.Arithmetic operation (Operands.Immediate to.now number)) next image.old) result
-        image.new }
-{
-    match number {
-        Immediate::Byte(y) => operate_number(image, operation, to, Immediate::Byte(y), next),
-        Immediate::Word(y) => operate_number(image, operation, to, Immediate::Word(y), next),
-        Immediate::Dword(y) => operate_number(image, operation, to, Immediate::Dword(y), next),
+    match operation {
+        Arithmetic::Cmp => {
+            image.flags = flags;
+            TurnEnd::Next
+        }
+        _ => to.store_result(image, at, size, (value, flags)),
     }
 }
 
-pub fn operate(
+/// An operation on two operands, compiled for each size.
+fn operate_by_size<P: Place, S: Source>(
     image: &mut Image,
     operation: Arithmetic,
-    operands: &Operands,
-    next: u32,
-) -> Result<(), u8>
-    ensures { Performs image.old (after (Insn.Arithmetic operation operands.now) next image.old)
-        result image.new }
+    size: Size,
+    to: &P,
+    from: &S,
+) -> TurnEnd
+    requires { S.Fits from.now size }
+    ensures { (next : ℕ) → Leads next image.old
+        (operated operation (P.operand to.now) size (S.read from.now image.old size) next image.old) result image.new }
+{
+    match size {
+        Size::Byte => operate(image, operation, Size::Byte, to, from),
+        Size::Word => operate(image, operation, Size::Word, to, from),
+        Size::Dword => operate(image, operation, Size::Dword, to, from),
+    }
+}
+
+pub fn operate_on(image: &mut Image, operation: Arithmetic, operands: &Operands) -> TurnEnd
+    ensures { (next : ℕ) → Leads next image.old
+        (after (Insn.Arithmetic operation operands.now) next image.old) result image.new }
 {
     match operands {
         Operands::ToRegister { size, to, from } => {
-            let to = RegisterPart {
-                size: *size,
-                register: *to,
-            };
-            operate_on_register(image, operation, to, from, next)
+            operate_by_size(image, operation, *size, to, from)
         }
-        Operands::ToMemory { size, to, from } => {
-            let from = RegisterPart {
-                size: *size,
-                register: *from,
-            };
-            operate_on_memory(image, operation, to, from, next)
-        }
+        Operands::ToMemory { size, to, from } => operate_by_size(image, operation, *size, to, from),
         Operands::Immediate { to, value } => {
-            operate_immediate(image, operation, to, *value, next)
+            operate_by_size(image, operation, value.size(), to, value)
         }
     }
 }
 
-/// Sets the flags of AND.
-fn test_words(image: &mut Image, size: Size, x: u32, y: u32, next: u32)
-    requires left { x < 2 ^ width size }
-    requires right { y < 2 ^ width size }
-    ensures { image_after_test size x y next image.old ≡ Ok image.new }
+/// TEST: the flags of AND.
+#[inline(always)]
+pub fn test<P: Source, S: Source>(image: &mut Image, size: Size, one: &P, other: &S) -> TurnEnd
+    requires one { P.Fits one.now size }
+    requires other { S.Fits other.now size }
+    ensures { (next : ℕ) → Leads next image.old
+        (tested size (P.read one.now image.old size) (S.read other.now image.old size) next image.old) result image.new }
 {
+    let x = match one.value(image, size) {
+        Ok(x) => x,
+        Err(vector) => return TurnEnd::Fault(vector),
+    };
+    let y = match other.value(image, size) {
+        Ok(y) => y,
+        Err(vector) => return TurnEnd::Fault(vector),
+    };
     let (_, flags) = alu(Arithmetic::And, size, x, y, &image.flags);
     image.flags = flags;
-    image.eip = next;
+    TurnEnd::Next
 }
 
-pub fn test(
-    image: &mut Image,
-    size: Size,
-    operand: &Operand,
-    register: Register,
-    next: u32,
-) -> Result<(), u8>
-    ensures { Performs image.old (after (Insn.Test size operand.now register) next image.old) result
-        image.new }
-{
-    let x = image.value(operand, size)?;
-    let y = image.regs.get(size, register);
-    test_words(image, size, x, y, next);
-    Ok(())
-}
-
-pub fn test_immediate(
-    image: &mut Image,
-    operand: &Operand,
-    value: Immediate,
-    next: u32,
-) -> Result<(), u8>
-    ensures { Performs image.old (after (Insn.TestImmediate operand.now value) next image.old)
-        result image.new }
-{
-    let size = value.size();
-    let x = image.value(operand, size)?;
-    test_words(image, size, x, value.value(), next);
-    Ok(())
-}
-
-/// An operation on one operand, inlined for each size.
+/// An operation on one operand.
 #[inline(always)]
-fn operate_alone(
-    image: &mut Image,
-    operation: Unary,
-    size: Size,
-    operand: &Operand,
-    next: u32,
-) -> Result<(), u8>
-    ensures { Performs image.old (after (Insn.Unary operation size operand.now) next image.old)
-        result image.new }
+pub fn operate_alone<P: Place>(image: &mut Image, operation: Unary, size: Size, to: &P) -> TurnEnd
+    ensures { (next : ℕ) → Leads next image.old
+        (after (Insn.Unary operation size (P.operand to.now)) next image.old) result image.new }
 {
-    let x = image.value(operand, size)?;
-    let (value, flags) = unary(operation, size, x, &image.flags);
-    image.store(operand, size, value)?;
-    image.flags = flags;
-    image.eip = next;
-    Ok(())
-}
-
-pub fn unary_operation(
-    image: &mut Image,
-    operation: Unary,
-    size: Size,
-    operand: &Operand,
-    next: u32,
-) -> Result<(), u8>
-    ensures { Performs image.old (after (Insn.Unary operation size operand.now) next image.old)
-        result image.new }
-{
-    match size {
-        Size::Byte => operate_alone(image, operation, Size::Byte, operand, next),
-        Size::Word => operate_alone(image, operation, Size::Word, operand, next),
-        Size::Dword => operate_alone(image, operation, Size::Dword, operand, next),
+    let at = to.spot(&image.regs);
+    match to.load(image, at, size) {
+        Ok(x) => {
+            let result = unary(operation, size, x, &image.flags);
+            to.store_result(image, at, size, result)
+        }
+        Err(vector) => TurnEnd::Fault(vector),
     }
 }
 
 /// How far a shift goes.
+#[inline(always)]
 pub fn count_of(image: &Image, count: Count) -> u32
     ensures { result ≡ count_of_shift count image.now }
 {
@@ -265,36 +123,33 @@ pub fn count_of(image: &Image, count: Count) -> u32
     }
 }
 
-/// A shift or a rotate, and how far it goes.
-#[derive(Clone, Copy)]
-pub struct CountedShift {
-    pub operation: Shift,
-    pub count: Count,
-}
-
-pub fn shift_operand(
+/// A shift or a rotate.
+#[inline(always)]
+pub fn shift_by<P: Place>(
     image: &mut Image,
-    by: CountedShift,
+    operation: Shift,
     size: Size,
-    operand: &Operand,
-    next: u32,
-) -> Result<(), u8>
-    ensures { Performs image.old
-        (after (Insn.Shift by.operation size operand.now by.count) next image.old) result
-        image.new }
+    to: &P,
+    count: Count,
+) -> TurnEnd
+    ensures { (next : ℕ) → Leads next image.old
+        (after (Insn.Shift operation size (P.operand to.now) count) next image.old) result image.new }
 {
-    let x = image.value(operand, size)?;
-    let count = count_of(image, by.count);
-    let (value, flags) = shift(by.operation, size, x, count, &image.flags);
-    image.store(operand, size, value)?;
-    image.flags = flags;
-    image.eip = next;
-    Ok(())
+    let at = to.spot(&image.regs);
+    match to.load(image, at, size) {
+        Ok(x) => {
+            let places = count_of(image, count);
+            let result = shift(operation, size, x, places, &image.flags);
+            to.store_result(image, at, size, result)
+        }
+        Err(vector) => TurnEnd::Fault(vector),
+    }
 }
 
 // ---- the accumulator
 
-/// What stands above the accumulator: AH, DX or EDX.
+/// What is above the accumulator: AH, DX or EDX.
+#[inline(always)]
 fn upper_register(size: Size) -> Register
     ensures { result ≡ upper_register size }
 {
@@ -304,119 +159,88 @@ fn upper_register(size: Size) -> Register
     }
 }
 
-fn set_halves(image: &mut Image, size: Size, low: u32, high: u32)
-    requires low { low < 2 ^ width size }
-    requires high { high < 2 ^ width size }
-    ensures { image.new ≡ with_halves image.old size low high }
+/// MUL or IMUL of the accumulator.
+#[inline(always)]
+pub fn multiply_by<S: Source>(image: &mut Image, kind: Signedness, size: Size, by: &S) -> TurnEnd
+    requires { S.Fits by.now size }
+    ensures { (next : ℕ) → Leads next image.old
+        (product_by (product_of_kind kind) size (S.read by.now image.old size) next image.old) result image.new }
 {
-    image.regs.set(size, Register::Eax, low);
-    image.regs.set(size, upper_register(size), high);
-}
-
-fn multiply_accumulator(image: &mut Image, kind: Signedness, size: Size, y: u32)
-    requires { y < 2 ^ width size }
-    ensures { image.new ≡ image_after_multiply kind size y image.old }
-{
-    let x = image.regs.get(size, Register::Eax);
-    let (product, flags) = multiply(kind, size, x, y, &image.flags);
-    set_halves(image, size, product.low, product.high);
-    image.flags = flags;
-}
-
-fn divide_accumulator(image: &mut Image, kind: Signedness, size: Size, y: u32) -> Result<(), u8>
-    requires { y < 2 ^ width size }
-    ensures { Performs image.old (quotient_taken kind size y image.old) result image.new }
-{
-    let high = image.regs.get(size, upper_register(size));
-    let low = image.regs.get(size, Register::Eax);
-    let Ok(division) = divide(kind, size, high, low, y) else {
-        return Err(DIVIDE_ERROR);
-    };
-    set_halves(image, size, division.quotient, division.remainder);
-    Ok(())
-}
-
-fn take_product(image: &mut Image, operation: Product, size: Size, y: u32) -> Result<(), u8>
-    requires { y < 2 ^ width size }
-    ensures { Performs image.old (product_taken operation size y image.old) result image.new }
-{
-    match operation {
-        Product::Mul => {
-            multiply_accumulator(image, Signedness::Unsigned, size, y);
-            Ok(())
+    match by.value(image, size) {
+        Ok(y) => {
+            let x = image.regs.get(size, Register::Eax);
+            let (product, flags) = multiply(kind, size, x, y, &image.flags);
+            image.flags = flags;
+            image.regs.set(size, Register::Eax, product.low);
+            image.regs.set(size, upper_register(size), product.high);
+            TurnEnd::Next
         }
-        Product::Imul => {
-            multiply_accumulator(image, Signedness::Signed, size, y);
-            Ok(())
-        }
-        Product::Div => divide_accumulator(image, Signedness::Unsigned, size, y),
-        Product::Idiv => divide_accumulator(image, Signedness::Signed, size, y),
+        Err(vector) => TurnEnd::Fault(vector),
     }
 }
 
-pub fn product(
-    image: &mut Image,
-    operation: Product,
-    size: Size,
-    operand: &Operand,
-    next: u32,
-) -> Result<(), u8>
-    ensures { Performs image.old (after (Insn.Product operation size operand.now) next image.old)
-        result image.new }
+/// DIV or IDIV of the accumulator.
+#[inline(always)]
+pub fn divide_by<S: Source>(image: &mut Image, kind: Signedness, size: Size, by: &S) -> TurnEnd
+    requires { S.Fits by.now size }
+    ensures { (next : ℕ) → Leads next image.old
+        (product_by (division_of_kind kind) size (S.read by.now image.old size) next image.old) result image.new }
 {
-    let y = image.value(operand, size)?;
-    take_product(image, operation, size, y)?;
-    image.eip = next;
-    Ok(())
+    let y = match by.value(image, size) {
+        Ok(y) => y,
+        Err(vector) => return TurnEnd::Fault(vector),
+    };
+    let high = image.regs.get(size, upper_register(size));
+    let low = image.regs.get(size, Register::Eax);
+    match divide(kind, size, high, low, y) {
+        Ok(division) => {
+            image.regs.set(size, Register::Eax, division.quotient);
+            image
+                .regs
+                .set(size, upper_register(size), division.remainder);
+            TurnEnd::Next
+        }
+        Err(DivideFault) => TurnEnd::Fault(DIVIDE_ERROR),
+    }
+}
+
+pub fn product<S: Source>(image: &mut Image, operation: Product, size: Size, by: &S) -> TurnEnd
+    requires { S.Fits by.now size }
+    ensures { (next : ℕ) → Leads next image.old
+        (product_by operation size (S.read by.now image.old size) next image.old) result image.new }
+{
+    match operation {
+        Product::Mul => multiply_by(image, Signedness::Unsigned, size, by),
+        Product::Imul => multiply_by(image, Signedness::Signed, size, by),
+        Product::Div => divide_by(image, Signedness::Unsigned, size, by),
+        Product::Idiv => divide_by(image, Signedness::Signed, size, by),
+    }
 }
 
 /// IMUL into a register.
-fn set_product(image: &mut Image, to: RegisterPart, x: u32, y: u32, next: u32)
-    requires left { x < 2 ^ width to.size }
-    requires right { y < 2 ^ width to.size }
-    ensures { image_after_factor to.size to.register x y next image.old ≡ Ok image.new }
+#[inline(always)]
+pub fn multiply_into<X: Source, Y: Source>(
+    image: &mut Image,
+    size: Size,
+    to: Register,
+    one: &X,
+    other: &Y,
+) -> TurnEnd
+    requires one { X.Fits one.now size }
+    requires other { Y.Fits other.now size }
+    ensures { (next : ℕ) → Leads next image.old
+        (multiplied_into size to (X.read one.now image.old size) (Y.read other.now image.old size) next image.old) result image.new }
 {
-    let (product, flags) = multiply_low(to.size, x, y, &image.flags);
-    image.regs.set(to.size, to.register, product);
+    let y = match other.value(image, size) {
+        Ok(y) => y,
+        Err(vector) => return TurnEnd::Fault(vector),
+    };
+    let x = match one.value(image, size) {
+        Ok(x) => x,
+        Err(vector) => return TurnEnd::Fault(vector),
+    };
+    let (product, flags) = multiply_low(size, x, y, &image.flags);
     image.flags = flags;
-    image.eip = next;
-}
-
-pub fn multiply_register(
-    image: &mut Image,
-    size: OperandSize,
-    to: Register,
-    from: &Operand,
-    next: u32,
-) -> Result<(), u8>
-    ensures { Performs image.old (after (Insn.Multiply size to from.now) next image.old) result
-        image.new }
-{
-    let size = size.size();
-    let y = image.value(from, size)?;
-    let x = image.regs.get(size, to);
-    set_product(image, RegisterPart { size, register: to }, x, y, next);
-    Ok(())
-}
-
-pub fn multiply_immediate(
-    image: &mut Image,
-    to: Register,
-    from: &Operand,
-    by: WideImmediate,
-    next: u32,
-) -> Result<(), u8>
-    ensures { Performs image.old (after (Insn.MultiplyImmediate to from.now by) next image.old)
-        result image.new }
-{
-    let size = by.size();
-    let x = image.value(from, size)?;
-    set_product(
-        image,
-        RegisterPart { size, register: to },
-        x,
-        by.value(),
-        next,
-    );
-    Ok(())
+    image.regs.set(size, to, product);
+    TurnEnd::Next
 }

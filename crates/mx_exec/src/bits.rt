@@ -1,76 +1,59 @@
-//! Bit tests, bit scans and double shifts.
+//! Bit tests, bit scans and double shifts of operands in whatever form.
 
-ghost use Rattle.std.specs.Prelude.{◌≡◌, ◌<◌, ◌^◌, Ok, Err};
-ghost use Rattle.mx_exec.specs.Image.{Performs};
-ghost use Rattle.mx_exec.specs.Step.{after, image_with_bit, image_after_bit_test};
+#![tactic(auto, unfolding(crate::specs::Ending::Leads))]
 
-use crate::Image;
+ghost use Rattle.std.specs.Prelude.{◌≡◌, ℕ};
+ghost use Rattle.mx_exec.specs.Ending.{Leads};
+ghost use Rattle.mx_exec.specs.Step.{after, image_after_bit_test, scanned};
+
 use crate::arithmetic::count_of;
+use crate::{Image, Place, Source, TurnEnd};
 use mx_alu::{bit_scan, bit_test, double_shift};
-use mx_insn::{Count, Insn, Operand};
+use mx_insn::{Count, Insn};
 use mx_word::{BitScan, BitTest, DoubleShift, Register, Size};
 
-/// Writes the dword of a bit test to its operand; BT makes none.
-fn keep(image: &mut Image, operation: BitTest, operand: &Operand, value: u32) -> Result<(), u8>
-    ensures { Performs image.old (image_with_bit operation operand.now value image.old) result
-        image.new }
-{
-    match operation {
-        BitTest::Bt => Ok(()),
-        BitTest::Bts | BitTest::Btr | BitTest::Btc => image.store(operand, Size::Dword, value),
-    }
-}
-
-pub fn test_bit(
+/// BT, BTS, BTR or BTC. BT writes only flags.
+pub fn test_bit<P: Place>(
     image: &mut Image,
     operation: BitTest,
-    operand: &Operand,
+    operand: &P,
     number: u32,
-    next: u32,
-) -> Result<(), u8>
-    ensures { Performs image.old (image_after_bit_test operation operand.now number next image.old)
-        result image.new }
+) -> TurnEnd
+    ensures { (next : ℕ) → Leads next image.old
+        (image_after_bit_test operation (P.operand operand.now) number next image.old) result image.new }
 {
-    let x = image.value(operand, Size::Dword)?;
-    let (value, flags) = bit_test(operation, x, number, &image.flags);
-    keep(image, operation, operand, value)?;
-    image.flags = flags;
-    image.eip = next;
-    Ok(())
-}
-
-pub fn test_register_bit(
-    image: &mut Image,
-    operation: BitTest,
-    register: Register,
-    number: Register,
-    next: u32,
-) -> Result<(), u8>
-    ensures { Performs image.old
-        (after (Insn.BitTestRegister operation register number) next image.old) result image.new }
-{
-    let number = image.register(number);
-    test_bit(image, operation, &Operand::Register(register), number, next)
-}
-
-pub fn scan(
-    image: &mut Image,
-    operation: BitScan,
-    to: Register,
-    from: &Operand,
-    next: u32,
-) -> Result<(), u8>
-    ensures { Performs image.old (after (Insn.BitScan operation to from.now) next image.old) result
-        image.new }
-{
-    let x = image.value(from, Size::Dword)?;
-    let (found, flags) = bit_scan(operation, x, &image.flags);
-    if let Some(place) = found {
-        image.set_register(to, place);
+    let at = operand.spot(&image.regs);
+    let x = match operand.load(image, at, Size::Dword) {
+        Ok(x) => x,
+        Err(vector) => return TurnEnd::Fault(vector),
+    };
+    let result = bit_test(operation, x, number, &image.flags);
+    match operation {
+        BitTest::Bt => {
+            image.flags = result.1;
+            TurnEnd::Next
+        }
+        _ => operand.store_result(image, at, Size::Dword, result),
     }
-    image.flags = flags;
-    image.eip = next;
-    Ok(())
+}
+
+/// BSF or BSR.
+pub fn scan<S: Source>(image: &mut Image, operation: BitScan, to: Register, from: &S) -> TurnEnd
+    requires { S.Fits from.now Size.Dword }
+    ensures { (next : ℕ) → Leads next image.old
+        (scanned operation to (S.read from.now image.old Size.Dword) next image.old) result image.new }
+{
+    match from.value(image, Size::Dword) {
+        Ok(x) => {
+            let (found, flags) = bit_scan(operation, x, &image.flags);
+            if let Some(place) = found {
+                image.set_register(to, place);
+            }
+            image.flags = flags;
+            TurnEnd::Next
+        }
+        Err(vector) => TurnEnd::Fault(vector),
+    }
 }
 
 /// What a double shift fills its operand with: a register's bits, and how many.
@@ -80,23 +63,23 @@ pub struct Filler {
     pub count: Count,
 }
 
-pub fn shift_double(
+/// SHLD or SHRD.
+pub fn shift_double<P: Place>(
     image: &mut Image,
     operation: DoubleShift,
-    operand: &Operand,
+    to: &P,
     filler: Filler,
-    next: u32,
-) -> Result<(), u8>
-    ensures { Performs image.old
-        (after (Insn.DoubleShift operation operand.now filler.register filler.count) next
-        image.old) result image.new }
+) -> TurnEnd
+    ensures { (next : ℕ) → Leads next image.old
+        (after (Insn.DoubleShift operation (P.operand to.now) filler.register filler.count) next image.old) result image.new }
 {
-    let x = image.value(operand, Size::Dword)?;
+    let at = to.spot(&image.regs);
+    let x = match to.load(image, at, Size::Dword) {
+        Ok(x) => x,
+        Err(vector) => return TurnEnd::Fault(vector),
+    };
     let bits = image.register(filler.register);
     let count = count_of(image, filler.count);
-    let (value, flags) = double_shift(operation, x, bits, count, &image.flags);
-    image.store(operand, Size::Dword, value)?;
-    image.flags = flags;
-    image.eip = next;
-    Ok(())
+    let result = double_shift(operation, x, bits, count, &image.flags);
+    to.store_result(image, at, Size::Dword, result)
 }

@@ -59,12 +59,14 @@ impl Image {
     }
 
     /// The 32 bits of a register of the image.
+    #[inline(always)]
     pub fn register(&self, register: Register) -> u32
         ensures { result ≡ register_of self.now register }
     {
         self.regs.get(Size::Dword, register)
     }
 
+    #[inline(always)]
     pub(crate) fn set_register(&mut self, register: Register, value: u32)
         ensures { self.new ≡ with_dword self.old register value }
     {
@@ -110,6 +112,7 @@ impl Image {
 }
 
 /// An address or count less a number, modulo 2^32.
+#[inline(always)]
 pub fn dword_difference(number: u32, by: u32) -> u32
     ensures { result ≡ dword_difference number by }
 {
@@ -117,6 +120,7 @@ pub fn dword_difference(number: u32, by: u32) -> u32
 }
 
 /// An address or count and a number more, modulo 2^32.
+#[inline(always)]
 pub fn dword_sum(number: u32, by: u32) -> u32
     ensures { result ≡ dword_sum number by }
 {

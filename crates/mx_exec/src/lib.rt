@@ -2,20 +2,23 @@
 //! process's registers, flags, memory and segment, and the next EIP.
 #![tactic(auto)]
 
-mod arithmetic;
+pub mod arithmetic;
 mod bits;
+mod ending;
 mod image;
-mod jumps;
+pub mod jumps;
 mod laws;
-mod moves;
+pub mod moves;
 mod operands;
 mod plain;
-mod stack;
+pub mod stack;
 mod steps;
-mod strings;
+pub mod strings;
 mod text;
 
+pub use ending::{TurnEnd, settle};
 pub use image::{Code, Image, Outcome};
 pub use laws::step_lasts;
+pub use operands::{Place, Source};
 pub use steps::{act, outcome, perform, step};
 pub use text::{TextSegment, decode_at};

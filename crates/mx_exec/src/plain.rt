@@ -6,7 +6,7 @@ ghost use Rattle.mx_exec.specs.Stack.{top_of};
 ghost use Rattle.mx_exec.specs.Step.{plain_after, frame_released};
 
 use crate::image::dword_sum;
-use crate::{Image, stack};
+use crate::{Image, settle, stack};
 use mx_flags::Flags;
 use mx_insn::Plain;
 use mx_mem::{GENERAL_PROTECTION, OutOfLimit, STACK_FAULT};
@@ -24,9 +24,8 @@ fn push_flags(image: &mut Image, next: u32) -> Result<(), u8>
     ensures { Performs image.old (plain_after Plain.Pushfd next image.old) result image.new }
 {
     let bits = image.flags.to_bits();
-    stack::push(image, bits)?;
-    image.eip = next;
-    Ok(())
+    let end = stack::push(image, bits);
+    settle(image, end, next)
 }
 
 fn pop_flags(image: &mut Image, next: u32) -> Result<(), u8>

@@ -1,32 +1,54 @@
 //! The stack.
 
-ghost use Rattle.std.specs.Prelude.{◌≡◌, ◌^◌, ◌<◌, length, Ok, Err, true, IfOk};
+#![tactic(auto, unfolding(crate::specs::Ending::Leads))]
+
+ghost use Rattle.std.specs.Prelude.{◌≡◌, ◌^◌, ◌<◌, ℕ, length, Ok, Err, true, IfOk};
 ghost use Rattle.mx_word.specs.Word.{value_at};
 ghost use Rattle.mx_mem.specs.Segment.{inside, with_value};
 ghost use Rattle.mx_exec.specs.Image.{Performs, dword_difference, dword_sum};
-ghost use Rattle.mx_exec.specs.Stack.{image_after_push, top_of, image_after_drop, has_room, has_dwords, with_pushed, pushad_words, pushad, popad, popad_words};
+ghost use Rattle.mx_exec.specs.Ending.{Leads};
+ghost use Rattle.mx_exec.specs.Step.{after, image_after_push_of};
+ghost use Rattle.mx_exec.specs.Stack.{top_of, image_after_drop, has_room, has_dwords, with_pushed, pushad_words, pushad, popad, popad_words};
 
-use crate::Image;
 use crate::image::{dword_difference, dword_sum};
+use crate::{Image, Source, TurnEnd};
+use mx_insn::Insn;
 use mx_mem::{OutOfLimit, STACK_FAULT, Segment};
 use mx_regs::Regs;
 use mx_word::{Register, Size};
 
-/// Pushes a dword on the image's stack.
-pub fn push(image: &mut Image, value: u32) -> Result<(), u8>
-    ensures { Performs image.old (image_after_push value image.old) result image.new }
+/// PUSH of a value.
+#[inline(always)]
+pub fn push(image: &mut Image, value: u32) -> TurnEnd
+    ensures { (next : ℕ) → Leads next image.old (after (Insn.PushImmediate value) next image.old)
+        result image.new }
 {
     let top = dword_difference(image.register(Register::Esp), 4);
     match image.memory.write(top, Size::Dword, value) {
         Ok(()) => {
             image.set_register(Register::Esp, top);
-            Ok(())
+            TurnEnd::Wrote { at: top }
         }
-        Err(OutOfLimit) => Err(STACK_FAULT),
+        Err(OutOfLimit) => TurnEnd::Fault(STACK_FAULT),
+    }
+}
+
+/// PUSH of what an instruction reads.
+#[inline(always)]
+pub fn push_from<S: Source>(image: &mut Image, from: &S) -> TurnEnd
+    requires { S.Fits from.now Size.Dword }
+    ensures { (next : ℕ) → Leads next image.old
+        (image_after_push_of (S.read from.now image.old Size.Dword) next image.old) result
+        image.new }
+{
+    match from.value(image, Size::Dword) {
+        Ok(value) => push(image, value),
+        Err(vector) => TurnEnd::Fault(vector),
     }
 }
 
 /// The dword on top of the image's stack.
+#[inline(always)]
 pub fn top(image: &Image) -> Result<u32, u8>
     ensures { result ≡ top_of image.now }
 {
@@ -39,7 +61,24 @@ pub fn top(image: &Image) -> Result<u32, u8>
     }
 }
 
+/// POP.
+#[inline(always)]
+pub fn pop(image: &mut Image, to: Register) -> TurnEnd
+    ensures { (next : ℕ) → Leads next image.old (after (Insn.Pop to) next image.old)
+        result image.new }
+{
+    match top(image) {
+        Ok(value) => {
+            drop_bytes(image, 4);
+            image.set_register(to, value);
+            TurnEnd::Next
+        }
+        Err(vector) => TurnEnd::Fault(vector),
+    }
+}
+
 /// Takes bytes off the image's stack.
+#[inline(always)]
 pub fn drop_bytes(image: &mut Image, count: u32)
     ensures { image.new ≡ image_after_drop count image.old }
 {

@@ -1,17 +1,20 @@
 //! One step.
 
-ghost use Rattle.std.specs.Prelude.{◌≡◌, true, drop, Ok, Err};
+ghost use Rattle.std.specs.Prelude.{◌≡◌, ℕ, true, drop, Ok, Err};
 ghost use Rattle.mx_decode.specs.Decode.{front};
 ghost use Rattle.mx_insn.specs.Families.{is_calculation};
 ghost use Rattle.mx_exec.specs.Image.{code_bytes, Performs};
+ghost use Rattle.mx_exec.specs.Ending.{Leads};
 ghost use Rattle.mx_exec.specs.Lasting.{lasting};
 ghost use Rattle.mx_exec.specs.Step.{after, outcome_of, one_step};
 ghost use Rattle.mx_exec.specs.Text.{Fetches};
 
-use crate::arithmetic::CountedShift;
 use crate::bits::Filler;
 use crate::image::dword_sum;
-use crate::{Image, Outcome, arithmetic, bits, jumps, moves, plain, strings};
+use crate::{
+    Image, Outcome, Place, TurnEnd, arithmetic, bits, jumps, moves, plain, settle, stack, strings,
+};
+use mx_alu::Signedness;
 use mx_decode::DecodeFault;
 use mx_insn::{Insn, Plain};
 use mx_mem::{GENERAL_PROTECTION, INVALID_OPCODE};
@@ -27,62 +30,55 @@ pub fn outcome(insn: &Insn) -> Outcome
 }
 
 /// Performs an instruction that moves, tests or calculates.
-#[inline(always)]
-fn calculate(image: &mut Image, insn: &Insn, next: u32) -> Result<(), u8>
+fn calculate(image: &mut Image, insn: &Insn) -> TurnEnd
     requires { is_calculation insn.now ≡ true }
-    ensures { Performs image.old (after insn.now next image.old) result image.new }
+    ensures { (next : ℕ) → Leads next image.old (after insn.now next image.old) result image.new }
 {
     match insn {
         Insn::Arithmetic {
             operation,
             operands,
-        } => { arithmetic::operate(image, *operation, operands, next) }
-        Insn::Move(operands) => moves::move_operand(image, operands, next),
+        } => arithmetic::operate_on(image, *operation, operands),
+        Insn::Move(operands) => moves::move_operand(image, operands),
         Insn::Test {
             size,
             operand,
             register,
-        } => { arithmetic::test(image, *size, operand, *register, next) }
+        } => arithmetic::test(image, *size, operand, register),
         Insn::TestImmediate { operand, value } => {
-            arithmetic::test_immediate(image, operand, *value, next)
+            arithmetic::test(image, value.size(), operand, value)
         }
         Insn::Exchange {
             size,
             operand,
             register,
-        } => { moves::exchange(image, *size, operand, *register, next) }
+        } => moves::exchange(image, *size, operand, *register),
         Insn::LoadAddress { size, to, memory } => {
-            moves::load_address(image, *size, *to, memory, next);
-            Ok(())
+            let at = memory.spot(&image.regs);
+            moves::load_address(image, size.size(), *to, at)
         }
         Insn::Unary {
             operation,
             size,
             operand,
-        } => { arithmetic::unary_operation(image, *operation, *size, operand, next) }
+        } => arithmetic::operate_alone(image, *operation, *size, operand),
         Insn::Product {
             operation,
             size,
             operand,
-        } => { arithmetic::product(image, *operation, *size, operand, next) }
+        } => arithmetic::product(image, *operation, *size, operand),
         Insn::Multiply { size, to, from } => {
-            arithmetic::multiply_register(image, *size, *to, from, next)
+            arithmetic::multiply_into(image, size.size(), *to, to, from)
         }
         Insn::MultiplyImmediate { to, from, by } => {
-            arithmetic::multiply_immediate(image, *to, from, *by, next)
+            arithmetic::multiply_into(image, by.size(), *to, from, by)
         }
         Insn::Shift {
             operation,
             size,
             operand,
             count,
-        } => {
-            let by = CountedShift {
-                operation: *operation,
-                count: *count,
-            };
-            arithmetic::shift_operand(image, by, *size, operand, next)
-        }
+        } => arithmetic::shift_by(image, *operation, *size, operand, *count),
         Insn::DoubleShift {
             operation,
             operand,
@@ -93,49 +89,44 @@ fn calculate(image: &mut Image, insn: &Insn, next: u32) -> Result<(), u8>
                 register: *register,
                 count: *count,
             };
-            bits::shift_double(image, *operation, operand, filler, next)
+            bits::shift_double(image, *operation, operand, filler)
         }
         Insn::BitTest {
             operation,
             operand,
             number,
-        } => { bits::test_bit(image, *operation, operand, u32::from(*number), next) }
+        } => bits::test_bit(image, *operation, operand, u32::from(*number)),
         Insn::BitTestRegister {
             operation,
             register,
             number,
-        } => { bits::test_register_bit(image, *operation, *register, *number, next) }
+        } => {
+            let number = image.register(*number);
+            bits::test_bit(image, *operation, register, number)
+        }
         Insn::BitScan {
             operation,
             to,
             from,
-        } => { bits::scan(image, *operation, *to, from, next) }
+        } => bits::scan(image, *operation, *to, from),
         Insn::ZeroExtend {
             extension,
             to,
             from,
-        } => { moves::zero_extend(image, *extension, *to, from, next) }
+        } => moves::extend_into(image, Signedness::Unsigned, *extension, *to, from),
         Insn::SignExtend {
             extension,
             to,
             from,
-        } => { moves::sign_extend(image, *extension, *to, from, next) }
+        } => moves::extend_into(image, Signedness::Signed, *extension, *to, from),
         Insn::SetCondition { condition, operand } => {
-            moves::set_condition(image, *condition, operand, next)
+            moves::set_condition(image, *condition, operand)
         }
-        Insn::Push(operand) => moves::push_operand(image, operand, next),
-        Insn::PushImmediate(value) => moves::push_immediate(image, *value, next),
-        Insn::Pop(register) => moves::pop(image, *register, next),
-        Insn::ExtendAccumulator(size) => {
-            moves::extend_accumulator(image, *size);
-            image.eip = next;
-            Ok(())
-        }
-        Insn::SpreadSign(size) => {
-            moves::spread_accumulator(image, *size);
-            image.eip = next;
-            Ok(())
-        }
+        Insn::Push(operand) => stack::push_from(image, operand),
+        Insn::PushImmediate(value) => stack::push(image, *value),
+        Insn::Pop(register) => stack::pop(image, *register),
+        Insn::ExtendAccumulator(size) => moves::extend_accumulator(image, *size),
+        Insn::SpreadSign(size) => moves::spread_accumulator(image, *size),
         _ => unreachable!(),
     }
 }
@@ -152,14 +143,29 @@ pub fn perform(image: &mut Image, insn: &Insn, next: u32) -> Result<(), u8>
             displacement,
         } => { jumps::jump_if(image, *condition, *displacement, next) }
         Insn::Jump(displacement) => image.jump(dword_sum(next, *displacement)),
-        Insn::Call(displacement) => jumps::call(image, dword_sum(next, *displacement), next),
-        Insn::JumpTo(operand) => jumps::jump_to(image, operand),
-        Insn::CallTo(operand) => jumps::call_to(image, operand, next),
+        Insn::Call(displacement) => {
+            let limit = image.code_limit();
+            let end = jumps::call(image, dword_sum(next, *displacement), next, limit);
+            settle(image, end, next)
+        }
+        Insn::JumpTo(operand) => {
+            let end = jumps::jump_to(image, operand, image.code_limit());
+            settle(image, end, next)
+        }
+        Insn::CallTo(operand) => {
+            let limit = image.code_limit();
+            let end = jumps::call_to(image, operand, next, limit);
+            settle(image, end, next)
+        }
         Insn::Loop {
             operation,
             displacement,
         } => { jumps::loop_to(image, *operation, *displacement, next) }
-        Insn::Return(count) => jumps::return_from(image, *count),
+        Insn::Return(count) => {
+            let limit = image.code_limit();
+            let end = jumps::return_from(image, *count, limit);
+            settle(image, end, next)
+        }
         Insn::Interrupt(number) => jumps::interrupt(image, *number, next),
         Insn::Transfer {
             operation,
@@ -179,7 +185,10 @@ pub fn perform(image: &mut Image, insn: &Insn, next: u32) -> Result<(), u8>
         } => { strings::compare(image, *operation, *size, *repeat, next) }
         Insn::In { .. } | Insn::Out { .. } => Err(GENERAL_PROTECTION),
         Insn::Plain(operation) => plain::perform_plain(image, *operation, next),
-        _ => calculate(image, insn, next),
+        _ => {
+            let end = calculate(image, insn);
+            settle(image, end, next)
+        }
     }
 }
 

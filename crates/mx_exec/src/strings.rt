@@ -3,6 +3,7 @@
 ghost use Rattle.std.specs.Prelude.{◌≡◌, ◌^◌, ◌<◌, true, false, Ok, Err, IfOk};
 ghost use Rattle.mx_word.specs.Word.{width};
 ghost use Rattle.mx_exec.specs.Image.{Performs};
+ghost use Rattle.mx_exec.specs.Ending.{Iterates};
 ghost use Rattle.mx_exec.specs.Strings.{read_by, written_by, pointer_after, image_after_transfer, image_after_comparison, counted_down, is_counted_out, ends_repeat, transfer, compare};
 
 use crate::Image;
@@ -12,6 +13,7 @@ use mx_mem::{GENERAL_PROTECTION, OutOfLimit};
 use mx_word::{Register, Size};
 
 /// The number that a pointer names.
+#[inline(always)]
 fn read_by(image: &Image, pointer: Register, size: Size) -> Result<u32, u8>
     ensures value { result ≡ read_by pointer size image.now }
     ensures below { IfOk result (λ v. v < 2 ^ width size) }
@@ -22,9 +24,11 @@ fn read_by(image: &Image, pointer: Register, size: Size) -> Result<u32, u8>
     }
 }
 
+#[inline(always)]
 fn write_by(image: &mut Image, pointer: Register, size: Size, value: u32) -> Result<(), u8>
     requires { value < 2 ^ width size }
-    ensures { Performs image.old (written_by pointer size value image.old) result image.new }
+    ensures performs { Performs image.old (written_by pointer size value image.old) result image.new }
+    ensures eip { image.new.eip ≡ image.old.eip }
 {
     let at = image.register(pointer);
     match image.memory.write(at, size, value) {
@@ -33,7 +37,8 @@ fn write_by(image: &mut Image, pointer: Register, size: Size, value: u32) -> Res
     }
 }
 
-/// Moves a pointer by a size, down where the direction flag is set.
+/// Moves a pointer by a size, down if the direction flag is set.
+#[inline(always)]
 fn advance(image: &mut Image, pointer: Register, size: Size)
     ensures { image.new ≡ pointer_after pointer size image.old }
 {
@@ -47,8 +52,11 @@ fn advance(image: &mut Image, pointer: Register, size: Size)
 }
 
 /// One MOVS, STOS or LODS.
+#[inline(always)]
 fn transfer_once(image: &mut Image, operation: Transfer, size: Size) -> Result<(), u8>
-    ensures { Performs image.old (image_after_transfer operation size image.old) result image.new }
+    ensures performs { Performs image.old (image_after_transfer operation size image.old) result
+        image.new }
+    ensures eip { image.new.eip ≡ image.old.eip }
 {
     match operation {
         Transfer::Movs => {
@@ -98,6 +106,7 @@ fn compare_once(image: &mut Image, operation: Comparison, size: Size) -> Result<
 }
 
 /// Takes one from ECX.
+#[inline(always)]
 fn count_down(image: &mut Image)
     ensures { image.new ≡ counted_down image.old }
 {
@@ -106,6 +115,7 @@ fn count_down(image: &mut Image)
 }
 
 /// Whether ECX has run out.
+#[inline(always)]
 fn is_counted_out(image: &Image) -> bool
     ensures { result ≡ is_counted_out image.now }
 {
@@ -121,6 +131,30 @@ pub fn transfer(image: &mut Image, operation: Transfer, size: Size, next: u32) -
     Ok(())
 }
 
+/// One iteration of a transfer after REP. Answers whether the instruction is still next: as long as ECX
+/// isn't 0. Else EIP is at the one after it.
+#[inline(always)]
+pub fn iterate(
+    image: &mut Image,
+    operation: Transfer,
+    size: Size,
+    next: u32,
+) -> Result<bool, u8>
+    ensures { Iterates image.old (transfer operation size true next image.old) result image.new }
+{
+    if is_counted_out(image) {
+        image.eip = next;
+        return Ok(false);
+    }
+    transfer_once(image, operation, size)?;
+    count_down(image);
+    if is_counted_out(image) {
+        image.eip = next;
+        return Ok(false);
+    }
+    Ok(true)
+}
+
 /// A transfer after REP: one iteration.
 pub fn repeat_transfer(
     image: &mut Image,
@@ -130,16 +164,10 @@ pub fn repeat_transfer(
 ) -> Result<(), u8>
     ensures { Performs image.old (transfer operation size true next image.old) result image.new }
 {
-    if is_counted_out(image) {
-        image.eip = next;
-        return Ok(());
+    match iterate(image, operation, size, next) {
+        Ok(_) => Ok(()),
+        Err(vector) => Err(vector),
     }
-    transfer_once(image, operation, size)?;
-    count_down(image);
-    if is_counted_out(image) {
-        image.eip = next;
-    }
-    Ok(())
 }
 
 /// Whether a comparison ends its repeat.
