@@ -3,7 +3,6 @@
 #![tactic(auto, unfolding(crate::specs::Ending::Leads))]
 
 ghost use Rattle.std.specs.Prelude.{◌≡◌, ℕ, Ok};
-ghost use Rattle.mx_insn.specs.Sizes.{size_of_immediate};
 ghost use Rattle.mx_exec.specs.Accumulator.{division_of_kind, product_of_kind, upper_register};
 ghost use Rattle.mx_exec.specs.Ending.{Leads};
 ghost use Rattle.mx_exec.specs.Step.{after, count_of_shift, multiplied_into, operated, product_by, tested};

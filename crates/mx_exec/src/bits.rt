@@ -2,7 +2,7 @@
 
 #![tactic(auto, unfolding(crate::specs::Ending::Leads))]
 
-ghost use Rattle.std.specs.Prelude.{◌≡◌, ℕ};
+ghost use Rattle.std.specs.Prelude.{ℕ};
 ghost use Rattle.mx_exec.specs.Ending.{Leads};
 ghost use Rattle.mx_exec.specs.Step.{after, image_after_bit_test, scanned};
 

@@ -2,7 +2,7 @@
 
 #![tactic(auto, unfolding(crate::specs::Ending::Leads))]
 
-ghost use Rattle.std.specs.Prelude.{◌≡◌, ℕ, Result};
+ghost use Rattle.std.specs.Prelude.{ℕ, Result};
 ghost use Rattle.mx_exec.specs.declared.image.Image.{Image};
 ghost use Rattle.mx_exec.specs.Ending.{Leads};
 ghost use Rattle.mx_exec.specs.Image.{Performs};

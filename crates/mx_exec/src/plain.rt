@@ -1,15 +1,14 @@
 //! Instructions without operands.
 
-ghost use Rattle.std.specs.Prelude.{◌≡◌, Ok, Err};
+ghost use Rattle.std.specs.Prelude.{Ok, Err};
 ghost use Rattle.mx_exec.specs.Image.{Performs, image_at_next};
-ghost use Rattle.mx_exec.specs.Stack.{top_of};
 ghost use Rattle.mx_exec.specs.Step.{plain_after, frame_released};
 
 use crate::image::dword_sum;
 use crate::{Image, settle, stack};
 use mx_flags::Flags;
 use mx_insn::Plain;
-use mx_mem::{GENERAL_PROTECTION, OutOfLimit, STACK_FAULT};
+use mx_mem::{GENERAL_PROTECTION, STACK_FAULT};
 use mx_word::{Register, Size};
 
 /// On to the next instruction.

@@ -2,7 +2,7 @@
 
 #![tactic(auto, unfolding(crate::specs::Ending::Leads))]
 
-ghost use Rattle.std.specs.Prelude.{◌≡◌, ◌^◌, ◌<◌, ℕ, length, Ok, Err, true, IfOk};
+ghost use Rattle.std.specs.Prelude.{◌≡◌, ◌<◌, ℕ, length, Ok, Err, true};
 ghost use Rattle.mx_word.specs.Word.{value_at};
 ghost use Rattle.mx_mem.specs.Segment.{inside, with_value};
 ghost use Rattle.mx_exec.specs.Image.{Performs, dword_difference, dword_sum};

@@ -134,12 +134,7 @@ pub fn transfer(image: &mut Image, operation: Transfer, size: Size, next: u32) -
 /// One iteration of a transfer after REP. Answers whether the instruction is still next: as long as ECX
 /// isn't 0. Else EIP is at the one after it.
 #[inline(always)]
-pub fn iterate(
-    image: &mut Image,
-    operation: Transfer,
-    size: Size,
-    next: u32,
-) -> Result<bool, u8>
+pub fn iterate(image: &mut Image, operation: Transfer, size: Size, next: u32) -> Result<bool, u8>
     ensures { Iterates image.old (transfer operation size true next image.old) result image.new }
 {
     if is_counted_out(image) {
