@@ -1,4 +1,4 @@
 mod SymbolLists
 mod WrittenSymbols
 mod WrittenFile
-mod OneProgram
+pub mod OneProgram

@@ -33,6 +33,7 @@ same_parts : (a b : Bool) (e f t u : ℕ) (x y i j : List ℕ) (s r : ℕ) (k l 
     → (let p : Parts = (a, e, t, x, i, s, k) in p) ≡ (b, f, u, y, j, r, l)
 same_parts a b e f t u x y i j s r k l h1 h2 h3 h4 h5 h6 h7 = cc
 
+-- two programs are equal if all that a file has of them is equal
 pub alike_same : (p q : Program) → AreAlike p q → p ≡ q
 alike_same p q h =
     same_program (parts_of p) (parts_of q)

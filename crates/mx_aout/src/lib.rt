@@ -10,4 +10,4 @@ mod writing;
 pub use file::{length_asked, read};
 pub use limits::{PAGE_SIZE, rounded_to_pages};
 pub use program::{FileError, Program, Symbol, Symbols};
-pub use writing::{alike_is_same, one_program, read_back, write};
+pub use writing::{one_program, read_back, write};

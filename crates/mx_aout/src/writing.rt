@@ -5,7 +5,6 @@ ghost use Rattle.std.specs.List.{AllByRecursion, flat_map};
 ghost use Rattle.mx_word.specs.Word.{bytes_of};
 ghost use Rattle.mx_aout.specs.declared.program.Program.{Program};
 ghost use Rattle.mx_aout.specs.Limits.{IsWithin};
-ghost use Rattle.mx_aout.specs.Alike.{AreAlike};
 ghost use Rattle.mx_aout.specs.File.{FileIs, symbol_at};
 ghost use Rattle.mx_aout.specs.Written.{short_file, short_header, symbol_bytes};
 
@@ -124,11 +123,6 @@ pub fn write(alloc: Global, program: &Program) -> Result<Vec<u8>, NoMemory>
     push_symbols(&mut bytes, program.symbols.as_slice())?;
     Ok(bytes)
 }
-
-/// Law: two programs are equal if all that a file has of them is equal.
-pub fn alike_is_same()
-    ensures { (p q : Program) → AreAlike p q → p ≡ q }
-{}
 
 /// Law: bytes are an a.out file of one program at most.
 pub fn one_program()

@@ -29,7 +29,6 @@ use Rattle.mx_asm.specs.Bytes.{AllStand, BytesOf, StandsIn, contents}
 use Rattle.mx_asm.specs.Faults.{fault_after, problem_of, total_of}
 use Rattle.mx_asm.specs.Assembled.{AreAssembled, symbol_under, entry_under}
 use Rattle.mx_asm.specs.Text.{IsLineTaken, AreLinesTaken, IsLineWrong, IsFirstLineWrong, AreLinesAccepted, IsAssembled, HasTextFault}
-use Rattle.mx_asm.proofs.Lengths.{KeepsLength}
 use Rattle.mx_asm.proofs.Emitting.{lengths_same}
 
 abbrev pub OneLine : Type 0
@@ -158,10 +157,10 @@ all_same one a s (l ∷ ls) (b ∷ bs) (c ∷ cs) (x, xs) (y, ys) =
 some_same : (x y : ℕ) → Some x ≡ Some y → x ≡ y
 some_same x y e = cc
 
-lines_program : KeepsLength → OneChosen → (ls : List Line) (p q : Program) → AreAssembled ls p → AreAssembled ls q → AreAlike p q
-lines_program law one ls p q x y =
+lines_program : OneChosen → (ls : List Line) (p q : Program) → AreAssembled ls p → AreAssembled ls q → AreAlike p q
+lines_program one ls p q x y =
     let a = left_by no_lines_above ls (map length x.bytes) in
-    let left : left_by no_lines_above ls (map length y.bytes) ≡ a = lengths_same law _ no_lines_above no_lines_above.sizes ls y.bytes y.stand ∙ sym (lengths_same law a no_lines_above no_lines_above.sizes ls x.bytes x.stand) in
+    let left : left_by no_lines_above ls (map length y.bytes) ≡ a = lengths_same _ no_lines_above no_lines_above.sizes ls y.bytes y.stand ∙ sym (lengths_same a no_lines_above no_lines_above.sizes ls x.bytes x.stand) in
     let stand : AllStand a no_lines_above.sizes ls y.bytes = subst (λ (z : LinesAbove). AllStand z no_lines_above.sizes ls y.bytes) left y.stand in
     let bytes : x.bytes ≡ y.bytes = all_same one a no_lines_above.sizes ls x.bytes y.bytes x.stand stand in
     let back : a ≡ left_by no_lines_above ls (map length y.bytes) = sym left in
@@ -175,7 +174,7 @@ lines_program law one ls p q x y =
       symbols = x.symbols ∙ ap (λ (z : LinesAbove). map (symbol_under z) z.labels) back ∙ sym y.symbols;
     }
 
-pub one_program : OneLine → KeepsLength → OneChosen → (t : List ℕ) (p q : Program) → IsAssembled t p → IsAssembled t q → AreAlike p q
-one_program one law chosen t p q (ls, taken, made) (ks, taken', made') =
+pub one_program : OneLine → OneChosen → (t : List ℕ) (p q : Program) → IsAssembled t p → IsAssembled t q → AreAlike p q
+one_program one chosen t p q (ls, taken, made) (ks, taken', made') =
     let same : ks ≡ ls = taken_same one unseen _ ks ls taken' taken in
-    lines_program law chosen ls p q made (subst (λ (x : List Line). AreAssembled x q) same made')
+    lines_program chosen ls p q made (subst (λ (x : List Line). AreAssembled x q) same made')

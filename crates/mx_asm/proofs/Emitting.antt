@@ -14,7 +14,7 @@ use Rattle.mx_asm.specs.Lengths.{statement_length}
 use Rattle.mx_asm.specs.Faults.{is_undefined}
 use Rattle.mx_asm.specs.Layout.{LinesAbove, value_under, no_lines_above, section_offset_of, sizes_after, address_of_offset, left_by, laid_by, above_with, statement_said}
 use Rattle.mx_asm.specs.Bytes.{AllStand, AreParts, BytesOf, StandsIn, Pushes, PutsOut, contents, put_into}
-use Rattle.mx_asm.proofs.Lengths.{KeepsLength, stands_length}
+use Rattle.mx_asm.proofs.Lengths.{stands_length}
 
 -- with any bytes for the lines that are left, from here on, there are bytes for all
 abbrev pub Completes : LinesAbove → List Line → ℕ → SectionSizes → List ℕ → List ℕ → Type 0
@@ -23,11 +23,11 @@ Completes a ls i s text init =
     AreParts a no_lines_above.sizes ls (text ++ contents Text s (drop i ls) rest) (init ++ contents Data s (drop i ls) rest)
 
 -- one line more
-pub completes_more : KeepsLength → (a : LinesAbove) (ls : List Line) (i : ℕ) (s r : SectionSizes) (text init : List ℕ) (l : Line) (b : List ℕ) → Completes a ls i s text init
+pub completes_more : (a : LinesAbove) (ls : List Line) (i : ℕ) (s r : SectionSizes) (text init : List ℕ) (l : Line) (b : List ℕ) → Completes a ls i s text init
     → drop i ls ≡ l ∷ drop (i + 1) ls → StandsIn s.section a (address_of_offset a (section_offset_of s)) (statement_said l) b → r ≡ sizes_after s (statement_said l) (statement_length (statement_said l))
     → Completes a ls (i + 1) r (text ++ put_into Text s.section b) (init ++ put_into Data s.section b)
-completes_more law a ls i s r text init l b before next right same rest stand =
-    let n : length b ≡ statement_length (statement_said l) = stands_length law s.section a (address_of_offset a (section_offset_of s)) (statement_said l) b right in
+completes_more a ls i s r text init l b before next right same rest stand =
+    let n : length b ≡ statement_length (statement_said l) = stands_length s.section a (address_of_offset a (section_offset_of s)) (statement_said l) b right in
     let e : r ≡ sizes_after s (statement_said l) (length b) = same ∙ ap (sizes_after s (statement_said l)) (sym n) in
     let stand' : AllStand a (sizes_after s (statement_said l) (length b)) (drop (i + 1) ls) rest = subst (λ (x : SectionSizes). AllStand a x (drop (i + 1) ls) rest) e stand in
     let whole : AllStand a s (drop i ls) (b ∷ rest) = subst (λ (x : List Line). AllStand a s x (b ∷ rest)) (sym next) (right, stand') in
@@ -44,13 +44,13 @@ completes_more law a ls i s r text init l b before next right same rest stand =
     }
 
 -- lengths by the bytes are the statements' own
-pub lengths_same : KeepsLength → (a b : LinesAbove) (s : SectionSizes) (ls : List Line) (bs : List (List ℕ)) → AllStand a s ls bs → left_by b ls (map length bs) ≡ laid_by b ls
-lengths_same law a b s [] [] h = refl
-lengths_same law a b s [] (x ∷ bs) h = absurd h
-lengths_same law a b s (l ∷ ls) [] h = absurd h
-lengths_same law a b s (l ∷ ls) (x ∷ bs) (right, more) =
-    let n : length x ≡ statement_length (statement_said l) = stands_length law s.section a (address_of_offset a (section_offset_of s)) (statement_said l) x right in
-    ap (λ (m : ℕ). left_by (above_with b l m) ls (map length bs)) n ∙ lengths_same law a (above_with b l (statement_length (statement_said l))) (sizes_after s (statement_said l) (length x)) ls bs more
+pub lengths_same : (a b : LinesAbove) (s : SectionSizes) (ls : List Line) (bs : List (List ℕ)) → AllStand a s ls bs → left_by b ls (map length bs) ≡ laid_by b ls
+lengths_same a b s [] [] h = refl
+lengths_same a b s [] (x ∷ bs) h = absurd h
+lengths_same a b s (l ∷ ls) [] h = absurd h
+lengths_same a b s (l ∷ ls) (x ∷ bs) (right, more) =
+    let n : length x ≡ statement_length (statement_said l) = stands_length s.section a (address_of_offset a (section_offset_of s)) (statement_said l) x right in
+    ap (λ (m : ℕ). left_by (above_with b l m) ls (map length bs)) n ∙ lengths_same a (above_with b l (statement_length (statement_said l))) (sizes_after s (statement_said l) (length x)) ls bs more
 
 pub put_text : (a : LinesAbove) (s : SectionSizes) (at : ℕ) (t : Statement) (text init text' init' : List ℕ) → s.section ≡ Text → at ≡ address_of_offset a (section_offset_of s)
     → Pushes a at t text text' → init' ≡ init → PutsOut a s t text init text' init'
@@ -78,10 +78,10 @@ put_bss a s t text init text' init' here same same' = record {
   init_is = same' ∙ sym (append-nil init) ∙ ap (λ (v : Section). init ++ put_into Data v (replicate (statement_length t) 0)) (sym here);
 }
 
-pub completes_put : KeepsLength → (a : LinesAbove) (ls : List Line) (i : ℕ) (s r : SectionSizes) (text init text' init' : List ℕ) (l : Line) → drop i ls ≡ l ∷ drop (i + 1) ls
+pub completes_put : (a : LinesAbove) (ls : List Line) (i : ℕ) (s r : SectionSizes) (text init text' init' : List ℕ) (l : Line) → drop i ls ≡ l ∷ drop (i + 1) ls
     → Completes a ls i s text init → PutsOut a s (statement_said l) text init text' init' → r ≡ sizes_after s (statement_said l) (statement_length (statement_said l)) → Completes a ls (i + 1) r text' init'
-completes_put law a ls i s r text init text' init' l next before put same =
-    let more = completes_more law a ls i s r text init l put.bytes before next put.stand same in
+completes_put a ls i s r text init text' init' l next before put same =
+    let more = completes_more a ls i s r text init l put.bytes before next put.stand same in
     subst (λ (v : List ℕ). Completes a ls (i + 1) r v init') (sym put.text_is)
     (subst (λ (v : List ℕ). Completes a ls (i + 1) r (text ++ put_into Text s.section put.bytes) v) (sym put.init_is) more)
 

@@ -7,7 +7,7 @@ use Rattle.mx_asm_statement.specs.declared.statement.Statement.TheVariants as sa
 use Rattle.mx_asm_statement.specs.declared.line.Line.{Line}
 use Rattle.mx_asm.specs.declared.sizes.SectionOffset.{SectionOffset}
 use Rattle.mx_asm.specs.Lengths.{statement_length}
-use Rattle.mx_asm.specs.Layout.{LinesAbove, no_lines_above, statement_said, above_with, laid_by, address_of_offset, address_of_label, section_offset_of, label_named, sizes_after, entry_with}
+use Rattle.mx_asm.specs.Layout.{LinesAbove, no_lines_above, statement_said, above_with, laid_by, address_of_offset, address_of_label, section_offset_of, label_named, entry_with}
 use Rattle.mx_asm.specs.Faults.{undefined_where, problem_at, first_problem}
 use Rattle.mx_asm.specs.Assembled.{entry_under}
 use Rattle.mx_asm.proofs.Standing.{neither}

@@ -9,7 +9,7 @@ use Rattle.mx_asm.specs.declared.sizes.SectionSizes.{SectionSizes}
 use Rattle.mx_asm.specs.Lengths.{statement_length}
 use Rattle.mx_asm.specs.Layout.{LinesAbove, size_in, grown_in, sizes_after, left_by, above_with, statement_said, address_of_offset, section_offset_of}
 use Rattle.mx_asm.specs.Bytes.{AllStand, contents, put_into}
-use Rattle.mx_asm.proofs.Lengths.{KeepsLength, stands_length}
+use Rattle.mx_asm.proofs.Lengths.{stands_length}
 
 -- what is put into the text or the data is what that section grows by
 grown_size : (which : Section) (s : SectionSizes) (section : Section) (b : List ℕ) → put_into which which b ≡ b → size_in (grown_in s section (length b)) which ≡ size_in s which + length (put_into which section b)
@@ -51,15 +51,15 @@ size_after which s (says.Instruction i) b h n = grown_size which s s.section b h
 size_after which s (says.Branch k target) b h n = grown_size which s s.section b h
 
 -- after all lines the text and the data are as long as their contents
-pub contents_size : KeepsLength → (which : Section) → ((b : List ℕ) → put_into which which b ≡ b) → (a c : LinesAbove) (ls : List Line) (bs : List (List ℕ)) → AllStand a c.sizes ls bs
+pub contents_size : (which : Section) → ((b : List ℕ) → put_into which which b ≡ b) → (a c : LinesAbove) (ls : List Line) (bs : List (List ℕ)) → AllStand a c.sizes ls bs
     → size_in (left_by c ls (map length bs)).sizes which ≡ size_in c.sizes which + length (contents which c.sizes ls bs)
-contents_size law which own a c [] [] h = omega arith
-contents_size law which own a c [] (b ∷ bs) h = absurd h
-contents_size law which own a c (l ∷ ls) [] h = absurd h
-contents_size law which own a c (l ∷ ls) (b ∷ bs) (right, more) =
-    let n : length b ≡ statement_length (statement_said l) = stands_length law c.sizes.section a (address_of_offset a (section_offset_of c.sizes)) (statement_said l) b right in
+contents_size which own a c [] [] h = omega arith
+contents_size which own a c [] (b ∷ bs) h = absurd h
+contents_size which own a c (l ∷ ls) [] h = absurd h
+contents_size which own a c (l ∷ ls) (b ∷ bs) (right, more) =
+    let n : length b ≡ statement_length (statement_said l) = stands_length c.sizes.section a (address_of_offset a (section_offset_of c.sizes)) (statement_said l) b right in
     let put = put_into which c.sizes.section b in
     let after = contents which (sizes_after c.sizes (statement_said l) (length b)) ls bs in
     let here : size_in (sizes_after c.sizes (statement_said l) (length b)) which ≡ size_in c.sizes which + length put = size_after which c.sizes (statement_said l) b (own b) n in
-    let rest : size_in (left_by (above_with c l (length b)) ls (map length bs)).sizes which ≡ size_in (sizes_after c.sizes (statement_said l) (length b)) which + length after = contents_size law which own a (above_with c l (length b)) ls bs more in
+    let rest : size_in (left_by (above_with c l (length b)) ls (map length bs)).sizes which ≡ size_in (sizes_after c.sizes (statement_said l) (length b)) which + length after = contents_size which own a (above_with c l (length b)) ls bs more in
     rest ∙ omega (arith, here, length-append put after)

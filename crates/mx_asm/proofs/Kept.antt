@@ -1,5 +1,5 @@
 -- The lines that are kept, against all lines of the text.
-use Rattle.std.proofs.Common.{arith, add-zero, ◌≡◌, ℕ, ◌+◌, ◌*◌, ◌<◌, ◌≤◌, ◌^◌, Bool, true, false, ◌||◌, List, [], ◌∷◌, ◌++◌, length, get_or, drop, map, refl, sym, ◌∙◌, ap, subst, cond, Option, Some, None, length-append}
+use Rattle.std.proofs.Common.{arith, add-zero, ◌≡◌, ℕ, ◌+◌, ◌*◌, ◌<◌, ◌^◌, Bool, true, false, List, [], ◌∷◌, ◌++◌, length, get_or, drop, map, refl, sym, ◌∙◌, ap, subst, cond, Option, Some, None, length-append}
 use Rattle.std.specs.Prelude.{is_some, not}
 use Rattle.std.proofs.lemmas.List.{append-nil, drop_more, drop-map}
 use Rattle.mx_asm_statement.specs.declared.line.Line.{Line}

@@ -19,6 +19,7 @@ use Rattle.mx_insn.specs.declared.insn.Insn.{Insn}
 use Rattle.mx_encode.specs.declared.Wide.{Wide}
 use Rattle.mx_encode.specs.Chosen.{Chosen}
 use Rattle.mx_encode.specs.Lengths.{spelled_length, chosen_length}
+use Rattle.mx_encode.proofs.Lengths.{immediate_keeps_count, displacement_keeps_count}
 
 length-chosen : (i : Insn) (wide : Wide) (b : List ℕ) → Chosen i wide b → length b ≡ chosen_length i wide
 length-chosen i wide b x = ap length x.spells.bytes_are ∙ sym (ap (λ c. spelled_length c wide.displacement) x.is_chosen)
@@ -39,11 +40,6 @@ flat_length k (n ∷ ns) =
 
 -- ---- instructions
 
--- numbers that are marked wide leave the length as it is; the encoder's laws
-pub record KeepsLength : Type 0 where
-  pub immediate : (i : Insn) (wide : Wide) (n : ℕ) → IsTrue wide.immediate → chosen_length (with_immediate i n) wide ≡ chosen_length i wide
-  pub displacement : (i : Insn) (wide : Wide) (n : ℕ) → IsTrue wide.displacement → chosen_length (with_displacement i n) wide ≡ chosen_length i wide
-
 -- a number that is put in keeps whatever putting one in keeps
 put_keeps : (put : Insn → ℕ → Insn) (f : Insn → ℕ) (a : LinesAbove) (v : Option Value) (i insn : Insn) → ((n : ℕ) → IsTrue (is_some v) → f (put i n) ≡ f i)
     → put_under a put v i ≡ Some insn → f insn ≡ f i
@@ -60,31 +56,31 @@ then_keeps : (put : Insn → ℕ → Insn) (f : Insn → ℕ) (a : LinesAbove) (
 then_keeps put f a v None insn k keeps before e = cc
 then_keeps put f a v (Some i) insn k keeps before e = put_keeps put f a v i insn (keeps i) e ∙ before i refl
 
-named_length : KeepsLength → (a : LinesAbove) (i : Instruction) (insn : Insn) → named_under a i ≡ Some insn → chosen_length insn (marks i) ≡ chosen_length i.insn (marks i)
-named_length law a i insn e =
+named_length : (a : LinesAbove) (i : Instruction) (insn : Insn) → named_under a i ≡ Some insn → chosen_length insn (marks i) ≡ chosen_length i.insn (marks i)
+named_length a i insn e =
     then_keeps with_displacement (λ x. chosen_length x (marks i)) a i.displacement (put_under a with_immediate i.immediate i.insn) insn (chosen_length i.insn (marks i))
-    (λ x n h. law.displacement x (marks i) n h)
-    (λ x e'. put_keeps with_immediate (λ y. chosen_length y (marks i)) a i.immediate i.insn x (λ n h. law.immediate i.insn (marks i) n h) e')
+    (λ x n h. displacement_keeps_count x (marks i) n h)
+    (λ x e'. put_keeps with_immediate (λ y. chosen_length y (marks i)) a i.immediate i.insn x (λ n h. immediate_keeps_count i.insn (marks i) n h) e')
     e
 
 -- ---- statements
 
 -- a statement's bytes have its length, wherever its names stand
-bytes_length : KeepsLength → (a : LinesAbove) (at : ℕ) (t : Statement) (b : List ℕ) → BytesOf a at t b → length b ≡ statement_length t
-bytes_length law a at says.Nothing b h = ap length h
-bytes_length law a at (says.Enter section) b h = ap length h
-bytes_length law a at (says.Data size values) b (numbers, e, h) =
+bytes_length : (a : LinesAbove) (at : ℕ) (t : Statement) (b : List ℕ) → BytesOf a at t b → length b ≡ statement_length t
+bytes_length a at says.Nothing b h = ap length h
+bytes_length a at (says.Enter section) b h = ap length h
+bytes_length a at (says.Data size values) b (numbers, e, h) =
     let same : length values ≡ length numbers = sym (length-map values (value_under a)) ∙ ap length e ∙ length-map numbers Some in
     ap length h ∙ flat_length (bytes_in size) numbers ∙ ap (λ n. bytes_in size * n) (sym same)
-bytes_length law a at (says.Ascii bytes) b h = ap length h
-bytes_length law a at (says.Space n) b h = ap length h ∙ length-replicate n 0
-bytes_length law a at says.Separate b h = ap length h
-bytes_length law a at (says.Entry name) b h = ap length h
-bytes_length law a at (says.Stack n) b h = ap length h
-bytes_length law a at (says.Instruction i) b (insn, e, x) = length-chosen insn (marks i) b x ∙ named_length law a i insn e
-bytes_length law a at (says.Branch k target) b (x, e, chosen, n) = n
+bytes_length a at (says.Ascii bytes) b h = ap length h
+bytes_length a at (says.Space n) b h = ap length h ∙ length-replicate n 0
+bytes_length a at says.Separate b h = ap length h
+bytes_length a at (says.Entry name) b h = ap length h
+bytes_length a at (says.Stack n) b h = ap length h
+bytes_length a at (says.Instruction i) b (insn, e, x) = length-chosen insn (marks i) b x ∙ named_length a i insn e
+bytes_length a at (says.Branch k target) b (x, e, chosen, n) = n
 
-pub stands_length : KeepsLength → (section : Section) (a : LinesAbove) (at : ℕ) (t : Statement) (b : List ℕ) → StandsIn section a at t b → length b ≡ statement_length t
-stands_length law Text a at t b h = bytes_length law a at t b h
-stands_length law Data a at t b h = bytes_length law a at t b h
-stands_length law Bss a at t b h = ap length h ∙ length-replicate (statement_length t) 0
+pub stands_length : (section : Section) (a : LinesAbove) (at : ℕ) (t : Statement) (b : List ℕ) → StandsIn section a at t b → length b ≡ statement_length t
+stands_length Text a at t b h = bytes_length a at t b h
+stands_length Data a at t b h = bytes_length a at t b h
+stands_length Bss a at t b h = ap length h ∙ length-replicate (statement_length t) 0

@@ -6,7 +6,6 @@ use Rattle.std.proofs.lemmas.Bool.{not-false, ltb-true, ltb-false}
 use Rattle.std.proofs.lemmas.List.{length-map}
 use Rattle.mx_word.specs.Word.{modulo, bytes_of, bytes_in}
 use Rattle.mx_insn.specs.declared.insn.Insn.{Insn}
-use Rattle.mx_encode.specs.declared.Wide.{Wide}
 use Rattle.mx_encode.specs.Numbers.{is_short}
 use Rattle.mx_encode.specs.Forms.{has_form}
 use Rattle.mx_encode.specs.Chosen.{Chosen}
@@ -37,22 +36,14 @@ use Rattle.mx_asm.specs.Faults.{is_undefined, is_undefined_if, undefined_where, 
 use Rattle.mx_asm.specs.Faults as faults
 use Rattle.mx_asm.specs.Assembled.{AreAssembled, symbol_under, entry_under}
 use Rattle.mx_asm.specs.Text.{AreLinesTaken, IsAssembled}
-use Rattle.mx_asm.proofs.Lengths.{KeepsLength, stands_length}
+use Rattle.mx_encode.proofs.Formed.{formed_chosen, valued_fits, displaced_fits, immediate_keeps_form, displacement_keeps_form}
+use Rattle.mx_asm_statement.proofs.LineWidths.{line_fits}
+use Rattle.mx_asm.proofs.Branching.{branch_bytes_length}
+use Rattle.mx_asm.proofs.Lengths.{stands_length}
 use Rattle.mx_asm.proofs.Standing.{neither}
 use Rattle.mx_asm.proofs.Emitting.{lengths_same}
 use Rattle.mx_asm.proofs.Entering.{entry_there}
 use Rattle.mx_asm.proofs.Fitting.{contents_size}
-
--- what is known of lines and of the encoder
-pub record Encodes : Type 0 where
-  pub keeps : KeepsLength
-  pub some : (i : Insn) (wide : Wide) → Fits i → has_form i ≡ true → (bytes : List ℕ) × Chosen i wide bytes
-  pub immediate_form : (i : Insn) (n : ℕ) → has_form (with_immediate i n) ≡ has_form i
-  pub displacement_form : (i : Insn) (n : ℕ) → has_form (with_displacement i n) ≡ has_form i
-  pub immediate_fits : (i : Insn) (n : ℕ) → n < 2 ^ 32 → Fits i → Fits (with_immediate i n)
-  pub displacement_fits : (i : Insn) (n : ℕ) → n < 2 ^ 32 → Fits i → Fits (with_displacement i n)
-  pub branch : (k : Branch) (d : ℕ) (b : List ℕ) → is_too_far k d ≡ false → Chosen (branch_by k d) (branch_marks k) b → length b ≡ branch_length k
-  pub line : (t : List ℕ) (l : Line) (i : Instruction) → IsLine t l → l.statement ≡ Some (says.Instruction i) → Fits i.insn
 
 -- ---- values
 
@@ -105,15 +96,15 @@ sound_put a put (Some v) i h s k =
     let (n, e, lt) = has_value a v h in
     (put i n, ap (put_in put i) e, k n lt)
 
-then_sound : Encodes → (a : LinesAbove) (v : Option Value) (o : Option Insn) → is_undefined_if a v ≡ false → SoundIf o → SoundIf (then_put a with_displacement v o)
-then_sound law a v o h (i, e, s) =
-    let (x, f, g) = sound_put a with_displacement v i h s (λ n lt. (law.displacement_fits i n lt s.0, law.displacement_form i n ∙ s.1)) in
+then_sound : (a : LinesAbove) (v : Option Value) (o : Option Insn) → is_undefined_if a v ≡ false → SoundIf o → SoundIf (then_put a with_displacement v o)
+then_sound a v o h (i, e, s) =
+    let (x, f, g) = sound_put a with_displacement v i h s (λ n lt. (displaced_fits i n lt s.0, displacement_keeps_form i n ∙ s.1)) in
     (x, ap (then_put a with_displacement v) e ∙ f, g)
 
-named_sound : Encodes → (a : LinesAbove) (i : Instruction) → Fits i.insn → is_undefined_if a i.immediate ≡ false → is_undefined_if a i.displacement ≡ false → SoundIf (named_under a i)
-named_sound law a i fits h k =
-    then_sound law a i.displacement (put_under a with_immediate i.immediate i.insn) k
-    (sound_put a with_immediate i.immediate i.insn h (fits, i.spelled) (λ n lt. (law.immediate_fits i.insn n lt fits, law.immediate_form i.insn n ∙ i.spelled)))
+named_sound : (a : LinesAbove) (i : Instruction) → Fits i.insn → is_undefined_if a i.immediate ≡ false → is_undefined_if a i.displacement ≡ false → SoundIf (named_under a i)
+named_sound a i fits h k =
+    then_sound a i.displacement (put_under a with_immediate i.immediate i.insn) k
+    (sound_put a with_immediate i.immediate i.insn h (fits, i.spelled) (λ n lt. (valued_fits i.insn n lt fits, immediate_keeps_form i.insn n ∙ i.spelled)))
 
 -- ---- jumps
 
@@ -137,12 +128,12 @@ reached (Some x) far h = (x, refl, by_case (far x) h)
     by_case true h = cc
     by_case false h = refl
 
-branch_some : Encodes → (a : LinesAbove) (at : ℕ) (k : Branch) (target : Value) → problem_at a at (says.Branch k target) ≡ None → (b : List ℕ) × BytesOf a at (says.Branch k target) b
-branch_some law a at k target h =
+branch_some : (a : LinesAbove) (at : ℕ) (k : Branch) (target : Value) → problem_at a at (says.Branch k target) ≡ None → (b : List ℕ) × BytesOf a at (says.Branch k target) b
+branch_some a at k target h =
     let (x, e, near) = reached (value_under a target) (λ x. is_too_far k (distance (at + branch_length k) x)) h in
     let d = distance (at + branch_length k) x in
-    let (b, chosen) = law.some (branch_by k d) (branch_marks k) (branch_fits k d (omega arith)) (branch_form k d near) in
-    let long : length b ≡ branch_length k = law.branch k d b near chosen in
+    let (b, chosen) = formed_chosen (branch_by k d) (branch_marks k) (branch_fits k d (omega arith)) (branch_form k d near) in
+    let long : length b ≡ branch_length k = branch_bytes_length k d b near chosen in
     (b, (x, e, subst (λ (n : ℕ). Chosen (branch_by k (distance (at + n) x)) (branch_marks k) b) (sym long) chosen, long))
 
 -- ---- statements
@@ -151,27 +142,27 @@ abbrev pub Fitting : Statement → Type 0
 Fitting (says.Instruction i) = Fits i.insn
 Fitting _ = Unit {0}
 
-bytes_some : Encodes → (a : LinesAbove) (at : ℕ) (t : Statement) → Fitting t → problem_at a at t ≡ None → (b : List ℕ) × BytesOf a at t b
-bytes_some law a at says.Nothing fits h = ([], refl)
-bytes_some law a at (says.Enter section) fits h = ([], refl)
-bytes_some law a at (says.Data size values) fits h =
+bytes_some : (a : LinesAbove) (at : ℕ) (t : Statement) → Fitting t → problem_at a at t ≡ None → (b : List ℕ) × BytesOf a at t b
+bytes_some a at says.Nothing fits h = ([], refl)
+bytes_some a at (says.Enter section) fits h = ([], refl)
+bytes_some a at (says.Data size values) fits h =
     let (ns, e) = all_values a values (defined (list_any (is_undefined a) values) h) in (flat_map (bytes_of (bytes_in size)) ns, (ns, e, refl))
-bytes_some law a at (says.Ascii bytes) fits h = (bytes, refl)
-bytes_some law a at (says.Space n) fits h = (replicate n 0, refl)
-bytes_some law a at says.Separate fits h = ([], refl)
-bytes_some law a at (says.Entry name) fits h = ([], refl)
-bytes_some law a at (says.Stack n) fits h = ([], refl)
-bytes_some law a at (says.Instruction i) fits h =
+bytes_some a at (says.Ascii bytes) fits h = (bytes, refl)
+bytes_some a at (says.Space n) fits h = (replicate n 0, refl)
+bytes_some a at says.Separate fits h = ([], refl)
+bytes_some a at (says.Entry name) fits h = ([], refl)
+bytes_some a at (says.Stack n) fits h = ([], refl)
+bytes_some a at (says.Instruction i) fits h =
     let clean = defined (is_undefined_if a i.immediate || is_undefined_if a i.displacement) h in
-    let (insn, e, s) = named_sound law a i fits (or_left (is_undefined_if a i.immediate) (is_undefined_if a i.displacement) clean) (or_right (is_undefined_if a i.immediate) (is_undefined_if a i.displacement) clean) in
-    let (b, chosen) = law.some insn (marks i) s.0 s.1 in
+    let (insn, e, s) = named_sound a i fits (or_left (is_undefined_if a i.immediate) (is_undefined_if a i.displacement) clean) (or_right (is_undefined_if a i.immediate) (is_undefined_if a i.displacement) clean) in
+    let (b, chosen) = formed_chosen insn (marks i) s.0 s.1 in
     (b, (insn, e, chosen))
-bytes_some law a at (says.Branch k target) fits h = branch_some law a at k target h
+bytes_some a at (says.Branch k target) fits h = branch_some a at k target h
 
-stands_some : Encodes → (section : Section) (a : LinesAbove) (at : ℕ) (t : Statement) → Fitting t → problem_at a at t ≡ None → (b : List ℕ) × StandsIn section a at t b
-stands_some law Text a at t fits h = bytes_some law a at t fits h
-stands_some law Data a at t fits h = bytes_some law a at t fits h
-stands_some law Bss a at t fits h = (replicate (statement_length t) 0, refl)
+stands_some : (section : Section) (a : LinesAbove) (at : ℕ) (t : Statement) → Fitting t → problem_at a at t ≡ None → (b : List ℕ) × StandsIn section a at t b
+stands_some Text a at t fits h = bytes_some a at t fits h
+stands_some Data a at t fits h = bytes_some a at t fits h
+stands_some Bss a at t fits h = (replicate (statement_length t) 0, refl)
 
 -- ---- all lines
 
@@ -179,19 +170,19 @@ abbrev pub AllFitting : List Line → Type 0
 AllFitting [] = Unit {0}
 AllFitting (l ∷ ls) = Fitting (statement_said l) × AllFitting ls
 
-all_some : Encodes → (a : LinesAbove) (s : SectionSizes) (n : ℕ) (ls : List Line) → AllFitting ls → first_problem a s n ls ≡ None → (bs : List (List ℕ)) × AllStand a s ls bs
-all_some law a s n [] fits h = ([], tt)
-all_some law a s n (l ∷ ls) (fits, more) h =
+all_some : (a : LinesAbove) (s : SectionSizes) (n : ℕ) (ls : List Line) → AllFitting ls → first_problem a s n ls ≡ None → (bs : List (List ℕ)) × AllStand a s ls bs
+all_some a s n [] fits h = ([], tt)
+all_some a s n (l ∷ ls) (fits, more) h =
     let at = address_of_offset a (section_offset_of s) in
     let rest = first_problem a (sizes_after s (statement_said l) (statement_length (statement_said l))) (n + 1) ls in
     let clean = neither (problem_at a at (statement_said l)) n rest h in
-    let (b, right) = stands_some law s.section a at (statement_said l) fits clean.0 in
-    let long : length b ≡ statement_length (statement_said l) = stands_length law.keeps s.section a at (statement_said l) b right in
-    let (bs, stand) = all_some law a (sizes_after s (statement_said l) (statement_length (statement_said l))) (n + 1) ls more clean.1 in
+    let (b, right) = stands_some s.section a at (statement_said l) fits clean.0 in
+    let long : length b ≡ statement_length (statement_said l) = stands_length s.section a at (statement_said l) b right in
+    let (bs, stand) = all_some a (sizes_after s (statement_said l) (statement_length (statement_said l))) (n + 1) ls more clean.1 in
     (b ∷ bs, (right, subst (λ (k : ℕ). AllStand a (sizes_after s (statement_said l) k) ls bs) (sym long) stand))
 
-said_fits : Encodes → (t : List ℕ) (l : Line) → IsLine t l → Fitting (statement_said l)
-said_fits law t l line = by_case l.statement (λ i. law.line t l i line)
+said_fits : (t : List ℕ) (l : Line) → IsLine t l → Fitting (statement_said l)
+said_fits t l line = by_case l.statement (λ i. line_fits t l i line)
   where
     by_case : (o : Option Statement) → ((i : Instruction) → o ≡ Some (says.Instruction i) → Fits i.insn) → Fitting (unwrap_or o says.Nothing)
     by_case None k = tt
@@ -206,11 +197,11 @@ said_fits law t l line = by_case l.statement (λ i. law.line t l i line)
     by_case (Some (says.Stack n)) k = tt
     by_case (Some (says.Branch b target)) k = tt
 
-taken_fit : Encodes → (s : Seen) (ts : List (List ℕ)) (ls : List Line) → AreLinesTaken s ts ls → AllFitting ls
-taken_fit law s [] [] h = tt
-taken_fit law s [] (l ∷ ls) h = absurd h
-taken_fit law s (t ∷ ts) [] h = absurd h
-taken_fit law s (t ∷ ts) (l ∷ ls) ((line, clean), more) = (said_fits law t l line, taken_fit law (seen_with s l) ts ls more)
+taken_fit : (s : Seen) (ts : List (List ℕ)) (ls : List Line) → AreLinesTaken s ts ls → AllFitting ls
+taken_fit s [] [] h = tt
+taken_fit s [] (l ∷ ls) h = absurd h
+taken_fit s (t ∷ ts) [] h = absurd h
+taken_fit s (t ∷ ts) (l ∷ ls) ((line, clean), more) = (said_fits t l line, taken_fit (seen_with s l) ts ls more)
 
 -- ---- sizes
 
@@ -252,14 +243,14 @@ no_first (Some f) g h = cc
 -- ---- the program
 
 -- the program of these bytes
-built : KeepsLength → (ls : List Line) (bs : List (List ℕ)) → first_problem (laid_by no_lines_above ls) no_lines_above.sizes 1 ls ≡ None → is_program_too_large (laid_by no_lines_above ls) ≡ false → AllStand (laid_by no_lines_above ls) no_lines_above.sizes ls bs
+built : (ls : List Line) (bs : List (List ℕ)) → first_problem (laid_by no_lines_above ls) no_lines_above.sizes 1 ls ≡ None → is_program_too_large (laid_by no_lines_above ls) ≡ false → AllStand (laid_by no_lines_above ls) no_lines_above.sizes ls bs
     → (p : Program) × AreAssembled ls p
-built law ls bs clean small stand =
+built ls bs clean small stand =
     let a = laid_by no_lines_above ls in
-    let left : left_by no_lines_above ls (map length bs) ≡ a = lengths_same law a no_lines_above no_lines_above.sizes ls bs stand in
+    let left : left_by no_lines_above ls (map length bs) ≡ a = lengths_same a no_lines_above no_lines_above.sizes ls bs stand in
     let back : a ≡ left_by no_lines_above ls (map length bs) = sym left in
-    let size = contents_size law Text (λ b. refl) a no_lines_above ls bs stand in
-    let other = contents_size law Data (λ b. refl) a no_lines_above ls bs stand in
+    let size = contents_size Text (λ b. refl) a no_lines_above ls bs stand in
+    let other = contents_size Data (λ b. refl) a no_lines_above ls bs stand in
     let text : a.sizes.text ≡ length (contents Text no_lines_above.sizes ls bs) = omega (arith, size, ap (λ (x : LinesAbove). x.sizes.text) back) in
     let init : a.sizes.init ≡ length (contents Data no_lines_above.sizes ls bs) = omega (arith, other, ap (λ (x : LinesAbove). x.sizes.init) back) in
     let symbols : length a.labels ≡ length (map (symbol_under a) a.labels) = sym (length-map a.labels (symbol_under a)) in
@@ -291,14 +282,14 @@ built law ls bs clean small stand =
       },
     )
 
-made : Encodes → (ls : List Line) → AllFitting ls → fault_after ls ≡ None → (p : Program) × AreAssembled ls p
-made law ls fits clean =
+made : (ls : List Line) → AllFitting ls → fault_after ls ≡ None → (p : Program) × AreAssembled ls p
+made ls fits clean =
     let a = laid_by no_lines_above ls in
     let both = no_first (first_problem a no_lines_above.sizes 1 ls) (too_large_in a ls) clean in
     let small = not_too_large (is_program_too_large a) (record { problem = TooLarge; line = number_of_last_line ls }) both.1 in
-    let (bs, stand) = all_some law a no_lines_above.sizes 1 ls fits both.0 in
-    built law.keeps ls bs both.0 small stand
+    let (bs, stand) = all_some a no_lines_above.sizes 1 ls fits both.0 in
+    built ls bs both.0 small stand
 
-pub lines_have_program : Encodes → (t : List ℕ) (ls : List Line) → AreLinesTaken unseen (lines t) ls → fault_after ls ≡ None → (p : Program) × IsAssembled t p
-lines_have_program law t ls taken clean =
-    let (p, assembled) = made law ls (taken_fit law unseen (lines t) ls taken) clean in (p, (ls, taken, assembled))
+pub lines_have_program : (t : List ℕ) (ls : List Line) → AreLinesTaken unseen (lines t) ls → fault_after ls ≡ None → (p : Program) × IsAssembled t p
+lines_have_program t ls taken clean =
+    let (p, assembled) = made ls (taken_fit unseen (lines t) ls taken) clean in (p, (ls, taken, assembled))

@@ -1,6 +1,6 @@
 -- No program is made of lines that something stands against.
 use Rattle.std.proofs.Common.{◌≡◌, ℕ, ◌+◌, ◌*◌, ◌≤◌, Bool, true, false, List, [], ◌∷◌, length, map, refl, sym, ◌∙◌, ap, subst, arith, Option, Some, None, cond}
-use Rattle.std.specs.Prelude.{◌||◌, not, nat_lt, is_some, is_none, unwrap_or}
+use Rattle.std.specs.Prelude.{◌||◌, not, is_some, is_none, unwrap_or}
 use Rattle.std.specs.List.{list_any}
 use Rattle.std.proofs.lemmas.Bool.{le-ltb}
 use Rattle.std.proofs.lemmas.List.{length-map}
@@ -13,19 +13,13 @@ use Rattle.mx_asm_statement.specs.declared.statement.Section.{Section}
 use Rattle.mx_asm_statement.specs.declared.statement.Section.TheVariants.{Text, Data, Bss}
 use Rattle.mx_asm_statement.specs.declared.statement.Statement.{Statement}
 use Rattle.mx_asm_statement.specs.declared.statement.Statement.TheVariants as says
-use Rattle.mx_asm_statement.specs.declared.instruction.Instruction.{Instruction}
-use Rattle.mx_asm_statement.specs.declared.branch.Branch.{Branch}
 use Rattle.mx_asm_statement.specs.declared.value.Value.{Value}
 use Rattle.mx_asm_statement.specs.declared.line.Line.{Line}
-use Rattle.mx_asm_statement.specs.declared.line.Reason.{Reason}
-use Rattle.mx_asm_statement.specs.declared.line.StatementStart.{StatementStart}
-use Rattle.mx_asm_statement.specs.declared.line.StatementStart.TheVariants as beginnings
-use Rattle.mx_asm_statement.specs.Reasons.{statement_refusal, is_said_again, is_unknown, is_misplaced}
+use Rattle.mx_asm_statement.specs.Reasons.{is_said_again, is_unknown, is_misplaced}
 use Rattle.mx_asm_statement.specs.Beginnings.{begins_with}
 use Rattle.mx_asm_statement.specs.Lines.{IsLine}
 use Rattle.mx_aout.specs.Limits.{rounded_to_pages}
 use Rattle.mx_aout.specs.declared.program.Program.{Program}
-use Rattle.mx_asm.specs.declared.sizes.SectionSizes.{SectionSizes}
 use Rattle.mx_asm.specs.declared.sizes.SectionOffset.{SectionOffset}
 use Rattle.mx_asm.specs.declared.fault.Problem.{Problem}
 use Rattle.mx_asm.specs.declared.fault.Problem.TheVariants.{TooFar, TooLarge}
@@ -34,19 +28,15 @@ use Rattle.mx_asm.specs.Branches.{branch_by, branch_marks, branch_length, distan
 use Rattle.mx_asm.specs.Lengths.{statement_length}
 use Rattle.mx_asm.specs.Layout.{LinesAbove, Seen, no_lines_above, unseen, seen_of, seen_with, is_defined, is_defined_twice, says_again, saying_of, refusal_of_line, statement_said, above_with, left_by, laid_by, address_of_offset, address_of_label, section_offset_of, label_named, sizes_after, entry_with, value_under}
 use Rattle.mx_asm.specs.Faults.{is_undefined, is_undefined_if, undefined_where, undefined_or, problem_at, fault_or, first_problem, total_of, is_program_too_large, number_of_last_line, too_large_in, first_of, fault_after}
-use Rattle.mx_asm.specs.Bytes.{put_in, put_under, then_put, named_under, BytesOf, StandsIn, AllStand, contents}
-use Rattle.mx_asm.specs.Assembled.{AreAssembled, symbol_under, entry_under}
+use Rattle.mx_asm.specs.Bytes.{put_in, put_under, then_put, BytesOf, StandsIn, AllStand}
+use Rattle.mx_asm.specs.Assembled.{AreAssembled, entry_under}
 use Rattle.mx_asm.specs.Text.{AreLinesTaken}
-use Rattle.mx_asm.proofs.Lengths.{KeepsLength, stands_length}
+use Rattle.mx_asm_statement.proofs.Beginnings.{line_begins}
+use Rattle.mx_asm.proofs.Branching.{branch_reaches}
+use Rattle.mx_asm.proofs.Lengths.{stands_length}
 use Rattle.mx_asm.proofs.Emitting.{lengths_same}
 use Rattle.mx_asm.proofs.Fitting.{contents_size}
 use Rattle.mx_asm.proofs.Seeing.{false_right, first_said, none_refused, seen_after}
-
--- what is known of lines and of the encoder
-pub record Refutes : Type 0 where
-  pub keeps : KeepsLength
-  pub reaches : (k : Branch) (d : ℕ) (b : List ℕ) → Chosen (branch_by k d) (branch_marks k) b → length b ≡ branch_length k → is_too_far k d ≡ false
-  pub begins : (t : List ℕ) (l : Line) (s : Statement) → IsLine t l → l.statement ≡ Some s → l.beginning ≡ begins_with s
 
 -- ---- values that have numbers are defined
 
@@ -85,22 +75,22 @@ abbrev EntryStands : LinesAbove → Statement → Type 0
 EntryStands a (says.Entry name) = is_some (label_named a.labels name) ≡ true
 EntryStands a _ = Unit {0}
 
-none_against : Refutes → (a : LinesAbove) (at : ℕ) (t : Statement) (b : List ℕ) → EntryStands a t → BytesOf a at t b → problem_at a at t ≡ None
-none_against law a at says.Nothing b entry h = refl
-none_against law a at (says.Enter section) b entry h = refl
-none_against law a at (says.Data size values) b entry (ns, e, h) = ap undefined_where (all_defined a values ns e)
-none_against law a at (says.Ascii bytes) b entry h = refl
-none_against law a at (says.Space n) b entry h = refl
-none_against law a at says.Separate b entry h = refl
-none_against law a at (says.Entry name) b entry h = ap (λ (x : Bool). undefined_where (not x)) entry
-none_against law a at (says.Stack n) b entry h = refl
-none_against law a at (says.Instruction i) b entry (insn, e, h) =
+none_against : (a : LinesAbove) (at : ℕ) (t : Statement) (b : List ℕ) → EntryStands a t → BytesOf a at t b → problem_at a at t ≡ None
+none_against a at says.Nothing b entry h = refl
+none_against a at (says.Enter section) b entry h = refl
+none_against a at (says.Data size values) b entry (ns, e, h) = ap undefined_where (all_defined a values ns e)
+none_against a at (says.Ascii bytes) b entry h = refl
+none_against a at (says.Space n) b entry h = refl
+none_against a at says.Separate b entry h = refl
+none_against a at (says.Entry name) b entry h = ap (λ (x : Bool). undefined_where (not x)) entry
+none_against a at (says.Stack n) b entry h = refl
+none_against a at (says.Instruction i) b entry (insn, e, h) =
     let (x, e', displacement) = then_defined a i.displacement (put_under a with_immediate i.immediate i.insn) insn e in
     let immediate = put_defined a with_immediate i.immediate i.insn x e' in
     ap undefined_where (ap (λ (x : Bool). x || is_undefined_if a i.displacement) immediate ∙ displacement)
-none_against law a at (says.Branch k target) b entry (x, e, chosen, n) =
+none_against a at (says.Branch k target) b entry (x, e, chosen, n) =
     let chosen' = subst (λ (m : ℕ). Chosen (branch_by k (distance (at + m) x)) (branch_marks k) b) n chosen in
-    not_too_far (value_under a target) (λ y. is_too_far k (distance (at + branch_length k) y)) x e (law.reaches k (distance (at + branch_length k) x) b chosen' n)
+    not_too_far (value_under a target) (λ y. is_too_far k (distance (at + branch_length k) y)) x e (branch_reaches k (distance (at + branch_length k) x) b chosen' n)
 
 -- ---- in bss nothing else stands
 
@@ -116,11 +106,11 @@ stands_in_bss a at (says.Stack n) entry h = refl
 stands_in_bss a at (says.Instruction i) entry h = cc
 stands_in_bss a at (says.Branch k target) entry h = cc
 
-none_stands : Refutes → (section : Section) (a : LinesAbove) (at : ℕ) (t : Statement) (b : List ℕ) → EntryStands a t → is_misplaced section (begins_with t) ≡ false
+none_stands : (section : Section) (a : LinesAbove) (at : ℕ) (t : Statement) (b : List ℕ) → EntryStands a t → is_misplaced section (begins_with t) ≡ false
     → StandsIn section a at t b → problem_at a at t ≡ None
-none_stands law Text a at t b entry placed h = none_against law a at t b entry h
-none_stands law Data a at t b entry placed h = none_against law a at t b entry h
-none_stands law Bss a at t b entry placed h = stands_in_bss a at t entry placed
+none_stands Text a at t b entry placed h = none_against a at t b entry h
+none_stands Data a at t b entry placed h = none_against a at t b entry h
+none_stands Bss a at t b entry placed h = stands_in_bss a at t entry placed
 
 -- ---- what a line says that is taken
 
@@ -133,10 +123,10 @@ said_is : (o : Option Statement) → is_none o ≡ false → o ≡ Some (unwrap_
 said_is None h = cc
 said_is (Some t) h = refl
 
-line_placed : Refutes → (s : Seen) (t : List ℕ) (l : Line) → IsLine t l → refusal_of_line s l ≡ None → Placed s (statement_said l)
-line_placed law s t l line clean =
+line_placed : (s : Seen) (t : List ℕ) (l : Line) → IsLine t l → refusal_of_line s l ≡ None → Placed s (statement_said l)
+line_placed s t l line clean =
     let none = none_refused l.long (is_said_again (saying_of s l)) (is_unknown l.beginning) (is_misplaced s.section l.beginning) (is_none l.statement) _ _ _ _ _ clean in
-    let begins : l.beginning ≡ begins_with (statement_said l) = law.begins t l (statement_said l) line (said_is l.statement none.2) in
+    let begins : l.beginning ≡ begins_with (statement_said l) = line_begins t l (statement_said l) line (said_is l.statement none.2) in
     record {
       placed = ap (is_misplaced s.section) (sym begins) ∙ none.1;
       first = ap (is_defined_twice s) (sym begins) ∙ false_right (is_defined s.names l.label) (is_defined_twice s l.beginning) (first_said (says_again s l) none.0);
@@ -146,11 +136,11 @@ abbrev pub AllPlaced : Seen → List Line → Type 0
 AllPlaced s [] = Unit {0}
 AllPlaced s (l ∷ ls) = Placed s (statement_said l) × AllPlaced (seen_with s l) ls
 
-all_placed : Refutes → (s : Seen) (ts : List (List ℕ)) (ls : List Line) → AreLinesTaken s ts ls → AllPlaced s ls
-all_placed law s [] [] h = tt
-all_placed law s [] (l ∷ ls) h = absurd h
-all_placed law s (t ∷ ts) [] h = absurd h
-all_placed law s (t ∷ ts) (l ∷ ls) ((line, clean), more) = (line_placed law s t l line clean, all_placed law (seen_with s l) ts ls more)
+all_placed : (s : Seen) (ts : List (List ℕ)) (ls : List Line) → AreLinesTaken s ts ls → AllPlaced s ls
+all_placed s [] [] h = tt
+all_placed s [] (l ∷ ls) h = absurd h
+all_placed s (t ∷ ts) [] h = absurd h
+all_placed s (t ∷ ts) (l ∷ ls) ((line, clean), more) = (line_placed s t l line clean, all_placed (seen_with s l) ts ls more)
 
 -- ---- .entry
 
@@ -199,19 +189,19 @@ entry_stands a c n (says.Branch k target) e kept = tt
 
 -- ---- all lines
 
-none_first : Refutes → (a c : LinesAbove) (n k : ℕ) (ls : List Line) (bs : List (List ℕ)) → a ≡ laid_by c ls → entry_under a a.entry ≡ Some n → AllPlaced (seen_of c) ls → AllStand a c.sizes ls bs
+none_first : (a c : LinesAbove) (n k : ℕ) (ls : List Line) (bs : List (List ℕ)) → a ≡ laid_by c ls → entry_under a a.entry ≡ Some n → AllPlaced (seen_of c) ls → AllStand a c.sizes ls bs
     → first_problem a c.sizes k ls ≡ None
-none_first law a c n k [] bs e entry placed h = refl
-none_first law a c n k (l ∷ ls) [] e entry placed h = absurd h
-none_first law a c n k (l ∷ ls) (b ∷ bs) e entry (here, more) (right, rest) =
+none_first a c n k [] bs e entry placed h = refl
+none_first a c n k (l ∷ ls) [] e entry placed h = absurd h
+none_first a c n k (l ∷ ls) (b ∷ bs) e entry (here, more) (right, rest) =
     let d = above_with c l (statement_length (statement_said l)) in
     let at = address_of_offset a (section_offset_of c.sizes) in
     let placed : AllPlaced (seen_of d) ls = subst (λ (s : Seen). AllPlaced s ls) (sym (seen_after c l (statement_length (statement_said l)))) more in
     let is_defined = entry_stands a c n (statement_said l) entry (λ name f. ap (λ (x : LinesAbove). x.entry) e ∙ entry_kept d name ls f placed) in
-    let none : problem_at a at (statement_said l) ≡ None = none_stands law c.sizes.section a at (statement_said l) b is_defined here.placed right in
-    let long : length b ≡ statement_length (statement_said l) = stands_length law.keeps c.sizes.section a at (statement_said l) b right in
+    let none : problem_at a at (statement_said l) ≡ None = none_stands c.sizes.section a at (statement_said l) b is_defined here.placed right in
+    let long : length b ≡ statement_length (statement_said l) = stands_length c.sizes.section a at (statement_said l) b right in
     let stand : AllStand a d.sizes ls bs = subst (λ (m : ℕ). AllStand a (sizes_after c.sizes (statement_said l) m) ls bs) long rest in
-    ap (λ (p : Option Problem). fault_or p k (first_problem a d.sizes (k + 1) ls)) none ∙ none_first law a d n (k + 1) ls bs e entry placed stand
+    ap (λ (p : Option Problem). fault_or p k (first_problem a d.sizes (k + 1) ls)) none ∙ none_first a d n (k + 1) ls bs e entry placed stand
 
 -- ---- sizes
 
@@ -235,14 +225,14 @@ not_some : (o : Option Fault) (f : Fault) → o ≡ None → o ≡ Some f → �
 not_some None f e g = cc
 not_some (Some h) f e g = cc
 
-pub none_made : Refutes → (t : List ℕ) (ls : List Line) (p : Program) (f : Fault) → AreLinesTaken unseen (lines t) ls → AreAssembled ls p → fault_after ls ≡ Some f → ⊥
-none_made law t ls p f taken made told =
+pub none_made : (t : List ℕ) (ls : List Line) (p : Program) (f : Fault) → AreLinesTaken unseen (lines t) ls → AreAssembled ls p → fault_after ls ≡ Some f → ⊥
+none_made t ls p f taken made told =
     let a = laid_by no_lines_above ls in
-    let left : left_by no_lines_above ls (map length made.bytes) ≡ a = lengths_same law.keeps _ no_lines_above no_lines_above.sizes ls made.bytes made.stand in
+    let left : left_by no_lines_above ls (map length made.bytes) ≡ a = lengths_same _ no_lines_above no_lines_above.sizes ls made.bytes made.stand in
     let stand : AllStand a no_lines_above.sizes ls made.bytes = subst (λ (x : LinesAbove). AllStand x no_lines_above.sizes ls made.bytes) left made.stand in
     let entry : entry_under a a.entry ≡ Some p.entry = subst (λ (x : LinesAbove). entry_under x x.entry ≡ Some p.entry) left made.entry in
-    let first : first_problem a no_lines_above.sizes 1 ls ≡ None = none_first law a no_lines_above p.entry 1 ls made.bytes refl entry (all_placed law unseen (lines t) ls taken) stand in
-    let size = contents_size law.keeps Text (λ b. refl) a no_lines_above ls made.bytes stand in
+    let first : first_problem a no_lines_above.sizes 1 ls ≡ None = none_first a no_lines_above p.entry 1 ls made.bytes refl entry (all_placed unseen (lines t) ls taken) stand in
+    let size = contents_size Text (λ b. refl) a no_lines_above ls made.bytes stand in
     let text : length p.text ≡ a.sizes.text = ap length made.text ∙ omega (arith, size, ap (λ (x : LinesAbove). x.sizes.text) left) in
     let symbols : length p.symbols ≡ length a.labels = ap length made.symbols ∙ length-map _ _ ∙ ap (λ (x : LinesAbove). length x.labels) left in
     let fits = small a p (made.total ∙ ap total_of left) text symbols in

@@ -1,5 +1,5 @@
 -- What of the lines above the reasons hang on, one line more at a time.
-use Rattle.std.proofs.Common.{◌≡◌, ℕ, Bool, true, false, List, [], ◌∷◌, refl, ap, cond, Option, Some, None}
+use Rattle.std.proofs.Common.{◌≡◌, ℕ, Bool, true, false, List, [], ◌∷◌, refl, cond, Option, Some, None}
 use Rattle.std.specs.Map.{keys_of}
 use Rattle.std.specs.Prelude.{◌||◌, is_some, is_none}
 use Rattle.std.proofs.lemmas.List.{map-append}

@@ -1,6 +1,6 @@
 //! The lengths, distances and bytes of jumps, calls and loops.
 
-ghost use Rattle.std.specs.Prelude.{◌≡◌, ℕ, ◌+◌, ◌≤◌, List, false, length};
+ghost use Rattle.std.specs.Prelude.{◌≡◌, ◌+◌, ◌≤◌, false, length};
 ghost use Rattle.mx_encode.specs.Chosen.{Chosen};
 ghost use Rattle.mx_encode.specs.Numbers.{is_short};
 ghost use Rattle.mx_asm_statement.specs.declared.branch.Branch.{Branch};
@@ -73,16 +73,6 @@ pub fn is_too_far(branch: Branch, displacement: u32) -> bool
 {
     is_near(branch) && !is_short(displacement)
 }
-
-/// Law: a jump that reaches has the length that its line asks for, and one of that length reaches.
-pub fn branch_has_length()
-    ensures length { (branch : Branch) (n : ℕ) (bytes : List ℕ) → is_too_far branch n ≡ false
-        → Chosen (branch_by branch n) (branch_marks branch) bytes
-        → length bytes ≡ branch_length branch }
-    ensures reaches { (branch : Branch) (n : ℕ) (bytes : List ℕ)
-        → Chosen (branch_by branch n) (branch_marks branch) bytes
-        → length bytes ≡ branch_length branch → is_too_far branch n ≡ false }
-{}
 
 /// The bytes of a jump to a label, at an address.
 pub fn branch_bytes(branch: Branch, at: u32, target: u32) -> ArrayVec<u8, 15>

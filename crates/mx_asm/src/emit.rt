@@ -14,9 +14,7 @@ ghost use Rattle.mx_asm.specs.Bytes.{named_under, BytesOf, Pushes, PutsOut, AreP
 use crate::numbered::NumberedLine;
 use crate::{Layout, SectionSizes, branch_bytes};
 use mx_asm_statement::{Branch, Instruction, Line, Section, Statement, Value};
-use mx_encode::{
-    displacement_keeps_length, encode, immediate_keeps_length, with_displacement, with_immediate,
-};
+use mx_encode::{encode, with_displacement, with_immediate};
 use mx_insn::{ArrayVec, Insn};
 use mx_word::Size;
 use std::alloc::{AllocError, Global};
@@ -60,6 +58,7 @@ fn push_values(
     Ok(())
 }
 
+#[tactic(auto, using(mx_encode::proofs::Formed::immediate_keeps_form, mx_encode::proofs::Formed::displacement_keeps_form))]
 fn with_values(layout: &Layout, instruction: &Instruction) -> Insn
     requires immediate { is_undefined_if (above_of layout.now) instruction.now.immediate ≡ false }
     requires displacement { is_undefined_if (above_of layout.now) instruction.now.displacement
@@ -67,8 +66,6 @@ fn with_values(layout: &Layout, instruction: &Instruction) -> Insn
     ensures named { named_under (above_of layout.now) instruction.now ≡ Some result }
     ensures form { has_form result ≡ true }
 {
-    immediate_keeps_length();
-    displacement_keeps_length();
     let mut insn = instruction.insn;
     if let Some(value) = instruction.immediate {
         let Some(number) = layout.value(value) else {
@@ -164,8 +161,6 @@ pub fn parts_of(alloc: Global, layout: &Layout, lines: &[NumberedLine]) -> Resul
         AreParts (above_of layout.now) no_lines_above.sizes (map (λ (k : NumberedLine).
         k.line) lines.now) parts.text.items parts.init.items) }
 {
-    immediate_keeps_length();
-    displacement_keeps_length();
     let mut parts = Parts {
         text: Vec::new(alloc),
         init: Vec::new(alloc),

@@ -6,12 +6,8 @@ ghost use Rattle.mx_asm_statement.specs.declared.line.Line.{Line};
 ghost use Rattle.mx_asm.specs.declared.fault.Fault.{Fault};
 ghost use Rattle.mx_asm.specs.Text.{AreLinesAccepted, IsAssembled, HasTextFault};
 
-use crate::branch_has_length;
-use mx_aout::alike_is_same;
-use mx_asm_statement::{line_begins, line_fits, line_or_fault, one_line};
-use mx_encode::{
-    displacement_keeps_length, filled_fits, immediate_keeps_length, one_chosen, some_chosen,
-};
+use mx_asm_statement::{line_or_fault, one_line};
+use mx_encode::one_chosen;
 use mx_lex::one_fault;
 
 /// Law: lines without a problem have their program. No text has both a program and a fault, and none has
@@ -26,13 +22,6 @@ pub fn program_or_fault()
 {
     one_line();
     line_or_fault();
-    line_fits();
-    some_chosen();
-    filled_fits();
-    line_begins();
-    branch_has_length();
-    immediate_keeps_length();
-    displacement_keeps_length();
 }
 
 /// Law: at most one fault of an assembler text is reported.
@@ -50,7 +39,4 @@ pub fn program_is_one()
 {
     one_line();
     one_chosen();
-    alike_is_same();
-    immediate_keeps_length();
-    displacement_keeps_length();
 }

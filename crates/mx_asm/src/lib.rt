@@ -31,7 +31,7 @@ mod second;
 mod sizes;
 
 pub use assembling::assemble;
-pub use branch::{branch_bytes, branch_has_length};
+pub use branch::branch_bytes;
 pub use fault::{AsmError, Fault, Problem, problem_of};
 pub use hashing::HashedByText;
 pub use laws::{fault_is_one, program_is_one, program_or_fault};

@@ -13,7 +13,6 @@ use crate::numbered::NumberedLine;
 use crate::{AsmError, Layout};
 use mx_aout::{Program, Symbol, Symbols};
 use mx_asm_statement::Section;
-use mx_encode::{displacement_keeps_length, immediate_keeps_length};
 use mx_text::Name;
 use mx_word::Bytes;
 use std::alloc::{AllocError, Global};
@@ -104,8 +103,6 @@ pub fn program_of(
         → above_of layout.now ≡ laid_by no_lines_above ls
         → IfErr result (λ e. IsFaultOr (fault_after ls) e) }
 {
-    immediate_keeps_length();
-    displacement_keeps_length();
     // Faults first: no bytes are made of a text that has one.
     match layout.fault_after(lines, count) {
         Some(fault) => return Err(AsmError::At(fault)),

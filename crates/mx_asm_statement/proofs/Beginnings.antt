@@ -8,8 +8,6 @@ use Rattle.mx_insn_words.specs.declared.start.Prefix.{Prefix}
 use Rattle.mx_insn_words.specs.declared.start.Directive.{Directive}
 use Rattle.mx_insn_words.specs.declared.start.Directive.TheVariants as directives
 use Rattle.mx_insn_words.specs.declared.start.WordStart.TheVariants as starts
-use Rattle.mx_asm_statement.specs.declared.argument.Argument.{Argument}
-use Rattle.mx_asm_statement.specs.declared.branch.JumpLength.{JumpLength}
 use Rattle.mx_asm_statement.specs.declared.item.Item.{Item}
 use Rattle.mx_asm_statement.specs.declared.item.Item.TheVariants as items
 use Rattle.mx_asm_statement.specs.Items.{◌>>=◌}
@@ -20,18 +18,14 @@ use Rattle.mx_asm_statement.specs.declared.line.Line.{Line}
 use Rattle.mx_asm_statement.specs.declared.statement.Statement.{Statement}
 use Rattle.mx_asm_statement.specs.declared.statement.Statement.TheVariants as statements
 use Rattle.mx_asm_statement.specs.Data.{values_in, data_of}
-use Rattle.mx_asm_statement.specs.Statements.{IsCode, statement_for, statement_after_prefix}
+use Rattle.mx_asm_statement.specs.Statements.{IsCode}
 use Rattle.mx_asm_statement.specs.declared.opening.LineStart.{LineStart}
 use Rattle.mx_asm_statement.specs.declared.opening.LineStart.TheVariants as begun
 use Rattle.mx_asm_statement.specs.Beginnings.{begins_with}
 use Rattle.mx_asm_statement.specs.Opening.{after_label, after_first}
 use Rattle.mx_asm_statement.specs.LineStatements.{jump_length_asked, without_short_mark, after_mnemonic, after_prefix, standing_alone, number_alone, entry_of, after_directive, text_alone, statement_of}
 use Rattle.mx_asm_statement.specs.Lines.{beginning_of, beginning_after, where_named, IsLine}
-
--- of the forms
-pub record StatesCode : Type 0 where
-  pub stated : (length : JumpLength) (m : Mnemonic) (xs : List Argument) (s : Statement) → statement_for length m xs ≡ Some s → IsCode s
-  pub repeated : (p : Prefix) (m : Mnemonic) (s : Statement) → statement_after_prefix p m ≡ Some s → IsCode s
+use Rattle.mx_asm_statement.proofs.Widths.{code_is_stated, code_is_repeated}
 
 -- if it is a statement, it begins so
 abbrev Agrees : StatementStart → Option Statement → Type 0
@@ -64,15 +58,15 @@ next b (Some a) f k = k a
 
 -- ---- after a mnemonic
 
-mnemonic_agrees : StatesCode → (m : Mnemonic) (ts : List Item) → Agrees beginnings.Instruction (after_mnemonic m ts)
-mnemonic_agrees law m ts =
-    next beginnings.Instruction (arguments_of (without_short_mark m ts)) _ (λ xs s e. code_agrees s (law.stated (jump_length_asked m ts) m xs s e))
+mnemonic_agrees : (m : Mnemonic) (ts : List Item) → Agrees beginnings.Instruction (after_mnemonic m ts)
+mnemonic_agrees m ts =
+    next beginnings.Instruction (arguments_of (without_short_mark m ts)) _ (λ xs s e. code_agrees s (code_is_stated (jump_length_asked m ts) m xs s e))
 
-prefix_agrees : StatesCode → (p : Prefix) (m : Option Mnemonic) (ts : List Item) → Agrees beginnings.Instruction (after_prefix p m ts)
-prefix_agrees law p None ts = none_agrees beginnings.Instruction
-prefix_agrees law p (Some m) [] = none_agrees beginnings.Instruction
-prefix_agrees law p (Some m) (t ∷ []) = λ s e. code_agrees s (law.repeated p m s e)
-prefix_agrees law p (Some m) (t ∷ u ∷ ts) = none_agrees beginnings.Instruction
+prefix_agrees : (p : Prefix) (m : Option Mnemonic) (ts : List Item) → Agrees beginnings.Instruction (after_prefix p m ts)
+prefix_agrees p None ts = none_agrees beginnings.Instruction
+prefix_agrees p (Some m) [] = none_agrees beginnings.Instruction
+prefix_agrees p (Some m) (t ∷ []) = λ s e. code_agrees s (code_is_repeated p m s e)
+prefix_agrees p (Some m) (t ∷ u ∷ ts) = none_agrees beginnings.Instruction
 
 -- ---- after a directive
 
@@ -109,12 +103,12 @@ directive_agrees directives.Stack text ts = next beginnings.Stack (number_alone 
 
 -- ---- the line
 
-statement_agrees : StatesCode → (b : LineStart) (second : Option Mnemonic) (text : Option (List ℕ)) (ts : List Item) → Agrees (beginning_of b) (statement_of b second text ts)
-statement_agrees law begun.Nothing second text ts = some_agrees statements.Nothing
-statement_agrees law begun.Unknown second text ts = none_agrees beginnings.Unknown
-statement_agrees law (begun.Known (starts.Mnemonic m)) second text ts = mnemonic_agrees law m ts
-statement_agrees law (begun.Known (starts.Repeat p)) second text ts = prefix_agrees law p second ts
-statement_agrees law (begun.Known (starts.Directive d)) second text ts = directive_agrees d text ts
+statement_agrees : (b : LineStart) (second : Option Mnemonic) (text : Option (List ℕ)) (ts : List Item) → Agrees (beginning_of b) (statement_of b second text ts)
+statement_agrees begun.Nothing second text ts = some_agrees statements.Nothing
+statement_agrees begun.Unknown second text ts = none_agrees beginnings.Unknown
+statement_agrees (begun.Known (starts.Mnemonic m)) second text ts = mnemonic_agrees m ts
+statement_agrees (begun.Known (starts.Repeat p)) second text ts = prefix_agrees p second ts
+statement_agrees (begun.Known (starts.Directive d)) second text ts = directive_agrees d text ts
 
 named_agrees : (b : StatementStart) (label : Option Item) (o : Option Statement) → Agrees b o → Agrees b (where_named label o)
 named_agrees b None o h = h
@@ -126,9 +120,10 @@ named_agrees b (Some items.Other) o h = none_agrees b
 named_agrees b (Some (items.Mark m)) o h = none_agrees b
 named_agrees b (Some (items.Number n)) o h = none_agrees b
 
-pub line_begins : StatesCode → (t : List ℕ) (l : Line) (s : Statement) → IsLine t l → l.statement ≡ Some s → l.beginning ≡ begins_with s
-line_begins law t l s (ks, reading, says) e =
+-- the beginning of a line is that of its statement
+pub line_begins : (t : List ℕ) (l : Line) (s : Statement) → IsLine t l → l.statement ≡ Some s → l.beginning ≡ begins_with s
+line_begins t l s (ks, reading, says) e =
     let text = text_alone t (after_first (after_label t ks)) in
     let said = statement_of says.start says.second text says.rest in
     ap (λ (z : Line). z.beginning) says.is_line
-    ∙ named_agrees (beginning_of says.start) says.label_item said (statement_agrees law says.start says.second text says.rest) s (sym (ap (λ (z : Line). z.statement) says.is_line) ∙ e)
+    ∙ named_agrees (beginning_of says.start) says.label_item said (statement_agrees says.start says.second text says.rest) s (sym (ap (λ (z : Line). z.statement) says.is_line) ∙ e)

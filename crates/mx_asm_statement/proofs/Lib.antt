@@ -7,5 +7,5 @@ pub mod Widths
 mod Slices
 mod Unique
 mod Total
-mod LineWidths
+pub mod LineWidths
 pub mod Beginnings

@@ -9,8 +9,6 @@ use Rattle.mx_insn_words.specs.declared.start.Prefix.{Prefix}
 use Rattle.mx_insn_words.specs.declared.start.Directive.{Directive}
 use Rattle.mx_insn_words.specs.declared.start.Directive.TheVariants as directives
 use Rattle.mx_insn_words.specs.declared.start.WordStart.TheVariants as starts
-use Rattle.mx_asm_statement.specs.declared.argument.Argument.{Argument}
-use Rattle.mx_asm_statement.specs.declared.branch.JumpLength.{JumpLength}
 use Rattle.mx_asm_statement.specs.declared.item.Item.{Item}
 use Rattle.mx_asm_statement.specs.declared.item.Item.TheVariants as items
 use Rattle.mx_asm_statement.specs.Items.{◌>>=◌}
@@ -20,17 +18,12 @@ use Rattle.mx_asm_statement.specs.declared.instruction.Instruction.{Instruction}
 use Rattle.mx_asm_statement.specs.declared.statement.Statement.{Statement}
 use Rattle.mx_asm_statement.specs.declared.statement.Statement.TheVariants as statements
 use Rattle.mx_asm_statement.specs.Data.{values_in, data_of}
-use Rattle.mx_asm_statement.specs.Statements.{statement_for, statement_after_prefix}
 use Rattle.mx_asm_statement.specs.declared.opening.LineStart.{LineStart}
 use Rattle.mx_asm_statement.specs.declared.opening.LineStart.TheVariants as begun
 use Rattle.mx_asm_statement.specs.Opening.{after_label, after_first}
 use Rattle.mx_asm_statement.specs.LineStatements.{jump_length_asked, without_short_mark, after_mnemonic, after_prefix, standing_alone, number_alone, entry_of, after_directive, text_alone, statement_of}
 use Rattle.mx_asm_statement.specs.Lines.{where_named, IsLine}
-
--- of the forms
-pub record NumbersFit : Type 0 where
-  pub stated : (length : JumpLength) (m : Mnemonic) (xs : List Argument) (i : Instruction) → statement_for length m xs ≡ Some (statements.Instruction i) → Fits i.insn
-  pub repeated : (p : Prefix) (m : Mnemonic) (i : Instruction) → statement_after_prefix p m ≡ Some (statements.Instruction i) → Fits i.insn
+use Rattle.mx_asm_statement.proofs.Widths.{numbers_fit, repeated_numbers_fit}
 
 abbrev AllFit : Option Statement → Type 0
 AllFit o = (i : Instruction) → o ≡ Some (statements.Instruction i) → Fits i.insn
@@ -55,14 +48,14 @@ next (Some a) f k = k a
 
 -- ---- after a mnemonic
 
-mnemonic_fits : NumbersFit → (m : Mnemonic) (ts : List Item) → AllFit (after_mnemonic m ts)
-mnemonic_fits law m ts = next (arguments_of (without_short_mark m ts)) _ (λ xs. law.stated (jump_length_asked m ts) m xs)
+mnemonic_fits : (m : Mnemonic) (ts : List Item) → AllFit (after_mnemonic m ts)
+mnemonic_fits m ts = next (arguments_of (without_short_mark m ts)) _ (λ xs. numbers_fit (jump_length_asked m ts) m xs)
 
-prefix_fits : NumbersFit → (p : Prefix) (m : Option Mnemonic) (ts : List Item) → AllFit (after_prefix p m ts)
-prefix_fits law p None ts = none_fits
-prefix_fits law p (Some m) [] = none_fits
-prefix_fits law p (Some m) (t ∷ []) = law.repeated p m
-prefix_fits law p (Some m) (t ∷ u ∷ ts) = none_fits
+prefix_fits : (p : Prefix) (m : Option Mnemonic) (ts : List Item) → AllFit (after_prefix p m ts)
+prefix_fits p None ts = none_fits
+prefix_fits p (Some m) [] = none_fits
+prefix_fits p (Some m) (t ∷ []) = repeated_numbers_fit p m
+prefix_fits p (Some m) (t ∷ u ∷ ts) = none_fits
 
 -- ---- after a directive
 
@@ -99,12 +92,12 @@ directive_fits directives.Stack text ts = next (number_alone ts) _ (λ n. other_
 
 -- ---- the line
 
-statement_fits : NumbersFit → (b : LineStart) (second : Option Mnemonic) (text : Option (List ℕ)) (ts : List Item) → AllFit (statement_of b second text ts)
-statement_fits law begun.Nothing second text ts = other_fits statements.Nothing tt
-statement_fits law begun.Unknown second text ts = none_fits
-statement_fits law (begun.Known (starts.Mnemonic m)) second text ts = mnemonic_fits law m ts
-statement_fits law (begun.Known (starts.Repeat p)) second text ts = prefix_fits law p second ts
-statement_fits law (begun.Known (starts.Directive d)) second text ts = directive_fits d text ts
+statement_fits : (b : LineStart) (second : Option Mnemonic) (text : Option (List ℕ)) (ts : List Item) → AllFit (statement_of b second text ts)
+statement_fits begun.Nothing second text ts = other_fits statements.Nothing tt
+statement_fits begun.Unknown second text ts = none_fits
+statement_fits (begun.Known (starts.Mnemonic m)) second text ts = mnemonic_fits m ts
+statement_fits (begun.Known (starts.Repeat p)) second text ts = prefix_fits p second ts
+statement_fits (begun.Known (starts.Directive d)) second text ts = directive_fits d text ts
 
 named_fits : (label : Option Item) (s : Option Statement) → AllFit s → AllFit (where_named label s)
 named_fits None s h = h
@@ -116,8 +109,9 @@ named_fits (Some items.Other) s h = none_fits
 named_fits (Some (items.Mark m)) s h = none_fits
 named_fits (Some (items.Number n)) s h = none_fits
 
-pub line_fits : NumbersFit → (t : List ℕ) (l : Line) (i : Instruction) → IsLine t l → l.statement ≡ Some (statements.Instruction i) → Fits i.insn
-line_fits law t l i (ks, reading, says) e =
+-- the numbers of a line's instruction
+pub line_fits : (t : List ℕ) (l : Line) (i : Instruction) → IsLine t l → l.statement ≡ Some (statements.Instruction i) → Fits i.insn
+line_fits t l i (ks, reading, says) e =
     let text = text_alone t (after_first (after_label t ks)) in
     let said = statement_of says.start says.second text says.rest in
-    named_fits says.label_item said (statement_fits law says.start says.second text says.rest) i (sym (ap (λ (z : Line). z.statement) says.is_line) ∙ e)
+    named_fits says.label_item said (statement_fits says.start says.second text says.rest) i (sym (ap (λ (z : Line). z.statement) says.is_line) ∙ e)

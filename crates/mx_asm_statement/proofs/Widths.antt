@@ -89,10 +89,10 @@ PairFits pair = OperandsFit pair.operands
 abbrev pub PartsFit : ExtensionParts → Type 0
 PartsFit parts = OperandFits parts.from
 
-pub fits_where : (o : Option Statement) (i : Instruction) → If StatementFits o → o ≡ Some (statements.Instruction i) → Fits i.insn
+fits_where : (o : Option Statement) (i : Instruction) → If StatementFits o → o ≡ Some (statements.Instruction i) → Fits i.insn
 fits_where o i h e = subst (If StatementFits) e h
 
-pub code_where : (o : Option Statement) (s : Statement) → If StatementFits o → o ≡ Some s → IsCode s
+code_where : (o : Option Statement) (s : Statement) → If StatementFits o → o ≡ Some s → IsCode s
 code_where o s h e = code s (subst (If StatementFits) e h)
   where
     code : (s : Statement) → StatementFits s → IsCode s
@@ -504,7 +504,7 @@ single_fits length Out xs = out_port xs
 -- what has one register and no number, as POP
 single_fits length _ xs = each StatementFits (only_register xs) _ (λ r. says_fits _ None None tt)
 
-pub stated_fits : (length : JumpLength) (m : Mnemonic) (xs : List Argument) → If StatementFits (statement_for length m xs)
+stated_fits : (length : JumpLength) (m : Mnemonic) (xs : List Argument) → If StatementFits (statement_for length m xs)
 stated_fits length (mnemonics.Arithmetic o) xs = arithmetic_fits o xs
 stated_fits length (mnemonics.Unary o) xs = unary_fits o xs
 stated_fits length (mnemonics.Product o) xs = product_fits o xs
@@ -520,8 +520,24 @@ stated_fits length (mnemonics.SetCondition c) xs = condition_fits c xs
 stated_fits length (mnemonics.Transfer o s) xs = alone_fits (insns.Transfer o s false) xs tt
 stated_fits length (mnemonics.Compare o s) xs = alone_fits (insns.Compare o s None) xs tt
 
-pub repeated_fits : (p : Prefix) (m : Mnemonic) → If StatementFits (statement_after_prefix p m)
+repeated_fits : (p : Prefix) (m : Mnemonic) → If StatementFits (statement_after_prefix p m)
 repeated_fits Rep (mnemonics.Transfer o s) = says_fits (insns.Transfer o s true) None None tt
 repeated_fits Repe (mnemonics.Compare o s) = says_fits (insns.Compare o s (Some repeats.Repe)) None None tt
 repeated_fits Repne (mnemonics.Compare o s) = says_fits (insns.Compare o s (Some repeats.Repne)) None None tt
 repeated_fits _ _ = tt
+
+-- ---- of a statement that a mnemonic has
+
+-- the numbers of its instruction are as wide as their types
+pub numbers_fit : (length : JumpLength) (m : Mnemonic) (xs : List Argument) (i : Instruction) → statement_for length m xs ≡ Some (statements.Instruction i) → Fits i.insn
+numbers_fit length m xs i e = fits_where (statement_for length m xs) i (stated_fits length m xs) e
+
+pub repeated_numbers_fit : (p : Prefix) (m : Mnemonic) (i : Instruction) → statement_after_prefix p m ≡ Some (statements.Instruction i) → Fits i.insn
+repeated_numbers_fit p m i e = fits_where (statement_after_prefix p m) i (repeated_fits p m) e
+
+-- it is an instruction or a jump, and no directive
+pub code_is_stated : (length : JumpLength) (m : Mnemonic) (xs : List Argument) (s : Statement) → statement_for length m xs ≡ Some s → IsCode s
+code_is_stated length m xs s e = code_where (statement_for length m xs) s (stated_fits length m xs) e
+
+pub code_is_repeated : (p : Prefix) (m : Mnemonic) (s : Statement) → statement_after_prefix p m ≡ Some s → IsCode s
+code_is_repeated p m s e = code_where (statement_after_prefix p m) s (repeated_fits p m) e

@@ -1,3 +1,3 @@
 mod Naming
 mod Partings
-mod Listings
+pub mod Listings

@@ -5,6 +5,8 @@ use Rattle.mx_dis.specs.declared.part.Part.{Part}
 use Rattle.mx_dis.specs.Parting.{IsParting, part_size, total_size}
 use Rattle.mx_dis.specs.Listing.{listing_line, lines_of, IsListing}
 
+-- the lines of two lists of parts, one after the other, are the first's lines and then the second's, from the address on
+-- at which the first ends
 pub lines_join : (at : ℕ) (front back : List Part) → lines_of at (front ++ back) ≡ lines_of at front ++ lines_of (at + total_size front) back
 lines_join at [] back = let e : at ≡ at + 0 = omega arith in ap (λ (n : ℕ). lines_of n back) e
 lines_join at (p ∷ front) back =

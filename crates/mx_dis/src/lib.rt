@@ -8,7 +8,7 @@ mod name;
 mod part;
 mod symbols;
 
-pub use laws::{lines_join, one_parting, parted_there};
+pub use laws::{one_parting, parted_there};
 pub use listing::list;
 pub use name::before_zero;
 pub use part::{Part, first_part};

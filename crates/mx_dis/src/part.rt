@@ -4,7 +4,6 @@ ghost use Rattle.std.specs.Prelude.{◌≡◌, ◌<◌, ◌≤◌, ◌∷◌, Li
 ghost use Rattle.mx_dis.specs.declared.part.Part.{Part};
 ghost use Rattle.mx_dis.specs.Parting.{IsFirstPart, IsParting, part_size};
 
-use crate::laws::takes_bytes;
 use mx_decode::decode;
 use mx_insn::Insn;
 
@@ -39,7 +38,6 @@ pub fn first_part(bytes: &[u8]) -> Part
     ensures within { part_size result ≤ length bytes.now }
     ensures byte { part_size result < 256 }
 {
-    takes_bytes();
     match decode(bytes) {
         Ok((insn, size)) => Part::Instruction(insn, size),
         Err(_) => Part::Byte(bytes[0]),

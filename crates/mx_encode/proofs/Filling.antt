@@ -2,6 +2,7 @@
 use Rattle.std.proofs.Common.{◌≡◌, ℕ, Bool, true, false, Option, Some, None, refl, ap, ◌∙◌, IsTrue}
 use Rattle.mx_insn.specs.declared.insn.Operand.TheVariants as operand
 use Rattle.mx_insn.specs.declared.insn.Insn.{Insn}
+use Rattle.mx_encode.specs.declared.Wide.{Wide}
 use Rattle.mx_encode.specs.declared.fields.Rm.{Rm}
 use Rattle.mx_encode.specs.Choice.{Choice, choice}
 use Rattle.mx_encode.specs.Filled.{operand_with_displacement, with_displacement, with_immediate}
@@ -21,14 +22,23 @@ in_at : (c : Option Choice) (n : ℕ) → displacement_in (given_at c n) ≡ in_
 in_at None n = refl
 in_at (Some c) n = beside_at c.rm n
 
-pub displacement_held : (i : Insn) (short long : Bool) (n : ℕ) → IsTrue long
+displacement_held : (i : Insn) (short long : Bool) (n : ℕ) → IsTrue long
     → displacement_in (choice (with_displacement i n) (record { immediate = short; displacement = long })) ≡ in_place_of (displacement_in (choice i (record { immediate = short; displacement = long }))) n
 displacement_held i short true n h = ap displacement_in ((each i).stays short n) ∙ in_at (choice i (record { immediate = short; displacement = true })) n
 displacement_held i short false n h = cc
 
+-- if the encoding has a displacement of memory and it is marked wide, the encoding with another one put in has that one there
+pub displacement_is_held : (i : Insn) (wide : Wide) (n : ℕ) → IsTrue wide.displacement → displacement_in (choice (with_displacement i n) wide) ≡ in_place_of (displacement_in (choice i wide)) n
+displacement_is_held i wide n h = displacement_held i wide.immediate wide.displacement n h
+
 -- ---- an immediate
 
-pub immediate_held : (i : Insn) (short long : Bool) (n : ℕ) → IsTrue short → is_jump i ≡ false
+immediate_held : (i : Insn) (short long : Bool) (n : ℕ) → IsTrue short → is_jump i ≡ false
     → dword_in (choice (with_immediate i n) (record { immediate = short; displacement = long })) ≡ in_place_of (dword_in (choice i (record { immediate = short; displacement = long }))) n
 immediate_held i true long n h none = (each i).held long n none
 immediate_held i false long n h none = cc
+
+-- if the encoding has a dword as its immediate and it is marked wide, the encoding with another dword put in has that one there.
+-- Jumps are left out: the number in them is a distance
+pub immediate_is_held : (i : Insn) (wide : Wide) (n : ℕ) → IsTrue wide.immediate → is_jump i ≡ false → dword_in (choice (with_immediate i n) wide) ≡ in_place_of (dword_in (choice i wide)) n
+immediate_is_held i wide n h none = immediate_held i wide.immediate wide.displacement n h none

@@ -23,10 +23,7 @@ mod writing;
 
 pub use encoding::encode;
 pub use filled::{with_displacement, with_immediate};
-pub use laws::{
-    chosen_spells, displacement_is_held, displacement_keeps_length, filled_fits, immediate_is_held,
-    immediate_keeps_length, one_chosen, some_chosen, spelled_has_form, target_keeps_length,
-};
+pub use laws::{chosen_spells, one_chosen, some_chosen, spelled_has_form};
 use numbers::NumberForm;
 
 /// What is asked for if a shorter form is possible. A mark has no effect if an instruction has nothing to

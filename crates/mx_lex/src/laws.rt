@@ -1,15 +1,9 @@
 //! Laws of the tokens of an assembler text.
 
-ghost use Rattle.std.specs.Prelude.{◌≡◌, ◌≤◌, ℕ, List, length};
+ghost use Rattle.std.specs.Prelude.{◌≡◌, ℕ, List};
 ghost use Rattle.mx_lex.specs.declared.kinds.LexError.{LexError};
 ghost use Rattle.mx_lex.specs.declared.kinds.Token.{Token};
-ghost use Rattle.mx_lex.specs.Tokens.{Gap, IsOver, IsReadAs, IsLexFault};
-
-/// Law: gaps that begin at one offset, and end where no other gap begins, end at one offset.
-pub fn gap_has_one_end()
-    ensures { (t : List ℕ) (a b c : ℕ) → Gap t a b → Gap t a c → b ≤ length t → c ≤ length t
-        → IsOver t b → IsOver t c → b ≡ c }
-{}
+ghost use Rattle.mx_lex.specs.Tokens.{IsReadAs, IsLexFault};
 
 /// Law: a text is parted into tokens in at most one way.
 pub fn one_reading()

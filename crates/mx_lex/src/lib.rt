@@ -10,6 +10,6 @@ mod scan;
 mod text;
 
 pub use kinds::{LexError, Mark, Token, TokenKind};
-pub use laws::{gap_has_one_end, one_fault, one_reading, reading_or_fault};
+pub use laws::{one_fault, one_reading, reading_or_fault};
 pub use reading::{tokens, tokens_in};
 pub use text::text_bytes;

@@ -1,4 +1,4 @@
-use Rattle.std.proofs.Common.{arith, ap, ◌≡◌, ◌+◌, ◌<◌, ◌≤◌, ◌∷◌, length}
+use Rattle.std.proofs.Common.{arith, ap, ◌≡◌, ◌+◌, ◌<◌, ◌∷◌, length}
 use Rattle.mx_text.specs.Lines.{lines}
 use Rattle.mx_asm.specs.Layout.{LinesAbove}
 use Rattle.mx_asm.specs.View.{above_of}

@@ -1,8 +1,6 @@
-use Rattle.std.proofs.Common.{◌≡◌, ◌+◌, ◌*◌, ◌^◌, ◌≤◌, length, List}
-use Rattle.mx_asm_statement.specs.declared.line.Line.{Line}
+use Rattle.std.proofs.Common.{◌≡◌, ◌+◌, ◌*◌, ◌^◌, ◌≤◌, length}
 use Rattle.mx_text.specs.Lines.{lines}
-use Rattle.mx_asm.specs.Kept.{lines_kept}
-use Rattle.mx_asm.specs.Layout.{no_lines_above, laid_by, SizesWithin}
+use Rattle.mx_asm.specs.Layout.{SizesWithin}
 use Rattle.mx_asm.specs.View.{above_of}
 use Rattle.mx_asm.proofs.Reading.{ReadSoFar}
 use Rattle.mx_asm.proofs.assembling.read_lines.Given as goal

@@ -6,7 +6,6 @@ use Rattle.mx_asm.specs.Bytes.{AllStand}
 use Rattle.mx_asm.specs.Faults.{first_problem, total_of}
 use Rattle.mx_asm.specs.Kept.{first_problem_kept}
 use Rattle.mx_asm.specs.Assembled.{symbol_under, entry_under}
-use Rattle.mx_asm.proofs.Lengths.{KeepsLength}
 use Rattle.mx_asm.proofs.Emitting.{lengths_same}
 use Rattle.mx_asm.proofs.Entering.{begins_somewhere}
 use Rattle.mx_asm.proofs.Fitting.{contents_size}
@@ -16,10 +15,9 @@ use Rattle.mx_asm.proofs.program.program_of.Goals as goal
 pub returns-clause-program : goal.returns-clause-program
 returns-clause-program c lines kept laid =
     let a = above_of c.args.layout.now in
-    let law : KeepsLength = record { immediate = c.immediate_keeps_length.ensures.count; displacement = c.displacement_keeps_length.ensures.count } in
     let parts = parts_kept a no_lines_above.sizes 1 lines c.args.lines.now _ _ kept.0 c.in_ok-parts.ensures in
     let made = c.program_with.ensures in
-    let back : a ≡ left_by no_lines_above lines (map length parts.bytes) = laid ∙ sym (lengths_same law a no_lines_above no_lines_above.sizes lines parts.bytes parts.stand) in
+    let back : a ≡ left_by no_lines_above lines (map length parts.bytes) = laid ∙ sym (lengths_same a no_lines_above no_lines_above.sizes lines parts.bytes parts.stand) in
     record {
       bytes = parts.bytes;
       stand = subst (λ (x : LinesAbove). AllStand x no_lines_above.sizes lines parts.bytes) back parts.stand;
@@ -36,20 +34,18 @@ pub program_with-requires-clause-text : goal.program_with-requires-clause-text
 program_with-requires-clause-text c =
     let (lines, kept, laid) = c.requires in
     let a = above_of c.args.layout.now in
-    let law : KeepsLength = record { immediate = c.immediate_keeps_length.ensures.count; displacement = c.displacement_keeps_length.ensures.count } in
     let parts = parts_kept a no_lines_above.sizes 1 lines c.args.lines.now _ _ kept.0 c.in_ok-parts.ensures in
-    let back : a ≡ left_by no_lines_above lines (map length parts.bytes) = laid ∙ sym (lengths_same law a no_lines_above no_lines_above.sizes lines parts.bytes parts.stand) in
-    let size = contents_size law Text (λ b. refl) a no_lines_above lines parts.bytes parts.stand in
+    let back : a ≡ left_by no_lines_above lines (map length parts.bytes) = laid ∙ sym (lengths_same a no_lines_above no_lines_above.sizes lines parts.bytes parts.stand) in
+    let size = contents_size Text (λ b. refl) a no_lines_above lines parts.bytes parts.stand in
     ap length parts.text_is ∙ omega (arith, size, ap (λ (x : LinesAbove). x.sizes.text) back)
 
 pub program_with-requires-clause-init : goal.program_with-requires-clause-init
 program_with-requires-clause-init c =
     let (lines, kept, laid) = c.requires in
     let a = above_of c.args.layout.now in
-    let law : KeepsLength = record { immediate = c.immediate_keeps_length.ensures.count; displacement = c.displacement_keeps_length.ensures.count } in
     let parts = parts_kept a no_lines_above.sizes 1 lines c.args.lines.now _ _ kept.0 c.in_ok-parts.ensures in
-    let back : a ≡ left_by no_lines_above lines (map length parts.bytes) = laid ∙ sym (lengths_same law a no_lines_above no_lines_above.sizes lines parts.bytes parts.stand) in
-    let size = contents_size law Data (λ b. refl) a no_lines_above lines parts.bytes parts.stand in
+    let back : a ≡ left_by no_lines_above lines (map length parts.bytes) = laid ∙ sym (lengths_same a no_lines_above no_lines_above.sizes lines parts.bytes parts.stand) in
+    let size = contents_size Data (λ b. refl) a no_lines_above lines parts.bytes parts.stand in
     ap length parts.init_is ∙ omega (arith, size, ap (λ (x : LinesAbove). x.sizes.init) back)
 
 pub program_with-requires-clause-begins : goal.program_with-requires-clause-begins

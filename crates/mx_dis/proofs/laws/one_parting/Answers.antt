@@ -3,7 +3,7 @@ use Rattle.mx_dis.proofs.Partings.{one_parting, some_parting}
 use Rattle.mx_dis.proofs.laws.one_parting.Goals as goal
 
 pub returns-clause-some : goal.returns-clause-some
-returns-clause-some c t b = some_parting c.front_is.ensures.ok c.front_is.ensures.not_in_table c.front_is.ensures.short c.takes_bytes.ensures (length t) t (omega arith) b
+returns-clause-some c t b = some_parting (length t) t (omega arith) b
 
 pub returns-clause-one : goal.returns-clause-one
-returns-clause-one c = one_parting c.one_spelling.ensures c.takes_bytes.ensures
+returns-clause-one c = one_parting
