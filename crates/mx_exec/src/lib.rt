@@ -1,5 +1,5 @@
-//! One step: what one instruction, by its `Operands` and operation, does (`Performs`) to an `Image`, which is a
-//! process's registers, flags, memory and segment, and the next EIP.
+//! One step: what one instruction, by its operation and operands (a `Source` is read, a `Place` written too), does
+//! to an `Image`, which is a process's registers, flags, memory and segment, up to a `TurnEnd`, and the next EIP.
 #![tactic(auto)]
 
 pub mod arithmetic;
