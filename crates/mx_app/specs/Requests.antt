@@ -85,7 +85,7 @@ Steps config script numbered qs Prints (Ok u) =
     × (let m = lines_made (world_at_boot c vs) c.cpus said in Prints (answers_text numbered m.0 ++ report_text m.1.table m.1.services))
 Steps config script numbered qs Prints (Err f) = IsTold IsScript TellsScript config script qs f
 
--- the same, with the file of the script's history, which is written before the report is printed; a service's program
+-- the steps, with the file of the script's history, which is written before the report is printed; a service's program
 -- isn't written over
 abbrev pub SavesSteps : List ℕ → List ℕ → List ℕ → Bool → List Asked → List Written → (List ℕ → Type 0) → Result (Unit {0}) Kind → Type 0
 SavesSteps config script log numbered qs ws Prints (Ok u) =
@@ -129,7 +129,7 @@ Traces config log range qs Prints (Ok how) =
     × IsTracePrinted (world_at_boot c vs) (take range.to records) range.from how Prints
 Traces config log range qs Prints (Err f) = IsTold IsSaved TellsSaved config log qs f
 
--- the same records, as a picture
+-- the records of a trace, as a picture
 abbrev pub Draws : List ℕ → List ℕ → RecordRange → List Asked → (List ℕ → Type 0) → Result Replayed Kind → Type 0
 Draws config log range qs Prints (Ok how) =
     (c : Config) × (vs : List Service) × (records : List Record) × IsStart IsSaved config log qs c vs records

@@ -24,9 +24,9 @@ pub enum Complaint {
     TicksAndEvents,
     /// What they ask for failed.
     Failed(LineFailure),
-    /// The same, with the line that explains it, without its end.
+    /// It failed: with the line that explains the failure, without its end.
     Explained(LineFailure, String),
-    /// The same, if there is no memory for the line that explains it.
+    /// It failed, and there is no memory for the line that explains the failure.
     Unexplained(LineFailure),
 }
 

@@ -19,7 +19,7 @@ use Rattle.mx_app_command.specs.declared.words.CommandRequest.TheVariants.{One, 
 abbrev pub required_text : Text → Rule
 required_text id = record (new_rule id) { required = true; action = Some Set }
 
--- the same, where the text is a number of 32 bits
+-- an argument that has to be given once, a number of 32 bits
 abbrev pub required_number : Text → Rule
 required_number id = record (required_text id) { parser = Some (Signed (pos 0) (pos 4294967295)) }
 
@@ -27,7 +27,7 @@ required_number id = record (required_text id) { parser = Some (Signed (pos 0) (
 abbrev pub after_name : Text → Text → Rule
 after_name long id = record (new_rule id) { long = Some long; action = Some Set }
 
--- the same, where the text is a number of 32 bits
+-- an argument that may be given once, after a long name, a number of 32 bits
 abbrev pub number_after : Text → Text → Rule
 number_after long id = record (after_name long id) { parser = Some (Signed (pos 0) (pos 4294967295)) }
 

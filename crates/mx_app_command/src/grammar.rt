@@ -488,7 +488,7 @@ fn with_programs<'a>(alloc: Global) -> Result<Command<'a>, AllocError>
     with_all(alloc, program(alloc), &PROGRAM_COMMANDS)
 }
 
-/// The same with those that start a machine.
+/// The program with the subcommands that work on one program, and those that start a machine.
 fn with_machines<'a>(alloc: Global) -> Result<Command<'a>, AllocError>
     ensures app { IfOk result (λ c. app_of c ≡ machine_app) }
 {

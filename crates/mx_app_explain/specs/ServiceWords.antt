@@ -21,7 +21,7 @@ abbrev pub or_none : List ℕ → List ℕ
 or_none [] = codes " none"
 or_none (x ∷ xs) = x ∷ xs
 
--- the same, of a text to which words were appended since it had that length
+-- a text, with the word that there are none if nothing was appended since it had that length
 abbrev pub none_since : ℕ → List ℕ → List ℕ
 none_since before text = if length text == before then text ++ codes " none" else text
 

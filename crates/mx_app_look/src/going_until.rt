@@ -101,7 +101,7 @@ fn go_on_to<P: Progress>(
     Ok((Sight { walker, points }, text))
 }
 
-/// The same, if each slot has a service that it is about.
+/// Goes on to right below the first record in which it happens, if each slot that it is about has a service.
 pub(crate) fn go_until<P: Progress>(
     alloc: Global,
     sight: Sight,

@@ -29,7 +29,7 @@ is_ready b = IsReady b.started.machine b.started.config b.started.other b.starte
 abbrev pub sweep_of : Sweep → World → SweepOf
 sweep_of s boot = record { boot = boot; other = s.other; records = s.records.now; fault = s.fault.now; bound = s.bound }
 
--- the same, of what was read
+-- what a sweep is of, from what was read
 abbrev pub begun_of : Begun → ℕ → SweepOf
 begun_of b n = record { boot = world_of b.started.machine; other = b.started.other; records = b.started.lines.items; fault = b.fault.items; bound = n }
 

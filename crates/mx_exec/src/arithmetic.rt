@@ -59,6 +59,7 @@ fn operate_by_size<P: Place, S: Source>(
     }
 }
 
+/// An operation on the two operands of a decoded instruction.
 pub fn operate_on(image: &mut Image, operation: Arithmetic, operands: &Operands) -> TurnEnd
     ensures { (next : ℕ) → Leads next image.old
         (after (Insn.Arithmetic operation operands.now) next image.old) result image.new }
@@ -203,6 +204,7 @@ pub fn divide_by<S: Source>(image: &mut Image, kind: Signedness, size: Size, by:
     }
 }
 
+/// MUL, IMUL, DIV or IDIV of the accumulator.
 pub fn product<S: Source>(image: &mut Image, operation: Product, size: Size, by: &S) -> TurnEnd
     requires { S.Fits by.now size }
     ensures { (next : ℕ) → Leads next image.old

@@ -175,6 +175,7 @@ fn ends_repeat(image: &Image, repeat: Repeat) -> bool
     }
 }
 
+/// CMPS or SCAS alone, or one iteration of it after REPE or REPNE.
 pub fn compare(
     image: &mut Image,
     operation: Comparison,

@@ -20,7 +20,7 @@ carry_from carries.Set x y = true
 carry_from carries.Sum x y = nat_le (2 ^ 32) (x + y)
 carry_from carries.Difference x y = nat_lt x y
 
--- the same of the low four bits; of INC and DEC with the operand k
+-- a carry or a borrow of the low four bits; of INC and DEC with the operand k
 abbrev pub auxiliary_from : Auxiliary → ℕ → ℕ → ℕ → Bool
 auxiliary_from digits.Clear x y k = false
 auxiliary_from digits.Set x y k = true

@@ -91,7 +91,7 @@ fn value_of(kernel: &Kernel, slot: Slot, name: &[u8]) -> Option<u32>
     }
 }
 
-/// The same, if the name isn't too long for a symbol.
+/// The value of the first symbol of a name in a slot's program, if the name isn't too long for a symbol.
 fn value_named(kernel: &Kernel, slot: Slot, name: &Option<SymbolName>) -> Option<u32>
     ensures { result
         ≡ value_named (symbols_by (slice_get (replay kernel.now).services slot)) name.now }

@@ -98,7 +98,7 @@ console 0
 ",
 };
 
-/// The same with four other actors, and with ticks of the first one.
+/// That talk and kill, with four other actors and ticks of the first one.
 static TALK_KILL_AND_TICK: Row = Row {
     config: "cpus 2
 others 4

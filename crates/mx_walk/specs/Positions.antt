@@ -88,7 +88,7 @@ event_below records p = first_event p.steps (drop p.records records)
 abbrev pub world_at : World → List Record → Position → World
 world_at w records p = world_after_events w (events_above records p)
 
--- the same as tests that compute
+-- the order of positions, and whether a position is in a history, as tests that compute
 abbrev pub is_up_to : Position → Position → Bool
 is_up_to p q = if p.records == q.records then nat_le p.steps q.steps else nat_lt p.records q.records
 
