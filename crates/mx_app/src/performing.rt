@@ -24,7 +24,7 @@ use std::thread::Threads;
 use std::time::Clock;
 
 /// A command that is done.
-#[derive(Clone, Copy, Debug, PartialEq, Eq)]
+#[derive(Clone, Copy, PartialEq, Eq)]
 pub struct Done {
     /// The status to end with.
     pub status: u8,

@@ -28,7 +28,7 @@ use std::thread::Threads;
 use std::time::Clock;
 
 /// Why what a command line asks for isn't done.
-#[derive(Clone, Copy, Debug, PartialEq, Eq)]
+#[derive(Clone, Copy)]
 pub enum LineFailure {
     /// The request fails.
     Request(Failure),

@@ -22,6 +22,10 @@ use Rattle.mx_app_command.proofs.Given.{IsOnly, SetsValue, all_found, has_wanted
 abbrev whole : App
 whole = built mx_grammar
 
+-- two names that differ aren't the same
+never : {A : Type 0} → false ≡ true → A
+never e = absurd (true≢false (sym e))
+
 -- a subcommand as a parse sees it
 abbrev whole_of : Shape → Shape
 whole_of s = built_leaf (inherited (with_leaf_noted (marked_built mx_grammar.top)) s)
@@ -108,10 +112,10 @@ steps_sets : SetsValue steps_rule
 steps_sets = record { set = refl; least = omega arith; defaults = refl }
 
 only_file : IsOnly file_rule one_whole.rules
-only_file = ((λ e. refl), ((λ e. cc), ((λ e. cc), ((λ e. cc), ((λ e. cc), tt)))))
+only_file = ((λ e. refl), ((λ e. never e), ((λ e. never e), ((λ e. never e), ((λ e. never e), tt)))))
 
 only_steps : IsOnly steps_rule one_whole.rules
-only_steps = ((λ e. cc), ((λ e. refl), ((λ e. cc), ((λ e. cc), ((λ e. cc), tt)))))
+only_steps = ((λ e. never e), ((λ e. refl), ((λ e. never e), ((λ e. never e), ((λ e. never e), tt)))))
 
 one_values : (words : List Text) → level_fault one_whole [] nothing_held words false [] ≡ []
     → IsGiven (codes "FILE") (rows_after one_whole.rules [] words) × ((n : ℕ) × HasNumber (codes "N") (rows_after one_whole.rules [] words) n)
@@ -153,10 +157,10 @@ abbrev script_rule : Rule
 script_rule = with_index 2 (filled (required_text (codes "SCRIPT")))
 
 only_config : IsOnly config_rule step_whole.rules
-only_config = ((λ e. refl), ((λ e. cc), ((λ e. cc), ((λ e. cc), ((λ e. cc), ((λ e. cc), ((λ e. cc), ((λ e. cc), tt))))))))
+only_config = ((λ e. refl), ((λ e. never e), ((λ e. never e), ((λ e. never e), ((λ e. never e), ((λ e. never e), ((λ e. never e), ((λ e. never e), tt))))))))
 
 only_script : IsOnly script_rule step_whole.rules
-only_script = ((λ e. cc), ((λ e. refl), ((λ e. cc), ((λ e. cc), ((λ e. cc), ((λ e. cc), ((λ e. cc), ((λ e. cc), tt))))))))
+only_script = ((λ e. never e), ((λ e. refl), ((λ e. never e), ((λ e. never e), ((λ e. never e), ((λ e. never e), ((λ e. never e), ((λ e. never e), tt))))))))
 
 step_fits : Fits step_whole
 step_fits words fine =
@@ -177,13 +181,13 @@ number_sets : (long id : Text) (n : ℕ) → SetsValue (with_index n (filled (nu
 number_sets long id n = record { set = refl; least = omega arith; defaults = refl }
 
 only_run_config : IsOnly config_rule run_whole.rules
-only_run_config = ((λ e. refl), ((λ e. cc), ((λ e. cc), ((λ e. cc), ((λ e. cc), ((λ e. cc), ((λ e. cc), ((λ e. cc), tt))))))))
+only_run_config = ((λ e. refl), ((λ e. never e), ((λ e. never e), ((λ e. never e), ((λ e. never e), ((λ e. never e), ((λ e. never e), ((λ e. never e), tt))))))))
 
 only_log : IsOnly log_rule run_whole.rules
-only_log = ((λ e. cc), ((λ e. refl), ((λ e. cc), ((λ e. cc), ((λ e. cc), ((λ e. cc), ((λ e. cc), ((λ e. cc), tt))))))))
+only_log = ((λ e. never e), ((λ e. refl), ((λ e. never e), ((λ e. never e), ((λ e. never e), ((λ e. never e), ((λ e. never e), ((λ e. never e), tt))))))))
 
 only_ticks : IsOnly ticks_rule run_whole.rules
-only_ticks = ((λ e. cc), ((λ e. cc), ((λ e. refl), ((λ e. cc), ((λ e. cc), ((λ e. cc), ((λ e. cc), ((λ e. cc), tt))))))))
+only_ticks = ((λ e. never e), ((λ e. never e), ((λ e. refl), ((λ e. never e), ((λ e. never e), ((λ e. never e), ((λ e. never e), ((λ e. never e), tt))))))))
 
 -- a number after a long name, of which the argument is the only one
 number_if_given : (s : Shape) (long id : Text) (n : ℕ) → IsOnly (with_index n (filled (number_after long id))) s.rules
@@ -210,16 +214,16 @@ abbrev bound_rule : Rule
 bound_rule = with_index 5 (filled (number_after (codes "turns") (codes "N")))
 
 only_turns_config : IsOnly config_rule turns_whole.rules
-only_turns_config = ((λ e. refl), ((λ e. cc), ((λ e. cc), ((λ e. cc), ((λ e. cc), ((λ e. cc), ((λ e. cc), ((λ e. cc), ((λ e. cc), tt)))))))))
+only_turns_config = ((λ e. refl), ((λ e. never e), ((λ e. never e), ((λ e. never e), ((λ e. never e), ((λ e. never e), ((λ e. never e), ((λ e. never e), ((λ e. never e), tt)))))))))
 
 only_turns_log : IsOnly log_rule turns_whole.rules
-only_turns_log = ((λ e. cc), ((λ e. refl), ((λ e. cc), ((λ e. cc), ((λ e. cc), ((λ e. cc), ((λ e. cc), ((λ e. cc), ((λ e. cc), tt)))))))))
+only_turns_log = ((λ e. never e), ((λ e. refl), ((λ e. never e), ((λ e. never e), ((λ e. never e), ((λ e. never e), ((λ e. never e), ((λ e. never e), ((λ e. never e), tt)))))))))
 
 only_turns_ticks : IsOnly ticks_rule turns_whole.rules
-only_turns_ticks = ((λ e. cc), ((λ e. cc), ((λ e. refl), ((λ e. cc), ((λ e. cc), ((λ e. cc), ((λ e. cc), ((λ e. cc), ((λ e. cc), tt)))))))))
+only_turns_ticks = ((λ e. never e), ((λ e. never e), ((λ e. refl), ((λ e. never e), ((λ e. never e), ((λ e. never e), ((λ e. never e), ((λ e. never e), ((λ e. never e), tt)))))))))
 
 only_bound : IsOnly bound_rule turns_whole.rules
-only_bound = ((λ e. cc), ((λ e. cc), ((λ e. cc), ((λ e. cc), ((λ e. refl), ((λ e. cc), ((λ e. cc), ((λ e. cc), ((λ e. cc), tt)))))))))
+only_bound = ((λ e. never e), ((λ e. never e), ((λ e. never e), ((λ e. never e), ((λ e. refl), ((λ e. never e), ((λ e. never e), ((λ e. never e), ((λ e. never e), tt)))))))))
 
 turns_fits : Fits turns_whole
 turns_fits words fine =
@@ -236,22 +240,22 @@ abbrev fault_rule : Rule
 fault_rule = with_index 3 (filled (required_text (codes "FAULT")))
 
 only_sweep_config : IsOnly config_rule sweep_whole.rules
-only_sweep_config = ((λ e. refl), ((λ e. cc), ((λ e. cc), ((λ e. cc), ((λ e. cc), ((λ e. cc), ((λ e. cc), ((λ e. cc), ((λ e. cc), ((λ e. cc), ((λ e. cc), ((λ e. cc), tt))))))))))))
+only_sweep_config = ((λ e. refl), ((λ e. never e), ((λ e. never e), ((λ e. never e), ((λ e. never e), ((λ e. never e), ((λ e. never e), ((λ e. never e), ((λ e. never e), ((λ e. never e), ((λ e. never e), ((λ e. never e), tt))))))))))))
 
 only_sweep_log : IsOnly log_rule sweep_whole.rules
-only_sweep_log = ((λ e. cc), ((λ e. refl), ((λ e. cc), ((λ e. cc), ((λ e. cc), ((λ e. cc), ((λ e. cc), ((λ e. cc), ((λ e. cc), ((λ e. cc), ((λ e. cc), ((λ e. cc), tt))))))))))))
+only_sweep_log = ((λ e. never e), ((λ e. refl), ((λ e. never e), ((λ e. never e), ((λ e. never e), ((λ e. never e), ((λ e. never e), ((λ e. never e), ((λ e. never e), ((λ e. never e), ((λ e. never e), ((λ e. never e), tt))))))))))))
 
 only_sweep_fault : IsOnly fault_rule sweep_whole.rules
-only_sweep_fault = ((λ e. cc), ((λ e. cc), ((λ e. refl), ((λ e. cc), ((λ e. cc), ((λ e. cc), ((λ e. cc), ((λ e. cc), ((λ e. cc), ((λ e. cc), ((λ e. cc), ((λ e. cc), tt))))))))))))
+only_sweep_fault = ((λ e. never e), ((λ e. never e), ((λ e. refl), ((λ e. never e), ((λ e. never e), ((λ e. never e), ((λ e. never e), ((λ e. never e), ((λ e. never e), ((λ e. never e), ((λ e. never e), ((λ e. never e), tt))))))))))))
 
 only_sweep_bound : IsOnly (with_index 4 (filled (number_after (codes "turns") (codes "N")))) sweep_whole.rules
-only_sweep_bound = ((λ e. cc), ((λ e. cc), ((λ e. cc), ((λ e. refl), ((λ e. cc), ((λ e. cc), ((λ e. cc), ((λ e. cc), ((λ e. cc), ((λ e. cc), ((λ e. cc), ((λ e. cc), tt))))))))))))
+only_sweep_bound = ((λ e. never e), ((λ e. never e), ((λ e. never e), ((λ e. refl), ((λ e. never e), ((λ e. never e), ((λ e. never e), ((λ e. never e), ((λ e. never e), ((λ e. never e), ((λ e. never e), ((λ e. never e), tt))))))))))))
 
 only_sweep_from : IsOnly (with_index 5 (filled (number_after (codes "from") (codes "A")))) sweep_whole.rules
-only_sweep_from = ((λ e. cc), ((λ e. cc), ((λ e. cc), ((λ e. cc), ((λ e. refl), ((λ e. cc), ((λ e. cc), ((λ e. cc), ((λ e. cc), ((λ e. cc), ((λ e. cc), ((λ e. cc), tt))))))))))))
+only_sweep_from = ((λ e. never e), ((λ e. never e), ((λ e. never e), ((λ e. never e), ((λ e. refl), ((λ e. never e), ((λ e. never e), ((λ e. never e), ((λ e. never e), ((λ e. never e), ((λ e. never e), ((λ e. never e), tt))))))))))))
 
 only_sweep_to : IsOnly (with_index 6 (filled (number_after (codes "to") (codes "B")))) sweep_whole.rules
-only_sweep_to = ((λ e. cc), ((λ e. cc), ((λ e. cc), ((λ e. cc), ((λ e. cc), ((λ e. refl), ((λ e. cc), ((λ e. cc), ((λ e. cc), ((λ e. cc), ((λ e. cc), ((λ e. cc), tt))))))))))))
+only_sweep_to = ((λ e. never e), ((λ e. never e), ((λ e. never e), ((λ e. never e), ((λ e. never e), ((λ e. refl), ((λ e. never e), ((λ e. never e), ((λ e. never e), ((λ e. never e), ((λ e. never e), ((λ e. never e), tt))))))))))))
 
 sweep_fits : Fits sweep_whole
 sweep_fits words fine =
@@ -267,10 +271,10 @@ abbrev following_whole : Text → Shape
 following_whole name = whole_of (following_shape name)
 
 only_following_config : (name : Text) → IsOnly config_rule (following_whole name).rules
-only_following_config name = ((λ e. refl), ((λ e. cc), ((λ e. cc), ((λ e. cc), ((λ e. cc), ((λ e. cc), tt))))))
+only_following_config name = ((λ e. refl), ((λ e. never e), ((λ e. never e), ((λ e. never e), ((λ e. never e), ((λ e. never e), tt))))))
 
 only_following_log : (name : Text) → IsOnly log_rule (following_whole name).rules
-only_following_log name = ((λ e. cc), ((λ e. refl), ((λ e. cc), ((λ e. cc), ((λ e. cc), ((λ e. cc), tt))))))
+only_following_log name = ((λ e. never e), ((λ e. refl), ((λ e. never e), ((λ e. never e), ((λ e. never e), ((λ e. never e), tt))))))
 
 -- what follows a history has a configuration and the history
 following_values : (name : Text) (words : List Text) → level_fault (following_whole name) [] nothing_held words false [] ≡ []
@@ -295,16 +299,16 @@ abbrev to_rule : Rule
 to_rule = with_index 4 (filled (number_after (codes "to") (codes "B")))
 
 only_looking_config : (name : Text) → IsOnly config_rule (looking_whole name).rules
-only_looking_config name = ((λ e. refl), ((λ e. cc), ((λ e. cc), ((λ e. cc), ((λ e. cc), ((λ e. cc), ((λ e. cc), ((λ e. cc), tt))))))))
+only_looking_config name = ((λ e. refl), ((λ e. never e), ((λ e. never e), ((λ e. never e), ((λ e. never e), ((λ e. never e), ((λ e. never e), ((λ e. never e), tt))))))))
 
 only_looking_log : (name : Text) → IsOnly log_rule (looking_whole name).rules
-only_looking_log name = ((λ e. cc), ((λ e. refl), ((λ e. cc), ((λ e. cc), ((λ e. cc), ((λ e. cc), ((λ e. cc), ((λ e. cc), tt))))))))
+only_looking_log name = ((λ e. never e), ((λ e. refl), ((λ e. never e), ((λ e. never e), ((λ e. never e), ((λ e. never e), ((λ e. never e), ((λ e. never e), tt))))))))
 
 only_from : (name : Text) → IsOnly from_rule (looking_whole name).rules
-only_from name = ((λ e. cc), ((λ e. cc), ((λ e. refl), ((λ e. cc), ((λ e. cc), ((λ e. cc), ((λ e. cc), ((λ e. cc), tt))))))))
+only_from name = ((λ e. never e), ((λ e. never e), ((λ e. refl), ((λ e. never e), ((λ e. never e), ((λ e. never e), ((λ e. never e), ((λ e. never e), tt))))))))
 
 only_to : (name : Text) → IsOnly to_rule (looking_whole name).rules
-only_to name = ((λ e. cc), ((λ e. cc), ((λ e. cc), ((λ e. refl), ((λ e. cc), ((λ e. cc), ((λ e. cc), ((λ e. cc), tt))))))))
+only_to name = ((λ e. never e), ((λ e. never e), ((λ e. never e), ((λ e. refl), ((λ e. never e), ((λ e. never e), ((λ e. never e), ((λ e. never e), tt))))))))
 
 -- what looks at records has a configuration and a history, and may have two numbers
 abbrev Looks : List Row → Type 0

@@ -1,6 +1,6 @@
 //! The command line.
 
-ghost use Rattle.std.specs.Prelude.{◌≡◌, ◌&&◌, ℕ, Bool, IfErr, IfOk, MatchResult, [], codes, false, is_some, map, not, option_map, true};
+ghost use Rattle.std.specs.Prelude.{◌≡◌, ◌&&◌, ◌⊎◌, ℕ, Bool, IfErr, IfOk, MatchResult, [], codes, false, is_some, map, not, option_map, true};
 ghost use Rattle.clap.specs.Words.{FailsBy, HasMatchesOf, fault_of, first_of, found_of, kind_of, rows_of, subcommand_of, takes};
 ghost use Rattle.mx_app_command.specs.Words.{Asks, AsksBy, AsksForSilence, AsksForSums, AsksToExplain, HasNumber, HasNumberOr, HasRange, HasText, IsFlag, MayHaveNumber, MayHaveRange, MayHaveSweep, MayHaveText, MayHaveTurns, IsAsked, IsHistoryAsked, IsMachineAsked, IsProgramAsked, IsScriptAsked, is_machine, mx_grammar};
 ghost use Rattle.mx_app_command.specs.Mistakes.{IsMistake, IsOutOfMemory, both_given, has_both};
@@ -12,7 +12,7 @@ use std::alloc::Global;
 
 /// Records of a history, by their places in it, of which the first is 1. Those that the history hasn't
 /// are none: a range past its end has no record, and neither has one that ends before it begins.
-#[derive(Clone, Copy, Debug, PartialEq, Eq)]
+#[derive(Clone, Copy)]
 pub struct RecordRange {
     /// The first; 0 is as 1.
     pub from: u32,
@@ -24,7 +24,7 @@ pub struct RecordRange {
 const TURNS_AFTER: u32 = 1000;
 
 /// What the words of a command line ask for.
-#[derive(Clone, Copy, Debug, PartialEq, Eq)]
+#[derive(Clone, Copy)]
 pub enum CommandRequest<'a> {
     /// `one FILE N`.
     One {
@@ -116,7 +116,7 @@ pub enum CommandRequest<'a> {
 }
 
 /// What a command line asks for.
-#[derive(Clone, Copy, Debug, PartialEq, Eq)]
+#[derive(Clone, Copy)]
 pub struct CommandLine<'a> {
     pub request: CommandRequest<'a>,
     /// Whether a failure is to be explained, also if standard error is no terminal.
@@ -280,6 +280,67 @@ fn sweep_request<'a>(config: &'a str, log: &'a str, matches: &ArgMatches<'a>) ->
     }
 }
 
+/// What the words of `run` ask for.
+fn run_request<'a>(config: &'a str, log: &'a str, matches: &ArgMatches<'a>) -> CommandRequest<'a>
+    requires config { HasText (codes "CONFIG") (rows_of (found_of matches.now)) config.now }
+    requires log { HasText (codes "LOG") (rows_of (found_of matches.now)) log.now }
+    requires ticks { MayHaveNumber (codes "T") (rows_of (found_of matches.now)) }
+    ensures { AsksBy result (codes "run") (rows_of (found_of matches.now)) }
+{
+    let ticks = number_or(matches, "T", 0);
+    let events = value_if_asked(matches, "EVENTS");
+    CommandRequest::Run {
+        config,
+        log,
+        ticks,
+        events,
+    }
+}
+
+/// What the words of a subcommand that prints records ask for.
+fn records_request<'a>(
+    name: &str,
+    config: &'a str,
+    log: &'a str,
+    matches: &ArgMatches<'a>,
+) -> CommandRequest<'a>
+    requires config { HasText (codes "CONFIG") (rows_of (found_of matches.now)) config.now }
+    requires log { HasText (codes "LOG") (rows_of (found_of matches.now)) log.now }
+    requires name { (name.now ≡ codes "trace") ⊎ (name.now ≡ codes "draw") }
+    requires range { MayHaveRange (rows_of (found_of matches.now)) }
+    ensures { AsksBy result name.now (rows_of (found_of matches.now)) }
+{
+    let range = range_asked(matches);
+    if name == "trace" {
+        CommandRequest::Trace { config, log, range }
+    } else {
+        CommandRequest::Draw { config, log, range }
+    }
+}
+
+/// What the words of a subcommand that only reads a history ask for.
+fn reading_request<'a>(
+    name: &str,
+    config: &'a str,
+    log: &'a str,
+    matches: &ArgMatches<'a>,
+) -> CommandRequest<'a>
+    requires config { HasText (codes "CONFIG") (rows_of (found_of matches.now)) config.now }
+    requires log { HasText (codes "LOG") (rows_of (found_of matches.now)) log.now }
+    requires asked { ((name.now ≡ codes "replay") ⊎ (name.now ≡ codes "look"))
+        ⊎ (((name.now ≡ codes "trace") ⊎ (name.now ≡ codes "draw"))
+        × MayHaveRange (rows_of (found_of matches.now))) }
+    ensures { AsksBy result name.now (rows_of (found_of matches.now)) }
+{
+    if name == "replay" {
+        CommandRequest::Replay { config, log }
+    } else if name == "look" {
+        CommandRequest::Look { config, log }
+    } else {
+        records_request(name, config, log, matches)
+    }
+}
+
 /// What the words of a subcommand with a history ask for.
 fn history_request<'a>(name: &str, config: &'a str, matches: &ArgMatches<'a>) -> CommandRequest<'a>
     requires config { HasText (codes "CONFIG") (rows_of (found_of matches.now)) config.now }
@@ -288,32 +349,13 @@ fn history_request<'a>(name: &str, config: &'a str, matches: &ArgMatches<'a>) ->
 {
     let log = value_asked(matches, "LOG");
     if name == "run" {
-        let ticks = number_or(matches, "T", 0);
-        let events = value_if_asked(matches, "EVENTS");
-        return CommandRequest::Run {
-            config,
-            log,
-            ticks,
-            events,
-        };
-    }
-    if name == "turns" {
-        return turns_request(config, log, matches);
-    }
-    if name == "sweep" {
-        return sweep_request(config, log, matches);
-    }
-    if name == "replay" {
-        return CommandRequest::Replay { config, log };
-    }
-    if name == "look" {
-        return CommandRequest::Look { config, log };
-    }
-    let range = range_asked(matches);
-    if name == "trace" {
-        CommandRequest::Trace { config, log, range }
+        run_request(config, log, matches)
+    } else if name == "turns" {
+        turns_request(config, log, matches)
+    } else if name == "sweep" {
+        sweep_request(config, log, matches)
     } else {
-        CommandRequest::Draw { config, log, range }
+        reading_request(name, config, log, matches)
     }
 }
 

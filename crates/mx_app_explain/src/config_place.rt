@@ -4,7 +4,7 @@ ghost use Rattle.std.specs.Prelude.{◌≡◌, option_map};
 ghost use Rattle.mx_app_explain.specs.ConfigPlaces.{key_word, value_name, wanted_at, words_before};
 
 /// The words of a service's line that have a value after them.
-#[derive(Clone, Copy, Debug, PartialEq, Eq)]
+#[derive(Clone, Copy)]
 pub enum Key {
     Traps,
     Send,
@@ -33,7 +33,7 @@ impl Key {
 }
 
 /// A place of a line.
-#[derive(Clone, Copy, Debug, PartialEq, Eq)]
+#[derive(Clone, Copy)]
 pub enum Place {
     /// The line's first word.
     Item,

@@ -15,7 +15,7 @@ use mx_text::{next_field, next_line};
 use std::{fmt, str};
 
 /// Where in a line something was wanted.
-#[derive(Clone, Copy, Debug, PartialEq, Eq)]
+#[derive(Clone, Copy)]
 pub enum Label<'a> {
     /// It isn't printed.
     Nowhere,
@@ -42,7 +42,7 @@ impl fmt::Display for Label<'_> {
 }
 
 /// What was wanted, where, and what is there.
-#[derive(Clone, Copy, Debug, PartialEq, Eq)]
+#[derive(Clone, Copy)]
 pub struct Detail<'a> {
     pub label: Label<'a>,
     pub wanted: &'static str,

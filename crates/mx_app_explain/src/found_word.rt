@@ -7,7 +7,7 @@ ghost use Rattle.mx_app_explain.specs.FoundWords.{field_told, found_at, found_to
 use std::{fmt, str};
 
 /// The word that a line has at a place, as far as it can be printed.
-#[derive(Clone, Copy, Debug, PartialEq, Eq)]
+#[derive(Clone, Copy)]
 pub enum FoundWord<'a> {
     /// It isn't looked at.
     Unseen,

@@ -24,7 +24,7 @@ pub struct Notes<'a> {
 }
 
 /// What a failure is about.
-#[derive(Clone, Copy, Debug, PartialEq, Eq)]
+#[derive(Clone, Copy)]
 pub enum Subject<'a> {
     /// The file that a word of the command line names: the word as help has it, and the file's name.
     Word(&'static str, &'a str),

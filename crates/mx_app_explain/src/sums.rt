@@ -14,7 +14,7 @@ use sha2::{Digest, Sha256};
 use std::alloc::{AllocError, Global};
 
 /// A part of a machine that has a sum of its own.
-#[derive(Clone, Copy, Debug, PartialEq, Eq)]
+#[derive(Clone, Copy)]
 pub enum MachinePart {
     /// What the configuration says.
     Configuration,

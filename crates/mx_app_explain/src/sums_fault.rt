@@ -9,7 +9,7 @@ use std::alloc::{AllocError, Global};
 use std::{fmt, io, str};
 
 /// What is wrong with a file of sums, or with a machine by it.
-#[derive(Clone, Copy, Debug, PartialEq, Eq)]
+#[derive(Clone, Copy)]
 pub enum SumsFault {
     /// Another word of the command line names the file.
     NameTaken,

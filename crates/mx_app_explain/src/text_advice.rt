@@ -42,7 +42,7 @@ impl<'a> Advice<'a> {
 }
 
 /// What a word may be that is sought.
-#[derive(Clone, Copy, Debug, PartialEq, Eq)]
+#[derive(Clone, Copy)]
 enum Sought {
     /// A word with a byte that no word has.
     Odd,

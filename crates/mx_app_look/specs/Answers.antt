@@ -9,7 +9,7 @@ use Rattle.mx_walk.specs.declared.positions.Position.{Position}
 use Rattle.mx_walk.specs.Walks.{Walk, world_here}
 use Rattle.mx_app_look.specs.declared.sight.Sight.{Sight}
 use Rattle.mx_app_look.specs.Above.{why_text}
-use Rattle.mx_app_look.specs.Moves.{back_from, can_go, forward_from, position_asked, steps_back, steps_on}
+use Rattle.mx_look_moves.specs.Moves.{back_from, can_go, forward_from, gone_to, position_asked, steps_back, steps_on}
 use Rattle.mx_app_look.specs.Places.{place_text}
 use Rattle.mx_app_look.specs.Seeking.{IsGoneBack, IsGoneOn, point_made, point_text}
 use Rattle.mx_app_look.specs.Showing.{shown_text}
@@ -38,7 +38,7 @@ to_of k (Forward n) = forward_from k n
 to_of k (Back n) = back_from k n
 to_of k (Step n) = steps_on n k k.here
 to_of k (StepBack n) = steps_back n k k.here
-to_of k (GoTo p) = if can_go k (position_asked k p) then position_asked k p else k.here
+to_of k (GoTo p) = gone_to k p
 to_of k (Until h) = if has_slots k h then (until_halt k h).0 else k.here
 to_of k _ = k.here
 

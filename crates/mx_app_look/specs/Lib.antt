@@ -9,7 +9,6 @@ pub mod Marks
 pub mod Changes
 pub mod Searches
 pub mod Places
-pub mod Moves
 pub mod Slots
 pub mod Showing
 pub mod Seeking

@@ -17,9 +17,7 @@ ghost use Rattle.mx_app_look.specs.Sessions.{IsAnswered, IsAnsweredBy, ends, is_
 ghost use Rattle.mx_app_look.specs.Shows.{IsRequestShown, IsShown, IsShownBy, why_shown};
 
 use crate::going_until::go_until;
-use crate::moves::{back_from, can_go, forward_from, position_asked, steps_back, steps_on};
 use crate::places::{push_place, push_position};
-use crate::position_word::PositionWord;
 use crate::request::{Request, request_of};
 use crate::seeking::{go_back, go_on, perform_point};
 use crate::showing::push_shown;
@@ -28,6 +26,7 @@ use crate::sight::{Sight, say};
 use crate::verb::push_unknown;
 use crate::world_texts::{push_deliveries, push_processes, push_why};
 use mx_app_failure::Failure;
+use mx_look_moves::{PositionWord, back_from, forward_from, steps_back, steps_on};
 use mx_walk::{Position, Progress, Walker};
 use std::alloc::{AllocError, Global};
 
@@ -77,11 +76,14 @@ fn go_to_asked<P: Progress>(
         ++ shown_to sight.walker (to_of sight.walker (requests.GoTo asked))) }
     ensures grown { IfErr result (λ _. HasGrown (P.shown progress.old) (P.shown progress.new)) }
 {
-    let to = position_asked(&sight.walker, asked);
-    if can_go(&sight.walker, to) {
-        return go_to(alloc, sight, to, progress);
+    let Sight { walker, points } = sight;
+    let (walker, is_there) = mx_look_moves::go_to_asked(alloc, walker, asked, progress)?;
+    let sight = Sight { walker, points };
+    if is_there {
+        show_place(alloc, sight)
+    } else {
+        say(alloc, sight, NO_POSITION)
     }
-    say(alloc, sight, NO_POSITION)
 }
 
 /// Answers where the walker is.

@@ -10,7 +10,7 @@ use mx_look_facts::{CpuGlance, Glance, Step, delivery_to, is_down, kernel_call, 
 use mx_proc::{Delivery, slot_of};
 
 /// What `until` looks for in the records of a history.
-#[derive(Clone, Copy, Debug, PartialEq, Eq)]
+#[derive(Clone, Copy)]
 pub enum Happening {
     /// A kernel call of a slot's process, of a type.
     Call(u32, u32),

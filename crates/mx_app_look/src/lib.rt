@@ -9,7 +9,6 @@ mod halt_laws;
 mod happening;
 mod laws;
 mod marks;
-mod moves;
 mod places;
 mod point_request;
 mod points;

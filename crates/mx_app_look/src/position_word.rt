@@ -4,15 +4,7 @@ ghost use Rattle.std.specs.Prelude.{◌≡◌, position};
 ghost use Rattle.mx_app_look.specs.Requests.{is_dot, position_of_word};
 
 use mx_boot::count;
-
-/// A position of a history, as it is typed: `K`, `K.J` or `end`.
-#[derive(Clone, Copy, Debug, PartialEq, Eq)]
-pub enum PositionWord {
-    /// Below this many records, and this many steps of the next.
-    Below(u32, u32),
-    /// The last position.
-    End,
-}
+use mx_look_moves::PositionWord;
 
 /// The index of the first dot.
 fn dot_in(word: &[u8]) -> Option<usize>
@@ -21,7 +13,7 @@ fn dot_in(word: &[u8]) -> Option<usize>
     word.iter().position(|byte| *byte == b'.')
 }
 
-/// The position that a word is.
+/// The position that a word is: `K`, `K.J` or `end`.
 #[tactic(auto, unfolding(crate::specs::Requests::position_of_word))]
 pub(crate) fn position_named(word: &[u8]) -> Option<PositionWord>
     ensures { result ≡ position_of_word word.now }

@@ -7,11 +7,12 @@ ghost use Rattle.mx_app_look.specs.Requests.{count_or_one, request_by, request_o
 
 use crate::happening::Happening;
 use crate::point_request::{PointRequest, break_asked, watch_asked};
-use crate::position_word::{PositionWord, position_named};
+use crate::position_word::position_named;
 use crate::shown::{Shown, code, memory, registers, stack, variable};
 use crate::until_request::until_asked;
 use crate::verb::{Verb, verb_named};
 use mx_boot::{count, only_count};
+use mx_look_moves::PositionWord;
 use mx_text::{next_field, one_field};
 
 /// How many bytes a line has at most.

@@ -9,7 +9,7 @@ use mx_text::next_field;
 use std::alloc::AllocError;
 
 /// What a typed line asks for.
-#[derive(Clone, Copy, Debug, PartialEq, Eq)]
+#[derive(Clone, Copy)]
 pub enum Verb {
     Back,
     Break,

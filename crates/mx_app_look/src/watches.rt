@@ -15,7 +15,7 @@ use std::marker::Model;
 const MOST_BYTES: u32 = 16;
 
 /// Bytes of the memory of a slot's process, whoever that is, from an address on.
-#[derive(Clone, Copy, Debug, Default, PartialEq, Eq)]
+#[derive(Clone, Copy, Default)]
 pub struct Watch {
     pub slot: Slot,
     pub address: u32,

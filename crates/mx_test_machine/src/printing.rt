@@ -113,98 +113,124 @@ fn steps(rt: HostRuntime) -> Result<(), Fail> {
     Ok(())
 }
 
+/// What the words of a row ask for.
+#[derive(Clone, Copy)]
+enum Asked {
+    Most,
+    Assembled,
+    Replayed,
+    Debugged,
+    TurnedByEvents,
+    Nothing(ErrorKind),
+}
+
 /// Words, and what they ask for.
 struct Line {
     name: &'static str,
     words: &'static [&'static str],
-    asked: Result<CommandRequest<'static>, ErrorKind>,
+    asked: Asked,
 }
 
 static LINES: &[Line] = &[
     Line {
         name: "one with the most steps",
         words: &["mx", "one", "sum.out", "4294967295"],
-        asked: Ok(CommandRequest::One {
-            file: "sum.out",
-            steps: u32::MAX,
-        }),
+        asked: Asked::Most,
     },
     Line {
         name: "as",
         words: &["mx", "as", "a.s", "a.out"],
-        asked: Ok(CommandRequest::As {
-            text: "a.s",
-            file: "a.out",
-        }),
+        asked: Asked::Assembled,
     },
     Line {
         name: "replay",
         words: &["mx", "replay", "pair", "log"],
-        asked: Ok(CommandRequest::Replay {
-            config: "pair",
-            log: "log",
-        }),
+        asked: Asked::Replayed,
     },
     Line {
         name: "db",
         words: &["mx", "db", "pair", "look"],
-        asked: Ok(CommandRequest::Db {
-            config: "pair",
-            script: "look",
-        }),
+        asked: Asked::Debugged,
     },
     Line {
         name: "one with one step more than the most",
         words: &["mx", "one", "sum.out", "4294967296"],
-        asked: Err(ErrorKind::ValueValidation),
+        asked: Asked::Nothing(ErrorKind::ValueValidation),
     },
     Line {
         name: "step without a script",
         words: &["mx", "step", "pair"],
-        asked: Err(ErrorKind::MissingRequiredArgument),
+        asked: Asked::Nothing(ErrorKind::MissingRequiredArgument),
     },
     Line {
         name: "a command that is not known",
         words: &["mx", "two", "sum.out", "9"],
-        asked: Err(ErrorKind::InvalidSubcommand),
+        asked: Asked::Nothing(ErrorKind::InvalidSubcommand),
     },
     Line {
         name: "no command",
         words: &["mx"],
-        asked: Err(ErrorKind::MissingSubcommand),
+        asked: Asked::Nothing(ErrorKind::MissingSubcommand),
     },
     Line {
         name: "turns with ticks and outside events",
         words: &[
             "mx", "turns", "config", "log", "--ticks", "0", "--events", "events",
         ],
-        asked: Err(ErrorKind::ArgumentConflict),
+        asked: Asked::Nothing(ErrorKind::ArgumentConflict),
     },
     Line {
         name: "turns with outside events",
         words: &[
             "mx", "turns", "config", "log", "--turns", "7", "--events", "events",
         ],
-        asked: Ok(CommandRequest::Turns {
-            config: "config",
-            log: "log",
-            ticks: 0,
-            events: Some("events"),
-            bound: 7,
-        }),
+        asked: Asked::TurnedByEvents,
     },
     Line {
         name: "db --help",
         words: &["mx", "db", "--help"],
-        asked: Err(ErrorKind::DisplayHelp),
+        asked: Asked::Nothing(ErrorKind::DisplayHelp),
     },
 ];
 
+/// Whether a request is the one that a row's words ask for.
+fn is_request(request: CommandRequest<'_>, asked: Asked) -> bool {
+    match request {
+        CommandRequest::One { file, steps } => {
+            matches!(asked, Asked::Most) && file == "sum.out" && steps == u32::MAX
+        }
+        CommandRequest::As { text, file } => {
+            matches!(asked, Asked::Assembled) && text == "a.s" && file == "a.out"
+        }
+        CommandRequest::Replay { config, log } => {
+            matches!(asked, Asked::Replayed) && config == "pair" && log == "log"
+        }
+        CommandRequest::Db { config, script } => {
+            matches!(asked, Asked::Debugged) && config == "pair" && script == "look"
+        }
+        CommandRequest::Turns {
+            config,
+            log,
+            ticks,
+            events,
+            bound,
+        } => {
+            matches!(asked, Asked::TurnedByEvents)
+                && config == "config"
+                && log == "log"
+                && ticks == 0
+                && events == Some("events")
+                && bound == 7
+        }
+        _ => false,
+    }
+}
+
 fn is_asked(alloc: Global, line: &Line) -> bool {
     match (command(alloc, line.words), line.asked) {
-        (Ok(found), Ok(request)) => found.request == request && !found.explains && !found.silent,
-        (Err(Mistake::Grammar(error)), Err(kind)) => error.kind() == kind,
-        (Err(Mistake::TicksAndEvents), Err(kind)) => kind == ErrorKind::ArgumentConflict,
+        (Ok(found), asked) => is_request(found.request, asked) && !found.explains && !found.silent,
+        (Err(Mistake::Grammar(error)), Asked::Nothing(kind)) => error.kind() == kind,
+        (Err(Mistake::TicksAndEvents), Asked::Nothing(kind)) => kind == ErrorKind::ArgumentConflict,
         _ => false,
     }
 }

@@ -32,7 +32,7 @@ fn services(rt: &impl Abort, alloc: Global) -> Result<Table, Fail> {
 }
 
 /// What a process does, or what is done to it.
-#[derive(Clone, Copy, PartialEq, Eq)]
+#[derive(Clone, Copy)]
 enum Deed {
     /// SEND to a slot.
     Send(Slot),

@@ -1,15 +1,5 @@
-use Rattle.std.proofs.Common.{◌∙◌, ◌++◌, cond, ap, sym}
-use Rattle.mx_walk.specs.Parts.{shown_to}
-use Rattle.mx_app_look.specs.Moves.{can_go, position_asked}
-use Rattle.mx_app_look.proofs.ShownMore.{err_always, grown_none, ok_always, stays_shown}
+use Rattle.mx_app_look.proofs.ShownMore.{err_always, grown_by, grown_same}
 use Rattle.mx_app_look.proofs.answering.go_to_asked.Goals as goal
 
-pub returns-clause-shown : goal.returns-clause-shown
-returns-clause-shown g c =
-    let k = c.args.sight.walker in
-    let before = g.P.Progress.shown c.args.progress.now in
-    ok_always c.say.result _
-    (stays_shown k before ∙ ap (λ b. before ++ shown_to k (cond b (position_asked k c.args.asked) k.here)) (sym (ap (λ p. can_go k p) (sym c.position_asked-to.ensures) ∙ sym c.can_go.ensures.value ∙ c.if-can_go.false)))
-
-pub returns-clause-grown : goal.returns-clause-grown
-returns-clause-grown g c = err_always c.say.result _ (grown_none _)
+pub returns-in_err-walker-clause-grown : goal.returns-in_err-walker-clause-grown
+returns-in_err-walker-clause-grown g c = err_always c.from_residual.result _ (grown_same _ _ c.in_err-walker.ensures.unshown)

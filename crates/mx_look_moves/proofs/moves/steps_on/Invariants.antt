@@ -1,12 +1,12 @@
 use Rattle.std.proofs.Common.{◌≡◌, ◌-◌}
 use Rattle.mx_walk.specs.Positions.{IsPosition, IsUpTo}
-use Rattle.mx_app_look.specs.Moves.{steps_back}
-use Rattle.mx_app_look.proofs.moves.steps_back.Given as goal
+use Rattle.mx_look_moves.specs.Moves.{steps_on}
+use Rattle.mx_look_moves.proofs.moves.steps_on.Given as goal
 
 -- the events that are left lead to where all of them lead
 abbrev pub invariant-loop : goal.invariant-loop
 invariant-loop l = record {
-  left : steps_back (l.count - l.counter) l.walker l.at ≡ steps_back l.count l.walker l.walker.here;
+  left : steps_on (l.count - l.counter) l.walker l.at ≡ steps_on l.count l.walker l.walker.here;
   position : IsPosition l.walker.records l.at;
   early : IsUpTo l.at l.walker.last;
 }

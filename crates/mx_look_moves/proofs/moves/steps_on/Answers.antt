@@ -2,10 +2,10 @@ use Rattle.std.proofs.Common.{◌≡◌, ◌∙◌, ◌-◌, ◌+◌, true, fals
 use Rattle.mx_machine.specs.declared.history.Record.{Record}
 use Rattle.mx_walk.specs.declared.positions.Position.{Position}
 use Rattle.mx_walk.specs.Positions.{IsAbove, IsPosition, IsUpTo, event_below, is_up_to, next_position}
-use Rattle.mx_app_look.specs.Moves.{steps_on}
-use Rattle.mx_app_look.proofs.Moving.{next_is_early, no_end, none_left, on_by_one, on_stays, one_less}
+use Rattle.mx_look_moves.specs.Moves.{steps_on}
+use Rattle.mx_look_moves.proofs.Moving.{next_is_early, no_end, none_left, on_by_one, on_stays, one_less}
 use Rattle.mx_walk.proofs.Next.{is_position_too}
-use Rattle.mx_app_look.proofs.moves.steps_on.Goals as goal
+use Rattle.mx_look_moves.proofs.moves.steps_on.Goals as goal
 
 pub returns-then-is_up_to : goal.returns-then-is_up_to
 returns-then-is_up_to c =

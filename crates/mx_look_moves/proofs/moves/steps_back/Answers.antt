@@ -2,9 +2,9 @@ use Rattle.std.proofs.Common.{◌≡◌, ◌∙◌, ◌-◌, ◌+◌, List, ap, 
 use Rattle.mx_machine.specs.declared.history.Record.{Record}
 use Rattle.mx_walk.specs.declared.positions.Position.{Position}
 use Rattle.mx_walk.specs.Positions.{IsPosition, position_before}
-use Rattle.mx_app_look.specs.Moves.{steps_back}
-use Rattle.mx_app_look.proofs.Moving.{back_by_one, back_stays, before_is_early, before_is_position, none_left, one_less}
-use Rattle.mx_app_look.proofs.moves.steps_back.Goals as goal
+use Rattle.mx_look_moves.specs.Moves.{steps_back}
+use Rattle.mx_look_moves.proofs.Moving.{back_by_one, back_stays, before_is_early, before_is_position, none_left, one_less}
+use Rattle.mx_look_moves.proofs.moves.steps_back.Goals as goal
 
 pub returns-in-None : goal.returns-in-None
 returns-in-None c =

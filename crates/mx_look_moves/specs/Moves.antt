@@ -1,7 +1,7 @@
 -- Where requests lead (our own).
 use Rattle.std.specs.Prelude.{ℕ, zero, suc, ◌+◌, ◌-◌, ◌==◌, ◌&&◌, Bool, if◌then◌else◌}
-use Rattle.mx_app_look.specs.declared.position_word.PositionWord.{PositionWord}
-use Rattle.mx_app_look.specs.declared.position_word.PositionWord.TheVariants.{Below, End}
+use Rattle.mx_look_moves.specs.declared.moves.PositionWord.{PositionWord}
+use Rattle.mx_look_moves.specs.declared.moves.PositionWord.TheVariants.{Below, End}
 use Rattle.mx_walk.specs.declared.positions.Position.{Position}
 use Rattle.mx_walk.specs.Positions.{is_position, is_up_to, next_position, position_before}
 use Rattle.mx_walk.specs.Walks.{Walk}
@@ -40,3 +40,7 @@ position_asked k End = k.last
 -- the history has it, and the machine comes there
 abbrev pub can_go : Walk → Position → Bool
 can_go k p = is_position k.records p && is_up_to p k.last
+
+-- where a walker is that was asked to go there
+abbrev pub gone_to : Walk → PositionWord → Position
+gone_to k p = if can_go k (position_asked k p) then position_asked k p else k.here

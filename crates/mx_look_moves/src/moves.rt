@@ -1,11 +1,22 @@
 //! Where requests lead.
 
-ghost use Rattle.std.specs.Prelude.{◌≡◌, true};
+ghost use Rattle.std.specs.Prelude.{◌≡◌, ◌++◌, IfErr, IfOk, OnOk, true};
+ghost use Rattle.mx_walk.specs.Parts.{shown_to};
 ghost use Rattle.mx_walk.specs.Positions.{IsPosition, IsUpTo};
-ghost use Rattle.mx_app_look.specs.Moves.{back_from, can_go, forward_from, position_asked, steps_back, steps_on, up_to_last};
+ghost use Rattle.mx_look_moves.specs.Moves.{back_from, can_go, forward_from, gone_to, position_asked, steps_back, steps_on, up_to_last};
 
-use crate::position_word::PositionWord;
-use mx_walk::{Position, Walker, is_position, is_up_to, next_event, position_before};
+use mx_walk::{Position, Progress, Walker, is_position, is_up_to, next_event, position_before};
+use mx_word::NoMemory;
+use std::alloc::Global;
+
+/// A position of a history, as it is asked for.
+#[derive(Clone, Copy)]
+pub enum PositionWord {
+    /// Below this many records, and this many steps of the next.
+    Below(u32, u32),
+    /// The last position.
+    End,
+}
 
 /// A position, or the last one if that is above it.
 fn up_to_last(walker: &Walker, to: Position) -> Position
@@ -19,7 +30,7 @@ fn up_to_last(walker: &Walker, to: Position) -> Position
 }
 
 /// The start of a record below, at most the last position.
-pub(crate) fn forward_from(walker: &Walker, count: u32) -> Position
+pub fn forward_from(walker: &Walker, count: u32) -> Position
     ensures value { result ≡ forward_from walker.now count }
     ensures position { IsPosition walker.now.records result }
     ensures early { IsUpTo result walker.now.last }
@@ -35,7 +46,7 @@ pub(crate) fn forward_from(walker: &Walker, count: u32) -> Position
 }
 
 /// The start of the record that one is in, or of one above.
-pub(crate) fn back_from(walker: &Walker, count: u32) -> Position
+pub fn back_from(walker: &Walker, count: u32) -> Position
     ensures value { result ≡ back_from walker.now count }
     ensures position { IsPosition walker.now.records result }
     ensures early { IsUpTo result walker.now.last }
@@ -52,7 +63,7 @@ pub(crate) fn back_from(walker: &Walker, count: u32) -> Position
 }
 
 /// That many events on, at most to the last position.
-pub(crate) fn steps_on(walker: &Walker, count: u32) -> Position
+pub fn steps_on(walker: &Walker, count: u32) -> Position
     ensures value { result ≡ steps_on count walker.now walker.now.here }
     ensures position { IsPosition walker.now.records result }
     ensures early { IsUpTo result walker.now.last }
@@ -71,7 +82,7 @@ pub(crate) fn steps_on(walker: &Walker, count: u32) -> Position
 }
 
 /// That many events back, at most to the first position.
-pub(crate) fn steps_back(walker: &Walker, count: u32) -> Position
+pub fn steps_back(walker: &Walker, count: u32) -> Position
     ensures value { result ≡ steps_back count walker.now walker.now.here }
     ensures position { IsPosition walker.now.records result }
     ensures early { IsUpTo result walker.now.last }
@@ -87,7 +98,7 @@ pub(crate) fn steps_back(walker: &Walker, count: u32) -> Position
 }
 
 /// The position that is asked for.
-pub(crate) fn position_asked(walker: &Walker, asked: PositionWord) -> Position
+fn position_asked(walker: &Walker, asked: PositionWord) -> Position
     ensures { result ≡ position_asked walker.now asked }
 {
     match asked {
@@ -100,7 +111,7 @@ pub(crate) fn position_asked(walker: &Walker, asked: PositionWord) -> Position
 }
 
 /// Whether a walker can come to a position.
-pub(crate) fn can_go(walker: &Walker, to: Position) -> bool
+fn can_go(walker: &Walker, to: Position) -> bool
     ensures value { result ≡ can_go walker.now to }
     ensures position { result ≡ true → IsPosition walker.now.records to }
     ensures early { result ≡ true → IsUpTo to walker.now.last }
@@ -109,4 +120,26 @@ pub(crate) fn can_go(walker: &Walker, to: Position) -> bool
         return false;
     }
     is_up_to(to, walker.last())
+}
+
+/// Goes to the position that is asked for, and shows each record that it passes. Answers whether the walker can come
+/// there; if not, it stays where it is. Takes memory only to go back, before it shows anything.
+pub fn go_to_asked<P: Progress>(
+    alloc: Global,
+    walker: Walker,
+    asked: PositionWord,
+    progress: &mut P,
+) -> Result<(Walker, bool), NoMemory>
+    ensures gone { IfOk result (λ r. r.0 ≡ record walker { here = gone_to walker asked }) }
+    ensures can { IfOk result (λ r. r.1 ≡ can_go walker (position_asked walker asked)) }
+    ensures shown { OnOk result (P.shown progress.new
+        ≡ P.shown progress.old ++ shown_to walker (gone_to walker asked)) }
+    ensures unshown { IfErr result (λ _. P.shown progress.new ≡ P.shown progress.old) }
+{
+    let to = position_asked(&walker, asked);
+    if can_go(&walker, to) {
+        let walker = walker.go_to(alloc, to, progress)?;
+        return Ok((walker, true));
+    }
+    Ok((walker, false))
 }
