@@ -70,20 +70,20 @@ fn help_reader(
     let _ = eprint!(rt; "{note}");
 }
 
-/// Does what the program's words ask for, and answers the status to end with, or why it isn't done.
-fn perform_arguments<R>(rt: &R, terminals: Terminals) -> Result<u8, Complaint>
-where
-    R: Env + Files + Input + Print + Eprint + AllocGlobal + Threads + Wait + Clock + Sync,
-{
-    let arguments = arguments(rt)?;
-    let texts = texts_asked(rt.alloc(), arguments.as_slice())?;
-    let words = texts.as_slice();
-    let is_session = begin_with(words, "look");
-    let unit = if begin_with(words, "sweep") {
+/// What the progress of a command counts.
+fn unit_of(words: &[&str]) -> &'static str {
+    if begin_with(words, "sweep") {
         "positions"
     } else {
         "records"
-    };
+    }
+}
+
+/// Does what words ask for, and answers the status to end with, or why it isn't done.
+fn perform_texts<R>(rt: &R, terminals: Terminals, words: &[&str]) -> Result<u8, Complaint>
+where
+    R: Env + Files + Input + Print + Eprint + AllocGlobal + Threads + Wait + Clock + Sync,
+{
     let mut work = CommandIo {
         channels: Channels {
             reader: NotingReader::new(RuntimeFiles::new(rt)),
@@ -91,7 +91,7 @@ where
             out: NotingOutput::new(io::writer(rt)),
         },
         lines: InputLines::new(rt.reader()),
-        progress: RuntimeProgress::new(rt, terminals.err, unit),
+        progress: RuntimeProgress::new(rt, terminals.err, unit_of(words)),
         asks: terminals.input && terminals.out,
     };
     let answer = perform_words(rt, rt.alloc(), words, &mut work, terminals.err);
@@ -101,13 +101,23 @@ where
         Err(_) => PrintedText::Other,
     };
     // a session's reader has ended the last line
-    let last = if is_session {
+    let last = if begin_with(words, "look") {
         None
     } else {
         work.channels.out.last()
     };
     help_reader(rt, terminals, printed, last);
     Ok(answer?.status)
+}
+
+/// Does what the program's words ask for, and answers the status to end with, or why it isn't done.
+fn perform_arguments<R>(rt: &R, terminals: Terminals) -> Result<u8, Complaint>
+where
+    R: Env + Files + Input + Print + Eprint + AllocGlobal + Threads + Wait + Clock + Sync,
+{
+    let arguments = arguments(rt)?;
+    let texts = texts_asked(rt.alloc(), arguments.as_slice())?;
+    perform_texts(rt, terminals, texts.as_slice())
 }
 
 /// Does what the program's words ask for with the files and the streams of the runtime; if it isn't done,

@@ -8,7 +8,7 @@ ghost use Rattle.mx_app_db.specs.Setup.{IsSetup};
 ghost use Rattle.mx_app_db.specs.Written.{Written};
 ghost use Rattle.mx_app_explain.specs.Sums.{machine_sums, sums_text};
 ghost use Rattle.mx_app.specs.Deeds.{Does};
-ghost use Rattle.mx_app.specs.Summing.{ComparesSums, IsCompared, IsUnsummed, PerformsLine, PerformsWith, WritesSums, line_failure_status, names_file, writes_sums};
+ghost use Rattle.mx_app.specs.Summing.{ComparesSums, IsCompared, IsUnsummed, PerformsCompared, PerformsLine, PerformsSummed, PerformsWith, WritesSums, line_failure_status, names_file, writes_sums};
 
 use crate::command_io::CommandIo;
 use crate::performing::{Done, perform};
@@ -200,6 +200,55 @@ fn write_sums<F: FileWriter>(
     }
 }
 
+/// Does a request of a machine that has sums, and then writes them to a file.
+fn perform_summed<
+    T: Threads + Wait + Clock + Sync,
+    R: Reader + Drop,
+    F: FileWriter + Drop,
+    W: Write + Drop,
+    L: LineReader + Drop,
+    P: Progress + SharedProgress + Sync + Drop,
+>(
+    rt: &T,
+    alloc: Global,
+    io: &mut CommandIo<R, F, W, L, P>,
+    request: CommandRequest<'_>,
+    name: &str,
+) -> Result<Done, LineFailure>
+    ensures asks { io.new.asks ≡ io.old.asks }
+    ensures done { Does io.old io.new R.asked F.written W.contents L.given P.shown
+        (λ did Prints. PerformsSummed request.entry name.now io.old.asks did Prints result) }
+{
+    let text = sums_text_named(alloc, &mut io.channels.reader, first_name(request))?;
+    let done = perform(rt, alloc, io, request)?;
+    write_sums(alloc, &mut io.channels.files, name, text.as_slice())?;
+    Ok(done)
+}
+
+/// Does a request of a machine that has the sums of a file, and of no other.
+fn perform_compared<
+    T: Threads + Wait + Clock + Sync,
+    R: Reader + Drop,
+    F: FileWriter + Drop,
+    W: Write + Drop,
+    L: LineReader + Drop,
+    P: Progress + SharedProgress + Sync + Drop,
+>(
+    rt: &T,
+    alloc: Global,
+    io: &mut CommandIo<R, F, W, L, P>,
+    request: CommandRequest<'_>,
+    name: &str,
+) -> Result<Done, LineFailure>
+    ensures asks { io.new.asks ≡ io.old.asks }
+    ensures done { Does io.old io.new R.asked F.written W.contents L.given P.shown
+        (λ did Prints. PerformsCompared request.entry name.now io.old.asks did Prints result) }
+{
+    compare_named(alloc, &mut io.channels.reader, first_name(request), name)?;
+    let compared = perform(rt, alloc, io, request)?;
+    Ok(compared)
+}
+
 /// Does what a request asks for, with a file of sums, which no other word may name. If the request makes a history,
 /// its machine's sums are written to the file once it is done; any other is done only of a machine with its sums.
 fn perform_with_sums<
@@ -223,16 +272,11 @@ fn perform_with_sums<
     if names_file(request, name) {
         return Err(LineFailure::Sums(SumsFault::NameTaken));
     }
-    let config = first_name(request);
     if writes_sums(request) {
-        let text = sums_text_named(alloc, &mut io.channels.reader, config)?;
-        let done = perform(rt, alloc, io, request)?;
-        write_sums(alloc, &mut io.channels.files, name, text.as_slice())?;
-        return Ok(done);
+        perform_summed(rt, alloc, io, request, name)
+    } else {
+        perform_compared(rt, alloc, io, request, name)
     }
-    compare_named(alloc, &mut io.channels.reader, config, name)?;
-    let compared = perform(rt, alloc, io, request)?;
-    Ok(compared)
 }
 
 /// Does what a command line asks for. With a file of sums, a request that makes a history has the machine's sums

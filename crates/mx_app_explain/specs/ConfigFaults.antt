@@ -93,15 +93,18 @@ abbrev pub fault_after : Place → Result (ℕ × List (List ℕ)) Place → Opt
 fault_after end (Err place) = Some place
 fault_after end (Ok p) = end_fault end p.1
 
--- THE FAULT of a line that has these words: the first that isn't as the form wants it
-abbrev pub fault_of_item : List ℕ → List (List ℕ) → Option Place
-fault_of_item word fs =
-    if bytes_eq word (codes "service") then fault_after ServiceEnd (after_service fs) else
+-- the fault after an item's first word that isn't `service`
+abbrev pub fault_of_other : List ℕ → List (List ℕ) → Option Place
+fault_of_other word fs =
     if bytes_eq word (codes "cpus") then fault_after ItemEnd (number_at Cpus 1 8 fs) else
     if bytes_eq word (codes "others") then fault_after ItemEnd (number_at Others 1 4 fs) else
     if bytes_eq word (codes "log") then fault_after ItemEnd (number_at Log 1 1048576 fs) else
     if bytes_eq word (codes "rules") then fault_after ItemEnd (number_at Rules 1 2 fs) else
     Some Item
+
+-- THE FAULT of a line that has these words: the first that isn't as the form wants it
+abbrev pub fault_of_item : List ℕ → List (List ℕ) → Option Place
+fault_of_item word fs = if bytes_eq word (codes "service") then fault_after ServiceEnd (after_service fs) else fault_of_other word fs
 
 unfoldable pub fault_in : List (List ℕ) → Option Place
 fault_in [] = None

@@ -2,7 +2,7 @@
 
 ghost use Rattle.std.specs.Prelude.{◌≡◌, Err, Ok, Some, MatchResult};
 ghost use Rattle.mx_text.specs.Fields.{fields};
-ghost use Rattle.mx_app_explain.specs.ConfigFaults.{after_file, after_key, after_levels, after_mask, after_masks, after_number, after_service, end_fault, fault_after, fault_in, number_at, word_at};
+ghost use Rattle.mx_app_explain.specs.ConfigFaults.{after_file, after_key, after_levels, after_mask, after_masks, after_number, after_service, end_fault, fault_after, fault_in, fault_of_other, number_at, word_at};
 ghost use Rattle.mx_app_explain.specs.declared.config_place.Place.TheVariants.{ItemEnd, ServiceEnd};
 
 use crate::config_place::{Key, Place};
@@ -150,6 +150,23 @@ fn number_fault(line: &[u8], place: Place, least: u32, most: u32) -> Option<Plac
     fault_after(number_at(line, place, least, most), Place::ItemEnd)
 }
 
+/// The fault of what is after an item's first word, which isn't `service`.
+fn other_fault(word: &[u8], rest: &[u8]) -> Option<Place>
+    ensures { result ≡ fault_of_other word.now (fields rest.now) }
+{
+    if word == b"cpus".as_slice() {
+        number_fault(rest, Place::Cpus, 1, 8)
+    } else if word == b"others".as_slice() {
+        number_fault(rest, Place::Others, 1, 4)
+    } else if word == b"log".as_slice() {
+        number_fault(rest, Place::Log, 1, 1_048_576)
+    } else if word == b"rules".as_slice() {
+        number_fault(rest, Place::Rules, 1, 2)
+    } else {
+        Some(Place::Item)
+    }
+}
+
 /// The fault of a line up to its comment: the first place where another word is wanted. None if there is none,
 /// as in an empty line. What a name may not be, and what lines above say, isn't looked at.
 #[tactic(auto, unfolding(crate::specs::ConfigFaults::fault_in))]
@@ -158,13 +175,8 @@ pub(crate) fn line_fault(line: &[u8]) -> Option<Place>
 {
     let (word, rest) = next_field(line)?;
     if word == b"service".as_slice() {
-        return service_fault(rest);
-    }
-    match word {
-        b"cpus" => number_fault(rest, Place::Cpus, 1, 8),
-        b"others" => number_fault(rest, Place::Others, 1, 4),
-        b"log" => number_fault(rest, Place::Log, 1, 1_048_576),
-        b"rules" => number_fault(rest, Place::Rules, 1, 2),
-        _ => Some(Place::Item),
+        service_fault(rest)
+    } else {
+        other_fault(word, rest)
     }
 }
