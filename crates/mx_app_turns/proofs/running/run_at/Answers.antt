@@ -1,5 +1,5 @@
-use Rattle.std.proofs.Common.{◌≡◌, ◌∙◌, ◌<◌, ◌-◌, ℕ, ◌++◌, List, All, ap, arith, drop, length, refl, subst, sym, take}
-use Rattle.std.proofs.lemmas.List.{append-nil, length-drop, take_all}
+use Rattle.std.proofs.Common.{◌≡◌, ◌∙◌, ◌<◌, ◌-◌, ◌++◌, All, ap, arith, drop, length, refl, subst, sym, take}
+use Rattle.std.proofs.lemmas.List.{length-drop, take_all}
 use Rattle.std.proofs.lemmas.List.Elements.{All-take}
 use Rattle.mx_app_step.proofs.AcceptedLemmas.{front_accepted, not_refused}
 use Rattle.mx_app_step.specs.Machine.{world_of}

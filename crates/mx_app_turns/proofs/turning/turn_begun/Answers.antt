@@ -1,4 +1,4 @@
-use Rattle.std.proofs.Common.{◌≡◌, ◌∙◌, ℕ, List, [], ◌∷◌, Option, ap, inl, refl, sym, true, false}
+use Rattle.std.proofs.Common.{◌≡◌, ◌∙◌, ℕ, List, [], ◌∷◌, Option, refl, sym, true, false}
 use Rattle.std.specs.Prelude.{option_map}
 use Rattle.std.specs.Io.KnownBytes.{Appends}
 use Rattle.std.proofs.lemmas.List.{append-nil}
@@ -6,11 +6,9 @@ use Rattle.mx_app_step.specs.Kept.{text_kept}
 use Rattle.mx_app_start.proofs.Appended.{appends_nothing}
 use Rattle.mx_app_step.specs.Programs.{names_program}
 use Rattle.mx_app_step.specs.Written.{kept}
-use Rattle.mx_machine.specs.declared.config.Config.{Config}
-use Rattle.mx_app_turns.specs.Turned.{writes_over}
 use Rattle.mx_machine.specs.History.{replay}
 use Rattle.mx_machine.specs.Machine.{world_of}
-use Rattle.mx_app_turns.proofs.TurnedLemmas.{not_begun, room_of, spared, shows_at, turned_at, untold, unwritten, written}
+use Rattle.mx_app_turns.proofs.TurnedLemmas.{room_of, spared, shows_at, turned_at, untold, unwritten, written}
 use Rattle.mx_app_turns.proofs.turning.turn_begun.Goals as goal
 
 pub returns-then-names_program-clause-made : goal.returns-then-names_program-clause-made
@@ -20,7 +18,7 @@ returns-then-names_program-clause-made g c = λ qs vs begun booted.
     let log = c.args.names.log.now in
     let apart = c.requires.apart in
     let b = c.args.begun.now in
-    let named : names_program b.config log ≡ true = sym c.names_program.ensures ∙ c.if-names_program.true in
+    let named : names_program b.config log ≡ true = sym {b = names_program b.config log} c.names_program.ensures ∙ c.if-names_program.true in
     ([], [], sym (append-nil _), sym (append-nil _), spared config file log c.args.wanted.ticks c.args.wanted.bound qs (λ (text : List ℕ). Appends (g.W.Write.contents c.args.channels.now.out) (g.W.Write.contents c.args.channels.now.out) text) apart b.config vs b.events.items _ begun (named, refl, appends_nothing _, refl))
 
 pub returns-in_err-write_history-clause-made : goal.returns-in_err-write_history-clause-made
@@ -32,7 +30,7 @@ returns-in_err-write_history-clause-made g c = λ qs vs begun booted.
     let bound = c.args.wanted.bound in
     let apart = c.requires.apart in
     let b = c.args.begun.now in
-    let other : names_program b.config log ≡ false = sym c.names_program.ensures ∙ c.if-names_program.false in
+    let other : names_program b.config log ≡ false = sym {b = names_program b.config log} c.names_program.ensures ∙ c.if-names_program.false in
     let m = b.machine in
     let n = c.make_turns-ending.new.machine in
     let k = c.kernel-kernel.result.now in
@@ -54,7 +52,7 @@ returns-in_err-print_kernel_report-clause-made g c = λ qs vs begun booted.
     let bound = c.args.wanted.bound in
     let apart = c.requires.apart in
     let b = c.args.begun.now in
-    let other : names_program b.config log ≡ false = sym c.names_program.ensures ∙ c.if-names_program.false in
+    let other : names_program b.config log ≡ false = sym {b = names_program b.config log} c.names_program.ensures ∙ c.if-names_program.false in
     let m = b.machine in
     let n = c.make_turns-ending.new.machine in
     let k = c.kernel-kernel.result.now in
@@ -75,7 +73,7 @@ returns-clause-made g c = λ qs vs begun booted.
     let bound = c.args.wanted.bound in
     let apart = c.requires.apart in
     let b = c.args.begun.now in
-    let other : names_program b.config log ≡ false = sym c.names_program.ensures ∙ c.if-names_program.false in
+    let other : names_program b.config log ≡ false = sym {b = names_program b.config log} c.names_program.ensures ∙ c.if-names_program.false in
     let m = b.machine in
     let n = c.make_turns-ending.new.machine in
     let k = c.kernel-kernel.result.now in

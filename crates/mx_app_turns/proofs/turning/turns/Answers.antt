@@ -18,7 +18,7 @@ returns-in_err-begun g c =
     let log = c.args.names.log.now in
     let ticks = c.args.wanted.ticks in
     let bound = c.args.wanted.bound in
-    let apart : writes_over config file log ≡ false = sym c.writes_over.ensures ∙ c.if-writes_over.false in
+    let apart : writes_over config file log ≡ false = sym {b = writes_over config file log} c.writes_over.ensures ∙ c.if-writes_over.false in
     let h = c.in_err-begun.ensures.fault in
     (h.0, [], [], h.1, sym (append-nil _), sym (append-nil _), not_begun config file log ticks bound h.0 (λ (text : List ℕ). Appends (g.W.Write.contents c.args.channels.now.out) (g.W.Write.contents c.args.channels.now.out) text) apart c.in_err-begun.field-0.0 c.from_residual.result h.2 c.from_residual.ensures.1)
 
