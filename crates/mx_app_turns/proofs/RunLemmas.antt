@@ -28,7 +28,7 @@ use Rattle.mx_turns.proofs.MadeLemmas.{kept_boot, same_boot}
 use Rattle.mx_turns.proofs.TurnLemmas.{cpus_stay}
 use Rattle.mx_app_turns.specs.declared.faults.FaultLine.{FaultLine}
 use Rattle.mx_app_turns.specs.Faults.{fault_kept, fault_made, faults_kept, faults_made, kept_now, line_now, made_now}
-use Rattle.mx_app_turns.specs.Sweep.{coming, indented, run_of, said_text}
+use Rattle.mx_app_turns.specs.Sweep.{coming, indented, run_from, run_of, said_text}
 use Rattle.mx_app_turns.specs.Swept.{HasRun}
 
 -- ---- a fault's line changes no number of processors
@@ -125,45 +125,44 @@ world_above boot w v records above k up booted is =
     is ∙ ap (λ (u : World). world_after_events u (events_of_history above)) booted ∙ ap (λ (rs : List Record). world_after_events boot (events_of_history rs)) up
 
 -- an actor that is no processor stays
-pub alone_still : (boot w v u : World) (xs : List (ℕ × Event)) → w ≡ boot → v ≡ world_after_events w xs
-    → actors u ≡ actors v → length u.cpus ≡ length v.cpus → length boot.cpus < actors boot → length u.cpus < actors u
-alone_still boot w v u xs booted is same as_many h =
-    let all : actors u ≡ actors boot = same ∙ ap actors is ∙ actors_after_events w xs ∙ ap actors booted in
-    let own : length u.cpus ≡ length boot.cpus = as_many ∙ ap (λ (z : World). length z.cpus) is ∙ cpus_stay w xs ∙ ap (λ (z : World). length z.cpus) booted in
-    subst (λ n. n < actors u) (sym own) (subst (λ n. length boot.cpus < n) (sym all) h)
+pub alone_still : (boot w v : World) (xs : List (ℕ × Event)) → w ≡ boot → v ≡ world_after_events w xs → length boot.cpus < actors boot → length v.cpus < actors v
+alone_still boot w v xs booted is h =
+    let all : actors v ≡ actors boot = ap actors is ∙ actors_after_events w xs ∙ ap actors booted in
+    let own : length v.cpus ≡ length boot.cpus = ap (λ (z : World). length z.cpus) is ∙ cpus_stay w xs ∙ ap (λ (z : World). length z.cpus) booted in
+    subst (λ n. n < actors v) (sym own) (subst (λ n. length boot.cpus < n) (sym all) h)
 
 -- ---- a run, from its parts
 
-pub run_done : (boot : World) (other : ℕ) (records : List Record) (n : ℕ) (fault : List FaultLine) (k : ℕ) (m0 m1 m2 m3 : MachineState) (above below : List Record) (evs : List Event) (how : Ending)
-    → above ≡ take k records → below ≡ drop k records → m0.kernel ≡ record { boot = boot; history = [] } → world_of m0 ≡ boot
-    → world_of m1 ≡ world_after_events (world_of m0) (events_of_history above) → m1.kernel ≡ kept_of m0.kernel (world_of m0) (events_of_history above)
-    → world_of m2 ≡ (faults_made (world_of m1) other fault).1 → m2.kernel ≡ faults_kept m1.kernel (world_of m1) other fault
-    → evs ≡ coming below → HasMade m2 (turns n (world_of m2) evs).made m3 → how ≡ (turns n (world_of m2) evs).ending
-    → HasRun (run_of boot other records n fault k) m3 how
-run_done boot other records n fault k m0 m1 m2 m3 above below evs how up down first booted world1 kernel1 world2 kernel2 come made ends =
-    let xs = events_of_history (take k records) in
-    let w = world_after_events boot xs in
-    let one : world_of m1 ≡ w = world_above boot (world_of m0) (world_of m1) records above k up booted world1 in
-    let kept = kept_of (record { boot = boot; history = [] }) boot xs in
-    let kept1 : m1.kernel ≡ kept =
-    kernel1 ∙ ap (λ (x : BootAndHistory). kept_of x (world_of m0) (events_of_history above)) first
+-- what was kept of it, above the position
+pub kept_above : (boot : World) (records above : List Record) (k : ℕ) (m n : MachineState) → above ≡ take k records → m.kernel ≡ record { boot = boot; history = [] } → world_of m ≡ boot
+    → n.kernel ≡ kept_of m.kernel (world_of m) (events_of_history above) → n.kernel ≡ kept_of (record { boot = boot; history = [] }) boot (events_of_history (take k records))
+kept_above boot records above k m n up first booted is =
+    is ∙ ap (λ (x : BootAndHistory). kept_of x (world_of m) (events_of_history above)) first
     ∙ ap (λ (u : World). kept_of (record { boot = boot; history = [] }) u (events_of_history above)) booted
-    ∙ ap (λ (rs : List Record). kept_of (record { boot = boot; history = [] }) boot (events_of_history rs)) up in
-    let v = (faults_made w other fault).1 in
-    let two : world_of m2 ≡ v = world2 ∙ ap (λ (u : World). (faults_made u other fault).1) one in
-    let kept2 : m2.kernel ≡ faults_kept kept w other fault =
-    kernel2 ∙ ap (λ (x : BootAndHistory). faults_kept x (world_of m1) other fault) kept1 ∙ ap (λ (u : World). faults_kept kept u other fault) one in
-    let events_are : evs ≡ coming (drop k records) = come ∙ ap coming down in
-    let course : turns n (world_of m2) evs ≡ turns n v (coming (drop k records)) =
-    ap (λ (u : World). turns n u evs) two ∙ ap (λ (es : List Event). turns n v es) events_are in
-    let xs3 = (turns n v (coming (drop k records))).made in
+    ∙ ap (λ (rs : List Record). kept_of (record { boot = boot; history = [] }) boot (events_of_history rs)) up
+
+-- from a machine on: the fault's lines, and then turns
+pub run_done : (n known : ℕ) (other : ℕ) (rest : List Record) (fault : List FaultLine) (m0 m1 m2 : MachineState) (evs : List Event) (how : Ending)
+    → n ≡ known → evs ≡ coming rest → world_of m1 ≡ (faults_made (world_of m0) other fault).1 → m1.kernel ≡ faults_kept m0.kernel (world_of m0) other fault
+    → HasMade m1 (turns n (world_of m1) evs).made m2 → how ≡ (turns n (world_of m1) evs).ending
+    → HasRun (run_from m0.kernel (world_of m0) other rest known fault) m2 how
+run_done n known other rest fault m0 m1 m2 evs how bound come world kernel made ends =
+    let v = (faults_made (world_of m0) other fault).1 in
+    let kept = faults_kept m0.kernel (world_of m0) other fault in
+    let course : turns n (world_of m1) evs ≡ turns known v (coming rest) =
+    ap (λ b. turns b (world_of m1) evs) bound ∙ ap (λ (u : World). turns known u evs) world ∙ ap (λ (es : List Event). turns known v es) come in
     record {
       ending = ends ∙ ap (λ c. c.ending) course;
-      world = made.world ∙ ap (λ (u : World). world_after_events u (turns n (world_of m2) evs).made) two ∙ ap (λ c. world_after_events v c.made) course;
-      kernel = made.kernel ∙ ap (λ (x : BootAndHistory). kept_of x (world_of m2) (turns n (world_of m2) evs).made) kept2
-          ∙ ap (λ (u : World). kept_of (faults_kept kept w other fault) u (turns n (world_of m2) evs).made) two
-          ∙ ap (λ c. kept_of (faults_kept kept w other fault) v c.made) course;
+      world = made.world ∙ ap (λ (u : World). world_after_events u (turns n (world_of m1) evs).made) world ∙ ap (λ c. world_after_events v c.made) course;
+      kernel = made.kernel ∙ ap (λ (x : BootAndHistory). kept_of x (world_of m1) (turns n (world_of m1) evs).made) kernel
+          ∙ ap (λ (u : World). kept_of kept u (turns n (world_of m1) evs).made) world
+          ∙ ap (λ c. kept_of kept v c.made) course;
     }
+
+-- the same run, by another kernel, world and records
+pub run_same : (k l : BootAndHistory) (w v : World) (other : ℕ) (rest below : List Record) (n : ℕ) (fault : List FaultLine) → k ≡ l → w ≡ v → rest ≡ below → run_from k w other rest n fault ≡ run_from l v other below n fault
+run_same k l w v other rest below n fault kernel world left =
+    ap (λ (x : BootAndHistory). run_from x w other rest n fault) kernel ∙ ap (λ (u : World). run_from l u other rest n fault) world ∙ ap (λ (rs : List Record). run_from l v other rs n fault) left
 
 -- ---- a fault's line, by the script's line that it is
 

@@ -53,6 +53,19 @@ pub record Run : Type 0 where
   pub world : World
   pub kernel : BootAndHistory
 
+-- A RUN ON FROM A KERNEL AND A WORLD: the fault's lines, in which `other` is the actor of those that name none; then at
+-- most n turns, with the lines and the ticks of these records to come
+abbrev pub run_from : BootAndHistory → World → ℕ → List Record → ℕ → List FaultLine → Run
+run_from kernel world other rest n fault =
+    let faulted = faults_made world other fault in
+    let course = turns n faulted.1 (coming rest) in
+    record {
+      said = faulted.0;
+      ending = course.ending;
+      world = world_after_events faulted.1 course.made;
+      kernel = kept_of (faults_kept kernel world other fault) faulted.1 course.made;
+    }
+
 -- A RUN WITH A FAULT AT POSITION k: boot; the first k records; the fault's lines, in which `other` is the actor of
 -- those that name none; then at most n turns, with the lines and the ticks of the records after position k to come
 abbrev pub run_of : World → ℕ → List Record → ℕ → List FaultLine → ℕ → Run

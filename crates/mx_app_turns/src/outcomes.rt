@@ -1,11 +1,12 @@
 //! The outcome of a position.
 
 ghost use Rattle.std.specs.Prelude.{◌≡◌, ◌≤◌, ◌++◌, [], IfOk, OnOk, length, map};
+ghost use Rattle.std.specs.Str.{bytes_eq};
 ghost use Rattle.mx_app_step.specs.Machine.{world_of};
 ghost use Rattle.mx_machine.specs.History.{replay};
 ghost use Rattle.mx_print_report.specs.declared.doing.Naming.TheVariants as by;
-ghost use Rattle.mx_app_turns.specs.Sweep.{are_alike, end_text, ending_word, kept_text, outcome_text, process_lines, run_of, shown};
-ghost use Rattle.mx_app_turns.specs.Swept.{IsSwept};
+ghost use Rattle.mx_app_turns.specs.Sweep.{are_alike, end_text, ending_word, kept_text, outcome_text, process_lines, run_of, said_text, seen_text, shown};
+ghost use Rattle.mx_app_turns.specs.Swept.{HasRun, IsSwept};
 
 use crate::running::{Sweep, run_at};
 use mx_machine::{Kernel, Machine, Service};
@@ -148,6 +149,51 @@ fn push_outcome(
     push_kept(text, kept.as_slice())
 }
 
+/// Makes the run of a position, as `run_at` does, and answers what is compared of its outcome too.
+fn compared_at(
+    alloc: Global,
+    machine: Machine,
+    sweep: Sweep<'_>,
+    position: usize,
+    text: &mut Vec<u8>,
+) -> Result<(Machine, Ending, Vec<u8>), NoMemory>
+    requires swept { IsSwept sweep machine.kernel.boot }
+    requires position { position ≤ length sweep.records.now }
+    ensures run { IfOk result (λ done. let run = run_of machine.kernel.boot sweep.entry.other
+        sweep.entry.records.now sweep.entry.bound sweep.entry.fault.now position in
+        HasRun run done.0 done.1 × (text.new.items ≡ text.old.items ++ said_text run.said)
+        × (done.2.items ≡ seen_text run)) }
+    ensures boot { IfOk result (λ done. done.0.kernel.boot ≡ machine.kernel.boot) }
+{
+    let (machine, ending) = run_at(alloc, machine, sweep, position, text)?;
+    let seen = compared_text(alloc, &machine, ending)?;
+    Ok((machine, ending, seen))
+}
+
+/// Makes the run of a position, and appends the lines of its outcome to a text. Answers the machine, and whether
+/// what is compared of the outcome is the same as `without`.
+fn told_at(
+    alloc: Global,
+    machine: Machine,
+    sweep: Sweep<'_>,
+    position: usize,
+    without: &[u8],
+    text: &mut Vec<u8>,
+) -> Result<(Machine, bool), NoMemory>
+    requires swept { IsSwept sweep machine.kernel.boot }
+    requires position { position ≤ length sweep.records.now }
+    ensures run { IfOk result (λ done. let run = run_of machine.kernel.boot sweep.entry.other
+        sweep.entry.records.now sweep.entry.bound sweep.entry.fault.now position in
+        (done.0.kernel ≡ run.kernel) × (text.new.items ≡ text.old.items ++ outcome_text run)
+        × (done.1 ≡ bytes_eq (seen_text run) without.entry.now)) }
+    ensures boot { IfOk result (λ done. done.0.kernel.boot ≡ machine.kernel.boot) }
+{
+    let (machine, ending, with) = compared_at(alloc, machine, sweep, position, text)?;
+    push_outcome(alloc, text, &machine, ending)?;
+    let is_alike = with.as_slice() == without;
+    Ok((machine, is_alike))
+}
+
 /// The outcome of a position of a history: without the fault first, and then with it. Takes memory to boot the
 /// machine twice.
 pub(crate) fn outcome_at(
@@ -174,12 +220,15 @@ pub(crate) fn outcome_at(
         fault: &[],
         ..sweep
     };
-    let (machine, ending) = run_at(alloc, machine, unharmed, position, &mut text)?;
-    let without = compared_text(alloc, &machine, ending)?;
-    let (machine, ending) = run_at(alloc, machine, sweep, position, &mut text)?;
-    let with = compared_text(alloc, &machine, ending)?;
-    push_outcome(alloc, &mut text, &machine, ending)?;
-    let is_alike = with.as_slice() == without.as_slice();
+    let (machine, _, without) = compared_at(alloc, machine, unharmed, position, &mut text)?;
+    let (machine, is_alike) = told_at(
+        alloc,
+        machine,
+        sweep,
+        position,
+        without.as_slice(),
+        &mut text,
+    )?;
     Ok(Outcome {
         machine,
         text,

@@ -4,7 +4,7 @@ ghost use Rattle.std.specs.Prelude.{◌≡◌, ◌<◌, ◌≤◌, ◌++◌, IfO
 ghost use Rattle.mx_app_step.specs.Machine.{world_of};
 ghost use Rattle.mx_machine.specs.World.{actors};
 ghost use Rattle.mx_app_turns.specs.Faults.{faults_kept, faults_made};
-ghost use Rattle.mx_app_turns.specs.Sweep.{run_of, said_text};
+ghost use Rattle.mx_app_turns.specs.Sweep.{run_from, run_of, said_text};
 ghost use Rattle.mx_app_turns.specs.Swept.{HasRun, IsSwept};
 
 use crate::booting::boot_again;
@@ -63,6 +63,33 @@ fn perform_fault(
     Ok(())
 }
 
+/// Does what the lines of a sweep's fault say, and makes turns, with the lines and the ticks of these records to
+/// come. Appends the answers to the fault's lines to a text. Answers how the turns ended.
+fn run_on(
+    alloc: Global,
+    machine: &mut Machine,
+    sweep: Sweep<'_>,
+    rest: &[Record],
+    text: &mut Vec<u8>,
+) -> Result<Ending, AllocError>
+    requires other { sweep.other < actors (world_of machine.old) }
+    requires alone { length (world_of machine.old).cpus < actors (world_of machine.old) }
+    ensures run { IfOk result (λ ending. let run = run_from machine.old.kernel
+        (world_of machine.old) sweep.entry.other rest.now sweep.entry.bound sweep.entry.fault.now in
+        HasRun run machine.new ending × (text.new.items ≡ text.old.items ++ said_text run.said)) }
+{
+    perform_fault(alloc, machine, sweep.other, sweep.fault, text)?;
+    let events = coming_of(alloc, rest)?;
+    let outside = Outside {
+        events: events.as_slice(),
+        ticks: 0,
+    };
+    let bound = u64::from(sweep.bound);
+    let log = sweep.config.log as usize;
+    // A sweep shows its positions, and not their turns.
+    Ok(make_turns(machine, outside, bound, log, &mut NoProgress::new()))
+}
+
 /// Boots a machine again, makes the records of the history up to a position, does what the fault's lines say, and
 /// makes turns, with the lines and the ticks of the other records to come. Appends the answers to the fault's
 /// lines to a text. Answers the machine, and how the turns ended.
@@ -84,15 +111,6 @@ pub(crate) fn run_at(
     if let Err(_) = perform_records(&mut machine, &sweep.records[..position]) {
         unreachable!();
     }
-    perform_fault(alloc, &mut machine, sweep.other, sweep.fault, text)?;
-    let events = coming_of(alloc, &sweep.records[position..])?;
-    let outside = Outside {
-        events: events.as_slice(),
-        ticks: 0,
-    };
-    let bound = u64::from(sweep.bound);
-    let log = sweep.config.log as usize;
-    // A sweep shows its positions, and not their turns.
-    let ending = make_turns(&mut machine, outside, bound, log, &mut NoProgress::new());
+    let ending = run_on(alloc, &mut machine, sweep, &sweep.records[position..], text)?;
     Ok((machine, ending))
 }

@@ -1,6 +1,6 @@
 //! A machine that one thread drives in turns.
 
-ghost use Rattle.std.specs.Prelude.{◌≡◌, ◌<◌, ◌++◌, [], List, None, IfErr, IfOk, length, option_map};
+ghost use Rattle.std.specs.Prelude.{◌≡◌, ◌<◌, ◌++◌, [], List, None, IfErr, IfOk, false, length, option_map};
 ghost use Rattle.std.specs.Io.KnownBytes.{Appends};
 ghost use Rattle.mx_machine.specs.Machine.{world_of};
 ghost use Rattle.mx_machine.specs.Boot.{world_at_boot};
@@ -112,6 +112,53 @@ pub fn writes_over(config: &str, events: Option<&str>, log: &str) -> bool
     }
 }
 
+/// On a machine that was begun: makes its turns, writes its history to a file, and prints the report, as `turns`
+/// says of a machine whose configuration and events were read. If LOG has the name of a service's program, none of
+/// this is done.
+fn turn_begun<R: Drop, F: FileWriter + Drop, W: Write + Drop, P: Progress>(
+    alloc: Global,
+    channels: &mut Channels<R, F, W>,
+    begun: &mut Begun,
+    names: TurnsNames<'_>,
+    wanted: TurnsWanted,
+    progress: &mut P,
+) -> Result<Ending, Failure>
+    requires apart { writes_over names.config.now (option_map (λ s. s.now) names.events)
+        names.log.now ≡ false }
+    requires kernel { begun.old.machine.kernel
+        ≡ record { boot = world_of begun.old.machine; history = [] } }
+    requires other { length (world_of begun.old.machine).cpus
+        < actors (world_of begun.old.machine) }
+    ensures reader { channels.new.reader ≡ channels.old.reader }
+    ensures made { (qs : List Asked) (vs : List Service)
+        → IsBegun names.entry.config.now (option_map (λ s. s.now) names.entry.events) qs
+        begun.old.config vs begun.old.events.items
+        → world_of begun.old.machine ≡ world_at_boot begun.old.config vs
+        → (ws : List Written) × (ps : List Parts)
+        × (F.written channels.new.files ≡ F.written channels.old.files ++ ws)
+        × (P.shown progress.new ≡ P.shown progress.old ++ ps)
+        × MakesTurns names.entry.config.now (option_map (λ s. s.now) names.entry.events)
+        names.entry.log.now wanted.ticks wanted.bound qs ws ps
+        (λ text. Appends (W.contents channels.old.out) (W.contents channels.new.out) text) result }
+{
+    if names_program(&begun.config, names.log) {
+        return Err(Failure::File);
+    }
+    let outside = Outside {
+        events: begun.events.as_slice(),
+        ticks: wanted.ticks,
+    };
+    let log = begun.config.log as usize;
+    let bound = u64::from(wanted.bound);
+    let ending = make_turns(&mut begun.machine, outside, bound, log, progress);
+    progress.clear();
+    let kernel = begun.machine.kernel();
+    kernel.facts();
+    write_history(alloc, kernel, &mut channels.files, names.log)?;
+    print_kernel_report(alloc, kernel, &mut channels.out)?;
+    Ok(ending)
+}
+
 /// Makes turns of the machine of a configuration, with the outside events of a file and then ticks to come,
 /// until it is at rest and none is to come, or all turns are made, or its history is full. Then writes the
 /// history to a file, and prints the report. Answers how the turns ended. No file that is read
@@ -137,20 +184,5 @@ pub fn turns<R: Reader + Drop, F: FileWriter + Drop, W: Write + Drop, P: Progres
         return Err(Failure::File);
     }
     let mut begun = begin(alloc, &mut channels.reader, names.config, names.events)?;
-    if names_program(&begun.config, names.log) {
-        return Err(Failure::File);
-    }
-    let outside = Outside {
-        events: begun.events.as_slice(),
-        ticks: wanted.ticks,
-    };
-    let log = begun.config.log as usize;
-    let bound = u64::from(wanted.bound);
-    let ending = make_turns(&mut begun.machine, outside, bound, log, progress);
-    progress.clear();
-    let kernel = begun.machine.kernel();
-    kernel.facts();
-    write_history(alloc, kernel, &mut channels.files, names.log)?;
-    print_kernel_report(alloc, kernel, &mut channels.out)?;
-    Ok(ending)
+    turn_begun(alloc, channels, &mut begun, names, wanted, progress)
 }
