@@ -1,5 +1,5 @@
 -- Positions that are swept and printed.
-use Rattle.std.proofs.Common.{◌≡◌, ◌∙◌, ◌<◌, ◌≤◌, ◌+◌, ◌-◌, ℕ, zero, suc, Bool, true, false, cond, List, [], ◌∷◌, ◌++◌, length, length-append, Option, append_assoc, refl, ap, sym, subst, arith}
+use Rattle.std.proofs.Common.{◌≡◌, ◌∙◌, ◌<◌, ◌≤◌, ◌+◌, ◌-◌, ℕ, suc, Bool, true, false, cond, List, [], ◌∷◌, ◌++◌, length, length-append, Option, append_assoc, refl, ap, sym, subst, arith}
 use Rattle.std.proofs.KnownBytes.{Appends-nil, Appends-trans}
 use Rattle.std.proofs.lemmas.List.{append-nil}
 use Rattle.std.proofs.lemmas.Grind.{flat_map-append}
@@ -7,6 +7,7 @@ use Rattle.std.specs.Io.KnownBytes.{Appends}
 use Rattle.std.specs.List.{flat_map}
 use Rattle.std.specs.Str.{bytes_eq}
 use Rattle.mx_machine.specs.History.{BootAndHistory}
+use Rattle.mx_app_turns.specs.declared.blocks.Total.{Total}
 use Rattle.mx_app_turns.specs.Sweep.{Positions, block_text, blocks, blocks_from, count_of}
 use Rattle.mx_app_turns.specs.Sweeping.{SweepOf, is_alike_at, run_at, text_at}
 
@@ -105,6 +106,23 @@ module _ (s : SweepOf) (from end : ℕ) where
       within = omega (arith, h);
       kernel = kept ∙ ap (λ i. (run_at s i).kernel) there;
     }
+
+    -- whichever it is
+    pub goes : (b : Bool) (t : List ℕ) (other : Positions) (then : Option (List ℕ)) (x y : Total) (l : BootAndHistory) → t ≡ f p → x.blocks ≡ count → x.alike ≡ more → bytes_eq t current.text ≡ b
+        → (bytes_eq t current.text ≡ true → (other ≡ record current { last = p }) × (y ≡ x) × (then ≡ now))
+        → (bytes_eq t current.text ≡ false → (other ≡ record { first = p; last = p; text = t }) × (y ≡ record x { blocks = x.blocks + 1 }) × Appends now then (block_text current))
+        → l ≡ (run_at s p).kernel → SweptSoFar s from end (p + 1) old then other y.blocks y.alike l
+    goes true t other then x y l told is same e on new kept =
+        let h = on e in
+        let wide = goes_on other l (ap (λ u. bytes_eq u current.text) (sym told) ∙ e) h.0 kept in
+        let here = subst (λ o. SweptSoFar s from end (p + 1) old o other count more l) (sym h.2) wide in
+        let counts = subst (λ n. SweptSoFar s from end (p + 1) old then other n more l) (sym (ap (λ (z : Total). z.blocks) h.1 ∙ is)) here in
+        subst (λ n. SweptSoFar s from end (p + 1) old then other y.blocks n l) (sym (ap (λ (z : Total). z.alike) h.1 ∙ same)) counts
+    goes false t other then x y l told is same e on new kept =
+        let h = new e in
+        let begun = begins current then other y.blocks l (ap (λ u. bytes_eq u current.text) (sym told) ∙ e) refl h.2 (h.0 ∙ ap (λ (u : List ℕ). let o : Positions = record { first = p; last = p; text = u } in o) told)
+        (ap (λ (z : Total). z.blocks) h.1 ∙ ap (λ n. n + 1) is) kept in
+        subst (λ n. SweptSoFar s from end (p + 1) old then other y.blocks n l) (sym (ap (λ (z : Total). z.alike) h.1 ∙ same)) begun
 
   module _ (p : ℕ) (old now then : Option (List ℕ)) (current shut : Positions) (count alike : ℕ) (k : BootAndHistory) (so_far : SweptSoFar s from end p old now current count alike k) (last : p ≡ end) where
     none_left : end - p ≡ 0

@@ -1,11 +1,13 @@
 -- What is done of a history.
-use Rattle.std.proofs.Common.{◌≡◌, ◌∙◌, ◌<◌, ◌≤◌, ◌+◌, ◌-◌, ◌==◌, ℕ, zero, suc, Bool, true, false, cond, nat_eq, List, [], ◌∷◌, ◌++◌, length, min, Option, Some, None, Result, Ok, Err, inl, inr, refl, ap, ap₂, arith, subst, sym}
+use Rattle.std.proofs.Common.{◌≡◌, ◌∙◌, ◌<◌, ◌≤◌, ◌+◌, ◌-◌, ◌==◌, ◌⊎◌, ℕ, zero, suc, Bool, true, false, cond, List, [], ◌++◌, length, min, Option, Some, None, Result, Ok, Err, inl, inr, refl, ap, ap₂, arith, subst, sym}
 use Rattle.std.proofs.KnownBytes.{Appends-trans}
 use Rattle.std.specs.Io.KnownBytes.{Appends}
 use Rattle.std.proofs.lemmas.List.{append-nil}
 use Rattle.std.specs.List.{flat_map}
-use Rattle.std.specs.Prelude.{IsErrAnd}
+use Rattle.std.specs.Prelude.{IfErr, IfOk, IsErrAnd}
+use Rattle.mx_app_start.specs.Log.{lines_above}
 use Rattle.mx_machine.specs.Boot.{world_at_boot}
+use Rattle.mx_machine.specs.declared.events.Refusal.{Refusal}
 use Rattle.mx_machine.specs.declared.history.Record.{Record}
 use Rattle.mx_machine.specs.World.{World}
 use Rattle.mx_machine.specs.History.{AreAccepted, BootAndHistory, events_of_history}
@@ -17,8 +19,9 @@ use Rattle.mx_app_failure.specs.Failure.{IsWanting}
 use Rattle.mx_app_step.specs.Asked.{Asked}
 use Rattle.mx_app_step.specs.Config.{Config}
 use Rattle.mx_app_step.specs.Kept.{text_kept}
+use Rattle.mx_app_step.specs.Records.{IsRefusedAt, refused_record_line}
 use Rattle.mx_app_step.specs.Service.{Service}
-use Rattle.mx_app_step.specs.Written.{Written, kept}
+use Rattle.mx_app_step.specs.Written.{Written}
 use Rattle.mx_app_turns.specs.declared.blocks.Total.{Total}
 use Rattle.mx_app_turns.specs.declared.faults.FaultLine.{FaultLine}
 use Rattle.mx_app_turns.specs.Sweep.{block_text, blocks, count_of, total_text}
@@ -118,6 +121,51 @@ module _ (s : SweepOf) (from to : ℕ) (save : Option (List ℕ)) (ps : List Par
   unsaved text ws f (Ok how) same why h = absurd h
   unsaved text ws f (Err y) same why h =
       (n, few, shown, inr (subst (λ t. IsUnsaved t save ws y) same (subst (λ z. IsUnsaved text save ws z) (sym h) why)))
+
+-- an event of the history is refused
+pub refused : (s : SweepOf) (from to : ℕ) (save : Option (List ℕ)) (Prints : List ℕ → Type 0) (n line : ℕ) (x : Refusal) (r : Result Swept Kind) → IsRefusedAt s.boot s.records n x → line ≡ lines_above s.boot.table.rules + n
+    → IfErr r IsWanting → IfOk r (λ how. (how ≡ Refused) × Prints (refused_record_line line x)) → IsDone s from to save [] [] Prints r
+refused s from to save Prints n line x (Ok how) at above err ok =
+    subst (λ h. IsSweptThrough s from to save [] [] Prints h) (sym ok.0) (refl, refl, (n, x, at, subst (λ i. Prints (refused_record_line i x)) above ok.1))
+refused s from to save Prints n line x (Err y) at above err ok = (0, omega arith, refl, inl (refl, err))
+
+-- its positions are swept, and then it ends
+module _ (s : SweepOf) (from to first end : ℕ) (at : first ≡ from) (by : end ≡ min to (length s.records) + 1) (total : Total) (counted : total ≡ total_of s (end - first) first) (k : BootAndHistory) (kernel : first < end → k ≡ (run_at s (end - 1)).kernel)
+    (save : Option (List ℕ)) (old mid now : Option (List ℕ)) (printed : Appends old mid (flat_map block_text (blocks (text_at s) (end - first) first))) (before after : List Written) where
+  all_in : end - first ≡ positions_in s from to
+  all_in = positions_are s from to first end (length s.records) at refl by
+
+  abbrev Ends : Result Swept Kind → Type 0
+  Ends r = (ws : List Written) × (after ≡ before ++ ws) × IsDone s from to save ws (parts_shown (end - first) (end - first)) (λ (text : List ℕ). Appends old now text) r
+
+  unended : (f : Kind) → ((after ≡ before) × IsWanting f) ⊎ ((0 < total.positions) × (ws : List Written) × (after ≡ before ++ ws) × IsUnsaved (text_kept k) save ws f) → Ends (Err f)
+  unended f (inl h) =
+      let n = end - first in (
+        [],
+        h.0 ∙ sym (append-nil before),
+        wanting s from to save (parts_shown n n) n (omega (arith, all_in)) (ap (λ a. parts_shown a n) all_in) (λ (text : List ℕ). Appends old now text) f (Err f) h.1 refl,
+      )
+  unended f (inr h) =
+      let n = end - first in (
+        h.1,
+        h.2,
+        unsaved s from to save (parts_shown n n) n (omega (arith, all_in)) (ap (λ a. parts_shown a n) all_in) (λ (text : List ℕ). Appends old now text) (text_kept k) h.1 f (Err f)
+            (last_kept s s refl from to first end (length s.records) at refl by total counted k kernel h.0) h.3 refl,
+      )
+
+  pub ends : (r : Result Swept Kind) → AreAccepted s.boot (events_of_history s.records)
+      → IfOk r (λ how. (how ≡ ended total.positions total.alike) × Appends mid now (total_text total.positions total.blocks total.alike) × (after ≡ before ++ saved_if (text_kept k) total.positions save))
+      → IfErr r (λ f. ((after ≡ before) × IsWanting f) ⊎ ((0 < total.positions) × (ws : List Written) × (after ≡ before ++ ws) × IsUnsaved (text_kept k) save ws f)) → Ends r
+  ends (Ok how) accepted ok err =
+      let n = end - first in
+      let records = length s.records in
+      let ws = saved_if (text_kept k) total.positions save in (
+        ws,
+        ok.2,
+        through s from to save ws (parts_shown n n) (λ (text : List ℕ). Appends old now text) how accepted (how_is s s refl from to first end records at refl by total counted how ok.0)
+            (all_printed s s refl from to first end records at refl by total counted old mid now printed ok.1) (last_saved s s refl from to first end records at refl by total counted k save kernel) (ap (λ a. parts_shown a a) all_in),
+      )
+  ends (Err f) accepted ok err = unended f err
 
 -- ---- all of it
 

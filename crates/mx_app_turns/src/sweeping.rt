@@ -1,16 +1,23 @@
 //! A history that is swept.
 
-ghost use Rattle.std.specs.Prelude.{◌≡◌, ◌<◌, ◌≤◌, ◌+◌, ◌-◌, ◌++◌, List, IfErr, IfOk, OnOk, length, min, option_map};
+ghost use Rattle.std.specs.Prelude.{◌≡◌, ◌<◌, ◌≤◌, ◌+◌, ◌-◌, ◌++◌, ◌∷◌, ◌⊎◌, [], ℕ, List, IfErr, IfOk, OnOk, false, length, min, option_map, true};
 ghost use Rattle.std.specs.Io.KnownBytes.{Appends};
 ghost use Rattle.std.specs.List.{flat_map};
+ghost use Rattle.std.specs.Str.{bytes_eq};
+ghost use Rattle.mx_boot.specs.Reading.{AreLinesRead, TellsUnread};
 ghost use Rattle.mx_machine.specs.Boot.{world_at_boot};
 ghost use Rattle.mx_app_failure.specs.Failure.{IsWanting};
 ghost use Rattle.mx_app_step.specs.Asked.{Asked};
 ghost use Rattle.mx_app_step.specs.Config.{Config as Configured};
 ghost use Rattle.mx_app_step.specs.Machine.{world_of};
 ghost use Rattle.mx_app_step.specs.Service.{Service};
+ghost use Rattle.mx_app_step.specs.Records.{refused_record_line};
+ghost use Rattle.mx_app_step.specs.Setup.{IsNoTextGiven, IsTextFaulty, IsTextGiven};
 ghost use Rattle.mx_app_step.specs.Written.{Written};
+ghost use Rattle.mx_text.specs.Lines.{lines};
 ghost use Rattle.mx_walk.specs.declared.progress.Part.{Part as Parts};
+ghost use Rattle.mx_app_turns.specs.FaultLines.{fault_line};
+ghost use Rattle.mx_app_turns.specs.declared.sweeping.Swept.TheVariants as swept;
 ghost use Rattle.mx_app_turns.specs.Sweep.{block_text, blocks, count_of, positions_of, total_text};
 ghost use Rattle.mx_app_turns.specs.Swept.{IsSwept};
 ghost use Rattle.mx_app_turns.specs.Sweeping.{IsBegun, IsNotBegun, IsShown, IsUnsaved, Sweeps, ended, is_alike_at, run_at, saved_if, saves_program, text_at, writes_over};
@@ -26,7 +33,7 @@ use mx_app_failure::{Failure, print_text};
 use mx_app_start::{Channels, FileWriter, History, Reader, Started, names_program, start, text_of};
 use mx_app_step::{perform_records, print_refusal, write_history};
 use mx_boot::lines_above;
-use mx_machine::{Config, Machine, Record};
+use mx_machine::{Config, Machine, Record, Refusal};
 use mx_walk::{Part, Progress};
 use std::alloc::Global;
 use std::io::Write;
@@ -69,6 +76,20 @@ struct Begun {
     fault: Vec<FaultLine>,
 }
 
+/// Reads the lines of the fault's file.
+fn fault_of<R: Reader>(alloc: Global, reader: &mut R, name: &str) -> Result<Vec<FaultLine>, Failure>
+    ensures read { IfOk result (λ said. (q : Asked) × (text : List ℕ)
+        × (R.asked reader.new ≡ R.asked reader.old ++ q ∷ []) × IsTextGiven name.now q text
+        × AreLinesRead fault_line (lines text) said.items) }
+    ensures fault { IfErr result (λ f. (q : Asked)
+        × (R.asked reader.new ≡ R.asked reader.old ++ q ∷ []) × (IsNoTextGiven name.now q f
+        ⊎ IsTextFaulty (λ text e. TellsUnread fault_line (lines text) e) name.now q f)) }
+{
+    let text = text_of(alloc, reader, name)?;
+    let fault = fault_lines(alloc, text.as_str())?;
+    Ok(fault)
+}
+
 /// Boots the machine of a saved history, after the fault's file is read too.
 fn begin<R: Reader>(alloc: Global, reader: &mut R, names: SweepNames<'_>) -> Result<Begun, Failure>
     ensures begun { IfOk result (λ b. (qs : List Asked) × (c : Configured) × (vs : List Service)
@@ -83,8 +104,7 @@ fn begin<R: Reader>(alloc: Global, reader: &mut R, names: SweepNames<'_>) -> Res
         × IsNotBegun names.entry.config.now names.entry.log.now names.entry.fault.now qs f) }
 {
     let started = start::<History, R>(alloc, reader, names.config, names.log)?;
-    let text = text_of(alloc, reader, names.fault)?;
-    let fault = fault_lines(alloc, text.as_str())?;
+    let fault = fault_of(alloc, reader, names.fault)?;
     Ok(Begun { started, fault })
 }
 
@@ -134,6 +154,66 @@ struct Done {
     total: Total,
 }
 
+/// Adds a position with this outcome to the block, or prints the block and begins another. Returns the machine.
+fn push_outcome<P: Progress, W: Write>(
+    alloc: Global,
+    outcome: Outcome,
+    position: usize,
+    block: &mut Block,
+    total: &mut Total,
+    progress: &mut P,
+    out: &mut W,
+) -> Result<Machine, Failure>
+    requires few { total.old.blocks < total.old.positions }
+    ensures err { IfErr result IsWanting }
+    ensures machine { IfOk result (λ machine. machine ≡ outcome.machine) }
+    ensures positions { OnOk result (total.new.positions ≡ total.old.positions) }
+    ensures goes_on { OnOk result
+        (bytes_eq outcome.text.items (positions_of block.old).text ≡ true
+        → (positions_of block.new ≡ record (positions_of block.old) { last = position })
+        × (total.new ≡ total.old) × (W.contents out.new ≡ W.contents out.old)) }
+    ensures begins { OnOk result
+        (bytes_eq outcome.text.items (positions_of block.old).text ≡ false
+        → (positions_of block.new
+        ≡ record { first = position; last = position; text = outcome.text.items })
+        × (total.new ≡ record total.old { blocks = total.old.blocks + 1 })
+        × Appends (W.contents out.old) (W.contents out.new)
+        (block_text (positions_of block.old))) }
+    ensures shown { P.shown progress.new ≡ P.shown progress.old }
+{
+    let Outcome { machine, text, .. } = outcome;
+    if text.as_slice() == block.text.as_slice() {
+        block.last = position;
+    } else {
+        print_block(alloc, block, progress, out)?;
+        total.blocks += 1;
+        *block = Block {
+            first: position,
+            last: position,
+            text,
+        };
+    }
+    Ok(machine)
+}
+
+/// Prints the last block, after which the machine and the counts are those of the sweep.
+fn print_last<P: Progress, W: Write>(
+    alloc: Global,
+    done: Done,
+    block: &Block,
+    progress: &mut P,
+    out: &mut W,
+) -> Result<Done, Failure>
+    ensures err { IfErr result IsWanting }
+    ensures done { IfOk result (λ same. same ≡ done) }
+    ensures bytes { OnOk result (Appends (W.contents out.old) (W.contents out.new)
+        (block_text (positions_of block.now))) }
+    ensures shown { P.shown progress.new ≡ P.shown progress.old }
+{
+    print_block(alloc, block, progress, out)?;
+    Ok(done)
+}
+
 /// Sweeps positions, of which the first has this outcome, and prints their blocks.
 fn print_more<P: Progress, W: Write>(
     alloc: Global,
@@ -171,8 +251,11 @@ fn print_more<P: Progress, W: Write>(
     let range = sweep.range;
     let all = range.end - range.from;
     let mut machine = first.machine;
-    let mut alike = usize::from(first.is_alike);
-    let mut blocks = 1;
+    let mut total = Total {
+        positions: all,
+        blocks: 1,
+        alike: usize::from(first.is_alike),
+    };
     let mut current = Block {
         first: range.from,
         last: range.from,
@@ -181,31 +264,22 @@ fn print_more<P: Progress, W: Write>(
     progress.show(Part { done: 1, all });
     for position in range.from + 1..range.end {
         let outcome = outcome_at(alloc, machine, sweep, position)?;
-        machine = outcome.machine;
         progress.show(Part {
             done: position - range.from + 1,
             all,
         });
-        alike += usize::from(outcome.is_alike);
-        if outcome.text.as_slice() == current.text.as_slice() {
-            current.last = position;
-        } else {
-            print_block(alloc, &current, progress, out)?;
-            blocks += 1;
-            current = Block {
-                first: position,
-                last: position,
-                text: outcome.text,
-            };
-        }
+        total.alike += usize::from(outcome.is_alike);
+        machine = push_outcome(
+            alloc,
+            outcome,
+            position,
+            &mut current,
+            &mut total,
+            progress,
+            out,
+        )?;
     }
-    print_block(alloc, &current, progress, out)?;
-    let total = Total {
-        positions: all,
-        blocks,
-        alike,
-    };
-    Ok(Done { machine, total })
+    print_last(alloc, Done { machine, total }, &current, progress, out)
 }
 
 /// Sweeps positions, and prints their blocks.
@@ -298,6 +372,80 @@ fn save_history<F: FileWriter>(
     }
 }
 
+/// Prints the event that is refused, for which nothing is swept.
+fn print_refused<W: Write>(
+    alloc: Global,
+    number: usize,
+    refusal: Refusal,
+    out: &mut W,
+) -> Result<Swept, Failure>
+    ensures err { IfErr result IsWanting }
+    ensures refused { IfOk result (λ how. (how ≡ swept.Refused)
+        × Appends (W.contents out.old) (W.contents out.new)
+        (refused_record_line number refusal)) }
+{
+    print_refusal(alloc, number, refusal, out)?;
+    Ok(Swept::Refused)
+}
+
+/// Prints the counts of what was swept, and then writes a history if that is wanted.
+fn end_sweep<F: FileWriter, W: Write>(
+    alloc: Global,
+    done: &Done,
+    files: &mut F,
+    out: &mut W,
+    save: Option<&str>,
+) -> Result<Swept, Failure>
+    ensures ended { IfOk result (λ how. let total = done.now.total in
+        (how ≡ ended total.positions total.alike)
+        × Appends (W.contents out.old) (W.contents out.new)
+        (total_text total.positions total.blocks total.alike)
+        × (F.written files.new ≡ F.written files.old
+        ++ saved_if (text_kept done.now.machine.kernel) total.positions
+        (option_map (λ s. s.now) save.entry))) }
+    ensures unended { IfErr result (λ f.
+        ((F.written files.new ≡ F.written files.old) × IsWanting f)
+        ⊎ ((0 < done.now.total.positions) × (ws : List Written)
+        × (F.written files.new ≡ F.written files.old ++ ws)
+        × IsUnsaved (text_kept done.now.machine.kernel)
+        (option_map (λ s. s.now) save.entry) ws f)) }
+{
+    print_total(alloc, done.total, out)?;
+    save_history(alloc, done, files, save)?;
+    Ok(how_ended(done.total))
+}
+
+/// Sweeps a history that was replayed, prints its blocks and the counts, and then writes a history if that is
+/// wanted.
+fn sweep_replayed<R: Drop, F: FileWriter + Drop, W: Write + Drop, P: Progress>(
+    alloc: Global,
+    channels: &mut Channels<R, F, W>,
+    progress: &mut P,
+    machine: Machine,
+    sweep: Sweep<'_>,
+    wanted: SweepWanted<'_>,
+) -> Result<Swept, Failure>
+    requires swept { IsSwept sweep machine.kernel.boot }
+    requires from { sweep.range.from ≡ wanted.from }
+    requires end { sweep.range.end ≡ min wanted.to (length sweep.records.now) + 1 }
+    ensures reader { channels.new.reader ≡ channels.old.reader }
+    ensures done { (ws : List Written) × (ps : List Parts)
+        × (F.written channels.new.files ≡ F.written channels.old.files ++ ws)
+        × (P.shown progress.new ≡ P.shown progress.old ++ ps)
+        × IsDone (sweep_of sweep.entry machine.kernel.boot) wanted.entry.from wanted.entry.to
+        (option_map (λ s. s.now) wanted.entry.save) ws ps
+        (λ text. Appends (W.contents channels.old.out) (W.contents channels.new.out) text) result }
+{
+    let done = print_positions(alloc, machine, sweep, progress, &mut channels.out)?;
+    end_sweep(
+        alloc,
+        &done,
+        &mut channels.files,
+        &mut channels.out,
+        wanted.save,
+    )
+}
+
 /// Sweeps a history that is read, prints its blocks and the counts, and then writes a history if that is
 /// wanted.
 fn sweep_begun<R: Drop, F: FileWriter + Drop, W: Write + Drop, P: Progress>(
@@ -326,8 +474,7 @@ fn sweep_begun<R: Drop, F: FileWriter + Drop, W: Write + Drop, P: Progress>(
     let mut machine = machine;
     let above = lines_above(machine.rules());
     if let Err((number, refusal)) = perform_records(&mut machine, records.as_slice()) {
-        print_refusal(alloc, above + number, refusal, &mut channels.out)?;
-        return Ok(Swept::Refused);
+        return print_refused(alloc, above + number, refusal, &mut channels.out);
     }
     let sweep = Sweep {
         config: &config,
@@ -337,10 +484,7 @@ fn sweep_begun<R: Drop, F: FileWriter + Drop, W: Write + Drop, P: Progress>(
         range: range_of(wanted, records.len()),
         bound: wanted.bound,
     };
-    let done = print_positions(alloc, machine, sweep, progress, &mut channels.out)?;
-    print_total(alloc, done.total, &mut channels.out)?;
-    save_history(alloc, &done, &mut channels.files, wanted.save)?;
-    Ok(how_ended(done.total))
+    sweep_replayed(alloc, channels, progress, machine, sweep, wanted)
 }
 
 /// How a sweep ended, by its counts.

@@ -1,12 +1,8 @@
-use Rattle.std.proofs.Common.{[], ◌∷◌, ◌++◌, inl, inr, refl, subst}
+use Rattle.std.proofs.Common.{[], ◌∷◌, ◌++◌, inl, inr, refl}
 use Rattle.std.proofs.lemmas.Result.{err_from_is_err_and}
-use Rattle.std.specs.Prelude.{string_bytes}
-use Rattle.mx_text.specs.Lines.{lines}
 use Rattle.mx_app_start.proofs.SetupLemmas.{asked_on}
 use Rattle.mx_app_step.proofs.ReplayLemmas.{saved_by_actors}
 use Rattle.mx_app_step.specs.Machine.{world_of}
-use Rattle.mx_boot.specs.Reading.{AreLinesRead, TellsUnread}
-use Rattle.mx_app_turns.specs.FaultLines.{fault_line}
 use Rattle.mx_app_turns.proofs.ReadyLemmas.{ready}
 use Rattle.mx_app_turns.proofs.sweeping.begin.Goals as goal
 
@@ -16,46 +12,26 @@ returns-in_err-started-clause-fault g c =
     let h = c.in_err-started.ensures.fault in
     rw (p.1, p.2) (h.0, h.1, inl h.2)
 
-pub returns-in_err-text-clause-fault : goal.returns-in_err-text-clause-fault
-returns-in_err-text-clause-fault g c =
-    let p = err_from_is_err_and c.from_residual-in_err-text.result c.from_residual-in_err-text.ensures.1 in
-    let s = c.in_ok-started.ensures.started in
-    let h = c.in_err-text.ensures.fault in
-    rw (p.1, p.2) (
-      s.0 ++ h.0 ∷ [],
-      asked_on (g.R.Reader.asked c.args.reader.now) (g.R.Reader.asked c.start.new.reader) (g.R.Reader.asked c.text_of.new.reader) s.0 (h.0 ∷ []) s.3 h.1,
-      inr (s.0, h.0, s.1, s.2, c.in_ok-started.started.lines.items, refl, s.4, inl h.2),
-    )
-
 pub returns-in_err-fault-clause-fault : goal.returns-in_err-fault-clause-fault
 returns-in_err-fault-clause-fault g c =
     let p = err_from_is_err_and c.from_residual-in_err-fault.result c.from_residual-in_err-fault.ensures.1 in
     let s = c.in_ok-started.ensures.started in
-    let t = c.in_ok-text.ensures.text in
+    let h = c.in_err-fault.ensures.fault in
     rw (p.1, p.2) (
-      s.0 ++ t.0 ∷ [],
-      asked_on (g.R.Reader.asked c.args.reader.now) (g.R.Reader.asked c.start.new.reader) (g.R.Reader.asked c.text_of.new.reader) s.0 (t.0 ∷ []) s.3 t.1,
-      inr (
-        s.0,
-        t.0,
-        s.1,
-        s.2,
-        c.in_ok-started.started.lines.items,
-        refl,
-        s.4,
-        inr (string_bytes c.in_ok-text.text, c.in_err-fault.field-0.0, t.2, subst (λ x. TellsUnread fault_line (lines x) c.in_err-fault.field-0.0) c.as_str.ensures.value c.in_err-fault.ensures.unread, refl),
-      ),
+      s.0 ++ h.0 ∷ [],
+      asked_on (g.R.Reader.asked c.args.reader.now) (g.R.Reader.asked c.start.new.reader) (g.R.Reader.asked c.fault_of.new.reader) s.0 (h.0 ∷ []) s.3 h.1,
+      inr (s.0, h.0, s.1, s.2, c.in_ok-started.started.lines.items, refl, s.4, h.2),
     )
 
 pub returns-clause-begun : goal.returns-clause-begun
 returns-clause-begun g c =
     let s = c.in_ok-started.ensures.started in
-    let t = c.in_ok-text.ensures.text in (
+    let t = c.in_ok-fault.ensures.read in (
       s.0 ++ t.0 ∷ [],
       s.1,
       s.2,
-      asked_on (g.R.Reader.asked c.args.reader.now) (g.R.Reader.asked c.start.new.reader) (g.R.Reader.asked c.text_of.new.reader) s.0 (t.0 ∷ []) s.3 t.1,
-      (s.0, t.0, string_bytes c.in_ok-text.text, refl, s.4, t.2, subst (λ x. AreLinesRead fault_line (lines x) c.in_ok-fault.fault.items) c.as_str.ensures.value c.in_ok-fault.ensures.read),
+      asked_on (g.R.Reader.asked c.args.reader.now) (g.R.Reader.asked c.start.new.reader) (g.R.Reader.asked c.fault_of.new.reader) s.0 (t.0 ∷ []) s.3 t.2,
+      (s.0, t.0, t.1, refl, s.4, t.3, t.4),
       s.5,
       s.6,
       s.7,
