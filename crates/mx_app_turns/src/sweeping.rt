@@ -22,7 +22,7 @@ ghost use Rattle.mx_app_turns.specs.Sweep.{block_text, blocks, count_of, positio
 ghost use Rattle.mx_app_turns.specs.Swept.{IsSwept};
 ghost use Rattle.mx_app_turns.specs.Sweeping.{IsBegun, IsNotBegun, IsShown, IsUnsaved, Sweeps, ended, is_alike_at, run_at, saved_if, saves_program, text_at, writes_over};
 ghost use Rattle.mx_app_step.specs.Kept.{text_kept};
-ghost use Rattle.mx_app_turns.specs.Begun.{IsDone, begun_of, is_ready, sweep_of};
+ghost use Rattle.mx_app_turns.specs.Begun.{IsDone, IsReady, begun_of, is_ready, sweep_of};
 
 use crate::blocks::{Block, Total, push_block, push_total};
 use crate::fault_files::fault_lines;
@@ -446,6 +446,34 @@ fn sweep_replayed<R: Drop, F: FileWriter + Drop, W: Write + Drop, P: Progress>(
     )
 }
 
+/// Replays a history, and sweeps it; or prints the event that is refused.
+fn sweep_started<R: Drop, F: FileWriter + Drop, W: Write + Drop, P: Progress>(
+    alloc: Global,
+    channels: &mut Channels<R, F, W>,
+    progress: &mut P,
+    machine: Machine,
+    sweep: Sweep<'_>,
+    wanted: SweepWanted<'_>,
+) -> Result<Swept, Failure>
+    requires ready { IsReady machine sweep.config.now sweep.other sweep.records.now }
+    requires from { sweep.range.from ≡ wanted.from }
+    requires end { sweep.range.end ≡ min wanted.to (length sweep.records.now) + 1 }
+    ensures reader { channels.new.reader ≡ channels.old.reader }
+    ensures done { (ws : List Written) × (ps : List Parts)
+        × (F.written channels.new.files ≡ F.written channels.old.files ++ ws)
+        × (P.shown progress.new ≡ P.shown progress.old ++ ps)
+        × IsDone (sweep_of sweep.entry (world_of machine)) wanted.entry.from wanted.entry.to
+        (option_map (λ s. s.now) wanted.entry.save) ws ps
+        (λ text. Appends (W.contents channels.old.out) (W.contents channels.new.out) text) result }
+{
+    let mut machine = machine;
+    let above = lines_above(machine.rules());
+    if let Err((number, refusal)) = perform_records(&mut machine, sweep.records) {
+        return print_refused(alloc, above + number, refusal, &mut channels.out);
+    }
+    sweep_replayed(alloc, channels, progress, machine, sweep, wanted)
+}
+
 /// Sweeps a history that is read, prints its blocks and the counts, and then writes a history if that is
 /// wanted.
 fn sweep_begun<R: Drop, F: FileWriter + Drop, W: Write + Drop, P: Progress>(
@@ -471,11 +499,6 @@ fn sweep_begun<R: Drop, F: FileWriter + Drop, W: Write + Drop, P: Progress>(
         other,
         lines: records,
     } = started;
-    let mut machine = machine;
-    let above = lines_above(machine.rules());
-    if let Err((number, refusal)) = perform_records(&mut machine, records.as_slice()) {
-        return print_refused(alloc, above + number, refusal, &mut channels.out);
-    }
     let sweep = Sweep {
         config: &config,
         other,
@@ -484,7 +507,7 @@ fn sweep_begun<R: Drop, F: FileWriter + Drop, W: Write + Drop, P: Progress>(
         range: range_of(wanted, records.len()),
         bound: wanted.bound,
     };
-    sweep_replayed(alloc, channels, progress, machine, sweep, wanted)
+    sweep_started(alloc, channels, progress, machine, sweep, wanted)
 }
 
 /// How a sweep ended, by its counts.

@@ -1,4 +1,4 @@
-use Rattle.std.proofs.Common.{◌≡◌, ◌∙◌, ◌+◌, ◌-◌, ◌++◌, ℕ, Bool, true, false, cond, List, Result, Ok, Err, ap, ap₂, arith, refl, sym}
+use Rattle.std.proofs.Common.{◌≡◌, ◌∙◌, subst, ◌+◌, ◌-◌, ◌++◌, ℕ, Bool, true, false, cond, List, Result, Ok, Err, ap, ap₂, arith, refl, sym}
 use Rattle.std.proofs.lemmas.List.{append-nil}
 use Rattle.std.proofs.lemmas.Result.{IfOk-weaker}
 use Rattle.std.specs.Int.{from_bool}
@@ -11,12 +11,13 @@ use Rattle.mx_app_turns.specs.declared.blocks.Total.{Total}
 use Rattle.mx_app_turns.specs.declared.sweeping.Done.{Done}
 use Rattle.mx_app_turns.specs.Sweep.{Positions, blocks, count_of, positions_of}
 use Rattle.mx_app_turns.specs.Begun.{sweep_of}
+use Rattle.mx_app_turns.specs.Swept.{IsSwept}
 use Rattle.mx_app_turns.specs.Sweeping.{IsShown, is_alike_at, run_at, text_at}
 use Rattle.mx_walk.specs.declared.progress.Part.{Part}
 use Rattle.mx_walk.specs.Parts.{parts_shown}
 use Rattle.mx_walk.proofs.PartsShown.{next_shown}
 use Rattle.mx_app_turns.proofs.SweptLemmas.{shown_failed}
-use Rattle.mx_app_turns.proofs.BlockLemmas.{first_swept, goes, last_alike, last_blocks, last_printed}
+use Rattle.mx_app_turns.proofs.BlockLemmas.{first_swept, goes, last_alike, last_blocks, last_kernel, last_printed}
 use Rattle.mx_app_turns.proofs.sweeping.print_more.Goals as goal
 
 -- one position, by the text of its outcome
@@ -112,6 +113,30 @@ returns-clause-total g c =
     let k = count_of (is_alike_at s) n from in
     let e = totals total n d k c.loop-position.invariant.all (last_blocks s from end p old now now current current total.blocks total.alike m.kernel so_far last) (last_alike s from end p old now now current current total.blocks total.alike m.kernel so_far last) in
     IfOk-weaker c.print_last.result (λ (x : Done). x ≡ record { machine = m; total = total }) (λ (x : Done). x.total ≡ record { positions = n; blocks = d; alike = k }) (λ x h. ap (λ (y : Done). y.total) h ∙ e) c.print_last.ensures.done
+
+pub returns-clause-kernel : goal.returns-clause-kernel
+returns-clause-kernel g c =
+    let s = sweep_of c.args.sweep c.args.first.machine.kernel.boot in
+    let so_far = c.loop-position.invariant.swept in
+    let p = c.loop-position.position in
+    let end = c.args.sweep.range.end in
+    let last : p ≡ end = omega (arith, so_far.within, c.loop-position-test.false) in
+    let now = g.W.Write.contents c.loop-position.out in
+    let current = positions_of c.loop-position.current in
+    let total = c.loop-position.total in
+    let m = c.loop-position.machine in
+    let e = last_kernel s c.args.sweep.range.from end p (g.W.Write.contents c.args.out.now) now now current current total.blocks total.alike m.kernel so_far last in
+    IfOk-weaker c.print_last.result (λ (x : Done). x ≡ record { machine = m; total = total }) (λ (x : Done). x.machine.kernel ≡ (run_at s (end - 1)).kernel) (λ x h. ap (λ (y : Done). y.machine.kernel) h ∙ e) c.print_last.ensures.done
+
+pub returns-clause-err : goal.returns-clause-err
+returns-clause-err g c = c.print_last.ensures.err
+
+pub outcome_at-requires-clause-swept : goal.outcome_at-requires-clause-swept
+outcome_at-requires-clause-swept g c =
+    subst (λ (w : World). IsSwept c.args.sweep w) (sym c.loop-position.invariant.boot) c.requires.swept
+
+pub outcome_at-requires-clause-position : goal.outcome_at-requires-clause-position
+outcome_at-requires-clause-position g c = omega (arith, c.requires.within, c.loop-position-test.true)
 
 pub returns-in_err-outcome-clause-shown : goal.returns-in_err-outcome-clause-shown
 returns-in_err-outcome-clause-shown g c =
