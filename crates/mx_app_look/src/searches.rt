@@ -1,6 +1,6 @@
 //! Searches: on to the next halt, and back to the last one.
 
-ghost use Rattle.std.specs.Prelude.{◌≡◌, ◌++◌, IfErr, IfOk, List, OnOk, Some, string_bytes};
+ghost use Rattle.std.specs.Prelude.{◌≡◌, ◌++◌, Err, IfErr, IfOk, List, OnOk, Some, string_bytes};
 ghost use Rattle.mx_machine.specs.World.{World};
 ghost use Rattle.mx_walk.specs.Positions.{IsAbove, IsPosition, IsUpTo, event_below, next_position, position_before};
 ghost use Rattle.mx_walk.specs.declared.progress.Part.{Part as Parts};
@@ -25,6 +25,23 @@ fn not_met(alloc: Global) -> Result<String, AllocError>
     let mut line = String::new(alloc);
     line.push_str("not met\n")?;
     Ok(line)
+}
+
+/// Ends a value, and answers that there is no memory.
+fn give_up<V: Drop, T>(_value: V, error: NoMemory) -> Result<T, NoMemory>
+    ensures { result ≡ Err error }
+{
+    Err(error)
+}
+
+/// Halts here, as nothing is met.
+fn meet_nothing(alloc: Global, walker: Walker) -> Result<(Walker, String), NoMemory>
+    ensures { IfOk result (λ r. (r.0 ≡ walker) × (string_bytes r.1 ≡ not_met)) }
+{
+    match not_met(alloc) {
+        Ok(line) => Ok((walker, line)),
+        Err(error) => give_up(walker, error.into()),
+    }
 }
 
 /// Whether the event below is the step at a breakpoint.
@@ -57,11 +74,16 @@ fn go_and_compare<P: Progress>(
         ≡ P.shown progress.old ++ shown_to walker to) }
     ensures grown { IfErr result (λ _. HasGrown (P.shown progress.old) (P.shown progress.new)) }
 {
-    let seen = all_bytes(alloc, walker.machine(), points.watches.as_slice())?;
+    let seen = match all_bytes(alloc, walker.machine(), points.watches.as_slice()) {
+        Ok(seen) => seen,
+        Err(error) => return give_up(walker, error.into()),
+    };
     let walker = walker.go_to(alloc, to, progress)?;
     let mut changes = String::new(alloc);
-    push_changes(alloc, &mut changes, walker.machine(), seen.as_slice())?;
-    Ok((walker, changes))
+    match push_changes(alloc, &mut changes, walker.machine(), seen.as_slice()) {
+        Ok(()) => Ok((walker, changes)),
+        Err(error) => give_up(walker, error.into()),
+    }
 }
 
 /// Goes back from right below an event that is looked for to right above it, and halts there if it is the
@@ -84,10 +106,11 @@ fn halt_by<P: Progress>(
 {
     let below = walker.here();
     let walker = walker.go_to(alloc, above, progress)?;
-    if is_at_break(alloc, &walker, points)? {
-        return Ok((walker, String::new(alloc)));
+    match is_at_break(alloc, &walker, points) {
+        Ok(true) => Ok((walker, String::new(alloc))),
+        Ok(false) => go_and_compare(alloc, walker, points, below, progress),
+        Err(error) => give_up(walker, error.into()),
     }
-    go_and_compare(alloc, walker, points, below, progress)
 }
 
 /// Goes on to the first event that is looked for, and halts there; at the last position if there is none.
@@ -106,9 +129,12 @@ fn go_on_from<P: Progress>(
     ensures grown { IfErr result (λ _. HasGrown (P.shown progress.old) (P.shown progress.new)) }
 {
     let mut walker = walker;
-    let mut mark = points_mark(alloc, points)?;
+    let mut mark = match points_mark(alloc, points) {
+        Ok(mark) => mark,
+        Err(error) => return give_up(walker, error.into()),
+    };
     if !walker.seek(&mut mark, progress) {
-        return Ok((walker, not_met(alloc)?));
+        return meet_nothing(alloc, walker);
     }
     match position_before(walker.records(), walker.here()) {
         Some(above) => halt_by(alloc, walker, points, above, progress),
@@ -139,7 +165,10 @@ fn go_on_past<P: Progress>(
         (is_marked (changes_watched points.now) (world_here walker) (next.actor, next.event)) ps) }
     ensures grown { IfErr result (λ _. HasGrown (P.shown progress.old) (P.shown progress.new)) }
 {
-    let mut bytes = bytes_mark(alloc, points)?;
+    let mut bytes = match bytes_mark(alloc, points) {
+        Ok(bytes) => bytes,
+        Err(error) => return give_up(walker, error.into()),
+    };
     bytes.look(walker.machine(), next.actor, next.event);
     let (walker, changes) = go_and_compare(alloc, walker, points, next.position, progress)?;
     if bytes.is_met(walker.machine()) {
@@ -164,11 +193,11 @@ pub fn go_on_to_point<P: Progress>(
     ensures grown { IfErr result (λ _. HasGrown (P.shown progress.old) (P.shown progress.new)) }
 {
     if is_up_to(walker.last(), walker.here()) {
-        return Ok((walker, not_met(alloc)?));
+        return meet_nothing(alloc, walker);
     }
     match next_event(walker.records(), walker.here()) {
         Some(next) => go_on_past(alloc, walker, points, next, progress),
-        None => Ok((walker, not_met(alloc)?)),
+        None => meet_nothing(alloc, walker),
     }
 }
 
@@ -187,10 +216,15 @@ pub fn go_back_to_point<P: Progress>(
         × IsLastShown walker points.now ps) }
     ensures grown { IfErr result (λ _. HasGrown (P.shown progress.old) (P.shown progress.new)) }
 {
-    let mut mark = points_mark(alloc, points)?;
+    let mut mark = match points_mark(alloc, points) {
+        Ok(mark) => mark,
+        Err(error) => return give_up(walker, error.into()),
+    };
+    // Where it is now is a position, and not past the last: so is right below an event that is found.
+    let _ = walker.here();
     let (walker, found) = walker.seek_back(alloc, &mut mark, progress)?;
     if !found {
-        return Ok((walker, not_met(alloc)?));
+        return meet_nothing(alloc, walker);
     }
     let halt = walker.here();
     match next_event(walker.records(), halt) {
