@@ -1,5 +1,6 @@
 -- A session so far: the lines that were typed, what was printed and shown, and what is in hand.
-use Rattle.std.proofs.Common.{◌≡◌, ◌∙◌, ◌+◌, ◌-◌, ◌^◌, ℕ, Bool, true, false, cond, List, [], ◌∷◌, ◌++◌, append_assoc, length, Option, Some, None, MatchOption, inl, inr, refl, ap, sym, subst, arith}
+use Rattle.std.proofs.Common.{◌≡◌, ◌∙◌, ◌+◌, ◌-◌, ◌^◌, ℕ, Bool, true, false, cond, List, [], ◌∷◌, ◌++◌, append_assoc, length, Option, Some, None, MatchOption, Result, Ok, Err, IfErr, inl, inr, refl, ap, sym, subst, arith}
+use Rattle.std.specs.Prelude.{IfOk, OnErr, OnOk}
 use Rattle.std.proofs.KnownBytes.{Appends-nil, Appends-trans}
 use Rattle.std.proofs.lemmas.List.{append-nil}
 use Rattle.std.specs.Io.KnownBytes.{Appends}
@@ -18,6 +19,22 @@ none_case (Some x) P Q e h = absurd cc
 pub some_case : {A : Type 0} (o : Option A) (x : A) (P : Type 0) (Q : A → Type 0) → o ≡ Some x → MatchOption o P Q → Q x
 some_case None x P Q e h = absurd cc
 some_case (Some y) x P Q e h = let same : y ≡ x = cc in subst Q same h
+
+pub ok_given : {A E : Type 0} (r : Result A E) (a : A) (P : A → Type 0) → r ≡ Ok a → IfOk r P → P a
+ok_given (Ok b) a P e h = let same : b ≡ a = cc in subst P same h
+ok_given (Err f) a P e h = absurd cc
+
+pub err_given : {A E : Type 0} (r : Result A E) (f : E) (P : E → Type 0) → r ≡ Err f → IfErr r P → P f
+err_given (Ok a) f P e h = absurd cc
+err_given (Err x) f P e h = let same : x ≡ f = cc in subst P same h
+
+pub ok_case : {A E : Type 0} (r : Result A E) (a : A) (X : Type 0) → r ≡ Ok a → OnOk r X → X
+ok_case (Ok b) a X e h = h
+ok_case (Err f) a X e h = absurd cc
+
+pub err_case : {A E : Type 0} (r : Result A E) (f : E) (X : Type 0) → r ≡ Err f → OnErr r X → X
+err_case (Ok a) f X e h = absurd cc
+err_case (Err x) f X e h = h
 
 -- ---- the lines
 

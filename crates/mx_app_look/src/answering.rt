@@ -22,7 +22,7 @@ use crate::request::{Request, request_of};
 use crate::seeking::{go_back, go_on, perform_point};
 use crate::showing::push_shown;
 use crate::shown::Shown;
-use crate::sight::{Sight, say};
+use crate::sight::{Sight, ended, say};
 use crate::verb::push_unknown;
 use crate::world_texts::{push_deliveries, push_processes, push_why};
 use mx_app_failure::Failure;
@@ -55,10 +55,8 @@ fn go_to<P: Progress>(
     ensures grown { IfErr result (λ _. HasGrown (P.shown progress.old) (P.shown progress.new)) }
 {
     let Sight { walker, points } = sight;
-    let mut text = Vec::new(alloc);
-    let mut walker = walker.go_to(alloc, to, progress)?;
-    push_place(alloc, &mut text, &mut walker)?;
-    Ok((Sight { walker, points }, text))
+    let walker = walker.go_to(alloc, to, progress)?;
+    show_place(alloc, Sight { walker, points })
 }
 
 /// Goes to the position that is asked for, if the walker can come there.
@@ -95,8 +93,10 @@ fn show_place(alloc: Global, sight: Sight) -> Result<(Sight, Vec<u8>), Failure>
     let Sight { walker, points } = sight;
     let mut walker = walker;
     let mut text = Vec::new(alloc);
-    push_place(alloc, &mut text, &mut walker)?;
-    Ok((Sight { walker, points }, text))
+    match push_place(alloc, &mut text, &mut walker) {
+        Ok(()) => Ok((Sight { walker, points }, text)),
+        Err(_) => ended(Sight { walker, points }, Err(Failure::NoMemory)),
+    }
 }
 
 /// Answers what the record above did.
@@ -262,10 +262,14 @@ pub(crate) fn answer_line<P: Progress>(
 {
     let request = request_of(line);
     if is_quit(&request) {
-        return Ok(None);
+        return ended(sight, Ok(None));
     }
     let (sight, mut text) = answer(alloc, sight, line, request, progress)?;
-    push_prompt(&mut text, asks, &sight.walker)?;
-    progress.clear();
-    Ok(Some((sight, text)))
+    match push_prompt(&mut text, asks, &sight.walker) {
+        Ok(()) => {
+            progress.clear();
+            Ok(Some((sight, text)))
+        }
+        Err(_) => ended(sight, Err(Failure::NoMemory)),
+    }
 }

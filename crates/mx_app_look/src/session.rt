@@ -1,6 +1,6 @@
 //! Sessions: from the files' names, through the lines that are typed, to the end.
 
-ghost use Rattle.std.specs.Prelude.{◌≡◌, ◌<◌, ◌++◌, All, IfErr, List, OnOk, Option, ℕ};
+ghost use Rattle.std.specs.Prelude.{◌≡◌, ◌<◌, ◌++◌, ◌∷◌, [], All, IfErr, IfOk, List, None, OnErr, OnOk, Option, Some, true, false, ℕ};
 ghost use Rattle.std.specs.Io.KnownBytes.{Appends};
 ghost use Rattle.mx_app_step.specs.Asked.{Asked};
 ghost use Rattle.mx_app_step.specs.Config.{Config as Configured};
@@ -18,7 +18,7 @@ ghost use Rattle.mx_app_look.specs.Sessions.{HasFailed, IsBegun, IsSession, IsWh
 use crate::answering::{answer_line, push_prompt};
 use crate::places::push_place;
 use crate::points::Points;
-use crate::sight::Sight;
+use crate::sight::{Sight, ended};
 use mx_app_failure::{Failure, print_text};
 use mx_app_start::Channels;
 use mx_app_step::{History, LineReader, Reader, Started, start};
@@ -54,6 +54,18 @@ fn print_end<W: Write>(asks: bool, out: &mut W) -> Result<(), Failure>
     print_text(end.as_bytes(), out)
 }
 
+/// Takes the next line, if the input isn't at its end.
+fn next_line<L: LineReader>(lines: &mut L, line: &mut Vec<u8>) -> Result<bool, Failure>
+    ensures err { IfErr result IsWanting }
+    ensures more { IfOk result (λ more. more ≡ true
+        → L.given lines.new ≡ L.given lines.old ++ Some line.new.items ∷ []) }
+    ensures end { IfOk result (λ more. more ≡ false
+        → L.given lines.new ≡ L.given lines.old ++ None ∷ []) }
+    ensures failed { OnErr result (L.given lines.new ≡ L.given lines.old) }
+{
+    Ok(lines.next(line)?)
+}
+
 /// A session: what it has in hand, and whether it asks for each line.
 #[derive(Drop)]
 struct Session {
@@ -82,18 +94,20 @@ fn converse<L: LineReader, P: Progress, W: Write>(
     let mut sight = sight;
     let mut line = Vec::new(alloc);
     for _ in 0..u64::MAX {
-        if !lines.next(&mut line)? {
-            return print_end(asks, out);
+        match next_line(lines, &mut line) {
+            Ok(true) => {}
+            Ok(false) => return ended(sight, print_end(asks, out)),
+            Err(error) => return ended(sight, Err(error)),
         }
         match answer_line(alloc, sight, line.as_slice(), asks, progress)? {
-            Some((next, text)) => {
-                print_text(text.as_slice(), out)?;
-                sight = next;
-            }
+            Some((next, text)) => match print_text(text.as_slice(), out) {
+                Ok(()) => sight = next,
+                Err(error) => return ended(next, Err(error)),
+            },
             None => return Ok(()),
         }
     }
-    Ok(())
+    ended(sight, Ok(()))
 }
 
 /// A session: the names of the files of its configuration and of its saved history.
@@ -145,11 +159,16 @@ pub fn look<R: Reader + Drop, F: Drop, W: Write + Drop, L: LineReader, P: Progre
     let mut walker = Walker::new(alloc, machine, config, records, progress)?;
     progress.clear();
     let asks = wanted.asks;
-    begin(alloc, &mut walker, asks, &mut channels.out)?;
+    let begun = begin(alloc, &mut walker, asks, &mut channels.out);
     let sight = Sight {
         walker,
         points: Points::new(),
     };
-    let session = Session { sight, asks };
-    converse(alloc, session, lines, progress, &mut channels.out)
+    match begun {
+        Ok(()) => {
+            let session = Session { sight, asks };
+            converse(alloc, session, lines, progress, &mut channels.out)
+        }
+        Err(error) => ended(sight, Err(error)),
+    }
 }

@@ -15,6 +15,13 @@ pub struct Sight {
     pub points: Points,
 }
 
+/// Ends what a session has in hand, and answers this.
+pub(crate) fn ended<T>(_sight: Sight, answer: T) -> T
+    ensures { result ≡ answer }
+{
+    answer
+}
+
 /// Answers a text, and changes nothing.
 pub(crate) fn say(alloc: Global, sight: Sight, text: &str) -> Result<(Sight, Vec<u8>), Failure>
     ensures err { IfErr result IsWanting }
@@ -22,6 +29,8 @@ pub(crate) fn say(alloc: Global, sight: Sight, text: &str) -> Result<(Sight, Vec
     ensures text { IfOk result (λ r. r.1.items ≡ text.now) }
 {
     let mut answer = Vec::new(alloc);
-    answer.extend_from_slice(text.as_bytes())?;
-    Ok((sight, answer))
+    match answer.extend_from_slice(text.as_bytes()) {
+        Ok(()) => Ok((sight, answer)),
+        Err(_) => ended(sight, Err(Failure::NoMemory)),
+    }
 }

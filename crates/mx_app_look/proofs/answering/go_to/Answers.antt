@@ -1,8 +1,5 @@
-use Rattle.mx_app_look.proofs.ShownMore.{err_always, grown_by, grown_same}
+use Rattle.mx_app_look.proofs.ShownMore.{err_always, grown_same}
 use Rattle.mx_app_look.proofs.answering.go_to.Goals as goal
 
 pub returns-in_err-walker-clause-grown : goal.returns-in_err-walker-clause-grown
 returns-in_err-walker-clause-grown g c = err_always c.from_residual.result _ (grown_same _ _ c.in_err-walker.ensures.unshown)
-
-pub returns-in_err-push_place-clause-grown : goal.returns-in_err-push_place-clause-grown
-returns-in_err-push_place-clause-grown g c = err_always c.from_residual-in_err-push_place.result _ (grown_by _ _ _ c.in_ok-walker.ensures.shown)

@@ -13,6 +13,7 @@ use Rattle.mx_walk.specs.Walks.{IsLast, Walk}
 use Rattle.mx_app_look.specs.Sessions.{begun_text}
 use Rattle.mx_app_look.proofs.Starting.{held_by_walk, is_begun}
 use Rattle.mx_app_look.proofs.ShownMore.{both_shown, grown_by, grown_none, grown_same}
+use Rattle.mx_app_look.proofs.SoFar.{err_given, ok_case}
 use Rattle.mx_app_look.proofs.session.look.Goals as goal
 
 pub returns-in_err-machine-clause-fault : goal.returns-in_err-machine-clause-fault
@@ -39,8 +40,8 @@ returns-in_err-walker-clause-fault g c =
     IfErr-weaker c.from_residual-in_err-walker.result IsWanting _
     (λ f e. (s.0, [], walk_shown records h.0, s.3, sym (append-nil (g.L.LineReader.given c.args.lines.now)), h.2, inr (s.1, s.2, records, h.0, s.4, last, grown_none _, e))) wanting
 
-pub returns-in_err-begin-clause-fault : goal.returns-in_err-begin-clause-fault
-returns-in_err-begin-clause-fault g c =
+pub returns-in-Err-clause-fault : goal.returns-in-Err-clause-fault
+returns-in-Err-clause-fault g c =
     let s = c.in_ok-machine.ensures.started in
     let records = c.in_ok-machine.field-0.lines.items in
     let k = c.in_ok-walker.walker in
@@ -48,13 +49,12 @@ returns-in_err-begin-clause-fault g c =
     let boot : k.boot ≡ world_at_boot s.1 s.2 = made.0 ∙ ap (λ (x : BootAndHistory). x.boot) c.in_ok-machine.ensures.kernel ∙ s.5 in
     let begun = is_begun (world_at_boot s.1 s.2) records k boot made.1 made.2 c.in_ok-walker.ensures.last in
     let shown = c.clear.ensures ∙ c.in_ok-walker.ensures.shown in
-    let p = err_from_is_err_and c.from_residual-in_err-begin.result c.from_residual-in_err-begin.ensures.1 in
-    let wanting : IfErr c.from_residual-in_err-begin.result IsWanting = subst (λ r. IfErr r IsWanting) (sym p.1) (subst IsWanting (sym p.2) c.in_err-begin.ensures.err) in
-    IfErr-weaker c.from_residual-in_err-begin.result IsWanting _
+    let wanting : IfErr c.ended.result IsWanting = subst (λ r. IfErr r IsWanting) (sym c.ended.ensures) (err_given c.begin-begun.result c.in-Err.error IsWanting c.in-Err.is c.begin-begun.ensures.err) in
+    IfErr-weaker c.ended.result IsWanting _
     (λ f e. (s.0, [], walk_shown k.records k.last, s.3, sym (append-nil (g.L.LineReader.given c.args.lines.now)), shown, inr (s.1, s.2, records, k.last, s.4, begun.last, grown_same _ _ (ap (λ (rs : List Record). walk_shown rs k.last) made.1), e))) wanting
 
-pub returns-clause-printed : goal.returns-clause-printed
-returns-clause-printed g c =
+pub returns-in-Ok-clause-printed : goal.returns-in-Ok-clause-printed
+returns-in-Ok-clause-printed g c =
     let s = c.in_ok-machine.ensures.started in
     let records = c.in_ok-machine.field-0.lines.items in
     let k = c.in_ok-walker.walker in
@@ -76,12 +76,12 @@ returns-clause-printed g c =
       both_shown _ _ _ _ _ (c.clear.ensures ∙ c.in_ok-walker.ensures.shown) b.6,
       s.4,
       begun,
-      held_by_walk c.args.wanted.asks c.begin.new.walker k c.new-2.result b.0 b.1 b.2 c.in_ok-begin.ensures.same c.new-2.ensures.breakpoints c.new-2.ensures.watches b.5,
-      Appends-trans (g.W.Write.contents c.args.channels.now.out) (g.W.Write.contents c.begin.new.out) (g.W.Write.contents c.converse.new.out) (begun_text c.args.wanted.asks k) b.1 c.in_ok-begin.ensures.printed b.7,
+      held_by_walk c.args.wanted.asks c.begin-begun.new.walker k c.new-2.result b.0 b.1 b.2 c.begin-begun.ensures.same c.new-2.ensures.breakpoints c.new-2.ensures.watches b.5,
+      Appends-trans (g.W.Write.contents c.args.channels.now.out) (g.W.Write.contents c.begin-begun.new.out) (g.W.Write.contents c.converse.new.out) (begun_text c.args.wanted.asks k) b.1 (ok_case c.begin-begun.result _ _ c.in-Ok.is c.begin-begun.ensures.printed) b.7,
     )) c.converse.ensures.printed
 
-pub returns-clause-fault : goal.returns-clause-fault
-returns-clause-fault g c =
+pub returns-in-Ok-clause-fault : goal.returns-in-Ok-clause-fault
+returns-in-Ok-clause-fault g c =
     let s = c.in_ok-machine.ensures.started in
     let records = c.in_ok-machine.field-0.lines.items in
     let k = c.in_ok-walker.walker in
