@@ -68,11 +68,10 @@ fn go_on_until<P: Progress>(
         let placed = Placed { above, entry };
         walker = see_record(alloc, walker, placed, &mut step, progress)?;
         if happens(happening, &step) {
-            push_record(out, &step)?;
-            return Ok(walker);
+            return Ok(push_record(out, &step).and(Ok(walker))?);
         }
     }
-    out.extend_from_slice(b"not met\n")?;
+    let walker = out.extend_from_slice(b"not met\n").and(Ok(walker))?;
     walker.go_to(alloc, last, progress)
 }
 
@@ -97,8 +96,8 @@ fn go_on_to<P: Progress>(
     let Sight { walker, points } = sight;
     let mut text = Vec::new(alloc);
     let mut walker = go_on_until(alloc, walker, happening, &mut text, progress)?;
-    push_place(alloc, &mut text, &mut walker)?;
-    Ok((Sight { walker, points }, text))
+    let placed = push_place(alloc, &mut text, &mut walker);
+    Ok(placed.and(Ok((Sight { walker, points }, text)))?)
 }
 
 /// Goes on to right below the first record in which it happens, if each slot that it is about has a service.

@@ -4,6 +4,7 @@ use Rattle.mx_walk.specs.Positions.{IsPosition, IsUpTo}
 use Rattle.mx_walk.specs.Walks.{Walk}
 use Rattle.mx_walk.proofs.Along.{any_record}
 use Rattle.mx_walk.proofs.PartsShown.{none_between}
+use Rattle.mx_app_look.proofs.Anded.{anded, anded_done}
 use Rattle.mx_app_look.proofs.Meeting.{goes_by, goes_on, halts_here, appends_it}
 use Rattle.mx_walk.specs.Parts.{parts_between, shown_to}
 use Rattle.mx_app_look.specs.Until.{until_halt}
@@ -25,7 +26,8 @@ returns-then-happens-clause-walker g c =
     let inv = c.loop-above.invariant in
     let lt : c.loop-above.above < k.last.records = subst (λ (p : Position). c.loop-above.above < p.records) c.last-last.ensures.last c.loop-above-test.true in
     let few : k.last.records ≤ length k.records = subst (λ (p : Position). p.records ≤ length k.records) c.last-last.ensures.last c.last-last.ensures.is.position.above in
-    halts_here k c.loop-above.walker c.args.happening c.records.result.now c.loop-above.above _ c.see_record.new.step inv.walker c.records.ensures lt few
+    anded c.and.result c.push_record.result c.in_ok-walker.walker c.in_ok-and.field-0 c.and.ensures c.in_ok-and.was
+    ∙ halts_here k c.loop-above.walker c.args.happening c.records.result.now c.loop-above.above _ c.see_record.new.step inv.walker c.records.ensures lt few
     c.in_ok-walker.ensures.step inv.none (sym c.happens.ensures ∙ c.if-happens.true) c.in_ok-walker.walker c.in_ok-walker.ensures.walker
 
 pub returns-then-happens-clause-text : goal.returns-then-happens-clause-text
@@ -35,7 +37,8 @@ returns-then-happens-clause-text g c =
     let lt : c.loop-above.above < k.last.records = subst (λ (p : Position). c.loop-above.above < p.records) c.last-last.ensures.last c.loop-above-test.true in
     let few : k.last.records ≤ length k.records = subst (λ (p : Position). p.records ≤ length k.records) c.last-last.ensures.last c.last-last.ensures.is.position.above in
     appends_it k c.loop-above.walker c.args.happening c.records.result.now c.loop-above.above _ c.see_record.new.step inv.walker c.records.ensures lt few
-    c.in_ok-walker.ensures.step inv.none (sym c.happens.ensures ∙ c.if-happens.true) c.loop-above.out.items c.args.out.now.items c.push_record.new.out.items inv.nothing c.in_ok-push_record.ensures
+    c.in_ok-walker.ensures.step inv.none (sym c.happens.ensures ∙ c.if-happens.true) c.loop-above.out.items c.args.out.now.items c.push_record.new.out.items inv.nothing
+    (anded_done c.and.result c.push_record.result c.in_ok-walker.walker c.in_ok-and.field-0 _ c.and.ensures c.in_ok-and.was c.push_record.ensures)
 
 pub loop-above-preserved : goal.loop-above-preserved
 loop-above-preserved g c =
@@ -92,20 +95,21 @@ returns-clause-shown g c =
     let before = g.P.Progress.shown c.args.progress.now in
     let now = g.P.Progress.shown c.loop-above.progress in
     let after = g.P.Progress.shown c.go_to.new.progress in
+    let same = anded c.and-2.result c.extend_from_slice.result w c.in_ok-walker-2.walker c.and-2.ensures c.in_ok-walker-2.was in
     let over : k.last.records ≤ n = subst (λ (p : Position). p.records ≤ n) c.last-last.ensures.last c.loop-above-test.false in
     let at : (until_halt k c.args.happening).0 ≡ k.last = halts_last k c.args.happening n over inv.none in
-    ok_weaker c.go_to.result _ _ (λ (shown : after ≡ now ++ shown_to w c.last-last.result).
-    shown_until_last k w (until_halt k c.args.happening).0 n before now after inv.walker inv.on over at inv.shown (shown ∙ ap (λ (p : Position). now ++ shown_to w p) c.last-last.ensures.last)) c.go_to.ensures.shown
+    ok_weaker c.go_to.result _ _ (λ (shown : after ≡ now ++ shown_to c.in_ok-walker-2.walker c.last-last.result).
+    shown_until_last k w (until_halt k c.args.happening).0 n before now after inv.walker inv.on over at inv.shown (shown ∙ ap (λ (j : Walk). now ++ shown_to j c.last-last.result) same ∙ ap (λ (p : Position). now ++ shown_to w p) c.last-last.ensures.last)) c.go_to.ensures.shown
 
 pub returns-in_err-walker-clause-grown : goal.returns-in_err-walker-clause-grown
 returns-in_err-walker-clause-grown g c = err_always c.from_residual.result _ (grown_more _ _ _ (grown_by _ _ _ c.loop-above.invariant.shown) c.in_err-walker.ensures.grown)
 
-pub returns-in_err-push_record-clause-grown : goal.returns-in_err-push_record-clause-grown
-returns-in_err-push_record-clause-grown g c =
-    err_always c.from_residual-in_err-push_record.result _ (grown_more _ _ _ (grown_by _ _ _ c.loop-above.invariant.shown) (grown_by _ _ _ c.in_ok-walker.ensures.shown))
+pub returns-in_err-and-clause-grown : goal.returns-in_err-and-clause-grown
+returns-in_err-and-clause-grown g c =
+    err_always c.from_residual-in_err-and.result _ (grown_more _ _ _ (grown_by _ _ _ c.loop-above.invariant.shown) (grown_by _ _ _ c.in_ok-walker.ensures.shown))
 
-pub returns-in_err-extend_from_slice-clause-grown : goal.returns-in_err-extend_from_slice-clause-grown
-returns-in_err-extend_from_slice-clause-grown g c = err_always c.from_residual-in_err-extend_from_slice.result _ (grown_by _ _ _ c.loop-above.invariant.shown)
+pub returns-in_err-walker-2-clause-grown : goal.returns-in_err-walker-2-clause-grown
+returns-in_err-walker-2-clause-grown g c = err_always c.from_residual-in_err-walker-2.result _ (grown_by _ _ _ c.loop-above.invariant.shown)
 
 pub returns-clause-grown : goal.returns-clause-grown
 returns-clause-grown g c = err_weaker c.go_to.result _ _ (λ same. grown_more _ _ _ (grown_by _ _ _ c.loop-above.invariant.shown) (grown_same _ _ same)) c.go_to.ensures.unshown
