@@ -1,16 +1,28 @@
-use Rattle.std.proofs.Common.{◌≡◌, ◌∙◌, ◌<◌, ◌≤◌, ◌++◌, length, refl, ap, subst, sym, arith}
+use Rattle.std.proofs.Common.{◌≡◌, ◌∙◌, ◌<◌, ◌≤◌, ◌++◌, ◌-◌, ℕ, List, cond, length, Option, None, find, refl, ap, inr, subst, sym, arith}
+use Rattle.std.proofs.lemmas.Result.{IfOk-weaker}
+use Rattle.std.specs.List.{range_with_len}
+use Rattle.mx_machine.specs.declared.history.Record.{Record}
 use Rattle.mx_walk.specs.declared.positions.Position.{Position}
 use Rattle.mx_walk.specs.Positions.{IsPosition, IsUpTo}
 use Rattle.mx_walk.specs.Walks.{Walk}
 use Rattle.mx_walk.proofs.Along.{any_record}
 use Rattle.mx_walk.proofs.PartsShown.{none_between}
-use Rattle.mx_app_look.proofs.Anded.{anded, anded_done}
+use Rattle.mx_app_look.proofs.Anded.{anded, anded_done, anded_ok}
 use Rattle.mx_app_look.proofs.Meeting.{goes_by, goes_on, halts_here, appends_it}
 use Rattle.mx_walk.specs.Parts.{parts_between, shown_to}
-use Rattle.mx_app_look.specs.Until.{until_halt}
+use Rattle.mx_app_look.specs.declared.happening.Happening.{Happening}
+use Rattle.mx_app_look.specs.Searches.{not_met}
+use Rattle.mx_app_look.specs.Until.{halt_below, has, met, until_halt}
 use Rattle.mx_app_look.proofs.Meeting.{met_from}
-use Rattle.mx_app_look.proofs.ShownMore.{err_always, err_weaker, grown_by, grown_more, grown_same, halts_last, ok_weaker, on_here, on_one_more, passed_one, shown_until_here, shown_until_last}
+use Rattle.mx_app_look.proofs.ShownMore.{err_always, err_weaker, grown_by, grown_more, grown_same, halts_last, ok_always, ok_weaker, on_here, on_one_more, passed_one, shown_until_here, shown_until_last}
 use Rattle.mx_app_look.proofs.going_until.go_on_until.Goals as goal
+
+-- it happens in none of the records
+unmet : (k : Walk) (h : Happening) (n : ℕ) → k.last.records ≤ n → met_from k h n ≡ met k h → until_halt k h ≡ (k.last, not_met)
+unmet k h n over none =
+    let left : k.last.records - n ≡ 0 = omega (arith, over) in
+    let nothing : met_from k h n ≡ None = ap (λ m. find (has k h) (range_with_len n m)) left in
+    ap (λ (o : Option ℕ). halt_below k o) (sym none ∙ nothing)
 
 pub bounds-records-above : goal.bounds-records-above
 bounds-records-above g c =
@@ -85,6 +97,40 @@ returns-then-happens-clause-shown g c =
     let after = g.P.Progress.shown c.see_record.new.progress in
     let a = passed_one k w rs n _ inv.walker c.records.ensures lt few inv.on before (g.P.Progress.shown c.loop-above.progress) after inv.shown c.in_ok-walker.ensures.shown in
     shown_until_here k u w (until_halt k c.args.happening).0 n before after there halts (on_one_more k w rs n any_record inv.walker c.records.ensures lt few inv.on u there) a
+
+pub go_to-requires-clause-position : goal.go_to-requires-clause-position
+go_to-requires-clause-position g c =
+    let same = anded c.and-2.result c.extend_from_slice.result c.loop-above.walker c.in_ok-walker-2.walker c.and-2.ensures c.in_ok-walker-2.was ∙ c.loop-above.invariant.walker in
+    subst (λ (rs : List Record). IsPosition rs c.last-last.result) (sym (ap (λ (j : Walk). j.records) same)) c.last-last.ensures.is.position
+
+pub go_to-requires-clause-early : goal.go_to-requires-clause-early
+go_to-requires-clause-early g c =
+    let same = anded c.and-2.result c.extend_from_slice.result c.loop-above.walker c.in_ok-walker-2.walker c.and-2.ensures c.in_ok-walker-2.was ∙ c.loop-above.invariant.walker in
+    let last : c.last-last.result ≡ c.in_ok-walker-2.walker.last = c.last-last.ensures.last ∙ sym (ap (λ (j : Walk). j.last) same) in
+    let steps = ap (λ (p : Position). p.steps) last in
+    inr (ap (λ (p : Position). p.records) last, omega (arith, steps))
+
+pub returns-clause-walker : goal.returns-clause-walker
+returns-clause-walker g c =
+    let k = c.args.walker in
+    let n = c.loop-above.above in
+    let over : k.last.records ≤ n = subst (λ (p : Position). p.records ≤ n) c.last-last.ensures.last c.loop-above-test.false in
+    let same = anded c.and-2.result c.extend_from_slice.result c.loop-above.walker c.in_ok-walker-2.walker c.and-2.ensures c.in_ok-walker-2.was ∙ c.loop-above.invariant.walker in
+    let at = ap (λ (h : Position × List ℕ). h.0) (unmet k c.args.happening n over c.loop-above.invariant.none) in
+    IfOk-weaker c.go_to.result _ _ (λ (u : Walk) gone.
+    gone ∙ ap (λ (j : Walk). let i : Walk = record j { here = c.last-last.result } in i) same
+    ∙ ap (λ (p : Position). let i : Walk = record k { here = p } in i) (c.last-last.ensures.last ∙ sym at)) c.go_to.ensures.gone
+
+pub returns-clause-text : goal.returns-clause-text
+returns-clause-text g c =
+    let k = c.args.walker in
+    let n = c.loop-above.above in
+    let over : k.last.records ≤ n = subst (λ (p : Position). p.records ≤ n) c.last-last.ensures.last c.loop-above-test.false in
+    let out = c.loop-above.out.items in
+    let added : c.extend_from_slice.new.self.items ≡ out ++ not_met =
+    c.extend_from_slice.ensures.items ∙ ap (λ b. cond b (out ++ not_met) out) (anded_ok c.and-2.result c.extend_from_slice.result c.loop-above.walker c.in_ok-walker-2.walker c.and-2.ensures c.in_ok-walker-2.was) in
+    ok_always c.go_to.result _
+    (added ∙ ap (λ (t : List ℕ). t ++ not_met) c.loop-above.invariant.nothing ∙ ap (λ (h : Position × List ℕ). c.args.out.now.items ++ h.1) (sym (unmet k c.args.happening n over c.loop-above.invariant.none)))
 
 pub returns-clause-shown : goal.returns-clause-shown
 returns-clause-shown g c =
