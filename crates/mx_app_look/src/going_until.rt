@@ -5,6 +5,7 @@ ghost use Rattle.mx_app_step.specs.Failure.{IsWanting};
 ghost use Rattle.mx_walk.specs.Parts.{HasGrown, shown_to};
 ghost use Rattle.mx_app_look.specs.declared.request.Request.TheVariants as requests;
 ghost use Rattle.mx_app_look.specs.Answers.{after, request_text, to_of};
+ghost use Rattle.mx_app_look.specs.Searches.{not_met};
 ghost use Rattle.mx_app_look.specs.Until.{has_service, has_slots, until_halt};
 
 use crate::happening::{Happening, happens};
@@ -42,6 +43,24 @@ fn has_slots(walker: &Walker, happening: Happening) -> bool
     }
 }
 
+/// Appends that nothing was met, and goes on to the last position.
+fn go_on_unmet<P: Progress>(
+    alloc: Global,
+    walker: Walker,
+    out: &mut Vec<u8>,
+    progress: &mut P,
+) -> Result<Walker, NoMemory>
+    ensures walker { IfOk result (λ w. w ≡ record walker { here = walker.last }) }
+    ensures text { OnOk result (out.new.items ≡ out.old.items ++ not_met) }
+    ensures shown { OnOk result (P.shown progress.new
+        ≡ P.shown progress.old ++ shown_to walker walker.last) }
+    ensures unshown { IfErr result (λ _. P.shown progress.new ≡ P.shown progress.old) }
+{
+    let last = walker.last();
+    let walker = out.extend_from_slice(b"not met\n").and(Ok(walker))?;
+    walker.go_to(alloc, last, progress)
+}
+
 /// Goes on to right below the first record in which it happens, and appends what that record did; to the
 /// last position if there is none. Takes no memory but for the text.
 fn go_on_until<P: Progress>(
@@ -71,8 +90,7 @@ fn go_on_until<P: Progress>(
             return Ok(push_record(out, &step).and(Ok(walker))?);
         }
     }
-    let walker = out.extend_from_slice(b"not met\n").and(Ok(walker))?;
-    walker.go_to(alloc, last, progress)
+    go_on_unmet(alloc, walker, out, progress)
 }
 
 /// Goes on to right below the first record in which it happens, and answers what that record did, and the

@@ -1,20 +1,19 @@
-use Rattle.std.proofs.Common.{◌≡◌, ◌∙◌, ◌<◌, ◌≤◌, ◌++◌, ◌-◌, ℕ, List, cond, length, Option, None, find, refl, ap, inr, subst, sym, arith}
+use Rattle.std.proofs.Common.{◌≡◌, ◌∙◌, ◌<◌, ◌≤◌, ◌++◌, ◌-◌, ℕ, List, length, Option, None, find, refl, ap, subst, sym, arith}
 use Rattle.std.proofs.lemmas.Result.{IfOk-weaker}
 use Rattle.std.specs.List.{range_with_len}
-use Rattle.mx_machine.specs.declared.history.Record.{Record}
 use Rattle.mx_walk.specs.declared.positions.Position.{Position}
 use Rattle.mx_walk.specs.Positions.{IsPosition, IsUpTo}
 use Rattle.mx_walk.specs.Walks.{Walk}
 use Rattle.mx_walk.proofs.Along.{any_record}
 use Rattle.mx_walk.proofs.PartsShown.{none_between}
-use Rattle.mx_app_look.proofs.Anded.{anded, anded_done, anded_ok}
+use Rattle.mx_app_look.proofs.Anded.{anded, anded_done}
 use Rattle.mx_app_look.proofs.Meeting.{goes_by, goes_on, halts_here, appends_it}
 use Rattle.mx_walk.specs.Parts.{parts_between, shown_to}
 use Rattle.mx_app_look.specs.declared.happening.Happening.{Happening}
 use Rattle.mx_app_look.specs.Searches.{not_met}
 use Rattle.mx_app_look.specs.Until.{halt_below, has, met, until_halt}
 use Rattle.mx_app_look.proofs.Meeting.{met_from}
-use Rattle.mx_app_look.proofs.ShownMore.{err_always, err_weaker, grown_by, grown_more, grown_same, halts_last, ok_always, ok_weaker, on_here, on_one_more, passed_one, shown_until_here, shown_until_last}
+use Rattle.mx_app_look.proofs.ShownMore.{err_always, err_weaker, grown_by, grown_more, grown_same, halts_last, ok_weaker, on_here, on_one_more, passed_one, shown_until_here, shown_until_last}
 use Rattle.mx_app_look.proofs.going_until.go_on_until.Goals as goal
 
 -- it happens in none of the records
@@ -98,28 +97,15 @@ returns-then-happens-clause-shown g c =
     let a = passed_one k w rs n _ inv.walker c.records.ensures lt few inv.on before (g.P.Progress.shown c.loop-above.progress) after inv.shown c.in_ok-walker.ensures.shown in
     shown_until_here k u w (until_halt k c.args.happening).0 n before after there halts (on_one_more k w rs n any_record inv.walker c.records.ensures lt few inv.on u there) a
 
-pub go_to-requires-clause-position : goal.go_to-requires-clause-position
-go_to-requires-clause-position g c =
-    let same = anded c.and-2.result c.extend_from_slice.result c.loop-above.walker c.in_ok-walker-2.walker c.and-2.ensures c.in_ok-walker-2.was ∙ c.loop-above.invariant.walker in
-    subst (λ (rs : List Record). IsPosition rs c.last-last.result) (sym (ap (λ (j : Walk). j.records) same)) c.last-last.ensures.is.position
-
-pub go_to-requires-clause-early : goal.go_to-requires-clause-early
-go_to-requires-clause-early g c =
-    let same = anded c.and-2.result c.extend_from_slice.result c.loop-above.walker c.in_ok-walker-2.walker c.and-2.ensures c.in_ok-walker-2.was ∙ c.loop-above.invariant.walker in
-    let last : c.last-last.result ≡ c.in_ok-walker-2.walker.last = c.last-last.ensures.last ∙ sym (ap (λ (j : Walk). j.last) same) in
-    let steps = ap (λ (p : Position). p.steps) last in
-    inr (ap (λ (p : Position). p.records) last, omega (arith, steps))
-
 pub returns-clause-walker : goal.returns-clause-walker
 returns-clause-walker g c =
     let k = c.args.walker in
     let n = c.loop-above.above in
     let over : k.last.records ≤ n = subst (λ (p : Position). p.records ≤ n) c.last-last.ensures.last c.loop-above-test.false in
-    let same = anded c.and-2.result c.extend_from_slice.result c.loop-above.walker c.in_ok-walker-2.walker c.and-2.ensures c.in_ok-walker-2.was ∙ c.loop-above.invariant.walker in
     let at = ap (λ (h : Position × List ℕ). h.0) (unmet k c.args.happening n over c.loop-above.invariant.none) in
-    IfOk-weaker c.go_to.result _ _ (λ (u : Walk) gone.
-    gone ∙ ap (λ (j : Walk). let i : Walk = record j { here = c.last-last.result } in i) same
-    ∙ ap (λ (p : Position). let i : Walk = record k { here = p } in i) (c.last-last.ensures.last ∙ sym at)) c.go_to.ensures.gone
+    IfOk-weaker c.go_on_unmet.result _ _ (λ (u : Walk) gone.
+    gone ∙ ap (λ (j : Walk). let i : Walk = record j { here = j.last } in i) c.loop-above.invariant.walker
+    ∙ ap (λ (p : Position). let i : Walk = record k { here = p } in i) (sym at)) c.go_on_unmet.ensures.walker
 
 pub returns-clause-text : goal.returns-clause-text
 returns-clause-text g c =
@@ -127,10 +113,9 @@ returns-clause-text g c =
     let n = c.loop-above.above in
     let over : k.last.records ≤ n = subst (λ (p : Position). p.records ≤ n) c.last-last.ensures.last c.loop-above-test.false in
     let out = c.loop-above.out.items in
-    let added : c.extend_from_slice.new.self.items ≡ out ++ not_met =
-    c.extend_from_slice.ensures.items ∙ ap (λ b. cond b (out ++ not_met) out) (anded_ok c.and-2.result c.extend_from_slice.result c.loop-above.walker c.in_ok-walker-2.walker c.and-2.ensures c.in_ok-walker-2.was) in
-    ok_always c.go_to.result _
-    (added ∙ ap (λ (t : List ℕ). t ++ not_met) c.loop-above.invariant.nothing ∙ ap (λ (h : Position × List ℕ). c.args.out.now.items ++ h.1) (sym (unmet k c.args.happening n over c.loop-above.invariant.none)))
+    ok_weaker c.go_on_unmet.result _ _ (λ (added : c.go_on_unmet.new.out.items ≡ out ++ not_met).
+    added ∙ ap (λ (t : List ℕ). t ++ not_met) c.loop-above.invariant.nothing ∙ ap (λ (h : Position × List ℕ). c.args.out.now.items ++ h.1) (sym (unmet k c.args.happening n over c.loop-above.invariant.none)))
+    c.go_on_unmet.ensures.text
 
 pub returns-clause-shown : goal.returns-clause-shown
 returns-clause-shown g c =
@@ -140,12 +125,11 @@ returns-clause-shown g c =
     let inv = c.loop-above.invariant in
     let before = g.P.Progress.shown c.args.progress.now in
     let now = g.P.Progress.shown c.loop-above.progress in
-    let after = g.P.Progress.shown c.go_to.new.progress in
-    let same = anded c.and-2.result c.extend_from_slice.result w c.in_ok-walker-2.walker c.and-2.ensures c.in_ok-walker-2.was in
+    let after = g.P.Progress.shown c.go_on_unmet.new.progress in
     let over : k.last.records ≤ n = subst (λ (p : Position). p.records ≤ n) c.last-last.ensures.last c.loop-above-test.false in
     let at : (until_halt k c.args.happening).0 ≡ k.last = halts_last k c.args.happening n over inv.none in
-    ok_weaker c.go_to.result _ _ (λ (shown : after ≡ now ++ shown_to c.in_ok-walker-2.walker c.last-last.result).
-    shown_until_last k w (until_halt k c.args.happening).0 n before now after inv.walker inv.on over at inv.shown (shown ∙ ap (λ (j : Walk). now ++ shown_to j c.last-last.result) same ∙ ap (λ (p : Position). now ++ shown_to w p) c.last-last.ensures.last)) c.go_to.ensures.shown
+    ok_weaker c.go_on_unmet.result _ _ (λ (shown : after ≡ now ++ shown_to w w.last).
+    shown_until_last k w (until_halt k c.args.happening).0 n before now after inv.walker inv.on over at inv.shown (shown ∙ ap (λ (j : Walk). now ++ shown_to w j.last) inv.walker)) c.go_on_unmet.ensures.shown
 
 pub returns-in_err-walker-clause-grown : goal.returns-in_err-walker-clause-grown
 returns-in_err-walker-clause-grown g c = err_always c.from_residual.result _ (grown_more _ _ _ (grown_by _ _ _ c.loop-above.invariant.shown) c.in_err-walker.ensures.grown)
@@ -154,8 +138,5 @@ pub returns-in_err-and-clause-grown : goal.returns-in_err-and-clause-grown
 returns-in_err-and-clause-grown g c =
     err_always c.from_residual-in_err-and.result _ (grown_more _ _ _ (grown_by _ _ _ c.loop-above.invariant.shown) (grown_by _ _ _ c.in_ok-walker.ensures.shown))
 
-pub returns-in_err-walker-2-clause-grown : goal.returns-in_err-walker-2-clause-grown
-returns-in_err-walker-2-clause-grown g c = err_always c.from_residual-in_err-walker-2.result _ (grown_by _ _ _ c.loop-above.invariant.shown)
-
 pub returns-clause-grown : goal.returns-clause-grown
-returns-clause-grown g c = err_weaker c.go_to.result _ _ (λ same. grown_more _ _ _ (grown_by _ _ _ c.loop-above.invariant.shown) (grown_same _ _ same)) c.go_to.ensures.unshown
+returns-clause-grown g c = err_weaker c.go_on_unmet.result _ _ (λ same. grown_more _ _ _ (grown_by _ _ _ c.loop-above.invariant.shown) (grown_same _ _ same)) c.go_on_unmet.ensures.unshown
