@@ -8,6 +8,7 @@ mod Moving
 mod Traced
 mod Starting
 mod Alike
+mod Anded
 mod Halted
 mod Kernels
 mod WhyTexts

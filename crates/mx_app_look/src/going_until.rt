@@ -5,6 +5,7 @@ ghost use Rattle.mx_app_step.specs.Failure.{IsWanting};
 ghost use Rattle.mx_walk.specs.Parts.{HasGrown, shown_to};
 ghost use Rattle.mx_app_look.specs.declared.request.Request.TheVariants as requests;
 ghost use Rattle.mx_app_look.specs.Answers.{after, request_text, to_of};
+ghost use Rattle.mx_app_look.specs.Searches.{not_met};
 ghost use Rattle.mx_app_look.specs.Until.{has_service, has_slots, until_halt};
 
 use crate::happening::{Happening, happens};
@@ -42,6 +43,24 @@ fn has_slots(walker: &Walker, happening: Happening) -> bool
     }
 }
 
+/// Appends that nothing was met, and goes on to the last position.
+fn go_on_unmet<P: Progress>(
+    alloc: Global,
+    walker: Walker,
+    out: &mut Vec<u8>,
+    progress: &mut P,
+) -> Result<Walker, NoMemory>
+    ensures walker { IfOk result (λ w. w ≡ record walker { here = walker.last }) }
+    ensures text { OnOk result (out.new.items ≡ out.old.items ++ not_met) }
+    ensures shown { OnOk result (P.shown progress.new
+        ≡ P.shown progress.old ++ shown_to walker walker.last) }
+    ensures unshown { IfErr result (λ _. P.shown progress.new ≡ P.shown progress.old) }
+{
+    let last = walker.last();
+    let walker = out.extend_from_slice(b"not met\n").and(Ok(walker))?;
+    walker.go_to(alloc, last, progress)
+}
+
 /// Goes on to right below the first record in which it happens, and appends what that record did; to the
 /// last position if there is none. Takes no memory but for the text.
 fn go_on_until<P: Progress>(
@@ -68,12 +87,10 @@ fn go_on_until<P: Progress>(
         let placed = Placed { above, entry };
         walker = see_record(alloc, walker, placed, &mut step, progress)?;
         if happens(happening, &step) {
-            push_record(out, &step)?;
-            return Ok(walker);
+            return Ok(push_record(out, &step).and(Ok(walker))?);
         }
     }
-    out.extend_from_slice(b"not met\n")?;
-    walker.go_to(alloc, last, progress)
+    go_on_unmet(alloc, walker, out, progress)
 }
 
 /// Goes on to right below the first record in which it happens, and answers what that record did, and the
@@ -97,8 +114,8 @@ fn go_on_to<P: Progress>(
     let Sight { walker, points } = sight;
     let mut text = Vec::new(alloc);
     let mut walker = go_on_until(alloc, walker, happening, &mut text, progress)?;
-    push_place(alloc, &mut text, &mut walker)?;
-    Ok((Sight { walker, points }, text))
+    let placed = push_place(alloc, &mut text, &mut walker);
+    Ok(placed.and(Ok((Sight { walker, points }, text)))?)
 }
 
 /// Goes on to right below the first record in which it happens, if each slot that it is about has a service.

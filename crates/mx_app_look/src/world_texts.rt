@@ -90,7 +90,7 @@ fn push_record_above<P: Progress>(
     let here = walker.here();
     let mut step = resting_step(walker.machine());
     let walker = see_record(alloc, walker, placed, &mut step, progress)?;
-    push_record(out, &step)?;
+    let walker = push_record(out, &step).and(Ok(walker))?;
     Ok(walker.go_to(alloc, here, progress)?)
 }
 
@@ -109,8 +109,7 @@ pub(crate) fn push_why<P: Progress>(
 {
     let here = walker.here();
     if here.records == 0 {
-        out.extend_from_slice(b"boot\n")?;
-        return Ok(walker);
+        return Ok(out.extend_from_slice(b"boot\n").and(Ok(walker))?);
     }
     let above = here.records - 1;
     let entry = walker.records()[above];

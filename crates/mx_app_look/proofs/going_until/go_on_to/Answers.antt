@@ -12,5 +12,5 @@ returns-clause-shown g c =
 pub returns-in_err-walker-clause-grown : goal.returns-in_err-walker-clause-grown
 returns-in_err-walker-clause-grown g c = err_always c.from_residual.result _ c.in_err-walker.ensures.grown
 
-pub returns-in_err-push_place-clause-grown : goal.returns-in_err-push_place-clause-grown
-returns-in_err-push_place-clause-grown g c = err_always c.from_residual-in_err-push_place.result _ (grown_by _ _ _ c.in_ok-walker.ensures.shown)
+pub returns-in_err-and-clause-grown : goal.returns-in_err-and-clause-grown
+returns-in_err-and-clause-grown g c = err_always c.from_residual-in_err-and.result _ (grown_by _ _ _ c.in_ok-walker.ensures.shown)

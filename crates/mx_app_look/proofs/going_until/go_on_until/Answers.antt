@@ -1,15 +1,27 @@
-use Rattle.std.proofs.Common.{◌≡◌, ◌∙◌, ◌<◌, ◌≤◌, ◌++◌, length, refl, ap, subst, sym, arith}
+use Rattle.std.proofs.Common.{◌≡◌, ◌∙◌, ◌<◌, ◌≤◌, ◌++◌, ◌-◌, ℕ, List, length, Option, None, find, refl, ap, subst, sym, arith}
+use Rattle.std.proofs.lemmas.Result.{IfOk-weaker}
+use Rattle.std.specs.List.{range_with_len}
 use Rattle.mx_walk.specs.declared.positions.Position.{Position}
 use Rattle.mx_walk.specs.Positions.{IsPosition, IsUpTo}
 use Rattle.mx_walk.specs.Walks.{Walk}
 use Rattle.mx_walk.proofs.Along.{any_record}
 use Rattle.mx_walk.proofs.PartsShown.{none_between}
+use Rattle.mx_app_look.proofs.Anded.{anded, anded_done}
 use Rattle.mx_app_look.proofs.Meeting.{goes_by, goes_on, halts_here, appends_it}
 use Rattle.mx_walk.specs.Parts.{parts_between, shown_to}
-use Rattle.mx_app_look.specs.Until.{until_halt}
+use Rattle.mx_app_look.specs.declared.happening.Happening.{Happening}
+use Rattle.mx_app_look.specs.Searches.{not_met}
+use Rattle.mx_app_look.specs.Until.{halt_below, has, met, until_halt}
 use Rattle.mx_app_look.proofs.Meeting.{met_from}
 use Rattle.mx_app_look.proofs.ShownMore.{err_always, err_weaker, grown_by, grown_more, grown_same, halts_last, ok_weaker, on_here, on_one_more, passed_one, shown_until_here, shown_until_last}
 use Rattle.mx_app_look.proofs.going_until.go_on_until.Goals as goal
+
+-- it happens in none of the records
+unmet : (k : Walk) (h : Happening) (n : ℕ) → k.last.records ≤ n → met_from k h n ≡ met k h → until_halt k h ≡ (k.last, not_met)
+unmet k h n over none =
+    let left : k.last.records - n ≡ 0 = omega (arith, over) in
+    let nothing : met_from k h n ≡ None = ap (λ m. find (has k h) (range_with_len n m)) left in
+    ap (λ (o : Option ℕ). halt_below k o) (sym none ∙ nothing)
 
 pub bounds-records-above : goal.bounds-records-above
 bounds-records-above g c =
@@ -25,7 +37,8 @@ returns-then-happens-clause-walker g c =
     let inv = c.loop-above.invariant in
     let lt : c.loop-above.above < k.last.records = subst (λ (p : Position). c.loop-above.above < p.records) c.last-last.ensures.last c.loop-above-test.true in
     let few : k.last.records ≤ length k.records = subst (λ (p : Position). p.records ≤ length k.records) c.last-last.ensures.last c.last-last.ensures.is.position.above in
-    halts_here k c.loop-above.walker c.args.happening c.records.result.now c.loop-above.above _ c.see_record.new.step inv.walker c.records.ensures lt few
+    anded c.and.result c.push_record.result c.in_ok-walker.walker c.in_ok-and.field-0 c.and.ensures c.in_ok-and.was
+    ∙ halts_here k c.loop-above.walker c.args.happening c.records.result.now c.loop-above.above _ c.see_record.new.step inv.walker c.records.ensures lt few
     c.in_ok-walker.ensures.step inv.none (sym c.happens.ensures ∙ c.if-happens.true) c.in_ok-walker.walker c.in_ok-walker.ensures.walker
 
 pub returns-then-happens-clause-text : goal.returns-then-happens-clause-text
@@ -35,7 +48,8 @@ returns-then-happens-clause-text g c =
     let lt : c.loop-above.above < k.last.records = subst (λ (p : Position). c.loop-above.above < p.records) c.last-last.ensures.last c.loop-above-test.true in
     let few : k.last.records ≤ length k.records = subst (λ (p : Position). p.records ≤ length k.records) c.last-last.ensures.last c.last-last.ensures.is.position.above in
     appends_it k c.loop-above.walker c.args.happening c.records.result.now c.loop-above.above _ c.see_record.new.step inv.walker c.records.ensures lt few
-    c.in_ok-walker.ensures.step inv.none (sym c.happens.ensures ∙ c.if-happens.true) c.loop-above.out.items c.args.out.now.items c.push_record.new.out.items inv.nothing c.in_ok-push_record.ensures
+    c.in_ok-walker.ensures.step inv.none (sym c.happens.ensures ∙ c.if-happens.true) c.loop-above.out.items c.args.out.now.items c.push_record.new.out.items inv.nothing
+    (anded_done c.and.result c.push_record.result c.in_ok-walker.walker c.in_ok-and.field-0 _ c.and.ensures c.in_ok-and.was c.push_record.ensures)
 
 pub loop-above-preserved : goal.loop-above-preserved
 loop-above-preserved g c =
@@ -83,6 +97,26 @@ returns-then-happens-clause-shown g c =
     let a = passed_one k w rs n _ inv.walker c.records.ensures lt few inv.on before (g.P.Progress.shown c.loop-above.progress) after inv.shown c.in_ok-walker.ensures.shown in
     shown_until_here k u w (until_halt k c.args.happening).0 n before after there halts (on_one_more k w rs n any_record inv.walker c.records.ensures lt few inv.on u there) a
 
+pub returns-clause-walker : goal.returns-clause-walker
+returns-clause-walker g c =
+    let k = c.args.walker in
+    let n = c.loop-above.above in
+    let over : k.last.records ≤ n = subst (λ (p : Position). p.records ≤ n) c.last-last.ensures.last c.loop-above-test.false in
+    let at = ap (λ (h : Position × List ℕ). h.0) (unmet k c.args.happening n over c.loop-above.invariant.none) in
+    IfOk-weaker c.go_on_unmet.result _ _ (λ (u : Walk) gone.
+    gone ∙ ap (λ (j : Walk). let i : Walk = record j { here = j.last } in i) c.loop-above.invariant.walker
+    ∙ ap (λ (p : Position). let i : Walk = record k { here = p } in i) (sym at)) c.go_on_unmet.ensures.walker
+
+pub returns-clause-text : goal.returns-clause-text
+returns-clause-text g c =
+    let k = c.args.walker in
+    let n = c.loop-above.above in
+    let over : k.last.records ≤ n = subst (λ (p : Position). p.records ≤ n) c.last-last.ensures.last c.loop-above-test.false in
+    let out = c.loop-above.out.items in
+    ok_weaker c.go_on_unmet.result _ _ (λ (added : c.go_on_unmet.new.out.items ≡ out ++ not_met).
+    added ∙ ap (λ (t : List ℕ). t ++ not_met) c.loop-above.invariant.nothing ∙ ap (λ (h : Position × List ℕ). c.args.out.now.items ++ h.1) (sym (unmet k c.args.happening n over c.loop-above.invariant.none)))
+    c.go_on_unmet.ensures.text
+
 pub returns-clause-shown : goal.returns-clause-shown
 returns-clause-shown g c =
     let k = c.args.walker in
@@ -91,21 +125,18 @@ returns-clause-shown g c =
     let inv = c.loop-above.invariant in
     let before = g.P.Progress.shown c.args.progress.now in
     let now = g.P.Progress.shown c.loop-above.progress in
-    let after = g.P.Progress.shown c.go_to.new.progress in
+    let after = g.P.Progress.shown c.go_on_unmet.new.progress in
     let over : k.last.records ≤ n = subst (λ (p : Position). p.records ≤ n) c.last-last.ensures.last c.loop-above-test.false in
     let at : (until_halt k c.args.happening).0 ≡ k.last = halts_last k c.args.happening n over inv.none in
-    ok_weaker c.go_to.result _ _ (λ (shown : after ≡ now ++ shown_to w c.last-last.result).
-    shown_until_last k w (until_halt k c.args.happening).0 n before now after inv.walker inv.on over at inv.shown (shown ∙ ap (λ (p : Position). now ++ shown_to w p) c.last-last.ensures.last)) c.go_to.ensures.shown
+    ok_weaker c.go_on_unmet.result _ _ (λ (shown : after ≡ now ++ shown_to w w.last).
+    shown_until_last k w (until_halt k c.args.happening).0 n before now after inv.walker inv.on over at inv.shown (shown ∙ ap (λ (j : Walk). now ++ shown_to w j.last) inv.walker)) c.go_on_unmet.ensures.shown
 
 pub returns-in_err-walker-clause-grown : goal.returns-in_err-walker-clause-grown
 returns-in_err-walker-clause-grown g c = err_always c.from_residual.result _ (grown_more _ _ _ (grown_by _ _ _ c.loop-above.invariant.shown) c.in_err-walker.ensures.grown)
 
-pub returns-in_err-push_record-clause-grown : goal.returns-in_err-push_record-clause-grown
-returns-in_err-push_record-clause-grown g c =
-    err_always c.from_residual-in_err-push_record.result _ (grown_more _ _ _ (grown_by _ _ _ c.loop-above.invariant.shown) (grown_by _ _ _ c.in_ok-walker.ensures.shown))
-
-pub returns-in_err-extend_from_slice-clause-grown : goal.returns-in_err-extend_from_slice-clause-grown
-returns-in_err-extend_from_slice-clause-grown g c = err_always c.from_residual-in_err-extend_from_slice.result _ (grown_by _ _ _ c.loop-above.invariant.shown)
+pub returns-in_err-and-clause-grown : goal.returns-in_err-and-clause-grown
+returns-in_err-and-clause-grown g c =
+    err_always c.from_residual-in_err-and.result _ (grown_more _ _ _ (grown_by _ _ _ c.loop-above.invariant.shown) (grown_by _ _ _ c.in_ok-walker.ensures.shown))
 
 pub returns-clause-grown : goal.returns-clause-grown
-returns-clause-grown g c = err_weaker c.go_to.result _ _ (λ same. grown_more _ _ _ (grown_by _ _ _ c.loop-above.invariant.shown) (grown_same _ _ same)) c.go_to.ensures.unshown
+returns-clause-grown g c = err_weaker c.go_on_unmet.result _ _ (λ same. grown_more _ _ _ (grown_by _ _ _ c.loop-above.invariant.shown) (grown_same _ _ same)) c.go_on_unmet.ensures.unshown
