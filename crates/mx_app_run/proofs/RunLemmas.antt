@@ -23,9 +23,9 @@ use Rattle.mx_app_step.specs.Programs.{SparesProgram, names_program}
 use Rattle.mx_app_step.specs.Setup.{AreServicesRead, IsSetup, IsTextGiven}
 use Rattle.mx_app_failure.specs.declared.failure.Failure.{Failure as Kind}
 use Rattle.mx_app_failure.specs.declared.failure.Failure.TheVariants.{NoMemory}
-use Rattle.mx_app_failure.specs.Failure.{IsWanting, failure_of_lines}
+use Rattle.mx_app_failure.specs.Failure.{failure_of_lines}
 use Rattle.mx_app_step.specs.Setup.{IsSetupFault}
-use Rattle.mx_app_step.specs.Kept.{text_kept, IsUnwritten}
+use Rattle.mx_app_step.specs.Kept.{text_kept}
 use Rattle.mx_app_step.specs.Written.{Written, kept, unkept}
 use Rattle.mx_app_step.specs.Report.{report_text}
 use Rattle.mx_boot.specs.Text.{saved_text}
@@ -39,7 +39,7 @@ use Rattle.mx_app_run.specs.Calls.{AreCallsGiven, IsCallsFault, call_line, tick_
 use Rattle.mx_text.specs.Lines.{lines}
 use Rattle.mx_text.specs.declared.error.BootError.{BootError}
 use Rattle.mx_boot.specs.Reading.{AreLinesRead, TellsUnread}
-use Rattle.mx_app_run.specs.Run.{EndsDriven, IsCalled, IsNotCalled, IsRun, Runs, run_ending}
+use Rattle.mx_app_run.specs.Run.{EndsDriven, IsCalled, IsNotCalled, IsRun, IsTold, Runs, run_ending}
 
 -- a kernel whose loops have ended is what a run comes to
 pub run_of : (c : Config) (vs : List Service) (ticks : ℕ) (xs : List OutsideCall) (k : BootAndHistory) (boot : World) (z : TableId) (seats : List SeatView)
@@ -129,21 +129,23 @@ module _ (config : List ℕ) (events : Option (List ℕ)) (log : List ℕ) (tick
       by_rules : text_kept k ≡ saved_text c.rules k.history
       by_rules = ap (λ (r : Rules). saved_text r k.history) (ap (λ (w : World). w.table.rules) run.boot ∙ rules_at_boot c vs)
 
-      pub unwritten : (ws : List Written) (f : Kind) (r : Result Ending Kind) → IsUnwritten log (text_kept k) ws f → IsErrAnd r (λ y. y ≡ f) → Runs config events log ticks qs ws Prints r
-      unwritten ws f (Ok u) why h = absurd h
-      unwritten ws f (Err y) why h = elim why [
-        | inl none ↦ inl (none.0, inr (apart, inr (c, vs, xs, called, unnamed, h ∙ none.1)))
-        | inr file ↦ inr (inr (c, vs, xs, k, apart, called, unnamed, run, inl (file.0, file.1 ∙ ap (λ t. unkept log t file.0 ∷ []) by_rules, h ∙ file.2)))
+      -- and then it is told
+      pub told : (ws : List Written) (ending : Ending) (r : Result Ending Kind) → ending ≡ run_ending c.log ticks xs k → IsTold log (text_kept k) ws (Prints (report_text (replay k).table (replay k).services)) ending r
+          → Runs config events log ticks qs ws Prints r
+      told ws ending (Ok answered) is h =
+          (c, vs, xs, k, apart, called, unnamed, run, h.0 ∙ ap (λ t. kept log t ∷ []) by_rules, h.1, h.2 ∙ is)
+      told ws ending (Err f) is h = elim h [
+        | inl why ↦ elim why [
+          | inl none ↦ inl (none.0, inr (apart, inr (c, vs, xs, called, unnamed, none.1)))
+          | inr file ↦ inr (inr (c, vs, xs, k, apart, called, unnamed, run, inl (file.0, file.1 ∙ ap (λ t. unkept log t file.0 ∷ []) by_rules, file.2)))
+        ]
+        | inr wanting ↦ inr (inr (c, vs, xs, k, apart, called, unnamed, run, inr (wanting.0 ∙ ap (λ t. kept log t ∷ []) by_rules, wanting.1)))
       ]
 
-      -- the report isn't printed
-      pub untold : (f : Kind) (r : Result Ending Kind) → IsWanting f → IsErrAnd r (λ y. y ≡ f) → Runs config events log ticks qs (kept log (text_kept k) ∷ []) Prints r
-      untold f (Ok ending) wanting h = absurd h
-      untold f (Err y) wanting h = inr (inr (c, vs, xs, k, apart, called, unnamed, run, inr (ap (λ t. kept log t ∷ []) by_rules, subst IsWanting (sym h) wanting)))
-
-      pub written : (ending : Ending) → Prints (report_text (replay k).table (replay k).services) → ending ≡ run_ending c.log ticks xs k
-          → Runs config events log ticks qs (kept log (text_kept k) ∷ []) Prints (Ok ending)
-      written ending printed is = (c, vs, xs, k, apart, called, unnamed, run, ap (λ t. kept log t ∷ []) by_rules, printed, is)
+-- a run that isn't told
+pub untold : (log text : List ℕ) (ws : List Written) (Printed : Type 0) (ending : Ending) (f : Kind) (r : Result Ending Kind) → IsTold log text ws Printed ending (Err f) → IsErrAnd r (λ y. y ≡ f) → IsTold log text ws Printed ending r
+untold log text ws Printed ending f (Ok answered) why h = absurd h
+untold log text ws Printed ending f (Err y) why h = subst (λ z. IsTold log text ws Printed ending (Err z)) (sym h) why
 
 -- ---- its replay
 

@@ -26,6 +26,7 @@ use Rattle.mx_app_step.specs.Asked.{Asked}
 use Rattle.mx_app_turns.specs.Turned.{writes_over}
 use Rattle.mx_app_run.specs.Calls.{AreCallsGiven, IsCallsFault, ticks_of}
 use Rattle.mx_app_step.specs.Course.{IsSaved}
+use Rattle.mx_app_step.specs.Kept.{IsUnwritten}
 use Rattle.mx_app_step.specs.Programs.{SparesProgram, names_program}
 use Rattle.mx_app_step.specs.Setup.{IsSetup, IsSetupFault}
 use Rattle.mx_app_step.specs.Written.{Written, kept, unkept}
@@ -88,6 +89,12 @@ abbrev pub IsRunUntold : List ℕ → List ℕ → List Written → Kind → Typ
 IsRunUntold log text ws f =
     ((kind : ErrorKind) × (ws ≡ unkept log text kind ∷ []) × (f ≡ failure_of_kind kind))
     ⊎ ((ws ≡ kept log text ∷ []) × IsWanting f)
+
+-- a run was told: its history's text was written, whole, the report was printed, and the answer is how it ended; or not
+-- all of this, and the answer says why
+abbrev pub IsTold : List ℕ → List ℕ → List Written → Type 0 → Ending → Result Ending Kind → Type 0
+IsTold log text ws Printed ending (Ok answered) = (ws ≡ kept log text ∷ []) × Printed × (answered ≡ ending)
+IsTold log text ws Printed ending (Err f) = IsUnwritten log text ws f ⊎ ((ws ≡ kept log text ∷ []) × IsWanting f)
 
 -- WHAT `mx run` DOES: it writes the text of a run's history, whole, and prints the report on the replay of that
 -- history, and answers how the run ended; or it reports why it didn't

@@ -2,10 +2,13 @@
 
 ghost use Rattle.std.specs.Prelude.{◌≡◌, ◌<◌, ◌≤◌, ◌++◌, ◌∷◌, [], List, All, IfErr, IfOk, None, length, option_map};
 ghost use Rattle.std.specs.Io.KnownBytes.{Appends};
+ghost use Rattle.mx_machine.specs.History.{replay};
 ghost use Rattle.mx_app_step.specs.Asked.{Asked};
+ghost use Rattle.mx_app_step.specs.Kept.{text_kept};
+ghost use Rattle.mx_app_step.specs.Report.{report_text};
 ghost use Rattle.mx_app_step.specs.Written.{Written};
 ghost use Rattle.mx_app_run.specs.Calls.{AreCallsGiven, IsCallsFault};
-ghost use Rattle.mx_app_run.specs.Run.{EndsDriven, IsCalled, IsNotCalled, IsRun, Runs, run_ending};
+ghost use Rattle.mx_app_run.specs.Run.{EndsDriven, IsCalled, IsNotCalled, IsRun, IsTold, Runs, run_ending};
 
 use crate::calls::{outside_calls, ticks_of};
 use crate::gate::{RunGate, RunPlan};
@@ -172,6 +175,27 @@ fn begin<R: Reader>(
     }
 }
 
+/// Writes the history of a run to the file `log`, prints the report, and answers how the run ended. If memory runs out
+/// for the report, the history is written already.
+fn tell<R: Drop, F: FileWriter + Drop, W: Write + Drop>(
+    alloc: Global,
+    channels: &mut Channels<R, F, W>,
+    log: &str,
+    kernel: &Kernel,
+    ending: Ending,
+) -> Result<Ending, Failure>
+    ensures reader { channels.new.reader ≡ channels.old.reader }
+    ensures told { (ws : List Written)
+        × (F.written channels.new.files ≡ F.written channels.old.files ++ ws)
+        × IsTold log.now (text_kept kernel.now) ws (Appends (W.contents channels.old.out)
+        (W.contents channels.new.out) (report_text (replay kernel.now).table
+        (replay kernel.now).services)) ending result }
+{
+    write_history(alloc, kernel, &mut channels.files, log)?;
+    print_kernel_report(alloc, kernel, &mut channels.out)?;
+    Ok(ending)
+}
+
 /// Runs the machine of a configuration, each processor in a thread of its own, until it is at rest
 /// after all ticks and the outside events of a file, or its history is full, and answers which. Then writes the history
 /// to a file, and prints the report. No file that is read is written over: if LOG has the name of CONFIG or
@@ -222,8 +246,5 @@ pub fn run<
     let kernel = run_machine(&place, &config, services, outside)?;
     progress.clear();
     let ending = ending_of(&kernel, config.log, outside);
-    // If memory runs out for the report, the history is written already.
-    write_history(alloc, &kernel, &mut channels.files, wanted.log)?;
-    print_kernel_report(alloc, &kernel, &mut channels.out)?;
-    Ok(ending)
+    tell(alloc, channels, wanted.log, &kernel, ending)
 }

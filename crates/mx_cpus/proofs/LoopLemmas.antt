@@ -34,23 +34,18 @@ follows_trans s t u p q = record { table = q.table ∙ p.table; actor = q.actor 
 
 -- ---- a question
 
--- actor a looked from the seat u on, and the seat v saw so far; this was shown to the gate, and the gate was asked
-pub record HasAsked (boot : World) (WasCalled : GateCall → Type 0) (u v : SeatView) (a : ℕ) (far : HowFar) (goes_on : Bool) : Type 0 where
-  pub rests : IsRestCall boot u v far.at_rest
-  pub many : far.records ≡ length v.seen
-  pub seen : WasCalled (seen_call a far.records)
-  pub asked : WasCalled (again_call a far.at_rest goes_on)
-
 -- the gate was shown what a seat has seen, by the seat's own number and the number that was counted
 pub seen_by : (WasCalled : GateCall → Type 0) (v : SeatView) (a b n : ℕ) → a ≡ b → n ≡ length v.seen → WasCalled (seen_call a n) → WasCalled (seen_call b (length v.seen))
 seen_by WasCalled v a b n who many seen = subst (λ i. WasCalled (seen_call i (length v.seen))) who (subst (λ k. WasCalled (seen_call a k)) many seen)
 
-pub asked_by : (boot : World) (WasCalled : GateCall → Type 0) (u v : SeatView) (a : ℕ) (far : HowFar) (answer goes_on : Bool) → a ≡ u.actor → answer ≡ goes_on → HasAsked boot WasCalled u v a far answer → IsAsked boot WasCalled u v goes_on
-asked_by boot WasCalled u v a far answer goes_on who is h = record {
+-- a look of the seat u found the seat v; actor a showed the gate how far it is, and asked
+pub asked_by : (boot : World) (WasCalled : GateCall → Type 0) (u v : SeatView) (a : ℕ) (far : HowFar) (answer : Bool) → a ≡ u.actor → IsRestCall boot u v far.at_rest → far.records ≡ length v.seen
+    → WasCalled (seen_call a far.records) → WasCalled (again_call a far.at_rest answer) → IsAsked boot WasCalled u v answer
+asked_by boot WasCalled u v a far answer who rests many seen asked = record {
   rest = far.at_rest;
-  rests = h.rests;
-  seen = seen_by WasCalled v a u.actor far.records who h.many h.seen;
-  asked = subst (λ i. WasCalled (again_call i far.at_rest goes_on)) who (subst (λ g. WasCalled (again_call a far.at_rest g)) is h.asked);
+  rests = rests;
+  seen = seen_by WasCalled v a u.actor far.records who many seen;
+  asked = subst (λ i. WasCalled (again_call i far.at_rest answer)) who asked;
 }
 
 -- ---- a processor
@@ -123,46 +118,25 @@ module _ (boot : World) (WasCalled : GateCall → Type 0) where
         | inr wait ↦ turns_waited s run.last t false before wait
       ]
 
-  -- a turn more
-  pub turn_after : (s t u v : SeatView) (l m : LoanView) (so_many n a k records : ℕ) → AreTurns boot WasCalled s so_many n t → a ≡ t.actor → k ≡ turn_number n → IsTakeCall boot t u l → WasCalled (held_call a k)
-      → m.out ≡ (held_run longest_run l.out).1 → IsGiveCall boot u v m → WasCalled (given_call a)
-      → records ≡ length v.seen → WasCalled (seen_call a records) → AreTurns boot WasCalled s (suc so_many) (n + 1) v
-  turn_after s t u v l m so_many n a k records before who number took held ran gave given many seen = (
-    n,
-    t,
-    before,
-    inl (
-      refl,
+  -- a turn, by how many came before it: its side counts them in 64 bits
+  pub turn_by : (n k : ℕ) (t v : SeatView) → k ≡ turn_number n → IsTurn boot WasCalled k t v → IsTurn boot WasCalled n t v
+  turn_by n k t v number turn =
+      let same : turn_number k ≡ turn_number n = omega (arith, number) in
       record {
-        taken = u;
-        lent = l;
-        back = m;
-        takes = took;
-        held = subst (λ i. WasCalled (held_call i (turn_number n))) who (subst (λ j. WasCalled (held_call a j)) number held);
-        runs = ran;
-        gives = gave;
-        given = subst (λ i. WasCalled (given_call i)) who given;
-        seen = seen_by WasCalled v a t.actor records who many seen;
-      },
-    ),
-  )
+        taken = turn.taken;
+        lent = turn.lent;
+        back = turn.back;
+        takes = turn.takes;
+        held = subst (λ j. WasCalled (held_call t.actor j)) same turn.held;
+        runs = turn.runs;
+        gives = turn.gives;
+        given = turn.given;
+        seen = turn.seen;
+      }
 
-  -- and its number
-  pub next_turn : (n k m : ℕ) → k ≡ turn_number n → m ≡ min (k + 1) (2 ^ 64 - 1) → m ≡ turn_number (n + 1)
+  -- and the next number
+  pub next_turn : (n k m : ℕ) → k ≡ turn_number n → m ≡ turn_number (k + 1) → m ≡ turn_number (n + 1)
   next_turn n k m number is = omega (arith, number, is)
-
-  -- a question after a refusal
-  pub waited : (t u v : SeatView) (r : Refusal) (a : ℕ) (far : HowFar) (answer goes_on : Bool) → a ≡ t.actor → answer ≡ goes_on → IsRefusedCall boot t u events.Take r → r ≢ LogFull → HasAsked boot WasCalled u v a far answer → IsWait boot WasCalled t v goes_on
-  waited t u v r a far answer goes_on who is took other asked = record {
-    seat = u;
-    refusal = r;
-    takes = took;
-    other = other;
-    asks = asked_by boot WasCalled u v a far answer goes_on (who ∙ sym took.follows.actor) is asked;
-  }
-
-  pub wait_after : (s t v : SeatView) (so_many n : ℕ) → AreTurns boot WasCalled s so_many n t → IsWait boot WasCalled t v true → AreTurns boot WasCalled s (suc so_many) n v
-  wait_after s t v so_many n before wait = (n, t, before, inr (refl, wait))
 
 -- what a processor's loop knows between two takes
 pub record TurnsSoFar (boot : World) (WasCalled : GateCall → Type 0) (s t : SeatView) (side : FreeSide) : Type 0 where
@@ -174,39 +148,68 @@ pub record TurnsSoFar (boot : World) (WasCalled : GateCall → Type 0) (s t : Se
   pub turn : side.turn ≡ turn_number turns
   pub goes_on : side.goes_on ≡ true
 
--- it goes on after a turn
-pub turns_go_on : (boot : World) (WasCalled : GateCall → Type 0) (s t u v : SeatView) (l m : LoanView) (x y : FreeSide) (a k records : ℕ) → TurnsSoFar boot WasCalled s t x → s.held ≡ None → IsTakeCall boot t u l
-    → WasCalled (held_call x.actor x.turn) → a ≡ x.actor → k ≡ x.turn → m.out ≡ (held_run longest_run l.out).1 → IsGiveCall boot u v m → WasCalled (given_call a)
-    → records ≡ length v.seen → WasCalled (seen_call a records) → y.actor ≡ a → y.turn ≡ min (k + 1) (2 ^ 64 - 1) → y.goes_on ≡ true → TurnsSoFar boot WasCalled s v y
-turns_go_on boot WasCalled s t u v l m x y a k records so_far empty took held who number ran gave given many seen same next on =
-    let n = so_far.turns in
-    let here : x.actor ≡ t.actor = so_far.actor ∙ sym so_far.made.follows.actor in
-    record {
-      so_many = suc so_far.so_many;
-      turns = n + 1;
-      course = turn_after boot WasCalled s t u v l m so_far.so_many n x.actor x.turn records so_far.course here so_far.turn took held ran gave (subst (λ i. WasCalled (given_call i)) who given) many
-          (subst (λ i. WasCalled (seen_call i records)) who seen);
-      made = turn_more boot s t u v l m so_far.made took gave;
-      actor = same ∙ who ∙ so_far.actor;
-      turn = next_turn boot WasCalled n k y.turn (number ∙ so_far.turn) next;
-      goes_on = on;
+-- the side of an actor after one turn more
+abbrev pub IsCounted : FreeSide → FreeSide → Type 0
+IsCounted x y = (y.actor ≡ x.actor) × (y.turn ≡ turn_number (x.turn + 1)) × (y.goes_on ≡ true)
+
+module _ (boot : World) (WasCalled : GateCall → Type 0) (s t : SeatView) (x : FreeSide) (so_far : TurnsSoFar boot WasCalled s t x) where
+  -- it goes on after a turn
+  pub turns_go_on : (v : SeatView) (y : FreeSide) → IsTurn boot WasCalled x.turn t v → IsCounted x y → TurnsSoFar boot WasCalled s v y
+  turns_go_on v y turn counted =
+      let n = so_far.turns in
+      record {
+        so_many = suc so_far.so_many;
+        turns = n + 1;
+        course = (n, t, so_far.course, inl (refl, turn_by boot WasCalled n x.turn t v so_far.turn turn));
+        made = turn_more boot s t turn.taken v turn.lent turn.back so_far.made turn.takes turn.gives;
+        actor = counted.0 ∙ so_far.actor;
+        turn = next_turn boot WasCalled n x.turn y.turn so_far.turn counted.1;
+        goes_on = counted.2;
+      }
+
+  module _ (u : SeatView) (r : Refusal) (took : IsRefusedCall boot t u events.Take r) where
+    -- the seat and the side after a refusal are one actor's, of the same table
+    pub same_actor : (y : FreeSide) → y ≡ x → y.actor ≡ u.actor
+    same_actor y same = ap (λ (z : FreeSide). z.actor) same ∙ so_far.actor ∙ sym (took.follows.actor ∙ so_far.made.follows.actor)
+
+    pub same_table : (z : TableId) → s.table ≡ z → u.table ≡ z
+    same_table z is = took.follows.table ∙ so_far.made.follows.table ∙ is
+
+    -- a full history ends it
+    pub turns_full : r ≡ LogFull → IsProcessorRun boot WasCalled s u
+    turns_full full = record {
+      so_many = so_far.so_many;
+      turns = so_far.turns;
+      last = t;
+      course = so_far.course;
+      ends = inl (subst (IsRefusedCall boot t u events.Take) full took);
     }
 
--- and after a question that was answered with yes
-pub turns_wait : (boot : World) (WasCalled : GateCall → Type 0) (s t u v : SeatView) (r : Refusal) (far : HowFar) (x y : FreeSide) → TurnsSoFar boot WasCalled s t x → IsRefusedCall boot t u events.Take r → r ≢ LogFull
-    → HasAsked boot WasCalled u v x.actor far y.goes_on → y.actor ≡ x.actor → y.turn ≡ x.turn → y.goes_on ≡ true → TurnsSoFar boot WasCalled s v y
-turns_wait boot WasCalled s t u v r far x y so_far took other asked same next on =
-    let here : x.actor ≡ t.actor = so_far.actor ∙ sym so_far.made.follows.actor in
-    let wait = waited boot WasCalled t u v r x.actor far y.goes_on true here on took other asked in
-    record {
-      so_many = suc so_far.so_many;
-      turns = so_far.turns;
-      course = wait_after boot WasCalled s t v so_far.so_many so_far.turns so_far.course wait;
-      made = turns_waited boot WasCalled s t v true so_far.made wait;
-      actor = same ∙ so_far.actor;
-      turn = next ∙ so_far.turn;
-      goes_on = on;
-    }
+    module _ (other : r ≢ LogFull) (v : SeatView) (y : FreeSide) (asked : IsAsked boot WasCalled u v y.goes_on) where
+      waited : (goes_on : Bool) → y.goes_on ≡ goes_on → IsWait boot WasCalled t v goes_on
+      waited goes_on is = record { seat = u; refusal = r; takes = took; other = other; asks = subst (IsAsked boot WasCalled u v) is asked }
+
+      -- the gate ends it
+      pub turns_end : y.goes_on ≡ false → IsProcessorRun boot WasCalled s v
+      turns_end off = record {
+        so_many = so_far.so_many;
+        turns = so_far.turns;
+        last = t;
+        course = so_far.course;
+        ends = inr (waited false off);
+      }
+
+      -- and it goes on after a question that was answered with yes
+      pub turns_wait : y.actor ≡ x.actor → y.turn ≡ x.turn → y.goes_on ≡ true → TurnsSoFar boot WasCalled s v y
+      turns_wait same next on = record {
+        so_many = suc so_far.so_many;
+        turns = so_far.turns;
+        course = (so_far.turns, t, so_far.course, inr (refl, waited true on));
+        made = turns_waited boot WasCalled s t v true so_far.made (waited true on);
+        actor = same ∙ so_far.actor;
+        turn = next ∙ so_far.turn;
+        goes_on = on;
+      }
 
 -- ---- the respawner
 
@@ -352,14 +355,13 @@ pub record RoundsSoFar (boot : World) (WasCalled : GateCall → Type 0) (ticks :
   pub goes_on : side.goes_on ≡ true
 
 -- it goes on after a round
-pub rounds_go_on : (boot : World) (WasCalled : GateCall → Type 0) (ticks : ℕ) (s t u v : SeatView) (x y : FreeSide) (left next : ℕ) (far : HowFar) → RoundsSoFar boot WasCalled ticks s t x left → IsRound boot left t u
-    → HasAsked boot WasCalled u v x.actor far y.goes_on → y.actor ≡ x.actor → y.goes_on ≡ true → next ≡ left - 1 → RoundsSoFar boot WasCalled ticks s v y next
-rounds_go_on boot WasCalled ticks s t u v x y left next far so_far round asked who on down =
+pub rounds_go_on : (boot : World) (WasCalled : GateCall → Type 0) (ticks : ℕ) (s t u v : SeatView) (x y : FreeSide) (left next : ℕ) → RoundsSoFar boot WasCalled ticks s t x left → IsRound boot left t u
+    → IsAsked boot WasCalled u v y.goes_on → y.actor ≡ x.actor → y.goes_on ≡ true → next ≡ left - 1 → RoundsSoFar boot WasCalled ticks s v y next
+rounds_go_on boot WasCalled ticks s t u v x y left next so_far round asked who on down =
     let made = round_made boot left t u so_far.follows.own round in
-    let a : x.actor ≡ u.actor = so_far.actor ∙ sym so_far.follows.actor ∙ sym made.follows.actor in
     record {
       rounds = suc so_far.rounds;
-      course = (t, u, so_far.course, subst (λ k. IsRound boot k t u) so_far.left round, asked_by boot WasCalled u v x.actor far y.goes_on true a on asked);
+      course = (t, u, so_far.course, subst (λ k. IsRound boot k t u) so_far.left round, subst (IsAsked boot WasCalled u v) on asked);
       follows = follows_trans s t v so_far.follows (follows_trans t u v made.follows asked.rests.follows);
       left = omega (arith, so_far.left, down);
       actor = who ∙ so_far.actor;
@@ -367,17 +369,18 @@ rounds_go_on boot WasCalled ticks s t u v x y left next far so_far round asked w
     }
 
 -- the gate ends it
-pub rounds_end : (boot : World) (WasCalled : GateCall → Type 0) (ticks : ℕ) (s t u v : SeatView) (x y : FreeSide) (left : ℕ) (far : HowFar) → RoundsSoFar boot WasCalled ticks s t x left → IsRound boot left t u
-    → HasAsked boot WasCalled u v x.actor far y.goes_on → y.goes_on ≡ false → IsRespawnerRun boot WasCalled ticks s v
-rounds_end boot WasCalled ticks s t u v x y left far so_far round asked off =
-    let made = round_made boot left t u so_far.follows.own round in
-    let a : x.actor ≡ u.actor = so_far.actor ∙ sym so_far.follows.actor ∙ sym made.follows.actor in
-    record {
-      rounds = so_far.rounds;
-      last = t;
-      course = so_far.course;
-      ends = inr (u, subst (λ k. IsRound boot k t u) so_far.left round, asked_by boot WasCalled u v x.actor far y.goes_on false a off asked);
-    }
+pub rounds_end : (boot : World) (WasCalled : GateCall → Type 0) (ticks : ℕ) (s t u v : SeatView) (x y : FreeSide) (left : ℕ) → RoundsSoFar boot WasCalled ticks s t x left → IsRound boot left t u
+    → IsAsked boot WasCalled u v y.goes_on → y.goes_on ≡ false → IsRespawnerRun boot WasCalled ticks s v
+rounds_end boot WasCalled ticks s t u v x y left so_far round asked off = record {
+  rounds = so_far.rounds;
+  last = t;
+  course = so_far.course;
+  ends = inr (u, subst (λ k. IsRound boot k t u) so_far.left round, subst (IsAsked boot WasCalled u v) off asked);
+}
+
+-- the actor stays, too
+pub round_actor : (boot : World) (WasCalled : GateCall → Type 0) (ticks : ℕ) (s t u : SeatView) (x : FreeSide) (left : ℕ) → RoundsSoFar boot WasCalled ticks s t x left → IsRound boot left t u → x.actor ≡ u.actor
+round_actor boot WasCalled ticks s t u x left so_far round = so_far.actor ∙ sym so_far.follows.actor ∙ sym (round_made boot left t u so_far.follows.own round).follows.actor
 
 -- a full history ends it
 pub rounds_full : (boot : World) (WasCalled : GateCall → Type 0) (ticks : ℕ) (s t u : SeatView) (x : FreeSide) (left : ℕ) → RoundsSoFar boot WasCalled ticks s t x left → IsRoundToFull boot left t u → IsRespawnerRun boot WasCalled ticks s u

@@ -20,10 +20,10 @@ use Rattle.mx_cpus.specs.declared.side.FreeSide.{FreeSide}
 use Rattle.mx_cpus.specs.Seats.{SeatView, record_of}
 use Rattle.mx_cpus.specs.Calls.{Follows, IsAnsweredCall, IsRefusedCall, IsRestCall}
 use Rattle.mx_cpus.specs.CallEnds.{IsCallTo, goes_on_after}
-use Rattle.mx_cpus.specs.Courses.{IsTriedEvent}
+use Rattle.mx_cpus.specs.Courses.{IsAsked, IsTriedEvent}
 use Rattle.mx_cpus.specs.Gates.{GateCall, again_call, seen_call}
 use Rattle.mx_cpus.specs.Outsiders.{AreLooks, AreMade, AreSomeOf, HasMadeCalls, IsEarly, IsEnough, IsLast, IsLook, IsMade, IsOutsiderRun, IsStopped, IsWaited, IsWaiting, event_of_call, is_resting}
-use Rattle.mx_cpus.proofs.LoopLemmas.{HasAsked, asked_by, follows_self, follows_trans, map_both, seen_by}
+use Rattle.mx_cpus.proofs.LoopLemmas.{follows_self, follows_trans, map_both, seen_by}
 
 -- ---- records
 
@@ -264,11 +264,10 @@ module _ (boot : World) (WasCalled : GateCall → Type 0) where
       calls_end xs k d s t u side so_far below (subst (IsCallTo boot WasCalled (get_or xs k d) t u) is called)
 
   -- all are made
-  pub calls_all : (xs : List OutsideCall) (k : ℕ) (s t u : SeatView) (side : FreeSide) (far : HowFar) (goes_on : Bool) → CallsSoFar xs k s t side → take k xs ≡ xs → HasAsked boot WasCalled t u side.actor far goes_on
-      → IsOutsiderRun boot WasCalled xs s u
-  calls_all xs k s t u side far goes_on so_far all asked = record {
+  pub calls_all : (xs : List OutsideCall) (k : ℕ) (s t u : SeatView) (side : FreeSide) (goes_on : Bool) → CallsSoFar xs k s t side → take k xs ≡ xs → IsAsked boot WasCalled t u goes_on → IsOutsiderRun boot WasCalled xs s u
+  calls_all xs k s t u side goes_on so_far all asked = record {
     above = take k xs;
     last = t;
     made = so_far.made;
-    ends = inl (all, goes_on, asked_by boot WasCalled t u side.actor far goes_on goes_on (so_far.actor ∙ sym so_far.follows.actor) refl asked);
+    ends = inl (all, goes_on, asked);
   }

@@ -128,8 +128,7 @@ pub(crate) fn make_calls<M: Naming, G: WatchingGate, R: Wait>(
             CallEnd::Stopped => return (seat, side),
         }
     }
-    let (seat, far) = context.shared.how_far(context.rt, seat);
-    (seat, side.ask(&context.door, far))
+    context.ask(seat, side)
 }
 
 /// Makes calls in order: outside events, and waits. A wait ends once the history has as many records

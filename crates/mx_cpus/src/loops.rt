@@ -1,7 +1,9 @@
 //! What a processor does, turn after turn, and the respawner, round after round.
 
-ghost use Rattle.std.specs.Prelude.{◌≡◌, ◌<◌, true, None, if◌then◌else◌, length, nat_lt};
-ghost use Rattle.mx_cpus.specs.Courses.{IsProcessorRun, IsRespawnerRun};
+ghost use Rattle.std.specs.Prelude.{◌≡◌, ◌<◌, ◌+◌, true, None, if◌then◌else◌, length, nat_lt, IfErr, OnOk};
+ghost use Rattle.mx_machine.specs.declared.events.Event.TheVariants as events;
+ghost use Rattle.mx_cpus.specs.Calls.{IsRefusedCall};
+ghost use Rattle.mx_cpus.specs.Courses.{IsProcessorRun, IsRespawnerRun, IsTurn, turn_number};
 ghost use Rattle.mx_cpus.specs.Gates.{unwatched};
 ghost use Rattle.mx_cpus.specs.Loops.{HasMadeTurns, HasTickedAndRespawned};
 ghost use Rattle.mx_cpus.specs.Progresses.{IsRoundTo, IsSweepTo};
@@ -12,6 +14,37 @@ use crate::side::{FreeSide, LoopContext};
 use crate::{ActorSeat, Naming, Shared};
 use mx_machine::{Held, Refusal};
 use std::sync::Wait;
+
+/// A take, and if it isn't refused, a run of the loan until its budget is spent or it stops, and its return. The gate
+/// is told of a loan before it runs, and after it came back. Answers whether the take was refused, and why.
+fn make_turn<M: Naming, G: WatchingGate, R: Wait>(
+    context: &LoopContext<'_, M, G, R>,
+    seat: ActorSeat,
+    side: FreeSide,
+) -> (ActorSeat, FreeSide, Result<(), Refusal>)
+    requires table { seat.table ≡ M.table }
+    requires actor { side.actor ≡ seat.actor }
+    requires goes_on { side.goes_on ≡ true }
+    ensures turn { OnOk result.2 (IsTurn M.boot (G.was_called context.now.door.gate.now)
+        side.turn seat result.0) }
+    ensures counted { OnOk result.2 ((result.1.actor ≡ side.actor)
+        × (result.1.turn ≡ turn_number (side.turn + 1)) × (result.1.goes_on ≡ true)) }
+    ensures refused { IfErr result.2 (λ r. IsRefusedCall M.boot seat result.0 events.Take r) }
+    ensures same { IfErr result.2 (λ _. result.1 ≡ side) }
+{
+    let (next, taken) = context.shared.take(context.rt, seat);
+    match taken {
+        Ok(mut loan) => {
+            let holding = side.report_loan(&context.door, &loan);
+            // No budget is larger, so it runs until its budget is spent or it stops.
+            let _stop = loan.run(u32::MAX);
+            let (back, records) = context.shared.give_counted(context.rt, next, loan);
+            let side = holding.report_return(&context.door, &back, records);
+            (back, side, Ok(()))
+        }
+        Err(refusal) => (next, side, Err(refusal)),
+    }
+}
 
 /// A processor's turns, and its questions to the gate if nothing is ready.
 #[tactic(auto, using(crate::proofs::LoopLemmas::processor_made))]
@@ -34,26 +67,18 @@ pub(crate) fn make_turns<M: Naming, G: WatchingGate, R: Wait>(
     let mut seat = seat;
     let mut side = side;
     for _ in context.rt.forever() {
-        let (next, taken) = context.shared.take(context.rt, seat);
-        match taken {
-            Ok(mut loan) => {
-                let holding = side.report_loan(&context.door, &loan);
-                // No budget is larger, so it runs until its budget is spent or it stops.
-                let _stop = loan.run(u32::MAX);
-                let (back, records) = context.shared.give_counted(context.rt, next, loan);
-                seat = back;
-                side = holding.report_return(&context.door, &seat, records);
+        let (next, after, made) = make_turn(context, seat, side);
+        seat = next;
+        side = after;
+        if let Err(refusal) = made {
+            if let Refusal::LogFull = refusal {
+                return (seat, side);
             }
-            Err(refusal) => {
-                if let Refusal::LogFull = refusal {
-                    return (next, side);
-                }
-                let (next, far) = context.shared.how_far(context.rt, next);
-                seat = next;
-                side = side.ask(&context.door, far);
-                if !side.goes_on() {
-                    return (seat, side);
-                }
+            let (next, after) = context.ask(seat, side);
+            seat = next;
+            side = after;
+            if !side.goes_on() {
+                return (seat, side);
             }
         }
     }
@@ -150,9 +175,9 @@ pub(crate) fn make_rounds<M: Naming, G: WatchingGate, R: Wait>(
             Progress::Full => return (next, side),
             Progress::GoesOn => {}
         }
-        let (next, far) = context.shared.how_far(context.rt, next);
+        let (next, after) = context.ask(next, side);
         seat = next;
-        side = side.ask(&context.door, far);
+        side = after;
         if !side.goes_on() {
             return (seat, side);
         }

@@ -1,10 +1,12 @@
 //! An actor's side of the gate: which call a loop may make when. A loop has no other way to the gate.
 
 ghost use Rattle.std.specs.Prelude.{◌≡◌, ◌+◌, ◌-◌, ◌^◌, true, None, length, min};
+ghost use Rattle.mx_cpus.specs.Courses.{IsAsked};
 ghost use Rattle.mx_cpus.specs.Gates.{held_call, given_call, again_call, ended_call, seen_call};
 
 use crate::gate::WatchingGate;
 use crate::{ActorSeat, HowFar, Loan, Naming, Shared};
+use std::sync::Wait;
 
 /// The gate as a loop has it: only an actor's side calls it.
 #[derive(Drop)]
@@ -37,6 +39,21 @@ impl<'s, M: Naming, G: WatchingGate, R> LoopContext<'s, M, G, R> {
             shared,
             door: Door::new(gate),
         }
+    }
+}
+
+impl<'s, M: Naming, G: WatchingGate, R: Wait> LoopContext<'s, M, G, R> {
+    /// Looks how far the machine is, shows it to the gate, and asks the gate whether the actor's loop goes on.
+    pub(crate) fn ask(&self, seat: ActorSeat, side: FreeSide) -> (ActorSeat, FreeSide)
+        requires table { seat.table ≡ M.table }
+        requires actor { side.actor ≡ seat.actor }
+        requires goes_on { side.goes_on ≡ true }
+        ensures asked { IsAsked M.boot (G.was_called self.now.door.gate.now)
+            seat result.0 result.1.goes_on }
+        ensures side { (result.1.actor ≡ side.actor) × (result.1.turn ≡ side.turn) }
+    {
+        let (seat, far) = self.shared.how_far(self.rt, seat);
+        (seat, side.ask(&self.door, far))
     }
 }
 

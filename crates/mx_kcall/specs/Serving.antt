@@ -28,12 +28,15 @@ abbrev pub ticks_left : ℕ → Option ℕ → ℕ
 ticks_left uptime None = 0
 ticks_left uptime (Some due) = due - uptime
 
+-- what DEVIO does: it writes if its action isn't 0. Register 0 is the console
+abbrev pub device_effect : ℕ → ℕ → ℕ → Effect
+device_effect action register value = if action == 0 then Nothing else if register == 0 then WritesConsole (value % 256) else SetsRegister register value
+
 -- WHAT EACH CALL DOES, by what it may know; most calls do nothing but reply
 abbrev pub effect_of : Known → ℕ → KernelCall → Effect
 effect_of k s (SetAlarm delay) = SetsAlarm (due_after k.uptime delay)
 effect_of k s (Irqctl action line) = SetsOwner line (if action == 1 then Some s else None)
--- register 0 is the console
-effect_of k s (Devio action register value) = if action == 0 then Nothing else if register == 0 then WritesConsole (value % 256) else SetsRegister register value
+effect_of k s (Devio action register value) = device_effect action register value
 effect_of k s (Vircopy copy) = Copies copy
 effect_of k s (Kill endpoint) = Kills (slot_of endpoint)
 effect_of k s (Grant grant) = SetsWindow (slot_of grant.user) (granted grant.place grant.count grant.access)

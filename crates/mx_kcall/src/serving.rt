@@ -6,9 +6,10 @@ ghost use Rattle.mx_respawn.specs.Proc.Frame.{frame};
 ghost use Rattle.mx_respawn.specs.Proc.Sound.{HasBuffer, NoneComesHome};
 ghost use Rattle.mx_respawn.specs.Proc.TableState.{process_at};
 ghost use Rattle.mx_respawn.specs.Proc.declared.process.State.TheVariants.{Home};
+ghost use Rattle.mx_kcall.specs.Effects.{table_after_effect};
 ghost use Rattle.mx_kcall.specs.Refusals.{IsPermitted};
 ghost use Rattle.mx_kcall.specs.Requests.{no_reply_words};
-ghost use Rattle.mx_kcall.specs.Serving.{due_after, ticks_left, table_after_change, words_of_reply, ends_caller, table_after_reply, table_after_serving, answer_of_serving, table_after_kernel_call, answer_of_kernel_call};
+ghost use Rattle.mx_kcall.specs.Serving.{device_effect, due_after, ticks_left, table_after_change, words_of_reply, ends_caller, table_after_reply, table_after_serving, answer_of_serving, table_after_kernel_call, answer_of_kernel_call};
 
 use crate::refusals::check;
 use crate::request::{After, KernelCall, ReplyWords, VirtualAddress, reply_bytes};
@@ -79,6 +80,23 @@ fn process_address(table: &Table, address: VirtualAddress) -> ProcessAddress
     }
 }
 
+/// Writes a byte to the console, which is register 0, or a value to another register; nothing if the action is 0.
+fn use_device(table: &mut Table, action: u32, register: u32, value: u32)
+    requires room { table.old.devices.console.count + 1 < 2 ^ 32 }
+    requires register { register < 256 }
+    ensures value { (caller : ℕ) → table.new
+        ≡ table_after_effect table.old caller (device_effect action register value) }
+    ensures devices { table.new ≡ record table.old { devices = table.new.devices } }
+    ensures frame { frame table.new ≡ record (frame table.old) { devices = table.new.devices } }
+    ensures console { table.new.devices.console.count ≤ table.old.devices.console.count + 1 }
+{
+    if action == 0 {} else if register == 0 {
+        table.write_console((value % 256) as u8);
+    } else {
+        table.set_register(register as u8, value);
+    }
+}
+
 /// Does what a request asks of a table.
 fn change(table: &mut Table, slot: Slot, request: KernelCall)
     requires slot { slot < length table.old.slots }
@@ -105,13 +123,7 @@ fn change(table: &mut Table, slot: Slot, request: KernelCall)
             action,
             register,
             value,
-        } => {
-            if action == 0 {} else if register == 0 {
-                table.write_console((value % 256) as u8);
-            } else {
-                table.set_register(register as u8, value);
-            }
-        }
+        } => use_device(table, action, register, value),
         KernelCall::Vircopy(copied) => {
             let source = process_address(table, copied.source);
             let target = process_address(table, copied.target);

@@ -1,15 +1,13 @@
-use Rattle.std.proofs.Common.{◌≡◌, ◌∙◌, ℕ, List, [], ◌∷◌, Option, ap, inl, refl, subst, sym, true, false}
+use Rattle.std.proofs.Common.{◌≡◌, ◌∙◌, ℕ, List, [], Option, ap, inl, refl, subst, sym, true, false}
 use Rattle.std.specs.Prelude.{option_map}
 use Rattle.std.specs.Io.KnownBytes.{Appends}
 use Rattle.std.proofs.lemmas.List.{append-nil}
-use Rattle.mx_app_step.specs.Kept.{text_kept}
-use Rattle.mx_app_step.specs.Written.{kept}
 use Rattle.mx_app_turns.specs.Turned.{writes_over}
 use Rattle.mx_cpus.specs.declared.outside.OutsideCall.{OutsideCall}
 use Rattle.mx_app_run.specs.Run.{IsRun, run_ending}
 use Rattle.mx_app_start.proofs.Appended.{appends_nothing}
 use Rattle.mx_app_step.specs.Programs.{names_program}
-use Rattle.mx_app_run.proofs.RunLemmas.{no_memory, not_called, some_called, spared, untold, unwritten, written}
+use Rattle.mx_app_run.proofs.RunLemmas.{no_memory, not_called, some_called, spared, told}
 use Rattle.mx_app_run.proofs.running.run.Goals as goal
 
 pub returns-then-writes_over-clause-done : goal.returns-then-writes_over-clause-done
@@ -60,33 +58,6 @@ returns-in_err-kernel-clause-done g c =
     let unnamed : names_program b.config log ≡ false = sym c.names_program.ensures ∙ c.if-names_program.false in
     (s.0, [], s.1, sym (append-nil _), no_memory config file log c.args.wanted.ticks s.0 (λ (text : List ℕ). Appends (g.W.Write.contents c.args.channels.now.out) (g.W.Write.contents c.args.channels.now.out) text) apart b.config b.services.items b.calls.items s.2 unnamed c.from_residual-in_err-kernel.result c.from_residual-in_err-kernel.ensures.1)
 
-pub returns-in_err-write_history-clause-done : goal.returns-in_err-write_history-clause-done
-returns-in_err-write_history-clause-done g c =
-    let config = c.args.wanted.config.now in
-    let file : Option (List ℕ) = option_map (λ s. s.now) c.args.wanted.events in
-    let log = c.args.wanted.log.now in
-    let apart : writes_over config file log ≡ false = sym c.writes_over.ensures ∙ c.if-writes_over.false in
-    let b = c.in_ok-begun.begun in
-    let s = c.in_ok-begun.ensures.begun in
-    let unnamed : names_program b.config log ≡ false = sym c.names_program.ensures ∙ c.if-names_program.false in
-    let k = c.in_ok-kernel.kernel in
-    let made = subst (λ (l : List OutsideCall). IsRun b.config b.services.items c.args.wanted.ticks l k) c.as_slice.ensures.value c.in_ok-kernel.ensures in
-    let h = c.in_err-write_history.ensures.unwritten in
-    (s.0, h.0, s.1, h.1, unwritten config file log c.args.wanted.ticks s.0 (λ (text : List ℕ). Appends (g.W.Write.contents c.args.channels.now.out) (g.W.Write.contents c.args.channels.now.out) text) apart b.config b.services.items b.calls.items s.2 unnamed k made h.0 c.in_err-write_history.field-0.0 c.from_residual-in_err-write_history.result h.2 c.from_residual-in_err-write_history.ensures.1)
-
-pub returns-in_err-print_kernel_report-clause-done : goal.returns-in_err-print_kernel_report-clause-done
-returns-in_err-print_kernel_report-clause-done g c =
-    let config = c.args.wanted.config.now in
-    let file : Option (List ℕ) = option_map (λ s. s.now) c.args.wanted.events in
-    let log = c.args.wanted.log.now in
-    let apart : writes_over config file log ≡ false = sym c.writes_over.ensures ∙ c.if-writes_over.false in
-    let b = c.in_ok-begun.begun in
-    let s = c.in_ok-begun.ensures.begun in
-    let unnamed : names_program b.config log ≡ false = sym c.names_program.ensures ∙ c.if-names_program.false in
-    let k = c.in_ok-kernel.kernel in
-    let made = subst (λ (l : List OutsideCall). IsRun b.config b.services.items c.args.wanted.ticks l k) c.as_slice.ensures.value c.in_ok-kernel.ensures in
-    (s.0, kept log (text_kept k) ∷ [], s.1, c.in_ok-write_history.ensures.written, untold config file log c.args.wanted.ticks s.0 (λ (text : List ℕ). Appends (g.W.Write.contents c.args.channels.now.out) (g.W.Write.contents c.print_kernel_report.new.out) text) apart b.config b.services.items b.calls.items s.2 unnamed k made c.in_err-print_kernel_report.field-0.0 c.from_residual-in_err-print_kernel_report.result c.in_err-print_kernel_report.ensures.err c.from_residual-in_err-print_kernel_report.ensures.1)
-
 pub returns-clause-done : goal.returns-clause-done
 returns-clause-done g c =
     let config = c.args.wanted.config.now in
@@ -100,4 +71,5 @@ returns-clause-done g c =
     let listed = c.as_slice.ensures.value in
     let made = subst (λ (l : List OutsideCall). IsRun b.config b.services.items c.args.wanted.ticks l k) listed c.in_ok-kernel.ensures in
     let ends = c.ending_of-ending.ensures ∙ ap (λ (l : List OutsideCall). run_ending b.config.log c.args.wanted.ticks l k) listed in
-    (s.0, kept log (text_kept k) ∷ [], s.1, c.in_ok-write_history.ensures.written, written config file log c.args.wanted.ticks s.0 (λ (text : List ℕ). Appends (g.W.Write.contents c.args.channels.now.out) (g.W.Write.contents c.print_kernel_report.new.out) text) apart b.config b.services.items b.calls.items s.2 unnamed k made c.ending_of-ending.result c.in_ok-print_kernel_report.ensures.bytes ends)
+    let h = c.tell.ensures.told in
+    (s.0, h.0, ap g.R.Reader.asked c.tell.ensures.reader ∙ s.1, h.1, told config file log c.args.wanted.ticks s.0 (λ (text : List ℕ). Appends (g.W.Write.contents c.args.channels.now.out) (g.W.Write.contents c.tell.new.channels.out) text) apart b.config b.services.items b.calls.items s.2 unnamed k made h.0 c.ending_of-ending.result c.tell.result ends h.2)

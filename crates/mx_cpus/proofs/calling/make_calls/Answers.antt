@@ -42,6 +42,5 @@ returns-clause-made g c =
     let xs = c.args.calls.now in
     let k = c.loop-call.call-index in
     let over : length xs ≤ k = omega arith in
-    outsider_made boot called xs c.args.seat c.how_far-seat.result.0 c.facts.ensures.mine
-    (calls_all boot called xs k c.args.seat c.loop-call.seat c.how_far-seat.result.0 c.loop-call.side c.how_far-seat.result.1 c.ask.result.goes_on c.loop-call.invariant (take_all k xs over)
-    (record { rests = c.how_far-seat.ensures.rest; many = c.how_far-seat.ensures.records; seen = c.ask.ensures.seen; asked = c.ask.ensures.called }))
+    outsider_made boot called xs c.args.seat c.ask.result.0 c.facts.ensures.mine
+    (calls_all boot called xs k c.args.seat c.loop-call.seat c.ask.result.0 c.loop-call.side c.ask.result.1.goes_on c.loop-call.invariant (take_all k xs over) c.ask.ensures.asked)

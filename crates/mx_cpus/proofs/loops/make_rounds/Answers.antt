@@ -1,6 +1,6 @@
 use Rattle.std.proofs.Common.{◌≡◌, ◌∙◌, false, rules, subst, true}
 use Rattle.mx_cpus.specs.Progresses.{IsRoundTo}
-use Rattle.mx_cpus.proofs.LoopLemmas.{respawner_made, round_table, rounds_end, rounds_full, rounds_go_on}
+use Rattle.mx_cpus.proofs.LoopLemmas.{respawner_made, round_actor, round_table, rounds_end, rounds_full, rounds_go_on}
 use Rattle.mx_cpus.proofs.loops.make_rounds.Goals as goal
 
 pub returns-in-Full-clause-course : goal.returns-in-Full-clause-course
@@ -13,10 +13,13 @@ pub returns-in-Full-clause-made : goal.returns-in-Full-clause-made
 returns-in-Full-clause-made g c =
     respawner_made g.M.Naming.boot (g.G.Gate.was_called c.args.context.now.door.gate.now) c.args.ticks c.args.seat c.facts.ensures.mine c.make_round-next.result.0 (returns-in-Full-clause-course g c)
 
-pub how_far-next-requires : goal.how_far-next-requires
-how_far-next-requires g c =
+pub ask-next-requires : goal.ask-next-requires
+ask-next-requires g c =
     let next = c.make_round-next.result.0 in
     record {
+      actor = round_actor g.M.Naming.boot (g.G.Gate.was_called c.args.context.now.door.gate.now) c.args.ticks c.args.seat c.loop.seat next c.loop.side c.loop.left c.loop.invariant
+          (subst (IsRoundTo g.M.Naming.boot c.loop.left c.loop.seat next) c.in-GoesOn.is c.make_round-next.ensures);
+      goes_on = c.loop.invariant.goes_on;
       table = round_table g.M.Naming.boot c.loop.left c.loop.seat next g.M.Naming.table c.loop.invariant.follows.own
           (subst (IsRoundTo g.M.Naming.boot c.loop.left c.loop.seat next) c.in-GoesOn.is c.make_round-next.ensures) (c.loop.invariant.follows.table ∙ c.requires.table);
     }
@@ -24,19 +27,19 @@ how_far-next-requires g c =
 pub returns-then-not-goes_on-clause-course : goal.returns-then-not-goes_on-clause-course
 returns-then-not-goes_on-clause-course g c =
     let next = c.make_round-next.result.0 in
-    let off : c.ask-side.result.goes_on ≡ false = search rules in
-    rounds_end g.M.Naming.boot (g.G.Gate.was_called c.args.context.now.door.gate.now) c.args.ticks c.args.seat c.loop.seat next c.how_far-next.result.0 c.loop.side c.ask-side.result c.loop.left c.how_far-next.result.1 c.loop.invariant
+    let off : c.ask-next.result.1.goes_on ≡ false = search rules in
+    rounds_end g.M.Naming.boot (g.G.Gate.was_called c.args.context.now.door.gate.now) c.args.ticks c.args.seat c.loop.seat next c.ask-next.result.0 c.loop.side c.ask-next.result.1 c.loop.left c.loop.invariant
     (subst (IsRoundTo g.M.Naming.boot c.loop.left c.loop.seat next) c.in-GoesOn.is c.make_round-next.ensures)
-    (record { rests = c.how_far-next.ensures.rest; many = c.how_far-next.ensures.records; seen = c.ask-side.ensures.seen; asked = c.ask-side.ensures.called }) off
+    c.ask-next.ensures.asked off
 
 pub returns-then-not-goes_on-clause-made : goal.returns-then-not-goes_on-clause-made
 returns-then-not-goes_on-clause-made g c =
-    respawner_made g.M.Naming.boot (g.G.Gate.was_called c.args.context.now.door.gate.now) c.args.ticks c.args.seat c.facts.ensures.mine c.how_far-next.result.0 (returns-then-not-goes_on-clause-course g c)
+    respawner_made g.M.Naming.boot (g.G.Gate.was_called c.args.context.now.door.gate.now) c.args.ticks c.args.seat c.facts.ensures.mine c.ask-next.result.0 (returns-then-not-goes_on-clause-course g c)
 
 pub loop-preserved : goal.loop-preserved
 loop-preserved g c =
     let next = c.make_round-next.result.0 in
-    let on : c.ask-side.result.goes_on ≡ true = search rules in
-    rounds_go_on g.M.Naming.boot (g.G.Gate.was_called c.args.context.now.door.gate.now) c.args.ticks c.args.seat c.loop.seat next c.how_far-next.result.0 c.loop.side c.ask-side.result c.loop.left c.saturating_sub-left.result c.how_far-next.result.1 c.loop.invariant
+    let on : c.ask-next.result.1.goes_on ≡ true = search rules in
+    rounds_go_on g.M.Naming.boot (g.G.Gate.was_called c.args.context.now.door.gate.now) c.args.ticks c.args.seat c.loop.seat next c.ask-next.result.0 c.loop.side c.ask-next.result.1 c.loop.left c.saturating_sub-left.result c.loop.invariant
     (subst (IsRoundTo g.M.Naming.boot c.loop.left c.loop.seat next) c.in-GoesOn.is c.make_round-next.ensures)
-    (record { rests = c.how_far-next.ensures.rest; many = c.how_far-next.ensures.records; seen = c.ask-side.ensures.seen; asked = c.ask-side.ensures.called }) c.ask-side.ensures.side.0 on c.saturating_sub-left.ensures
+    c.ask-next.ensures.asked c.ask-next.ensures.side.0 on c.saturating_sub-left.ensures
