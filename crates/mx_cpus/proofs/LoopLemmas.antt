@@ -23,7 +23,7 @@ use Rattle.mx_cpus.specs.declared.side.FreeSide.{FreeSide}
 use Rattle.mx_cpus.specs.declared.progress.Progress.{Progress}
 use Rattle.mx_cpus.specs.declared.progress.Progress.TheVariants.{GoesOn, Full}
 use Rattle.mx_cpus.specs.Progresses.{IsRoundTo, IsSweepTo}
-use Rattle.mx_cpus.specs.Courses.{AreRounds, AreTried, AreTurns, IsAsked, IsProcessorRun, IsRespawnerRun, IsRound, IsRoundToFull, IsSweepToFull, IsTicked, IsTickToFull, IsTried, IsWait, longest_run, slots, turn_number}
+use Rattle.mx_cpus.specs.Courses.{AreRounds, AreTried, AreTurns, IsAsked, IsLastTurn, IsOneMore, IsOneMoreBy, IsProcessorRun, IsRespawnerRun, IsRound, IsRoundToFull, IsSweepToFull, IsTurn, IsTicked, IsTickToFull, IsTried, IsWait, longest_run, slots, turn_number}
 use Rattle.mx_cpus.specs.Loops.{AreTicksAndRespawns, HasMadeTurns, HasTickedAndRespawned, ticks_among, turns_of}
 
 pub follows_self : (s : SeatView) → s.mine ≡ part_of s.seen s.actor → Follows s s
@@ -118,23 +118,7 @@ module _ (boot : World) (WasCalled : GateCall → Type 0) where
         | inr wait ↦ turns_waited s run.last t false before wait
       ]
 
-  -- a turn, by how many came before it: its side counts them in 64 bits
-  pub turn_by : (n k : ℕ) (t v : SeatView) → k ≡ turn_number n → IsTurn boot WasCalled k t v → IsTurn boot WasCalled n t v
-  turn_by n k t v number turn =
-      let same : turn_number k ≡ turn_number n = omega (arith, number) in
-      record {
-        taken = turn.taken;
-        lent = turn.lent;
-        back = turn.back;
-        takes = turn.takes;
-        held = subst (λ j. WasCalled (held_call t.actor j)) same turn.held;
-        runs = turn.runs;
-        gives = turn.gives;
-        given = turn.given;
-        seen = turn.seen;
-      }
-
-  -- and the next number
+  -- the number of a turn, and the next one's
   pub next_turn : (n k m : ℕ) → k ≡ turn_number n → m ≡ turn_number (k + 1) → m ≡ turn_number (n + 1)
   next_turn n k m number is = omega (arith, number, is)
 
@@ -148,68 +132,52 @@ pub record TurnsSoFar (boot : World) (WasCalled : GateCall → Type 0) (s t : Se
   pub turn : side.turn ≡ turn_number turns
   pub goes_on : side.goes_on ≡ true
 
+module _ (boot : World) (WasCalled : GateCall → Type 0) (s t v : SeatView) (x y : FreeSide) (so_far : TurnsSoFar boot WasCalled s t x) where
+  one_made : (m : ℕ) → IsOneMore boot WasCalled so_far.turns t m v → HasMadeTurns s v
+  one_made m more = elim more [
+    | inl turn ↦ turn_more boot s t turn.1.taken v turn.1.lent turn.1.back so_far.made turn.1.takes turn.1.gives
+    | inr wait ↦ turns_waited boot WasCalled s t v true so_far.made wait.1
+  ]
+
+  -- it goes on after a turn, and after a question that was answered with yes
+  pub turns_go_on : ((n : ℕ) → x.turn ≡ turn_number n → IsOneMoreBy boot WasCalled n t v y.turn) → y.actor ≡ x.actor → y.goes_on ≡ true → TurnsSoFar boot WasCalled s v y
+  turns_go_on more_by same on =
+      let more = more_by so_far.turns so_far.turn in
+      record {
+        so_many = suc so_far.so_many;
+        turns = more.0;
+        course = (so_far.turns, t, so_far.course, more.1);
+        made = one_made more.0 more.1;
+        actor = same ∙ so_far.actor;
+        turn = more.2;
+        goes_on = on;
+      }
+
+  -- a full history ends it, and so does the gate
+  pub turns_end : IsLastTurn boot WasCalled t v → IsProcessorRun boot WasCalled s v
+  turns_end last = record {
+    so_many = so_far.so_many;
+    turns = so_far.turns;
+    last = t;
+    course = so_far.course;
+    ends = last;
+  }
+
 -- the side of an actor after one turn more
 abbrev pub IsCounted : FreeSide → FreeSide → Type 0
 IsCounted x y = (y.actor ≡ x.actor) × (y.turn ≡ turn_number (x.turn + 1)) × (y.goes_on ≡ true)
 
-module _ (boot : World) (WasCalled : GateCall → Type 0) (s t : SeatView) (x : FreeSide) (so_far : TurnsSoFar boot WasCalled s t x) where
-  -- it goes on after a turn
-  pub turns_go_on : (v : SeatView) (y : FreeSide) → IsTurn boot WasCalled x.turn t v → IsCounted x y → TurnsSoFar boot WasCalled s v y
-  turns_go_on v y turn counted =
-      let n = so_far.turns in
-      record {
-        so_many = suc so_far.so_many;
-        turns = n + 1;
-        course = (n, t, so_far.course, inl (refl, turn_by boot WasCalled n x.turn t v so_far.turn turn));
-        made = turn_more boot s t turn.taken v turn.lent turn.back so_far.made turn.takes turn.gives;
-        actor = counted.0 ∙ so_far.actor;
-        turn = next_turn boot WasCalled n x.turn y.turn so_far.turn counted.1;
-        goes_on = counted.2;
-      }
+-- a turn was made, by how many came before it
+pub one_turn : (boot : World) (WasCalled : GateCall → Type 0) (s t : SeatView) (k m n : ℕ) → ((i : ℕ) → k ≡ turn_number i → IsTurn boot WasCalled i s t) → m ≡ turn_number (k + 1) → k ≡ turn_number n → IsOneMoreBy boot WasCalled n s t m
+one_turn boot WasCalled s t k m n turn_by next number = (n + 1, inl (refl, turn_by n number), next_turn boot WasCalled n k m number next)
 
-  module _ (u : SeatView) (r : Refusal) (took : IsRefusedCall boot t u events.Take r) where
-    -- the seat and the side after a refusal are one actor's, of the same table
-    pub same_actor : (y : FreeSide) → y ≡ x → y.actor ≡ u.actor
-    same_actor y same = ap (λ (z : FreeSide). z.actor) same ∙ so_far.actor ∙ sym (took.follows.actor ∙ so_far.made.follows.actor)
+-- the gate was asked after a refusal
+pub wait_by : (boot : World) (WasCalled : GateCall → Type 0) (s u t : SeatView) (r : Refusal) (answer goes_on : Bool) → IsRefusedCall boot s u events.Take r → r ≢ LogFull → IsAsked boot WasCalled u t answer → answer ≡ goes_on → IsWait boot WasCalled s t goes_on
+wait_by boot WasCalled s u t r answer goes_on took other asked is = record { seat = u; refusal = r; takes = took; other = other; asks = subst (IsAsked boot WasCalled u t) is asked }
 
-    pub same_table : (z : TableId) → s.table ≡ z → u.table ≡ z
-    same_table z is = took.follows.table ∙ so_far.made.follows.table ∙ is
-
-    -- a full history ends it
-    pub turns_full : r ≡ LogFull → IsProcessorRun boot WasCalled s u
-    turns_full full = record {
-      so_many = so_far.so_many;
-      turns = so_far.turns;
-      last = t;
-      course = so_far.course;
-      ends = inl (subst (IsRefusedCall boot t u events.Take) full took);
-    }
-
-    module _ (other : r ≢ LogFull) (v : SeatView) (y : FreeSide) (asked : IsAsked boot WasCalled u v y.goes_on) where
-      waited : (goes_on : Bool) → y.goes_on ≡ goes_on → IsWait boot WasCalled t v goes_on
-      waited goes_on is = record { seat = u; refusal = r; takes = took; other = other; asks = subst (IsAsked boot WasCalled u v) is asked }
-
-      -- the gate ends it
-      pub turns_end : y.goes_on ≡ false → IsProcessorRun boot WasCalled s v
-      turns_end off = record {
-        so_many = so_far.so_many;
-        turns = so_far.turns;
-        last = t;
-        course = so_far.course;
-        ends = inr (waited false off);
-      }
-
-      -- and it goes on after a question that was answered with yes
-      pub turns_wait : y.actor ≡ x.actor → y.turn ≡ x.turn → y.goes_on ≡ true → TurnsSoFar boot WasCalled s v y
-      turns_wait same next on = record {
-        so_many = suc so_far.so_many;
-        turns = so_far.turns;
-        course = (so_far.turns, t, so_far.course, inr (refl, waited true on));
-        made = turns_waited boot WasCalled s t v true so_far.made (waited true on);
-        actor = same ∙ so_far.actor;
-        turn = next ∙ so_far.turn;
-        goes_on = on;
-      }
+-- and the loop goes on
+pub one_wait : (boot : World) (WasCalled : GateCall → Type 0) (s u t : SeatView) (r : Refusal) (answer : Bool) (m n : ℕ) → IsRefusedCall boot s u events.Take r → r ≢ LogFull → IsAsked boot WasCalled u t answer → answer ≡ true → m ≡ turn_number n → IsOneMoreBy boot WasCalled n s t m
+one_wait boot WasCalled s u t r answer m n took other asked on number = (n, inr (refl, wait_by boot WasCalled s u t r answer true took other asked on), number)
 
 -- ---- the respawner
 

@@ -17,7 +17,7 @@ use Rattle.mx_machine.specs.World.{World, HeldProcess, held_by}
 use Rattle.mx_machine.proofs.PartLemmas.{part_own}
 use Rattle.mx_machine.proofs.ReplayLemmas.{last_accepted}
 use Rattle.mx_loan.proofs.Fronts.{prefix_trans}
-use Rattle.mx_loan.specs.Seats.{DeskView, SeatView, LoanView, IsSeatOf, back_record, desk_after_back, desk_after_event, desk_after_take, new_loan, record_of, seat_after_back, seat_after_event, seat_after_take, seat_seeing}
+use Rattle.mx_loan.specs.Seats.{DeskView, SeatView, LoanView, IsSeatOf, back_record, desk_after_back, desk_after_event, desk_after_take, new_loan, record_of, take_record, seat_after_back, seat_after_event, seat_after_take, seat_seeing}
 use Rattle.mx_cpus.specs.Calls.{Follows, IsAcceptedCall, IsLentAt, IsRefusedCall, IsRestCall, IsAcceptedHistory, desk_beside, event_of, outs_of, steps_of, world_after}
 use Rattle.mx_cpus.proofs.WorldLemmas.{back_outs, moved_by}
 
@@ -67,6 +67,15 @@ desk_after_give z k n d e a b c l o is now who count made held world =
     ∙ same_desk z (k.history ++ back_record a c ∷ []) n.history (slice_set (outs_of (replay k)) a None) (outs_of (replay n))
     (sym (ap (λ (x : BootAndHistory). x.history) made ∙ ap (λ i. k.history ++ record_of i (recorded.Back o.count) ∷ []) who ∙ ap (λ i. k.history ++ back_record a i ∷ []) count))
     (sym (back_outs (replay k) (replay n) b l o held (world l held) ∙ ap (λ i. slice_set (outs_of (replay k)) i None) who))
+
+-- what was taken is lent
+pub desk_after_lend : (z : TableId) (k n : BootAndHistory) (d c e : DeskView) (a b : ℕ) (o : Out) → d ≡ desk_beside z k → c ≡ d → e ≡ desk_after_take c a o → b ≡ a → n ≡ with_record k b recorded.Take
+    → outs_of (replay n) ≡ slice_set (outs_of (replay k)) b (Some o) → e ≡ desk_beside z n
+desk_after_lend z k n d c e a b o is same now who made outs =
+    now ∙ ap (λ x. desk_after_take x a o) (same ∙ is)
+    ∙ same_desk z (k.history ++ take_record a ∷ []) n.history (slice_set (outs_of (replay k)) a (Some o)) (outs_of (replay n))
+    (sym (ap (λ (x : BootAndHistory). x.history) made ∙ ap (λ i. k.history ++ take_record i ∷ []) who))
+    (sym (outs ∙ ap (λ i. slice_set (outs_of (replay k)) i (Some o)) who))
 
 -- a call that was recorded
 pub accepted_by : (boot : World) (k n : BootAndHistory) (s t : SeatView) (b : ℕ) (e : Recorded) (holding : Option Out) (IsAnswered : World → Answer → Type 0) → k.boot ≡ boot → IsPrefix s.seen k.history → s.mine ≡ part_of k.history s.actor → b ≡ s.actor → n ≡ with_record k b e

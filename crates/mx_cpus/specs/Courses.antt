@@ -56,6 +56,14 @@ pub record IsWait (boot : World) (WasCalled : GateCall → Type 0) (s t : SeatVi
 abbrev pub IsOneMore : World → (GateCall → Type 0) → ℕ → SeatView → ℕ → SeatView → Type 0
 IsOneMore boot WasCalled n s m t = ((m ≡ n + 1) × IsTurn boot WasCalled n s t) ⊎ ((m ≡ n) × IsWait boot WasCalled s t true)
 
+-- the same, by the number that the next turn has
+abbrev pub IsOneMoreBy : World → (GateCall → Type 0) → ℕ → SeatView → SeatView → ℕ → Type 0
+IsOneMoreBy boot WasCalled n s t next = (m : ℕ) × IsOneMore boot WasCalled n s m t × (next ≡ turn_number m)
+
+-- what ends a processor's loop: a take is refused for a full history, or the gate ends it
+abbrev pub IsLastTurn : World → (GateCall → Type 0) → SeatView → SeatView → Type 0
+IsLastTurn boot WasCalled s t = IsRefusedCall boot s t events.Take LogFull ⊎ IsWait boot WasCalled s t false
+
 -- a processor's loop so far, from the seat s on: so many turns and waits in a row, of which n are turns, led to the seat t
 abbrev pub AreTurns : World → (GateCall → Type 0) → SeatView → ℕ → ℕ → SeatView → Type 0
 AreTurns boot WasCalled s zero n t = (n ≡ 0) × (t ≡ s)
@@ -68,7 +76,7 @@ pub record IsProcessorRun (boot : World) (WasCalled : GateCall → Type 0) (s t 
   pub turns : ℕ
   pub last : SeatView
   pub course : AreTurns boot WasCalled s so_many turns last
-  pub ends : IsRefusedCall boot last t events.Take LogFull ⊎ IsWait boot WasCalled last t false
+  pub ends : IsLastTurn boot WasCalled last t
 
 -- ---- the respawner
 

@@ -39,7 +39,7 @@ impl<M: Naming> Model for Locked<M> {
     ghost invariant = { λ l. IsLocked M.table M.boot l.kernel l.desk };
 }
 
-#[tactic(auto, using(crate::proofs::WorldLemmas::take_below, crate::proofs::WorldLemmas::take_empty, crate::proofs::WorldLemmas::take_outs, crate::proofs::WorldLemmas::take_fresh, crate::proofs::WorldLemmas::event_outs))]
+#[tactic(auto, using(crate::proofs::WorldLemmas::event_outs))]
 impl<M: Naming> Locked<M> {
     /// What the lock guards: a kernel, and the desk that agrees with it.
     pub fn new(kernel: Kernel, desk: Desk) -> Locked<M>

@@ -1,9 +1,9 @@
 //! What a processor does, turn after turn, and the respawner, round after round.
 
-ghost use Rattle.std.specs.Prelude.{◌≡◌, ◌<◌, ◌+◌, true, None, if◌then◌else◌, length, nat_lt, IfErr, OnOk};
+ghost use Rattle.std.specs.Prelude.{◌≡◌, ◌<◌, ◌+◌, ℕ, true, false, None, if◌then◌else◌, length, nat_lt, IfErr, OnOk};
 ghost use Rattle.mx_machine.specs.declared.events.Event.TheVariants as events;
 ghost use Rattle.mx_cpus.specs.Calls.{IsRefusedCall};
-ghost use Rattle.mx_cpus.specs.Courses.{IsProcessorRun, IsRespawnerRun, IsTurn, turn_number};
+ghost use Rattle.mx_cpus.specs.Courses.{IsLastTurn, IsOneMoreBy, IsProcessorRun, IsRespawnerRun, IsTurn, turn_number};
 ghost use Rattle.mx_cpus.specs.Gates.{unwatched};
 ghost use Rattle.mx_cpus.specs.Loops.{HasMadeTurns, HasTickedAndRespawned};
 ghost use Rattle.mx_cpus.specs.Progresses.{IsRoundTo, IsSweepTo};
@@ -25,8 +25,8 @@ fn make_turn<M: Naming, G: WatchingGate, R: Wait>(
     requires table { seat.table ≡ M.table }
     requires actor { side.actor ≡ seat.actor }
     requires goes_on { side.goes_on ≡ true }
-    ensures turn { OnOk result.2 (IsTurn M.boot (G.was_called context.now.door.gate.now)
-        side.turn seat result.0) }
+    ensures turn { OnOk result.2 ((n : ℕ) → side.turn ≡ turn_number n
+        → IsTurn M.boot (G.was_called context.now.door.gate.now) n seat result.0) }
     ensures counted { OnOk result.2 ((result.1.actor ≡ side.actor)
         × (result.1.turn ≡ turn_number (side.turn + 1)) × (result.1.goes_on ≡ true)) }
     ensures refused { IfErr result.2 (λ r. IsRefusedCall M.boot seat result.0 events.Take r) }
@@ -46,8 +46,37 @@ fn make_turn<M: Naming, G: WatchingGate, R: Wait>(
     }
 }
 
+/// A turn, or a question to the gate if its take is refused. Answers whether the loop goes on; it doesn't at a full
+/// history, of which the gate isn't asked.
+fn turn_or_wait<M: Naming, G: WatchingGate, R: Wait>(
+    context: &LoopContext<'_, M, G, R>,
+    seat: ActorSeat,
+    side: FreeSide,
+) -> (ActorSeat, FreeSide, bool)
+    requires table { seat.table ≡ M.table }
+    requires actor { side.actor ≡ seat.actor }
+    requires goes_on { side.goes_on ≡ true }
+    ensures more { result.2 ≡ true → (n : ℕ) → side.turn ≡ turn_number n
+        → IsOneMoreBy M.boot (G.was_called context.now.door.gate.now)
+        n seat result.0 result.1.turn }
+    ensures ends { result.2 ≡ false → IsLastTurn M.boot (G.was_called context.now.door.gate.now)
+        seat result.0 }
+    ensures actor { result.1.actor ≡ side.actor }
+    ensures goes_on { result.2 ≡ true → result.1.goes_on ≡ true }
+{
+    let (seat, side, made) = make_turn(context, seat, side);
+    match made {
+        Ok(()) => (seat, side, true),
+        Err(Refusal::LogFull) => (seat, side, false),
+        Err(_) => {
+            let (seat, side) = context.ask(seat, side);
+            let goes_on = side.goes_on();
+            (seat, side, goes_on)
+        }
+    }
+}
+
 /// A processor's turns, and its questions to the gate if nothing is ready.
-#[tactic(auto, using(crate::proofs::LoopLemmas::processor_made))]
 pub(crate) fn make_turns<M: Naming, G: WatchingGate, R: Wait>(
     context: &LoopContext<'_, M, G, R>,
     seat: ActorSeat,
@@ -67,19 +96,11 @@ pub(crate) fn make_turns<M: Naming, G: WatchingGate, R: Wait>(
     let mut seat = seat;
     let mut side = side;
     for _ in context.rt.forever() {
-        let (next, after, made) = make_turn(context, seat, side);
+        let (next, after, goes_on) = turn_or_wait(context, seat, side);
         seat = next;
         side = after;
-        if let Err(refusal) = made {
-            if let Refusal::LogFull = refusal {
-                return (seat, side);
-            }
-            let (next, after) = context.ask(seat, side);
-            seat = next;
-            side = after;
-            if !side.goes_on() {
-                return (seat, side);
-            }
+        if !goes_on {
+            return (seat, side);
         }
     }
     unreachable!()

@@ -1,0 +1,26 @@
+use Rattle.std.proofs.Common.{◌≡◌, ◌∙◌, ◌+◌, ℕ, Result, ap, inl, inr, false, refl, subst, sym, true}
+use Rattle.std.specs.Prelude.{IfErr, OnOk}
+use Rattle.mx_machine.specs.declared.events.Event.TheVariants as events
+use Rattle.mx_machine.specs.declared.events.Refusal.{Refusal}
+use Rattle.mx_cpus.specs.Calls.{IsRefusedCall}
+use Rattle.mx_cpus.specs.Courses.{IsTurn, turn_number}
+use Rattle.mx_cpus.specs.declared.side.FreeSide.{FreeSide}
+use Rattle.mx_cpus.proofs.LoopLemmas.{IsCounted, one_turn, one_wait, wait_by}
+use Rattle.mx_cpus.proofs.loops.turn_or_wait.Goals as goal
+
+pub returns-in-Ok-clause-more : goal.returns-in-Ok-clause-more
+returns-in-Ok-clause-more g c = λ on n number.
+    let s = c.args.seat in
+    let made = c.make_turn-seat in
+    let called = g.G.Gate.was_called c.args.context.now.door.gate.now in
+    let turn = subst (λ (r : Result (Unit {0}) Refusal). OnOk r ((i : ℕ) → c.args.side.turn ≡ turn_number i → IsTurn g.M.Naming.boot called i s made.result.0)) c.in-Ok.is made.ensures.turn in
+    let counted = subst (λ (r : Result (Unit {0}) Refusal). OnOk r (IsCounted c.args.side made.result.1)) c.in-Ok.is made.ensures.counted in
+    one_turn g.M.Naming.boot called s made.result.0 c.args.side.turn made.result.1.turn n turn counted.1 number
+
+pub returns-in-Ok-clause-actor : goal.returns-in-Ok-clause-actor
+returns-in-Ok-clause-actor g c =
+    (subst (λ (r : Result (Unit {0}) Refusal). OnOk r (IsCounted c.args.side c.make_turn-seat.result.1)) c.in-Ok.is c.make_turn-seat.ensures.counted).0
+
+pub returns-in-Ok-clause-goes_on : goal.returns-in-Ok-clause-goes_on
+returns-in-Ok-clause-goes_on g c = λ on.
+    (subst (λ (r : Result (Unit {0}) Refusal). OnOk r (IsCounted c.args.side c.make_turn-seat.result.1)) c.in-Ok.is c.make_turn-seat.ensures.counted).2
