@@ -25,9 +25,13 @@ register_name Edi = codes "EDI"
 unfoldable pub register_field : RegisterValues → Register → List ℕ
 register_field w r = register_name r ++ codes " " ++ eight_digits (word_of_register w r)
 
+-- two registers beside each other
+unfoldable pub two_registers : RegisterValues → Register → Register → List ℕ
+two_registers w a b = register_field w a ++ codes " " ++ register_field w b
+
 -- a line of four registers
 unfoldable pub register_line : RegisterValues → Register → Register → Register → Register → List ℕ
-register_line w a b c d = register_field w a ++ codes " " ++ register_field w b ++ codes " " ++ register_field w c ++ codes " " ++ register_field w d ++ codes "\n"
+register_line w a b c d = two_registers w a b ++ codes " " ++ two_registers w c d ++ codes "\n"
 
 -- a flag's name and its value, after a space
 abbrev pub flag_field : List ℕ → ℕ → List ℕ

@@ -1,7 +1,7 @@
 //! Prints registers and flags, as `mx one` and the debugger do.
 
 ghost use Rattle.std.specs.Prelude.{◌≡◌, ◌++◌, OnOk, string_bytes};
-ghost use Rattle.mx_print_answers.specs.Registers.{register_name, register_field, register_line, flag_field, flag_fields, register_lines};
+ghost use Rattle.mx_print_answers.specs.Registers.{register_name, register_field, register_line, two_registers, flag_field, flag_fields, register_lines};
 
 use mx_flags::FlagValues;
 use mx_image::Runs;
@@ -40,6 +40,21 @@ fn push_register<R: Runs>(
     push_eight_digits(out, process.reg(register))
 }
 
+/// Appends two registers, with a space between them.
+#[tactic(auto, unfolding(crate::specs::Registers::two_registers))]
+fn push_two<R: Runs>(
+    out: &mut String,
+    process: &R,
+    both: (Register, Register),
+) -> Result<(), AllocError>
+    ensures { OnOk result (string_bytes out.new ≡ string_bytes out.old
+        ++ two_registers (R.image process.now).regs both.0 both.1) }
+{
+    push_register(out, process, both.0)?;
+    out.push_str(" ")?;
+    push_register(out, process, both.1)
+}
+
 /// Appends a line of four registers, two on its left and two on its right.
 #[tactic(auto, unfolding(crate::specs::Registers::register_line))]
 fn push_four<R: Runs>(
@@ -51,13 +66,9 @@ fn push_four<R: Runs>(
     ensures { OnOk result (string_bytes out.new ≡ string_bytes out.old
         ++ register_line (R.image process.now).regs left.0 left.1 right.0 right.1) }
 {
-    push_register(out, process, left.0)?;
+    push_two(out, process, left)?;
     out.push_str(" ")?;
-    push_register(out, process, left.1)?;
-    out.push_str(" ")?;
-    push_register(out, process, right.0)?;
-    out.push_str(" ")?;
-    push_register(out, process, right.1)?;
+    push_two(out, process, right)?;
     out.push_str("\n")
 }
 

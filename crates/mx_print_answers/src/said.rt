@@ -30,6 +30,31 @@ pub fn said_of(answer: Result<Answer, Refusal>) -> Said
     }
 }
 
+/// How an event was answered, as a line prints it.
+#[derive(Clone, Copy)]
+struct AnswerLine(Answer);
+
+/// The line without its end, as `taken 5 budget 8`.
+impl fmt::Display for AnswerLine {
+    ghost use Rattle.std.specs.Prelude.{Some};
+    ghost use Rattle.mx_print_answers.specs.Said.{answer_line};
+
+    ghost output = { λ line. Some (answer_line line.0) };
+
+    fn fmt<W: fmt::Write>(&self, f: &mut fmt::Formatter<W>) -> fmt::Result {
+        let AnswerLine(answer) = *self;
+        match answer {
+            Answer::Went(Outcome::Go) => write!(f, "stepped 1 go"),
+            Answer::Went(Outcome::Trap) => write!(f, "stepped 1 trap"),
+            Answer::Went(Outcome::Fault(vector)) => write!(f, "stepped 1 fault {vector}"),
+            Answer::Taken(endpoint, budget) => write!(f, "taken {endpoint} budget {budget}"),
+            Answer::Returned(count) => write!(f, "returned {count}"),
+            Answer::Done => write!(f, "done"),
+            Answer::Respawned(endpoint) => write!(f, "respawned {endpoint}"),
+        }
+    }
+}
+
 /// The line that is printed, without its end.
 impl fmt::Display for Said {
     ghost use Rattle.std.specs.Prelude.{Some};
@@ -45,19 +70,10 @@ impl fmt::Display for Said {
                 f,
                 "stepped {count} fault {vector}"
             ),
-            Said::Answered(Answer::Went(Outcome::Go)) => write!(f, "stepped 1 go"),
-            Said::Answered(Answer::Went(Outcome::Trap)) => write!(f, "stepped 1 trap"),
-            Said::Answered(Answer::Went(Outcome::Fault(vector))) => write!(
-                f,
-                "stepped 1 fault {vector}"
-            ),
-            Said::Answered(Answer::Taken(endpoint, budget)) => write!(
-                f,
-                "taken {endpoint} budget {budget}"
-            ),
-            Said::Answered(Answer::Returned(count)) => write!(f, "returned {count}"),
-            Said::Answered(Answer::Done) => write!(f, "done"),
-            Said::Answered(Answer::Respawned(endpoint)) => write!(f, "respawned {endpoint}"),
+            Said::Answered(answer) => {
+                let line = AnswerLine(answer);
+                write!(f, "{line}")
+            }
             Said::Refused(refusal) => {
                 let refused = Refused::ByMachine(refusal);
                 write!(f, "{refused}")
