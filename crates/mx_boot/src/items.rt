@@ -79,6 +79,22 @@ fn service_of(line: &[u8]) -> Option<ServiceWords<'_>>
     }
 }
 
+/// The number that a line sets whose fields begin with a word, of a service and of rules apart.
+fn count_at<'a>(word: &[u8], line: &'a [u8]) -> Option<ConfigItem<'a>>
+    requires service { word.now ≢ codes "service" }
+    requires rules { word.now ≢ codes "rules" }
+    ensures said { MatchOption result ((i : ConfigItem) → SaysItem (word.now ∷ fields line.now) i
+        → ⊥) (SaysItem (word.now ∷ fields line.now)) }
+    ensures within { IfSome result IsItemWithin }
+{
+    match word {
+        b"cpus" => Some(ConfigItem::Cpus(only_number(line, 1, 8)? as u8)),
+        b"log" => Some(ConfigItem::Log(only_number(line, 1, 1_048_576)?)),
+        b"others" => Some(ConfigItem::Others(only_number(line, 1, 4)? as u8)),
+        _ => None,
+    }
+}
+
 /// What a line sets whose fields begin with a word. Takes no memory.
 #[tactic(auto, using(crate::proofs::Services::only_service))]
 pub fn item_at<'a>(word: &[u8], line: &'a [u8]) -> Option<ConfigItem<'a>>
@@ -93,10 +109,7 @@ pub fn item_at<'a>(word: &[u8], line: &'a [u8]) -> Option<ConfigItem<'a>>
         };
     }
     match word {
-        b"cpus" => Some(ConfigItem::Cpus(only_number(line, 1, 8)? as u8)),
-        b"log" => Some(ConfigItem::Log(only_number(line, 1, 1_048_576)?)),
-        b"others" => Some(ConfigItem::Others(only_number(line, 1, 4)? as u8)),
         b"rules" => Some(ConfigItem::ByRules(rules_of(line)?)),
-        _ => None,
+        _ => count_at(word, line),
     }
 }
