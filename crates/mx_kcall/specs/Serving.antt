@@ -42,6 +42,13 @@ effect_of k s (Kill endpoint) = Kills (slot_of endpoint)
 effect_of k s (Grant grant) = SetsWindow (slot_of grant.user) (granted grant.place grant.count grant.access)
 effect_of k s _ = Nothing
 
+-- a call that may change another process's memory, state or window
+abbrev pub reaches_others : KernelCall → Bool
+reaches_others (Vircopy copy) = true
+reaches_others (Kill endpoint) = true
+reaches_others (Grant grant) = true
+reaches_others _ = false
+
 abbrev pub table_after_change : TableState → ℕ → KernelCall → TableState
 table_after_change w s r = table_after_effect w s (effect_of (known w s) s r)
 

@@ -1,6 +1,6 @@
 //! What kernel calls do once nothing refuses them.
 
-ghost use Rattle.std.specs.Prelude.{◌≡◌, ◌≢◌, ℕ, ◌+◌, ◌<◌, ◌≤◌, ◌^◌, ◌==◌, false, Some, None, IfSome, length};
+ghost use Rattle.std.specs.Prelude.{◌≡◌, ◌≢◌, ℕ, ◌+◌, ◌<◌, ◌≤◌, ◌^◌, ◌==◌, true, false, Some, None, IfSome, length};
 ghost use Rattle.mx_respawn.specs.Proc.EndpointNumbers.{slot_of};
 ghost use Rattle.mx_respawn.specs.Proc.Frame.{frame};
 ghost use Rattle.mx_respawn.specs.Proc.Sound.{HasBuffer, NoneComesHome};
@@ -9,7 +9,7 @@ ghost use Rattle.mx_respawn.specs.Proc.declared.process.State.TheVariants.{Home}
 ghost use Rattle.mx_kcall.specs.Effects.{table_after_effect};
 ghost use Rattle.mx_kcall.specs.Refusals.{IsPermitted};
 ghost use Rattle.mx_kcall.specs.Requests.{no_reply_words};
-ghost use Rattle.mx_kcall.specs.Serving.{device_effect, due_after, ticks_left, table_after_change, words_of_reply, ends_caller, table_after_reply, table_after_serving, answer_of_serving, table_after_kernel_call, answer_of_kernel_call};
+ghost use Rattle.mx_kcall.specs.Serving.{device_effect, reaches_others, due_after, ticks_left, table_after_change, words_of_reply, ends_caller, table_after_reply, table_after_serving, answer_of_serving, table_after_kernel_call, answer_of_kernel_call};
 
 use crate::refusals::check;
 use crate::request::{After, KernelCall, ReplyWords, VirtualAddress, reply_bytes};
@@ -97,6 +97,36 @@ fn use_device(table: &mut Table, action: u32, register: u32, value: u32)
     }
 }
 
+/// Does what a request asks of a table, if it may reach another process.
+fn change_others(table: &mut Table, slot: Slot, request: KernelCall)
+    requires others { reaches_others request ≡ true }
+    requires slot { slot < length table.old.slots }
+    requires home { (process_at table.old slot).state ≡ Home }
+    requires inside { HasBuffer (process_at table.old slot) }
+    requires permitted { IsPermitted table.old request }
+    requires stays { ends_caller slot request ≡ false }
+    ensures value { table.new ≡ table_after_change table.old slot request }
+    ensures frame { frame table.new ≡ record (frame table.old) { devices = table.new.devices } }
+    ensures used { length table.new.slots ≡ length table.old.slots }
+    ensures home { (process_at table.new slot).state ≡ Home }
+    ensures inside { HasBuffer (process_at table.new slot) }
+    ensures settled { NoneComesHome table.old table.new }
+    ensures console { table.new.devices.console.count ≤ table.old.devices.console.count + 1 }
+{
+    match request {
+        KernelCall::Vircopy(copied) => {
+            let source = process_address(table, copied.source);
+            let target = process_address(table, copied.target);
+            table.copy(source, target, copied.count);
+        }
+        KernelCall::Kill(endpoint) => die(table, table.slot_of(endpoint), DeathCause::Kill),
+        KernelCall::Grant(grant) => {
+            table.set_window(slot, table.slot_of(grant.user), window_of(grant));
+        }
+        _ => unreachable!(),
+    }
+}
+
 /// Does what a request asks of a table.
 fn change(table: &mut Table, slot: Slot, request: KernelCall)
     requires slot { slot < length table.old.slots }
@@ -124,15 +154,7 @@ fn change(table: &mut Table, slot: Slot, request: KernelCall)
             register,
             value,
         } => use_device(table, action, register, value),
-        KernelCall::Vircopy(copied) => {
-            let source = process_address(table, copied.source);
-            let target = process_address(table, copied.target);
-            table.copy(source, target, copied.count);
-        }
-        KernelCall::Kill(endpoint) => die(table, table.slot_of(endpoint), DeathCause::Kill),
-        KernelCall::Grant(grant) => {
-            table.set_window(slot, table.slot_of(grant.user), window_of(grant));
-        }
+        _ => change_others(table, slot, request),
     }
 }
 

@@ -37,9 +37,3 @@ returns-in-Devio-clause-inside c = subst (λ (t : TableState). HasBuffer (proces
 
 pub returns-in-Devio-clause-settled : goal.returns-in-Devio-clause-settled
 returns-in-Devio-clause-settled c = λ s away. subst (λ (t : TableState). (process_at t s).state ≢ Home) (sym c.use_device.ensures.devices) away
-
-pub returns-in-Vircopy-clause-frame : goal.returns-in-Vircopy-clause-frame
-returns-in-Vircopy-clause-frame c = kept_frame _ _ c.copy.ensures.frame
-
-pub returns-in-Grant-clause-frame : goal.returns-in-Grant-clause-frame
-returns-in-Grant-clause-frame c = kept_frame _ _ c.set_window.ensures.frame
