@@ -8,10 +8,10 @@ mod Moving
 mod Traced
 mod Starting
 mod Alike
-mod Anded
 mod Halted
 mod Kernels
 mod WhyTexts
 mod Meeting
 mod Texts
 mod ShownMore
+mod Making

@@ -279,18 +279,14 @@ module _ (k : Walk) (s : Points) where
   pub none_before : (p : Position) (before after : List Part) → p ≡ first → IsPassed (is_looked_for s) k.boot k.records first k.here → after ≡ before ++ back p → Shows before after (λ ps. IsLastShown k s ps)
   none_before p before after at passed a = (back p, a, inr (passed, ap back at))
 
-  pub back_shown : (j l : Walk) (next : Position) (before now then after : List Part) → j ≡ gone k j.here → l ≡ gone j next → IsPosition j.records j.here → IsLastMarked (is_looked_for s) k.boot k.records j.here k.here
-      → next ≡ next_position j.records j.here → now ≡ before ++ back j.here → then ≡ now ++ shown_to j next → after ≡ then ++ shown_to l j.here → Shows before after (λ ps. IsLastShown k s ps)
-  back_shown j l next before now then after moved on position found there a b c =
+  pub back_shown : (j : Walk) (next : Position) (before now after : List Part) → j ≡ gone k j.here → IsPosition j.records j.here → IsLastMarked (is_looked_for s) k.boot k.records j.here k.here
+      → next ≡ next_position j.records j.here → now ≡ before ++ back j.here → after ≡ now ++ return_shown j j.here next → Shows before after (λ ps. IsLastShown k s ps)
+  back_shown j next before now after moved position found there a b =
       let p = j.here in
       let records : j.records ≡ k.records = ap (λ (w : Walk). w.records) moved in
-      let way : shown_to j next ≡ shown_way k p next = ap (λ (w : Walk). shown_to w next) moved in
-      let again : shown_to l p ≡ shown_way k next p = ap (λ (w : Walk). shown_to w p) (on ∙ ap (λ (w : Walk). gone w next) moved) in
       let at : next ≡ next_position k.records p = there ∙ ap (λ (xs : List Record). next_position xs p) records in
-      let ends : after ≡ now ++ return_shown k p (next_position k.records p) =
-      both_shown now then after (shown_to j next) (shown_to l p) b c ∙ ap (λ (ps : List Part). now ++ (ps ++ shown_to l p)) way ∙ ap (λ (ps : List Part). now ++ (shown_way k p next ++ ps)) again
-      ∙ ap (λ (q : Position). now ++ return_shown k p q) at in
       let rest = return_shown k p (next_position k.records p) in
+      let ends : after ≡ now ++ rest = b ∙ ap (λ (w : Walk). now ++ return_shown w p next) moved ∙ ap (λ (q : Position). now ++ return_shown k p q) at in
       (back p ++ rest, both_shown before now after (back p) rest a ends, inl (p, subst (λ (xs : List Record). IsPosition xs p) records position, found, refl))
 
 -- ---- requests

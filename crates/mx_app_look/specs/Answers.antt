@@ -1,5 +1,5 @@
 -- What each request prints, and where one is after it (our own).
-use Rattle.std.specs.Prelude.{◌≡◌, ℕ, ◌==◌, List, [], ◌∷◌, ◌++◌, codes, if◌then◌else◌}
+use Rattle.std.specs.Prelude.{◌≡◌, ℕ, ◌==◌, Bool, true, false, List, [], ◌∷◌, ◌++◌, codes, if◌then◌else◌}
 use Rattle.mx_app_step.specs.Report.{report_text}
 use Rattle.mx_app_look.specs.declared.request.Request.{Request}
 use Rattle.mx_app_look.specs.declared.request.Request.TheVariants.{Nothing, Forward, Back, Step, StepBack, GoTo, Point, Continue, Reverse, Until, Where, Why, Processes, Messages, Show, Help, Quit}
@@ -31,6 +31,18 @@ abbrev pub help_text : List ℕ
 help_text = codes "forward [N], back [N]       by N records, or one\nstep [N], stepback [N]      by N events, or one: a step, or what a record does besides\ngoto K, goto K.J, goto end  below K records; and J steps of the next; the last position\nbreak SLOT ADDRESS          a breakpoint of the slot's process\nwatch SLOT ADDRESS N        watches N bytes of its memory, 1 to 16\npoints, clear               what is set; takes all of them away\ncontinue, reverse           on to the next breakpoint or change of watched bytes, or back\nuntil SLOT TYPE             on to a kernel call of the slot's process, as TIMES or 0x601\nuntil death SLOT            on to its death\nuntil message FROM TO       on to what one slot's process gets of another\nwhere, why                  the position again; what the record above did\nps, messages                the report; what was delivered\nregs [SLOT]                 registers of the slot's process\nmem SLOT ADDRESS N          N bytes of its memory\nlist [SLOT [ADDRESS]]       its code, from the address or from EIP on\nstack [SLOT [N]]            N dwords of its stack, or eight\nprint SLOT NAME             its variable of that name\nhelp, quit                  this; the end\nA record is one event; back N is N steps of a process, and then its return.\nA command may be shortened, as f or stepb. Without SLOT it is the process on the\nprocessor whose record is next. ADDRESS is a number, decimal or 0x.., or a symbol\nof the slot's program, as count or top+4.\n"
 
 -- ---- REQUESTS
+
+-- it goes along the history, or searches it
+abbrev pub walks : Request → Bool
+walks (Forward n) = true
+walks (Back n) = true
+walks (Step n) = true
+walks (StepBack n) = true
+walks (GoTo p) = true
+walks Continue = true
+walks Reverse = true
+walks (Until h) = true
+walks r = false
 
 -- where one is after it
 abbrev pub to_of : Walk → Request → Position

@@ -8,21 +8,23 @@ ghost use Rattle.mx_walk.specs.Parts.{HasGrown, shown_to};
 ghost use Rattle.mx_walk.specs.Positions.{IsPosition, IsUpTo};
 ghost use Rattle.mx_app_look.specs.declared.sight.Sight.{Sight as Seen};
 ghost use Rattle.mx_app_look.specs.Above.{why_text};
-ghost use Rattle.mx_app_look.specs.Answers.{IsMade, after, help_text, processes_text, request_text, to_of};
+ghost use Rattle.mx_app_look.specs.Answers.{IsMade, after, help_text, processes_text, request_text, to_of, walks};
 ghost use Rattle.mx_app_look.specs.Showing.{shown_text};
 ghost use Rattle.mx_print_answers.specs.Messages.{delivery_lines};
 ghost use Rattle.mx_walk.specs.Walks.{world_here};
 ghost use Rattle.mx_app_look.specs.Places.{place_text};
 ghost use Rattle.mx_app_look.specs.Sessions.{IsAnswered, IsAnsweredBy, ends, is_quit, prompt_text};
 ghost use Rattle.mx_app_look.specs.Shows.{IsRequestShown, IsShown, IsShownBy, why_shown};
+ghost use Rattle.mx_app_look.specs.Verbs.{unknown_text};
 
+use crate::ending::ended;
 use crate::going_until::go_until;
 use crate::places::{push_place, push_position};
 use crate::request::{Request, request_of};
 use crate::seeking::{go_back, go_on, perform_point};
 use crate::showing::push_shown;
 use crate::shown::Shown;
-use crate::sight::{Sight, ended, say};
+use crate::sight::{Sight, say};
 use crate::verb::push_unknown;
 use crate::world_texts::{push_deliveries, push_processes, push_why};
 use mx_app_failure::Failure;
@@ -152,48 +154,84 @@ fn show(alloc: Global, sight: Sight, shown: &Shown) -> Result<(Sight, Vec<u8>), 
     Ok((sight, text))
 }
 
-/// Does what a request asks for, and answers what it prints. What is refused changes nothing.
-pub(crate) fn perform<P: Progress>(
+/// Does what a request asks for that stays where one is, and answers what it prints. What is refused changes
+/// nothing.
+fn perform_here<P: Progress>(
     alloc: Global,
     sight: Sight,
-    request: Request,
+    request: &Request,
     progress: &mut P,
 ) -> Result<(Sight, Vec<u8>), Failure>
+    requires { walks request.now ≡ false }
     ensures err { IfErr result IsWanting }
-    ensures made { IfOk result (λ r. IsMade sight request r.0 r.1.items) }
+    ensures made { IfOk result (λ r. IsMade sight request.now r.0 r.1.items) }
     ensures shown { OnOk result ((ps : List Parts)
-        × (P.shown progress.new ≡ P.shown progress.old ++ ps) × IsRequestShown sight request ps) }
+        × (P.shown progress.new ≡ P.shown progress.old ++ ps)
+        × IsRequestShown sight request.now ps) }
     ensures grown { IfErr result (λ _. HasGrown (P.shown progress.old) (P.shown progress.new)) }
 {
     match request {
-        Request::Forward(count) => {
-            let to = forward_from(&sight.walker, count);
-            go_to(alloc, sight, to, progress)
-        }
-        Request::Back(count) => {
-            let to = back_from(&sight.walker, count);
-            go_to(alloc, sight, to, progress)
-        }
-        Request::Step(count) => {
-            let to = steps_on(&sight.walker, count);
-            go_to(alloc, sight, to, progress)
-        }
-        Request::StepBack(count) => {
-            let to = steps_back(&sight.walker, count);
-            go_to(alloc, sight, to, progress)
-        }
-        Request::GoTo(asked) => go_to_asked(alloc, sight, asked, progress),
-        Request::Point(request) => perform_point(alloc, sight, &request),
-        Request::Continue => go_on(alloc, sight, progress),
-        Request::Reverse => go_back(alloc, sight, progress),
-        Request::Until(happening) => go_until(alloc, sight, happening, progress),
+        Request::Point(request) => perform_point(alloc, sight, request),
         Request::Where => show_place(alloc, sight),
         Request::Why => show_why(alloc, sight, progress),
         Request::Processes => show_processes(alloc, sight),
         Request::Messages => show_deliveries(alloc, sight),
-        Request::Show(shown) => show(alloc, sight, &shown),
+        Request::Show(shown) => show(alloc, sight, shown),
         Request::Help => say(alloc, sight, HELP),
         Request::Nothing | Request::Quit => say(alloc, sight, ""),
+        _ => unreachable!(),
+    }
+}
+
+/// Does what a request asks for, and answers what it prints. What is refused changes nothing.
+pub(crate) fn perform<P: Progress>(
+    alloc: Global,
+    sight: Sight,
+    request: &Request,
+    progress: &mut P,
+) -> Result<(Sight, Vec<u8>), Failure>
+    ensures err { IfErr result IsWanting }
+    ensures made { IfOk result (λ r. IsMade sight request.now r.0 r.1.items) }
+    ensures shown { OnOk result ((ps : List Parts)
+        × (P.shown progress.new ≡ P.shown progress.old ++ ps)
+        × IsRequestShown sight request.now ps) }
+    ensures grown { IfErr result (λ _. HasGrown (P.shown progress.old) (P.shown progress.new)) }
+{
+    match request {
+        Request::Forward(count) => {
+            let to = forward_from(&sight.walker, *count);
+            go_to(alloc, sight, to, progress)
+        }
+        Request::Back(count) => {
+            let to = back_from(&sight.walker, *count);
+            go_to(alloc, sight, to, progress)
+        }
+        Request::Step(count) => {
+            let to = steps_on(&sight.walker, *count);
+            go_to(alloc, sight, to, progress)
+        }
+        Request::StepBack(count) => {
+            let to = steps_back(&sight.walker, *count);
+            go_to(alloc, sight, to, progress)
+        }
+        Request::GoTo(asked) => go_to_asked(alloc, sight, *asked, progress),
+        Request::Continue => go_on(alloc, sight, progress),
+        Request::Reverse => go_back(alloc, sight, progress),
+        Request::Until(happening) => go_until(alloc, sight, *happening, progress),
+        _ => perform_here(alloc, sight, request, progress),
+    }
+}
+
+/// Answers a line that asks for nothing known.
+fn say_unknown(alloc: Global, sight: Sight, line: &[u8]) -> Result<(Sight, Vec<u8>), Failure>
+    ensures err { IfErr result IsWanting }
+    ensures same { IfOk result (λ r. r.0 ≡ sight) }
+    ensures text { IfOk result (λ r. r.1.items ≡ unknown_text line.now) }
+{
+    let mut text = Vec::new(alloc);
+    match push_unknown(&mut text, line) {
+        Ok(()) => Ok((sight, text)),
+        Err(_) => ended(sight, Err(Failure::NoMemory)),
     }
 }
 
@@ -211,13 +249,9 @@ fn answer<P: Progress>(
         × (P.shown progress.new ≡ P.shown progress.old ++ ps) × IsShownBy sight request ps) }
     ensures grown { IfErr result (λ _. HasGrown (P.shown progress.old) (P.shown progress.new)) }
 {
-    match request {
+    match &request {
         Some(request) => perform(alloc, sight, request, progress),
-        None => {
-            let mut text = Vec::new(alloc);
-            push_unknown(&mut text, line)?;
-            Ok((sight, text))
-        }
+        None => say_unknown(alloc, sight, line),
     }
 }
 

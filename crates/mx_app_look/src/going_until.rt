@@ -8,14 +8,14 @@ ghost use Rattle.mx_app_look.specs.Answers.{after, request_text, to_of};
 ghost use Rattle.mx_app_look.specs.Searches.{not_met};
 ghost use Rattle.mx_app_look.specs.Until.{has_service, has_slots, until_halt};
 
+use crate::ending::ended;
 use crate::happening::{Happening, happens};
 use crate::places::push_place;
 use crate::sight::{Sight, say};
 use crate::slots::slot_asked;
-use crate::world_texts::{Placed, see_record};
+use crate::world_texts::{Placed, push_seen, see_record};
 use mx_app_failure::Failure;
 use mx_app_step::resting_step;
-use mx_look_trace::push_record;
 use mx_walk::{Progress, Walker};
 use mx_word::NoMemory;
 use std::alloc::Global;
@@ -57,8 +57,10 @@ fn go_on_unmet<P: Progress>(
     ensures unshown { IfErr result (λ _. P.shown progress.new ≡ P.shown progress.old) }
 {
     let last = walker.last();
-    let walker = out.extend_from_slice(b"not met\n").and(Ok(walker))?;
-    walker.go_to(alloc, last, progress)
+    match out.extend_from_slice(b"not met\n") {
+        Ok(()) => walker.go_to(alloc, last, progress),
+        Err(error) => ended(walker, Err(error.into())),
+    }
 }
 
 /// Goes on to right below the first record in which it happens, and appends what that record did; to the
@@ -87,7 +89,7 @@ fn go_on_until<P: Progress>(
         let placed = Placed { above, entry };
         walker = see_record(alloc, walker, placed, &mut step, progress)?;
         if happens(happening, &step) {
-            return Ok(push_record(out, &step).and(Ok(walker))?);
+            return push_seen(out, walker, &step);
         }
     }
     go_on_unmet(alloc, walker, out, progress)
@@ -114,8 +116,10 @@ fn go_on_to<P: Progress>(
     let Sight { walker, points } = sight;
     let mut text = Vec::new(alloc);
     let mut walker = go_on_until(alloc, walker, happening, &mut text, progress)?;
-    let placed = push_place(alloc, &mut text, &mut walker);
-    Ok(placed.and(Ok((Sight { walker, points }, text)))?)
+    match push_place(alloc, &mut text, &mut walker) {
+        Ok(()) => Ok((Sight { walker, points }, text)),
+        Err(_) => ended(Sight { walker, points }, Err(Failure::NoMemory)),
+    }
 }
 
 /// Goes on to right below the first record in which it happens, if each slot that it is about has a service.

@@ -4,6 +4,7 @@
 
 mod answering;
 mod changes;
+mod ending;
 mod going_until;
 mod halt_laws;
 mod happening;

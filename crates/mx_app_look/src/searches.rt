@@ -1,17 +1,18 @@
 //! Searches: on to the next halt, and back to the last one.
 
-ghost use Rattle.std.specs.Prelude.{◌≡◌, ◌++◌, Err, IfErr, IfOk, List, OnOk, Some, string_bytes};
+ghost use Rattle.std.specs.Prelude.{◌≡◌, ◌++◌, IfErr, IfOk, List, OnOk, Some, false, string_bytes, true};
 ghost use Rattle.mx_machine.specs.World.{World};
 ghost use Rattle.mx_walk.specs.Positions.{IsAbove, IsPosition, IsUpTo, event_below, next_position, position_before};
 ghost use Rattle.mx_walk.specs.declared.progress.Part.{Part as Parts};
-ghost use Rattle.mx_walk.specs.Parts.{HasGrown, shown_to};
-ghost use Rattle.mx_walk.specs.Seeking.{is_marked};
-ghost use Rattle.mx_walk.specs.Walks.{Walk, world_here};
-ghost use Rattle.mx_app_look.specs.Marks.{changes_watched};
+ghost use Rattle.mx_walk.specs.Parts.{HasGrown, shown_to, walk_shown};
+ghost use Rattle.mx_walk.specs.Seeking.{IsLastMarked, IsPassed, is_marked};
+ghost use Rattle.mx_walk.specs.Walks.{Walk, first, world_here};
+ghost use Rattle.mx_app_look.specs.Marks.{changes_watched, is_looked_for};
 ghost use Rattle.mx_app_look.specs.Searches.{IsHalt, IsHaltAfter, IsLastHalt, IsNextHalt, changes_from, halt_by, is_break, not_met};
-ghost use Rattle.mx_app_look.specs.Shows.{IsLastShown, IsNextShown, IsSearchShown, IsShownAfter, halt_shown};
+ghost use Rattle.mx_app_look.specs.Shows.{IsLastShown, IsNextShown, IsSearchShown, IsShownAfter, halt_shown, return_shown};
 
 use crate::changes::{all_bytes, push_changes};
+use crate::ending::ended;
 use crate::marks::{breaks_mark, bytes_mark, points_mark};
 use crate::points::Points;
 use mx_walk::{Mark, NextEvent, Position, Progress, Walker, is_up_to, next_event, position_before};
@@ -27,20 +28,13 @@ fn not_met(alloc: Global) -> Result<String, AllocError>
     Ok(line)
 }
 
-/// Ends a value, and answers that there is no memory.
-fn give_up<V: Drop, T>(_value: V, error: NoMemory) -> Result<T, NoMemory>
-    ensures { result ≡ Err error }
-{
-    Err(error)
-}
-
 /// Halts here, as nothing is met.
 fn meet_nothing(alloc: Global, walker: Walker) -> Result<(Walker, String), NoMemory>
     ensures { IfOk result (λ r. (r.0 ≡ walker) × (string_bytes r.1 ≡ not_met)) }
 {
     match not_met(alloc) {
         Ok(line) => Ok((walker, line)),
-        Err(error) => give_up(walker, error.into()),
+        Err(error) => ended(walker, Err(error.into())),
     }
 }
 
@@ -76,13 +70,13 @@ fn go_and_compare<P: Progress>(
 {
     let seen = match all_bytes(alloc, walker.machine(), points.watches.as_slice()) {
         Ok(seen) => seen,
-        Err(error) => return give_up(walker, error.into()),
+        Err(error) => return ended(walker, Err(error.into())),
     };
     let walker = walker.go_to(alloc, to, progress)?;
     let mut changes = String::new(alloc);
     match push_changes(alloc, &mut changes, walker.machine(), seen.as_slice()) {
         Ok(()) => Ok((walker, changes)),
-        Err(error) => give_up(walker, error.into()),
+        Err(error) => ended(walker, Err(error.into())),
     }
 }
 
@@ -109,7 +103,7 @@ fn halt_by<P: Progress>(
     match is_at_break(alloc, &walker, points) {
         Ok(true) => Ok((walker, String::new(alloc))),
         Ok(false) => go_and_compare(alloc, walker, points, below, progress),
-        Err(error) => give_up(walker, error.into()),
+        Err(error) => ended(walker, Err(error.into())),
     }
 }
 
@@ -131,7 +125,7 @@ fn go_on_from<P: Progress>(
     let mut walker = walker;
     let mut mark = match points_mark(alloc, points) {
         Ok(mark) => mark,
-        Err(error) => return give_up(walker, error.into()),
+        Err(error) => return ended(walker, Err(error.into())),
     };
     if !walker.seek(&mut mark, progress) {
         return meet_nothing(alloc, walker);
@@ -167,7 +161,7 @@ fn go_on_past<P: Progress>(
 {
     let mut bytes = match bytes_mark(alloc, points) {
         Ok(bytes) => bytes,
-        Err(error) => return give_up(walker, error.into()),
+        Err(error) => return ended(walker, Err(error.into())),
     };
     bytes.look(walker.machine(), next.actor, next.event);
     let (walker, changes) = go_and_compare(alloc, walker, points, next.position, progress)?;
@@ -201,6 +195,51 @@ pub fn go_on_to_point<P: Progress>(
     }
 }
 
+/// Goes back to right above the last event that is looked for; to the first position if there is none. Answers
+/// whether there is one.
+fn seek_back<P: Progress>(
+    alloc: Global,
+    walker: Walker,
+    points: &Points,
+    progress: &mut P,
+) -> Result<(Walker, bool), NoMemory>
+    ensures same { IfOk result (λ back. back.0 ≡ record walker { here = back.0.here }) }
+    ensures found { IfOk result (λ back. back.1 ≡ true → IsLastMarked (is_looked_for points.now)
+        walker.boot walker.records back.0.here walker.here) }
+    ensures nowhere { IfOk result (λ back. back.1 ≡ false → (back.0.here ≡ first)
+        × IsPassed (is_looked_for points.now) walker.boot walker.records first walker.here) }
+    ensures shown { IfOk result (λ back. P.shown progress.new ≡ P.shown progress.old
+        ++ (walk_shown walker.records walker.here ++ shown_to walker back.0.here)) }
+    ensures grown { IfErr result (λ _. HasGrown (P.shown progress.old) (P.shown progress.new)) }
+{
+    match points_mark(alloc, points) {
+        Ok(mut mark) => walker.seek_back(alloc, &mut mark, progress),
+        Err(error) => ended(walker, Err(error.into())),
+    }
+}
+
+/// Goes on to a position, and back to where the walker was; answers how the watched bytes changed on the way.
+fn see_changes<P: Progress>(
+    alloc: Global,
+    walker: Walker,
+    points: &Points,
+    to: Position,
+    progress: &mut P,
+) -> Result<(Walker, String), NoMemory>
+    requires position { IsPosition walker.records to }
+    requires early { IsUpTo to walker.last }
+    ensures same { IfOk result (λ r. r.0 ≡ walker) }
+    ensures changes { IfOk result (λ r. string_bytes r.1
+        ≡ changes_from walker points.now walker.here to) }
+    ensures shown { OnOk result (P.shown progress.new
+        ≡ P.shown progress.old ++ return_shown walker walker.here to) }
+    ensures grown { IfErr result (λ _. HasGrown (P.shown progress.old) (P.shown progress.new)) }
+{
+    let here = walker.here();
+    let (walker, changes) = go_and_compare(alloc, walker, points, to, progress)?;
+    Ok((walker.go_to(alloc, here, progress)?, changes))
+}
+
 /// Goes back to right above the last event that changes watched bytes or is the step at a breakpoint; else
 /// to the first position. Answers what is printed before the place. Takes memory to boot the machine again.
 pub fn go_back_to_point<P: Progress>(
@@ -216,22 +255,15 @@ pub fn go_back_to_point<P: Progress>(
         × IsLastShown walker points.now ps) }
     ensures grown { IfErr result (λ _. HasGrown (P.shown progress.old) (P.shown progress.new)) }
 {
-    let mut mark = match points_mark(alloc, points) {
-        Ok(mark) => mark,
-        Err(error) => return give_up(walker, error.into()),
-    };
     // Where it is now is a position, and not past the last: so is right below an event that is found.
     let _ = walker.here();
-    let (walker, found) = walker.seek_back(alloc, &mut mark, progress)?;
+    let (walker, found) = seek_back(alloc, walker, points, progress)?;
     if !found {
         return meet_nothing(alloc, walker);
     }
     let halt = walker.here();
     match next_event(walker.records(), halt) {
-        Some(next) => {
-            let (walker, changes) = go_and_compare(alloc, walker, points, next.position, progress)?;
-            Ok((walker.go_to(alloc, halt, progress)?, changes))
-        }
+        Some(next) => see_changes(alloc, walker, points, next.position, progress),
         None => unreachable!(),
     }
 }

@@ -16,9 +16,10 @@ ghost use Rattle.mx_walk.specs.Walks.{Walk};
 ghost use Rattle.mx_app_look.specs.Sessions.{HasFailed, IsBegun, IsSession, IsWhole, begun_text, end_text, sight_at};
 
 use crate::answering::{answer_line, push_prompt};
+use crate::ending::ended;
 use crate::places::push_place;
 use crate::points::Points;
-use crate::sight::{Sight, ended};
+use crate::sight::Sight;
 use mx_app_failure::{Failure, print_text};
 use mx_app_start::Channels;
 use mx_app_step::{History, LineReader, Reader, Started, start};

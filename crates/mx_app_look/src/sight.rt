@@ -3,6 +3,7 @@
 ghost use Rattle.std.specs.Prelude.{◌≡◌, IfErr, IfOk};
 ghost use Rattle.mx_app_step.specs.Failure.{IsWanting};
 
+use crate::ending::ended;
 use crate::points::Points;
 use mx_app_failure::Failure;
 use mx_walk::Walker;
@@ -13,13 +14,6 @@ use std::alloc::Global;
 pub struct Sight {
     pub walker: Walker,
     pub points: Points,
-}
-
-/// Ends what a session has in hand, and answers this.
-pub(crate) fn ended<T>(_sight: Sight, answer: T) -> T
-    ensures { result ≡ answer }
-{
-    answer
 }
 
 /// Answers a text, and changes nothing.

@@ -11,6 +11,7 @@ ghost use Rattle.mx_app_look.specs.Answers.{line_end, processes_text};
 ghost use Rattle.mx_app_look.specs.Shows.{record_shown, why_shown};
 ghost use Rattle.mx_app_look.specs.Until.{below};
 
+use crate::ending::ended;
 use mx_app_failure::Failure;
 use mx_app_step::resting_step;
 use mx_boot::report;
@@ -69,6 +70,17 @@ pub(crate) fn see_record<P: Progress>(
     Ok(walker)
 }
 
+/// Appends what a record did that was seen. The walker is where it was.
+pub(crate) fn push_seen(out: &mut Vec<u8>, walker: Walker, step: &Step) -> Result<Walker, NoMemory>
+    ensures same { IfOk result (λ w. w ≡ walker) }
+    ensures text { OnOk result (out.new.items ≡ out.old.items ++ record_text step.now) }
+{
+    match push_record(out, step) {
+        Ok(()) => Ok(walker),
+        Err(error) => ended(walker, Err(error.into())),
+    }
+}
+
 /// Appends what a record did, and goes back to where the walker was.
 fn push_record_above<P: Progress>(
     alloc: Global,
@@ -90,7 +102,7 @@ fn push_record_above<P: Progress>(
     let here = walker.here();
     let mut step = resting_step(walker.machine());
     let walker = see_record(alloc, walker, placed, &mut step, progress)?;
-    let walker = push_record(out, &step).and(Ok(walker))?;
+    let walker = push_seen(out, walker, &step)?;
     Ok(walker.go_to(alloc, here, progress)?)
 }
 
@@ -109,7 +121,10 @@ pub(crate) fn push_why<P: Progress>(
 {
     let here = walker.here();
     if here.records == 0 {
-        return Ok(out.extend_from_slice(b"boot\n").and(Ok(walker))?);
+        return match out.extend_from_slice(b"boot\n") {
+            Ok(()) => Ok(walker),
+            Err(_) => ended(walker, Err(Failure::NoMemory)),
+        };
     }
     let above = here.records - 1;
     let entry = walker.records()[above];

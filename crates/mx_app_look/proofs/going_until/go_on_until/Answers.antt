@@ -1,19 +1,21 @@
-use Rattle.std.proofs.Common.{◌≡◌, ◌∙◌, ◌<◌, ◌≤◌, ◌++◌, ◌-◌, ℕ, List, length, Option, None, find, refl, ap, subst, sym, arith}
+use Rattle.std.proofs.Common.{◌≡◌, ◌∙◌, ◌<◌, ◌≤◌, ◌++◌, ◌-◌, ℕ, List, length, get_or, Option, Some, None, find, refl, ap, subst, sym, arith}
 use Rattle.std.proofs.lemmas.Result.{IfOk-weaker}
 use Rattle.std.specs.List.{range_with_len}
+use Rattle.mx_look_trace.specs.Trace.{record_text}
+use Rattle.mx_machine.specs.declared.history.Record.{Record}
 use Rattle.mx_walk.specs.declared.positions.Position.{Position}
 use Rattle.mx_walk.specs.Positions.{IsPosition, IsUpTo}
 use Rattle.mx_walk.specs.Walks.{Walk}
 use Rattle.mx_walk.proofs.Along.{any_record}
 use Rattle.mx_walk.proofs.PartsShown.{none_between}
-use Rattle.mx_app_look.proofs.Anded.{anded, anded_done}
 use Rattle.mx_app_look.proofs.Meeting.{goes_by, goes_on, halts_here, appends_it}
 use Rattle.mx_walk.specs.Parts.{parts_between, shown_to}
 use Rattle.mx_app_look.specs.declared.happening.Happening.{Happening}
 use Rattle.mx_app_look.specs.Searches.{not_met}
 use Rattle.mx_app_look.specs.Until.{halt_below, has, met, until_halt}
 use Rattle.mx_app_look.proofs.Meeting.{met_from}
-use Rattle.mx_app_look.proofs.ShownMore.{err_always, err_weaker, grown_by, grown_more, grown_same, halts_last, ok_weaker, on_here, on_one_more, passed_one, shown_until_here, shown_until_last}
+use Rattle.mx_app_look.proofs.Moving.{read_is}
+use Rattle.mx_app_look.proofs.ShownMore.{err_always, err_weaker, grown_by, grown_more, grown_same, halts_last, ok_always, ok_weaker, on_here, on_one_more, passed_one, shown_until_here, shown_until_last}
 use Rattle.mx_app_look.proofs.going_until.go_on_until.Goals as goal
 
 -- it happens in none of the records
@@ -31,15 +33,29 @@ bounds-records-above g c =
     let same : length c.records.result.now ≡ length k.records = ap length (c.records.ensures ∙ ap (λ (j : Walk). j.records) c.loop-above.invariant.walker) in
     omega (arith, few, lt, same)
 
+pub see_record-requires-clause-there : goal.see_record-requires-clause-there
+see_record-requires-clause-there g c =
+    let lt : c.loop-above.above < c.args.walker.last.records = subst (λ (p : Position). c.loop-above.above < p.records) c.last-last.ensures.last c.loop-above-test.true in
+    let same : c.loop-above.walker.last.records ≡ c.args.walker.last.records = ap (λ (j : Walk). j.last.records) c.loop-above.invariant.walker in
+    omega (arith, lt, same)
+
+pub see_record-requires-clause-entry : goal.see_record-requires-clause-entry
+see_record-requires-clause-entry g c =
+    let n = c.loop-above.above in
+    let few = c.last-last.ensures.is.position.above in
+    let lt = c.loop-above-test.true in
+    let same : length c.loop-above.walker.records ≡ length c.args.walker.records = ap (λ (j : Walk). length j.records) c.loop-above.invariant.walker in
+    read_is c.loop-above.walker.records n any_record (omega (arith, few, lt, same)) ∙ ap (λ (rs : List Record). Some (get_or rs n any_record)) (sym c.records.ensures)
+
 pub returns-then-happens-clause-walker : goal.returns-then-happens-clause-walker
 returns-then-happens-clause-walker g c =
     let k = c.args.walker in
     let inv = c.loop-above.invariant in
     let lt : c.loop-above.above < k.last.records = subst (λ (p : Position). c.loop-above.above < p.records) c.last-last.ensures.last c.loop-above-test.true in
     let few : k.last.records ≤ length k.records = subst (λ (p : Position). p.records ≤ length k.records) c.last-last.ensures.last c.last-last.ensures.is.position.above in
-    anded c.and.result c.push_record.result c.in_ok-walker.walker c.in_ok-and.field-0 c.and.ensures c.in_ok-and.was
-    ∙ halts_here k c.loop-above.walker c.args.happening c.records.result.now c.loop-above.above _ c.see_record.new.step inv.walker c.records.ensures lt few
-    c.in_ok-walker.ensures.step inv.none (sym c.happens.ensures ∙ c.if-happens.true) c.in_ok-walker.walker c.in_ok-walker.ensures.walker
+    let halts = halts_here k c.loop-above.walker c.args.happening c.records.result.now c.loop-above.above _ c.see_record.new.step inv.walker c.records.ensures lt few
+    c.in_ok-walker.ensures.step inv.none (sym c.happens.ensures ∙ c.if-happens.true) c.in_ok-walker.walker c.in_ok-walker.ensures.walker in
+    IfOk-weaker c.push_seen.result _ _ (λ (w : Walk) same. same ∙ halts) c.push_seen.ensures.same
 
 pub returns-then-happens-clause-text : goal.returns-then-happens-clause-text
 returns-then-happens-clause-text g c =
@@ -47,9 +63,11 @@ returns-then-happens-clause-text g c =
     let inv = c.loop-above.invariant in
     let lt : c.loop-above.above < k.last.records = subst (λ (p : Position). c.loop-above.above < p.records) c.last-last.ensures.last c.loop-above-test.true in
     let few : k.last.records ≤ length k.records = subst (λ (p : Position). p.records ≤ length k.records) c.last-last.ensures.last c.last-last.ensures.is.position.above in
-    appends_it k c.loop-above.walker c.args.happening c.records.result.now c.loop-above.above _ c.see_record.new.step inv.walker c.records.ensures lt few
-    c.in_ok-walker.ensures.step inv.none (sym c.happens.ensures ∙ c.if-happens.true) c.loop-above.out.items c.args.out.now.items c.push_record.new.out.items inv.nothing
-    (anded_done c.and.result c.push_record.result c.in_ok-walker.walker c.in_ok-and.field-0 _ c.and.ensures c.in_ok-and.was c.push_record.ensures)
+    let out = c.loop-above.out.items in
+    let step = c.see_record.new.step in
+    ok_weaker c.push_seen.result _ _ (λ (added : c.push_seen.new.out.items ≡ out ++ record_text step).
+    appends_it k c.loop-above.walker c.args.happening c.records.result.now c.loop-above.above _ step inv.walker c.records.ensures lt few
+    c.in_ok-walker.ensures.step inv.none (sym c.happens.ensures ∙ c.if-happens.true) out c.args.out.now.items c.push_seen.new.out.items inv.nothing added) c.push_seen.ensures.text
 
 pub loop-above-preserved : goal.loop-above-preserved
 loop-above-preserved g c =
@@ -95,7 +113,7 @@ returns-then-happens-clause-shown g c =
     let before = g.P.Progress.shown c.args.progress.now in
     let after = g.P.Progress.shown c.see_record.new.progress in
     let a = passed_one k w rs n _ inv.walker c.records.ensures lt few inv.on before (g.P.Progress.shown c.loop-above.progress) after inv.shown c.in_ok-walker.ensures.shown in
-    shown_until_here k u w (until_halt k c.args.happening).0 n before after there halts (on_one_more k w rs n any_record inv.walker c.records.ensures lt few inv.on u there) a
+    ok_always c.push_seen.result _ (shown_until_here k u w (until_halt k c.args.happening).0 n before after there halts (on_one_more k w rs n any_record inv.walker c.records.ensures lt few inv.on u there) a)
 
 pub returns-clause-walker : goal.returns-clause-walker
 returns-clause-walker g c =
@@ -134,9 +152,9 @@ returns-clause-shown g c =
 pub returns-in_err-walker-clause-grown : goal.returns-in_err-walker-clause-grown
 returns-in_err-walker-clause-grown g c = err_always c.from_residual.result _ (grown_more _ _ _ (grown_by _ _ _ c.loop-above.invariant.shown) c.in_err-walker.ensures.grown)
 
-pub returns-in_err-and-clause-grown : goal.returns-in_err-and-clause-grown
-returns-in_err-and-clause-grown g c =
-    err_always c.from_residual-in_err-and.result _ (grown_more _ _ _ (grown_by _ _ _ c.loop-above.invariant.shown) (grown_by _ _ _ c.in_ok-walker.ensures.shown))
+pub returns-then-happens-clause-grown : goal.returns-then-happens-clause-grown
+returns-then-happens-clause-grown g c =
+    err_always c.push_seen.result _ (grown_more _ _ _ (grown_by _ _ _ c.loop-above.invariant.shown) (grown_by _ _ _ c.in_ok-walker.ensures.shown))
 
 pub returns-clause-grown : goal.returns-clause-grown
 returns-clause-grown g c = err_weaker c.go_on_unmet.result _ _ (λ same. grown_more _ _ _ (grown_by _ _ _ c.loop-above.invariant.shown) (grown_same _ _ same)) c.go_on_unmet.ensures.unshown

@@ -89,7 +89,7 @@ returns-clause-shown g c =
     ok_weaker c.halt_by.result _ _ (λ (shown : after ≡ now ++ halt_shown j s c.in-Some.above j.here). search_met k s j c.in-Some.above (g.P.Progress.shown c.args.progress.now) now after c.seek.ensures.same position early found up c.seek.ensures.shown shown) c.halt_by.ensures.shown
 
 pub returns-in-Err-clause-grown : goal.returns-in-Err-clause-grown
-returns-in-Err-clause-grown g c = err_always c.give_up.result _ (grown_none _)
+returns-in-Err-clause-grown g c = err_always c.ended.result _ (grown_none _)
 
 pub returns-then-not-seek-clause-grown : goal.returns-then-not-seek-clause-grown
 returns-then-not-seek-clause-grown g c = err_always c.meet_nothing.result _ (grown_by _ _ _ c.seek.ensures.shown)

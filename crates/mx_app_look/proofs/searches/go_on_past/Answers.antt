@@ -93,7 +93,7 @@ returns-clause-shown g c =
     ok_weaker c.go_on_from.result _ _ (λ (h : Shows now after (λ (ps : List Part). IsSearchShown j s j.here ps)). shown_further k s j c.args.next.position (g.P.Progress.shown c.args.progress.now) now after _ (marked ∙ c.if-is_met.false) c.in_ok-walker.ensures.walker c.in_ok-walker.ensures.shown h) c.go_on_from.ensures.shown
 
 pub returns-in-Err-clause-grown : goal.returns-in-Err-clause-grown
-returns-in-Err-clause-grown g c = err_always c.give_up.result _ (grown_none _)
+returns-in-Err-clause-grown g c = err_always c.ended.result _ (grown_none _)
 
 pub returns-in_err-walker-clause-grown : goal.returns-in_err-walker-clause-grown
 returns-in_err-walker-clause-grown g c = err_always c.from_residual.result _ c.in_err-walker.ensures.grown

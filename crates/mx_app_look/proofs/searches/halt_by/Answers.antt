@@ -23,7 +23,7 @@ pub returns-in_err-walker-clause-grown : goal.returns-in_err-walker-clause-grown
 returns-in_err-walker-clause-grown g c = err_always c.from_residual.result _ (grown_same _ _ c.in_err-walker.ensures.unshown)
 
 pub returns-in-Err-clause-grown : goal.returns-in-Err-clause-grown
-returns-in-Err-clause-grown g c = err_always c.give_up.result _ (grown_by _ _ _ c.in_ok-walker.ensures.shown)
+returns-in-Err-clause-grown g c = err_always c.ended.result _ (grown_by _ _ _ c.in_ok-walker.ensures.shown)
 
 pub returns-in-Ok-false-clause-grown : goal.returns-in-Ok-false-clause-grown
 returns-in-Ok-false-clause-grown g c = err_weaker c.go_and_compare.result _ _ (λ more. grown_more _ _ _ (grown_by _ _ _ c.in_ok-walker.ensures.shown) more) c.go_and_compare.ensures.grown

@@ -2,7 +2,6 @@ use Rattle.std.proofs.Common.{◌≡◌, ◌∙◌, ◌++◌, List, ap, subst, s
 use Rattle.mx_machine.specs.declared.history.Record.{Record}
 use Rattle.mx_walk.specs.Positions.{IsPosition}
 use Rattle.mx_walk.specs.Walks.{Walk}
-use Rattle.mx_app_look.proofs.Anded.{anded}
 use Rattle.mx_app_look.proofs.Moving.{records_up_to}
 use Rattle.mx_walk.specs.declared.positions.Position.{Position}
 use Rattle.mx_app_look.specs.Shows.{record_shown}
@@ -20,12 +19,12 @@ see_record-requires-clause-there g c =
 
 pub go_to-requires-clause-position : goal.go_to-requires-clause-position
 go_to-requires-clause-position g c =
-    let same = anded c.and.result c.push_record.result c.in_ok-walker.walker c.in_ok-walker-2.walker c.and.ensures c.in_ok-walker-2.was ∙ c.in_ok-walker.ensures.walker in
+    let same = c.in_ok-walker-2.ensures.same ∙ c.in_ok-walker.ensures.walker in
     subst (λ (rs : List Record). IsPosition rs c.here-here.result) (sym (ap (λ (w : Walk). w.records) same)) c.here-here.ensures.position
 
 pub returns-clause-same : goal.returns-clause-same
 returns-clause-same g c =
-    let same = anded c.and.result c.push_record.result c.in_ok-walker.walker c.in_ok-walker-2.walker c.and.ensures c.in_ok-walker-2.was ∙ c.in_ok-walker.ensures.walker in
+    let same = c.in_ok-walker-2.ensures.same ∙ c.in_ok-walker.ensures.walker in
     c.in_ok-go_to.ensures.gone ∙ ap (λ (w : Walk). let i : Walk = record w { here = c.here-here.result } in i) same
     ∙ ap (λ (p : Position). let i : Walk = record c.args.walker { here = p } in i) c.here-here.ensures.here
 
@@ -35,7 +34,7 @@ returns-clause-shown g c =
     let n = c.args.placed.above in
     then_none k c.in_ok-walker.walker n c.here-here.result (g.P.Progress.shown c.args.progress.now) (g.P.Progress.shown c.see_record.new.progress) (g.P.Progress.shown c.go_to.new.progress) (record_shown k n c.args.placed.entry)
     (c.requires.there ∙ ap (λ (p : Position). p.records) (sym c.here-here.ensures.here)) c.in_ok-walker.ensures.walker c.in_ok-walker.ensures.shown
-    (c.in_ok-go_to.ensures.shown ∙ ap (λ (w : Walk). g.P.Progress.shown c.see_record.new.progress ++ shown_to w c.here-here.result) (anded c.and.result c.push_record.result c.in_ok-walker.walker c.in_ok-walker-2.walker c.and.ensures c.in_ok-walker-2.was))
+    (c.in_ok-go_to.ensures.shown ∙ ap (λ (w : Walk). g.P.Progress.shown c.see_record.new.progress ++ shown_to w c.here-here.result) c.in_ok-walker-2.ensures.same)
 
 pub returns-in_err-walker-clause-grown : goal.returns-in_err-walker-clause-grown
 returns-in_err-walker-clause-grown g c = err_always c.from_residual.result _ c.in_err-walker.ensures.grown
