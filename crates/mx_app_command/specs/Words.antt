@@ -114,12 +114,17 @@ abbrev pub machine_shapes : List Shape
 machine_shapes = of_one (codes "explain") (codes "CONFIG")
     ∷ step_shape
     ∷ run_shape
-    ∷ turns_shape
-    ∷ sweep_shape
     ∷ []
 
 abbrev pub machine_app : App
 machine_app = record { top = program_app.top; subs = program_shapes ++ machine_shapes }
+
+-- those that make turns
+abbrev pub turn_shapes : List Shape
+turn_shapes = turns_shape ∷ sweep_shape ∷ []
+
+abbrev pub turn_app : App
+turn_app = record { top = program_app.top; subs = program_shapes ++ machine_shapes ++ turn_shapes }
 
 -- all of them, with those that follow a history or a script
 abbrev pub mx_grammar : App
@@ -127,6 +132,7 @@ mx_grammar = record {
   top = program_app.top;
   subs = program_shapes
       ++ machine_shapes
+      ++ turn_shapes
       ++ following_shape (codes "replay")
       ∷ looking_shape (codes "trace")
       ∷ looking_shape (codes "draw")
