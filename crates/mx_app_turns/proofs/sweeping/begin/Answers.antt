@@ -16,12 +16,12 @@ pub returns-clause-begun : goal.returns-clause-begun
 returns-clause-begun g c =
     let s = c.in_ok-started.ensures.started in
     IfOk-weaker c.with_fault.result _ _ (λ b h. (
-      let t = IfOk-at_ok _ h.1 c.fault_of.ensures.read in
+      let t = IfOk-at_ok _ h.1 c.fault_of-fault.ensures.read in
       rw h.0 (
         s.0 ++ t.0 ∷ [],
         s.1,
         s.2,
-        asked_on (g.R.Reader.asked c.args.reader.now) (g.R.Reader.asked c.start.new.reader) (g.R.Reader.asked c.fault_of.new.reader) s.0 (t.0 ∷ []) s.3 t.2,
+        asked_on (g.R.Reader.asked c.args.reader.now) (g.R.Reader.asked c.start.new.reader) (g.R.Reader.asked c.fault_of-fault.new.reader) s.0 (t.0 ∷ []) s.3 t.2,
         (s.0, t.0, t.1, refl, s.4, t.3, t.4),
         s.5,
         s.6,
@@ -45,9 +45,9 @@ pub returns-clause-fault : goal.returns-clause-fault
 returns-clause-fault g c =
     let s = c.in_ok-started.ensures.started in
     IfErr-weaker c.with_fault.result _ _ (λ f same. (
-      let h = IfErr-at_err _ same c.fault_of.ensures.fault in (
+      let h = IfErr-at_err _ same c.fault_of-fault.ensures.fault in (
         s.0 ++ h.0 ∷ [],
-        asked_on (g.R.Reader.asked c.args.reader.now) (g.R.Reader.asked c.start.new.reader) (g.R.Reader.asked c.fault_of.new.reader) s.0 (h.0 ∷ []) s.3 h.1,
+        asked_on (g.R.Reader.asked c.args.reader.now) (g.R.Reader.asked c.start.new.reader) (g.R.Reader.asked c.fault_of-fault.new.reader) s.0 (h.0 ∷ []) s.3 h.1,
         inr (s.0, h.0, s.1, s.2, c.in_ok-started.started.lines.items, refl, s.4, h.2),
       )
     )) c.with_fault.ensures.fault
