@@ -15,7 +15,7 @@ told text said before new w v how how_run above world ending more =
     let end = end_text by.Endpoints v how_run in
     let kept = kept_text v.table.devices.console.kept in
     more ∙ ap₂ (λ (x : World) (e : Ending). before ++ end_text by.Endpoints x e ++ kept_text x.table.devices.console.kept) world ending
-        ∙ ap (λ (xs : List ℕ). xs ++ end ++ kept) above ∙ ap (λ (xs : List ℕ). xs ++ kept) (append_assoc text said end) ∙ append_assoc text (said ++ end) kept
+    ∙ ap (λ (xs : List ℕ). xs ++ end ++ kept) above ∙ ap (λ (xs : List ℕ). xs ++ kept) (append_assoc text said end) ∙ append_assoc text (said ++ end) kept
 
 pub returns-clause-run : goal.returns-clause-run
 returns-clause-run c =

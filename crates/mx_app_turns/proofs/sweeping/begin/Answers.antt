@@ -16,17 +16,17 @@ pub returns-clause-begun : goal.returns-clause-begun
 returns-clause-begun g c =
     let s = c.in_ok-started.ensures.started in
     IfOk-weaker c.with_fault.result _ _ (λ b h. (
-      let t = IfOk-at_ok _ h.1 c.fault_of-fault.ensures.read in
-      rw h.0 (
-        s.0 ++ t.0 ∷ [],
-        s.1,
-        s.2,
-        asked_on (g.R.Reader.asked c.args.reader.now) (g.R.Reader.asked c.start.new.reader) (g.R.Reader.asked c.fault_of-fault.new.reader) s.0 (t.0 ∷ []) s.3 t.2,
-        (s.0, t.0, t.1, refl, s.4, t.3, t.4),
-        s.5,
-        s.6,
-        s.7,
-      )
+    let t = IfOk-at_ok _ h.1 c.fault_of-fault.ensures.read in
+    rw h.0 (
+      s.0 ++ t.0 ∷ [],
+      s.1,
+      s.2,
+      asked_on (g.R.Reader.asked c.args.reader.now) (g.R.Reader.asked c.start.new.reader) (g.R.Reader.asked c.fault_of-fault.new.reader) s.0 (t.0 ∷ []) s.3 t.2,
+      (s.0, t.0, t.1, refl, s.4, t.3, t.4),
+      s.5,
+      s.6,
+      s.7,
+    )
     )) c.with_fault.ensures.begun
 
 pub returns-clause-ready : goal.returns-clause-ready
@@ -35,19 +35,19 @@ returns-clause-ready g c =
     let m = c.in_ok-started.started.machine in
     let items = c.in_ok-started.started.lines.items in
     IfOk-weaker c.with_fault.result _ _ (λ b h. (
-      rw h.0 (
-        ready m c.in_ok-started.started.config s.1 c.in_ok-started.started.other items s.2 c.in_ok-started.ensures.kernel s.5 s.7 s.8 s.9 s.6
-        (saved_by_actors c.args.names.config.now c.args.names.log.now s.0 s.1 s.2 items items (world_of m) refl s.5 s.4)
-      )
+    rw h.0 (
+    ready m c.in_ok-started.started.config s.1 c.in_ok-started.started.other items s.2 c.in_ok-started.ensures.kernel s.5 s.7 s.8 s.9 s.6
+    (saved_by_actors c.args.names.config.now c.args.names.log.now s.0 s.1 s.2 items items (world_of m) refl s.5 s.4)
+    )
     )) c.with_fault.ensures.begun
 
 pub returns-clause-fault : goal.returns-clause-fault
 returns-clause-fault g c =
     let s = c.in_ok-started.ensures.started in
     IfErr-weaker c.with_fault.result _ _ (λ f same. (
-      let h = IfErr-at_err _ same c.fault_of-fault.ensures.fault in (
-        s.0 ++ h.0 ∷ [],
-        asked_on (g.R.Reader.asked c.args.reader.now) (g.R.Reader.asked c.start.new.reader) (g.R.Reader.asked c.fault_of-fault.new.reader) s.0 (h.0 ∷ []) s.3 h.1,
-        inr (s.0, h.0, s.1, s.2, c.in_ok-started.started.lines.items, refl, s.4, h.2),
-      )
+    let h = IfErr-at_err _ same c.fault_of-fault.ensures.fault in (
+      s.0 ++ h.0 ∷ [],
+      asked_on (g.R.Reader.asked c.args.reader.now) (g.R.Reader.asked c.start.new.reader) (g.R.Reader.asked c.fault_of-fault.new.reader) s.0 (h.0 ∷ []) s.3 h.1,
+      inr (s.0, h.0, s.1, s.2, c.in_ok-started.started.lines.items, refl, s.4, h.2),
+    )
     )) c.with_fault.ensures.fault
