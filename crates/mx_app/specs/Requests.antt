@@ -177,6 +177,14 @@ makes_turns (Turns config log ticks events bound) = true
 makes_turns (Sweep config log fault bound from to strict save) = true
 makes_turns request = false
 
+-- one that takes no lines and shows no progress, and has no threads
+abbrev pub is_untyped : CommandRequest → Bool
+is_untyped (Run config log ticks events) = false
+is_untyped (Turns config log ticks events bound) = false
+is_untyped (Sweep config log fault bound from to strict save) = false
+is_untyped (Look config log) = false
+is_untyped request = true
+
 -- a file is read, shown, and none is written
 abbrev pub Shows : (List ℕ → List ℕ → Type 0) → List ℕ → List Asked → List Written → (List ℕ → Type 0) → Result Done Kind → Type 0
 Shows Has name qs ws Prints r =

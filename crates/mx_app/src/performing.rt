@@ -2,7 +2,7 @@
 
 ghost use Rattle.std.specs.Prelude.{◌≡◌, true};
 ghost use Rattle.mx_app.specs.Deeds.{Does, DoesUntyped};
-ghost use Rattle.mx_app.specs.Requests.{Performs, PerformsUntyped, done_after_replay, done_after_sweep, done_after_turns, done_after_work, is_by_script, is_of_history, is_on_files, makes_turns, with_status};
+ghost use Rattle.mx_app.specs.Requests.{Performs, PerformsUntyped, done_after_replay, done_after_sweep, done_after_turns, done_after_work, is_by_script, is_of_history, is_on_files, is_untyped, makes_turns, with_status};
 
 use crate::command_io::CommandIo;
 use crate::explain::explain_named;
@@ -254,6 +254,29 @@ fn perform_turns<
     }
 }
 
+/// Does what a request asks for that takes no lines and shows no progress, and has no threads.
+fn perform_untyped<R: Reader + Drop, F: FileWriter + Drop, W: Write + Drop>(
+    alloc: Global,
+    channels: &mut Channels<R, F, W>,
+    request: CommandRequest<'_>,
+) -> Result<Done, Failure>
+    requires { is_untyped request ≡ true }
+    ensures { DoesUntyped channels.old channels.new R.asked F.written W.contents
+        (λ qs ws Prints. PerformsUntyped request.entry qs ws Prints result) }
+{
+    match request {
+        CommandRequest::One { .. }
+        | CommandRequest::As { .. }
+        | CommandRequest::Dis { .. }
+        | CommandRequest::Nm { .. }
+        | CommandRequest::Explain { .. } => perform_on_files(alloc, channels, request),
+        CommandRequest::Step { .. } | CommandRequest::Db { .. } => {
+            perform_script(alloc, channels, request)
+        }
+        _ => perform_history(alloc, channels, request),
+    }
+}
+
 /// Does what a request asks for, and answers the status to end with, and how turns or a run ended. The
 /// processors of `run` are threads. `look` answers the typed lines. It shows its progress, and so do `run`,
 /// `turns` and `sweep`.
@@ -276,12 +299,6 @@ pub fn perform<
 {
     let channels = &mut io.channels;
     match request {
-        CommandRequest::One { .. } => perform_on_files(alloc, channels, request),
-        CommandRequest::As { .. } => perform_on_files(alloc, channels, request),
-        CommandRequest::Dis { .. } => perform_on_files(alloc, channels, request),
-        CommandRequest::Nm { .. } => perform_on_files(alloc, channels, request),
-        CommandRequest::Explain { .. } => perform_on_files(alloc, channels, request),
-        CommandRequest::Step { .. } => perform_script(alloc, channels, request),
         CommandRequest::Run {
             config,
             log,
@@ -296,17 +313,15 @@ pub fn perform<
             };
             done_after_turns(run(rt, alloc, channels, wanted, &mut io.progress))
         }
-        CommandRequest::Turns { .. } => perform_turns(alloc, io, request),
-        CommandRequest::Sweep { .. } => perform_turns(alloc, io, request),
-        CommandRequest::Replay { .. } => perform_history(alloc, channels, request),
-        CommandRequest::Trace { .. } => perform_history(alloc, channels, request),
-        CommandRequest::Draw { .. } => perform_history(alloc, channels, request),
+        CommandRequest::Turns { .. } | CommandRequest::Sweep { .. } => {
+            perform_turns(alloc, io, request)
+        }
         CommandRequest::Look { config, log } => {
             let asks = io.asks;
             let wanted = SessionWanted { config, log, asks };
             let lines = &mut io.lines;
             done_after_work(look(alloc, channels, lines, &mut io.progress, wanted))
         }
-        CommandRequest::Db { .. } => perform_script(alloc, channels, request),
+        _ => perform_untyped(alloc, channels, request),
     }
 }

@@ -1,6 +1,6 @@
 //! The program over the files and the streams of the runtime.
 
-ghost use Rattle.std.specs.Prelude.{◌≡◌, ◌⊎◌, IfErr};
+ghost use Rattle.std.specs.Prelude.{◌≡◌, ◌⊎◌, Err, IfErr, MatchResult, Ok};
 ghost use Rattle.std.specs.IoError.{error_kind};
 ghost use Rattle.mx_app.specs.Words.{words_failure_of};
 
@@ -70,6 +70,38 @@ fn help_reader(
     let _ = eprint!(rt; "{note}");
 }
 
+/// Helps a reader at a terminal after a command with this answer, whose text had this last byte.
+fn help_after(
+    rt: &(impl Print + Eprint),
+    terminals: Terminals,
+    words: &[&str],
+    answer: &Result<Done, Complaint>,
+    last: Option<u8>,
+) {
+    let printed = match answer {
+        Ok(done) => printed_text(words, *done),
+        Err(_) => PrintedText::Other,
+    };
+    // a session's reader has ended the last line
+    let last = if begin_with(words, "look") {
+        None
+    } else {
+        last
+    };
+    help_reader(rt, terminals, printed, last);
+}
+
+/// The status to end with after what is done.
+fn status_of(answer: Result<Done, Complaint>) -> Result<u8, Complaint>
+    ensures { MatchResult answer (λ done. result ≡ Ok done.status)
+        (λ complaint. result ≡ Err complaint) }
+{
+    match answer {
+        Ok(done) => Ok(done.status),
+        Err(complaint) => Err(complaint),
+    }
+}
+
 /// What the progress of a command counts.
 fn unit_of(words: &[&str]) -> &'static str {
     if begin_with(words, "sweep") {
@@ -96,18 +128,8 @@ where
     };
     let answer = perform_words(rt, rt.alloc(), words, &mut work, terminals.err);
     work.progress.clear();
-    let printed = match &answer {
-        Ok(done) => printed_text(words, *done),
-        Err(_) => PrintedText::Other,
-    };
-    // a session's reader has ended the last line
-    let last = if begin_with(words, "look") {
-        None
-    } else {
-        work.channels.out.last()
-    };
-    help_reader(rt, terminals, printed, last);
-    Ok(answer?.status)
+    help_after(rt, terminals, words, &answer, work.channels.out.last());
+    status_of(answer)
 }
 
 /// Does what the program's words ask for, and answers the status to end with, or why it isn't done.

@@ -114,12 +114,17 @@ abbrev pub machine_shapes : List Shape
 machine_shapes = of_one (codes "explain") (codes "CONFIG")
     ∷ step_shape
     ∷ run_shape
-    ∷ turns_shape
-    ∷ sweep_shape
     ∷ []
 
 abbrev pub machine_app : App
 machine_app = record { top = program_app.top; subs = program_shapes ++ machine_shapes }
+
+-- those that make turns
+abbrev pub turn_shapes : List Shape
+turn_shapes = turns_shape ∷ sweep_shape ∷ []
+
+abbrev pub turn_app : App
+turn_app = record { top = program_app.top; subs = program_shapes ++ machine_shapes ++ turn_shapes }
 
 -- all of them, with those that follow a history or a script
 abbrev pub mx_grammar : App
@@ -127,6 +132,7 @@ mx_grammar = record {
   top = program_app.top;
   subs = program_shapes
       ++ machine_shapes
+      ++ turn_shapes
       ++ following_shape (codes "replay")
       ∷ looking_shape (codes "trace")
       ∷ looking_shape (codes "draw")
@@ -253,20 +259,32 @@ MayHaveTurns rows = MayHaveNumber (codes "T") rows × MayHaveNumber (codes "N") 
 abbrev pub MayHaveSweep : List Row → Type 0
 MayHaveSweep rows = IsGiven (codes "FAULT") rows × MayHaveNumber (codes "N") rows × MayHaveRange rows
 
--- those with a history: `run` may have a number, `turns`, `trace` and `draw` two, `sweep` three
+-- those with a history but for `run`: `turns`, `trace` and `draw` may have two numbers, `sweep` three
+abbrev pub IsOtherHistoryAsked : Text → List Row → Type 0
+IsOtherHistoryAsked name rows =
+    ((name ≡ codes "replay") ⊎ (name ≡ codes "look"))
+    ⊎ ((((name ≡ codes "trace") ⊎ (name ≡ codes "draw")) × MayHaveRange rows)
+    ⊎ (((name ≡ codes "turns") × MayHaveTurns rows)
+    ⊎ ((name ≡ codes "sweep") × MayHaveSweep rows)))
+
+-- those with a history: `run` may have a number
 abbrev pub IsHistoryAsked : Text → List Row → Type 0
 IsHistoryAsked name rows =
     IsGiven (codes "LOG") rows
     × (((name ≡ codes "run") × MayHaveNumber (codes "T") rows)
-    ⊎ (((name ≡ codes "replay") ⊎ (name ≡ codes "look"))
-    ⊎ ((((name ≡ codes "trace") ⊎ (name ≡ codes "draw")) × MayHaveRange rows)
-    ⊎ (((name ≡ codes "turns") × MayHaveTurns rows)
-    ⊎ ((name ≡ codes "sweep") × MayHaveSweep rows)))))
+    ⊎ IsOtherHistoryAsked name rows)
 
 -- those that work on a machine: each has a configuration, and all but `explain` a script or a history
 abbrev pub IsMachineAsked : Text → List Row → Type 0
 IsMachineAsked name rows =
     IsGiven (codes "CONFIG") rows × ((name ≡ codes "explain") ⊎ (IsScriptAsked name rows ⊎ IsHistoryAsked name rows))
+
+-- those that follow a history, or a script with breakpoints
+abbrev pub is_following : Text → Bool
+is_following name =
+    bytes_eq name (codes "replay")
+    || (bytes_eq name (codes "trace")
+    || (bytes_eq name (codes "draw") || (bytes_eq name (codes "look") || bytes_eq name (codes "db"))))
 
 abbrev pub is_machine : Text → Bool
 is_machine name =
@@ -274,10 +292,7 @@ is_machine name =
     || (bytes_eq name (codes "step")
     || (bytes_eq name (codes "run")
     || (bytes_eq name (codes "turns")
-    || (bytes_eq name (codes "sweep")
-    || (bytes_eq name (codes "replay")
-    || (bytes_eq name (codes "trace")
-    || (bytes_eq name (codes "draw") || (bytes_eq name (codes "look") || bytes_eq name (codes "db")))))))))
+    || (bytes_eq name (codes "sweep") || is_following name))))
 
 abbrev pub IsAsked : Text → List Row → Type 0
 IsAsked name rows =

@@ -2,7 +2,7 @@
 
 ghost use Rattle.std.specs.Prelude.{◌≡◌, IfOk, false, fold, map};
 ghost use Rattle.clap.specs.Words.{app_of, rule_of, shape_of, with_subcommand};
-ghost use Rattle.mx_app_command.specs.Words.{IsLocal, after_name, flag, machine_app, mx_grammar, number_after, program_app, top_app, required_text, required_number};
+ghost use Rattle.mx_app_command.specs.Words.{IsLocal, after_name, flag, machine_app, mx_grammar, number_after, program_app, top_app, turn_app, required_text, required_number};
 ghost use Rattle.mx_app_command.specs.Tables.{rule_of_argument, shape_of_subcommand};
 
 use crate::help::Example;
@@ -259,7 +259,7 @@ static PROGRAM_COMMANDS: [Subcommand<'static>; 4] = [
 ];
 
 /// Those that start a machine.
-static MACHINE_COMMANDS: [Subcommand<'static>; 5] = [
+static MACHINE_COMMANDS: [Subcommand<'static>; 3] = [
     Subcommand {
         name: "explain",
         help: "Prints what the services of a machine may do, one a line",
@@ -294,6 +294,10 @@ static MACHINE_COMMANDS: [Subcommand<'static>; 5] = [
         ],
         example: Example::Run,
     },
+];
+
+/// Those that make turns.
+static TURN_COMMANDS: [Subcommand<'static>; 2] = [
     Subcommand {
         name: "turns",
         help: "Runs a machine on one thread, always the same, writes its history and prints a report",
@@ -495,9 +499,16 @@ fn with_machines<'a>(alloc: Global) -> Result<Command<'a>, AllocError>
     with_all(alloc, with_programs(alloc)?, &MACHINE_COMMANDS)
 }
 
+/// The program with all subcommands but for those that follow a history or a script.
+fn with_turns<'a>(alloc: Global) -> Result<Command<'a>, AllocError>
+    ensures app { IfOk result (λ c. app_of c ≡ turn_app) }
+{
+    with_all(alloc, with_machines(alloc)?, &TURN_COMMANDS)
+}
+
 /// The command line's grammar, with its help.
 pub fn grammar<'a>(alloc: Global) -> Result<Command<'a>, AllocError>
     ensures app { IfOk result (λ c. app_of c ≡ mx_grammar) }
 {
-    with_all(alloc, with_machines(alloc)?, &HISTORY_COMMANDS)
+    with_all(alloc, with_turns(alloc)?, &HISTORY_COMMANDS)
 }

@@ -2,7 +2,7 @@
 
 ghost use Rattle.std.specs.Prelude.{◌≡◌, ◌&&◌, ◌⊎◌, ℕ, Bool, IfErr, IfOk, MatchResult, [], codes, false, is_some, map, not, option_map, true};
 ghost use Rattle.clap.specs.Words.{FailsBy, HasMatchesOf, fault_of, first_of, found_of, kind_of, rows_of, subcommand_of, takes};
-ghost use Rattle.mx_app_command.specs.Words.{Asks, AsksBy, AsksForSilence, AsksForSums, AsksToExplain, HasNumber, HasNumberOr, HasRange, HasText, IsFlag, MayHaveNumber, MayHaveRange, MayHaveSweep, MayHaveText, MayHaveTurns, IsAsked, IsHistoryAsked, IsMachineAsked, IsProgramAsked, IsScriptAsked, is_machine, mx_grammar};
+ghost use Rattle.mx_app_command.specs.Words.{Asks, AsksBy, AsksForSilence, AsksForSums, AsksToExplain, HasNumber, HasNumberOr, HasRange, HasText, IsFlag, MayHaveNumber, MayHaveRange, MayHaveSweep, MayHaveText, MayHaveTurns, IsAsked, IsHistoryAsked, IsMachineAsked, IsProgramAsked, IsOtherHistoryAsked, IsScriptAsked, is_following, is_machine, mx_grammar};
 ghost use Rattle.mx_app_command.specs.Mistakes.{IsMistake, IsOutOfMemory, both_given, has_both};
 
 use crate::grammar::grammar;
@@ -341,6 +341,27 @@ fn reading_request<'a>(
     }
 }
 
+/// What the words of a subcommand with a history ask for, of one that isn't `run`.
+fn other_history_request<'a>(
+    name: &str,
+    config: &'a str,
+    log: &'a str,
+    matches: &ArgMatches<'a>,
+) -> CommandRequest<'a>
+    requires config { HasText (codes "CONFIG") (rows_of (found_of matches.now)) config.now }
+    requires log { HasText (codes "LOG") (rows_of (found_of matches.now)) log.now }
+    requires asked { IsOtherHistoryAsked name.now (rows_of (found_of matches.now)) }
+    ensures { AsksBy result name.now (rows_of (found_of matches.now)) }
+{
+    if name == "turns" {
+        turns_request(config, log, matches)
+    } else if name == "sweep" {
+        sweep_request(config, log, matches)
+    } else {
+        reading_request(name, config, log, matches)
+    }
+}
+
 /// What the words of a subcommand with a history ask for.
 fn history_request<'a>(name: &str, config: &'a str, matches: &ArgMatches<'a>) -> CommandRequest<'a>
     requires config { HasText (codes "CONFIG") (rows_of (found_of matches.now)) config.now }
@@ -350,12 +371,8 @@ fn history_request<'a>(name: &str, config: &'a str, matches: &ArgMatches<'a>) ->
     let log = value_asked(matches, "LOG");
     if name == "run" {
         run_request(config, log, matches)
-    } else if name == "turns" {
-        turns_request(config, log, matches)
-    } else if name == "sweep" {
-        sweep_request(config, log, matches)
     } else {
-        reading_request(name, config, log, matches)
+        other_history_request(name, config, log, matches)
     }
 }
 
@@ -374,6 +391,13 @@ fn machine_request<'a>(name: &str, matches: &ArgMatches<'a>) -> CommandRequest<'
     }
 }
 
+/// Whether the subcommand of this name follows a history, or a script with breakpoints.
+fn is_following(name: &str) -> bool
+    ensures { result ≡ is_following name.now }
+{
+    name == "replay" || name == "trace" || name == "draw" || name == "look" || name == "db"
+}
+
 /// Whether the subcommand of this name works on a machine.
 fn is_machine(name: &str) -> bool
     ensures { result ≡ is_machine name.now }
@@ -383,11 +407,7 @@ fn is_machine(name: &str) -> bool
         || name == "run"
         || name == "turns"
         || name == "sweep"
-        || name == "replay"
-        || name == "trace"
-        || name == "draw"
-        || name == "look"
-        || name == "db"
+        || is_following(name)
 }
 
 /// What a subcommand's words ask for.

@@ -55,11 +55,16 @@ after_number key least most fs = do
   rest ← after_key key fs
   number_at (Value key) least most rest
 
+-- NAME
+unfoldable pub after_name : List (List ℕ) → Result (List (List ℕ)) Place
+after_name fs = do
+  n ← word_at Name fs
+  fitting (is_some (name_of n.0) && not (is_reserved n.0)) Name n.1
+
 -- NAME FILE
 unfoldable pub after_file : List (List ℕ) → Result (List (List ℕ)) Place
 after_file fs = do
-  n ← word_at Name fs
-  rest ← fitting (is_some (name_of n.0) && not (is_reserved n.0)) Name n.1
+  rest ← after_name fs
   f ← word_at File rest
   fitting (not (list_any is_stray f.0) && is_utf8 f.0) File f.1
 

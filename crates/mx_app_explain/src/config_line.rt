@@ -2,7 +2,7 @@
 
 ghost use Rattle.std.specs.Prelude.{◌≡◌, Err, Ok, Some, MatchResult};
 ghost use Rattle.mx_text.specs.Fields.{fields};
-ghost use Rattle.mx_app_explain.specs.ConfigFaults.{after_file, after_key, after_levels, after_mask, after_masks, after_number, after_service, end_fault, fault_after, fault_in, fault_of_other, number_at, word_at};
+ghost use Rattle.mx_app_explain.specs.ConfigFaults.{after_file, after_key, after_levels, after_mask, after_masks, after_name, after_number, after_service, end_fault, fault_after, fault_in, fault_of_other, number_at, word_at};
 ghost use Rattle.mx_app_explain.specs.declared.config_place.Place.TheVariants.{ItemEnd, ServiceEnd};
 
 use crate::config_place::{Key, Place};
@@ -71,16 +71,26 @@ fn after_number(line: &[u8], key: Key, least: u32, most: u32) -> Result<(u32, &[
     number_at(rest, Place::Value(key), least, most)
 }
 
+/// What is after a service's name.
+#[tactic(auto, unfolding(crate::specs::ConfigFaults::after_name))]
+fn after_name(line: &[u8]) -> Result<&[u8], Place>
+    ensures { MatchResult result (λ rest. after_name (fields line.now) ≡ Ok (fields rest.now))
+        (λ e. after_name (fields line.now) ≡ Err e) }
+{
+    let (name, rest) = word_at(line, Place::Name)?;
+    if name_of(name).is_none() || is_reserved(name) {
+        return Err(Place::Name);
+    }
+    Ok(rest)
+}
+
 /// What is after a service's name and file.
 #[tactic(auto, unfolding(crate::specs::ConfigFaults::after_file), using(crate::proofs::Printed::printed, crate::proofs::Printed::unprinted))]
 fn after_file(line: &[u8]) -> Result<&[u8], Place>
     ensures { MatchResult result (λ rest. after_file (fields line.now) ≡ Ok (fields rest.now))
         (λ e. after_file (fields line.now) ≡ Err e) }
 {
-    let (name, rest) = word_at(line, Place::Name)?;
-    if name_of(name).is_none() || is_reserved(name) {
-        return Err(Place::Name);
-    }
+    let rest = after_name(line)?;
     let (file, rest) = word_at(rest, Place::File)?;
     if has_stray(file) || str::from_utf8(file).is_err() {
         return Err(Place::File);

@@ -90,6 +90,41 @@ fn perform_and_save<R: Drop, F: FileWriter + Drop, W: Write + Drop>(
     print_report(alloc, &started.machine, &mut channels.out)
 }
 
+/// On a machine that was started: does what `perform_and_save` does; or nothing at all, if the file `log` has
+/// the name of a service's program.
+fn step_started<R: Drop, F: FileWriter + Drop, W: Write + Drop>(
+    alloc: Global,
+    channels: &mut Channels<R, F, W>,
+    started: &mut Started<ScriptLine>,
+    log: &str,
+    numbered: bool,
+) -> Result<(), Failure>
+    requires { started.old.other < actors (world_of started.old.machine) }
+    ensures reader { channels.new.reader ≡ channels.old.reader }
+    ensures saved { OnOk result ((names_program started.old.config log.now ≡ false)
+        × (F.written channels.new.files ≡ F.written channels.old.files
+        ++ kept log.now (text_kept
+        (lines_kept started.old.machine.kernel (world_of started.old.machine) started.old.other
+        started.old.lines.items)) ∷ [])
+        × (let m = lines_made (world_of started.old.machine) started.old.other
+        started.old.lines.items in
+        Appends (W.contents channels.old.out) (W.contents channels.new.out)
+        (answers_text numbered m.0 ++ report_text m.1.table m.1.services))) }
+    ensures unsaved { IfErr result (λ f. (ws : List Written)
+        × (F.written channels.new.files ≡ F.written channels.old.files ++ ws)
+        × (SparesProgram started.old.config log.now ws
+        (λ text. Appends (W.contents channels.old.out) (W.contents channels.new.out) text) f
+        ⊎ ((names_program started.old.config log.now ≡ false)
+        × IsUnsaved log.now (text_kept
+        (lines_kept started.old.machine.kernel (world_of started.old.machine) started.old.other
+        started.old.lines.items)) ws f))) }
+{
+    if names_program(&started.config, log) {
+        return Err(Failure::File);
+    }
+    perform_and_save(alloc, channels, started, log, numbered)
+}
+
 /// Starts a script's machine, prints the answer to each line of the script, writes the history that the script
 /// made to the file `log`, also if lines were refused, and then prints the report. What is printed before a
 /// failure isn't promised. The program of a service isn't written over: if its file has the name of LOG, nothing
@@ -124,8 +159,5 @@ pub fn step_saved<R: Reader + Drop, F: FileWriter + Drop, W: Write + Drop>(
         f))))) }
 {
     let mut started = start::<Script, R>(alloc, &mut channels.reader, named.config, named.script)?;
-    if names_program(&started.config, log) {
-        return Err(Failure::File);
-    }
-    perform_and_save(alloc, channels, &mut started, log, named.numbered)
+    step_started(alloc, channels, &mut started, log, named.numbered)
 }

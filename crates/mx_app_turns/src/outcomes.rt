@@ -170,6 +170,21 @@ fn compared_at(
     Ok((machine, ending, seen))
 }
 
+/// Appends the lines of a machine's outcome that follow those of the fault, and gives the machine back.
+fn with_outcome(
+    alloc: Global,
+    text: &mut Vec<u8>,
+    machine: Machine,
+    ending: Ending,
+) -> Result<Machine, AllocError>
+    ensures text { OnOk result (let w = world_of machine in text.new.items ≡ text.old.items
+        ++ end_text by.Endpoints w ending ++ kept_text w.table.devices.console.kept) }
+    ensures machine { IfOk result (λ same. same ≡ machine) }
+{
+    push_outcome(alloc, text, &machine, ending)?;
+    Ok(machine)
+}
+
 /// Makes the run of a position, and appends the lines of its outcome to a text. Answers the machine, and whether
 /// what is compared of the outcome is the same as `without`.
 fn told_at(
@@ -189,8 +204,8 @@ fn told_at(
     ensures boot { IfOk result (λ done. done.0.kernel.boot ≡ machine.kernel.boot) }
 {
     let (machine, ending, with) = compared_at(alloc, machine, sweep, position, text)?;
-    push_outcome(alloc, text, &machine, ending)?;
     let is_alike = with.as_slice() == without;
+    let machine = with_outcome(alloc, text, machine, ending)?;
     Ok((machine, is_alike))
 }
 

@@ -1,6 +1,6 @@
 //! A history that is swept.
 
-ghost use Rattle.std.specs.Prelude.{◌≡◌, ◌<◌, ◌≤◌, ◌+◌, ◌-◌, ◌++◌, ◌∷◌, ◌⊎◌, [], ℕ, List, IfErr, IfOk, OnOk, false, length, min, option_map, true};
+ghost use Rattle.std.specs.Prelude.{◌≡◌, ◌<◌, ◌≤◌, ◌+◌, ◌-◌, ◌++◌, ◌∷◌, ◌⊎◌, [], ℕ, Err, List, IfErr, IfOk, Ok, OnOk, false, length, min, option_map, true};
 ghost use Rattle.std.specs.Io.KnownBytes.{Appends};
 ghost use Rattle.std.specs.List.{flat_map};
 ghost use Rattle.std.specs.Str.{bytes_eq};
@@ -90,6 +90,18 @@ fn fault_of<R: Reader>(alloc: Global, reader: &mut R, name: &str) -> Result<Vec<
     Ok(fault)
 }
 
+/// A machine at boot with the fault that was read for it, or why none was.
+fn with_fault(
+    started: Started<Record>,
+    fault: Result<Vec<FaultLine>, Failure>,
+) -> Result<Begun, Failure>
+    ensures begun { IfOk result (λ b. (b.started ≡ started) × (fault ≡ Ok b.fault)) }
+    ensures fault { IfErr result (λ f. fault ≡ Err f) }
+{
+    let fault = fault?;
+    Ok(Begun { started, fault })
+}
+
 /// Boots the machine of a saved history, after the fault's file is read too.
 fn begin<R: Reader>(alloc: Global, reader: &mut R, names: SweepNames<'_>) -> Result<Begun, Failure>
     ensures begun { IfOk result (λ b. (qs : List Asked) × (c : Configured) × (vs : List Service)
@@ -104,8 +116,8 @@ fn begin<R: Reader>(alloc: Global, reader: &mut R, names: SweepNames<'_>) -> Res
         × IsNotBegun names.entry.config.now names.entry.log.now names.entry.fault.now qs f) }
 {
     let started = start::<History, R>(alloc, reader, names.config, names.log)?;
-    let fault = fault_of(alloc, reader, names.fault)?;
-    Ok(Begun { started, fault })
+    let fault = fault_of(alloc, reader, names.fault);
+    with_fault(started, fault)
 }
 
 /// Whether a file that is read would be written over.
