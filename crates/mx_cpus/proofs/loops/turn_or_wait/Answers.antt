@@ -1,11 +1,8 @@
-use Rattle.std.proofs.Common.{◌≡◌, ◌∙◌, ◌+◌, ℕ, Result, ap, inl, inr, false, refl, subst, sym, true}
-use Rattle.std.specs.Prelude.{IfErr, OnOk}
-use Rattle.mx_machine.specs.declared.events.Event.TheVariants as events
+use Rattle.std.proofs.Common.{◌≡◌, ℕ, Result, subst}
+use Rattle.std.specs.Prelude.{OnOk}
 use Rattle.mx_machine.specs.declared.events.Refusal.{Refusal}
-use Rattle.mx_cpus.specs.Calls.{IsRefusedCall}
 use Rattle.mx_cpus.specs.Courses.{IsTurn, turn_number}
-use Rattle.mx_cpus.specs.declared.side.FreeSide.{FreeSide}
-use Rattle.mx_cpus.proofs.LoopLemmas.{IsCounted, one_turn, one_wait, wait_by}
+use Rattle.mx_cpus.proofs.LoopLemmas.{IsCounted, one_turn}
 use Rattle.mx_cpus.proofs.loops.turn_or_wait.Goals as goal
 
 pub returns-in-Ok-clause-more : goal.returns-in-Ok-clause-more
