@@ -156,10 +156,14 @@ delivered_words_by (Some u) = told_words_of u.image.words
 unfoldable pub delivered_words : Option SlotGlance → List ℕ
 delivered_words seen = delivered_words_by seen
 
+-- what was delivered, from whom and to whom
+unfoldable pub delivery_parties : Step → Delivery → List ℕ
+delivery_parties x d = kind_word d.kind ++ codes " " ++ party_text x.after d.from ++ codes " to " ++ party_text x.after d.to
+
 abbrev pub delivery_line_by : Step → ℕ → Option Delivery → List ℕ
 delivery_line_by x s None = []
 delivery_line_by x s (Some d) =
-    margin x ++ kind_word d.kind ++ codes " " ++ party_text x.after d.from ++ codes " to " ++ party_text x.after d.to
+    margin x ++ delivery_parties x d
     ++ codes " type " ++ decimal d.message_type ++ delivered_words (slot_in x.after s) ++ codes "\n"
 
 unfoldable pub delivery_line : Step → ℕ → List ℕ

@@ -3,7 +3,7 @@
 ghost use Rattle.std.specs.Prelude.{◌≡◌, ◌<◌, ◌++◌, OnOk};
 ghost use Rattle.mx_look_facts.specs.Step.{slot_in};
 ghost use Rattle.mx_look_trace.specs.Numbers.{margin};
-ghost use Rattle.mx_look_trace.specs.Trace.{answered, answer_line, console_text, console_line, alarm_line, told_words, delivered_words, delivery_line, result_part, changed, change_line, quantum_line};
+ghost use Rattle.mx_look_trace.specs.Trace.{answered, answer_line, console_text, console_line, alarm_line, told_words, delivered_words, delivery_line, delivery_parties, result_part, changed, change_line, quantum_line};
 
 use crate::kernel_calls::push_answer;
 use crate::numbers::{push_result, push_spaced, used_count};
@@ -136,6 +136,18 @@ fn push_delivered_words(out: &mut Vec<u8>, step: &Step, slot: u32) -> Result<(),
     }
 }
 
+/// Appends what was delivered, from whom and to whom, as `send tty to fs`.
+#[tactic(auto, unfolding(crate::specs::Trace::delivery_parties))]
+fn push_parties(out: &mut Vec<u8>, step: &Step, delivery: Delivery) -> Result<(), AllocError>
+    ensures { OnOk result (out.new.items ≡ out.old.items ++ delivery_parties step.now delivery) }
+{
+    out.extend_from_slice(kind_word(delivery.kind).as_bytes())?;
+    out.push(b' ')?;
+    push_party(out, &step.after, delivery.from)?;
+    out.extend_from_slice(b" to ")?;
+    push_party(out, &step.after, delivery.to)
+}
+
 /// Appends the line of what a slot got, if it got anything.
 #[tactic(auto, unfolding(crate::specs::Trace::delivery_line))]
 pub fn push_delivery(out: &mut Vec<u8>, step: &Step, slot: u32) -> Result<(), AllocError>
@@ -146,11 +158,7 @@ pub fn push_delivery(out: &mut Vec<u8>, step: &Step, slot: u32) -> Result<(), Al
         return Ok(());
     };
     push_margin(out, step)?;
-    out.extend_from_slice(kind_word(delivery.kind).as_bytes())?;
-    out.push(b' ')?;
-    push_party(out, &step.after, delivery.from)?;
-    out.extend_from_slice(b" to ")?;
-    push_party(out, &step.after, delivery.to)?;
+    push_parties(out, step, delivery)?;
     push_counted(out, b" type", delivery.message_type)?;
     push_delivered_words(out, step, slot)?;
     out.push(b'\n')?;
