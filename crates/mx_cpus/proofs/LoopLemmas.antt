@@ -1,7 +1,6 @@
 -- Loops of calls, call by call.
 use Rattle.std.proofs.Common.{◌≡◌, ◌∙◌, ℕ, zero, suc, nat_lt, Bool, true, false, if◌then◌else◌, inl, inr, ◌+◌, ◌-◌, ◌<◌, ◌≤◌, ◌≢◌, List, [], ◌∷◌, ◌++◌, length, map, Some, None, Result, Ok, Err, IsOk, IsErr, IfOk, IfErr, refl, sym, ap, subst, arith, append_assoc}
 use Rattle.std.proofs.lemmas.List.{append-nil}
-use Rattle.atomic_table.specs.Seated.{TableId}
 use Rattle.mx_machine.specs.declared.events.Answer.{Answer}
 use Rattle.mx_machine.specs.declared.events.Event.{Event}
 use Rattle.mx_machine.specs.declared.events.Event.TheVariants as events
@@ -22,7 +21,7 @@ use Rattle.mx_cpus.specs.declared.side.FreeSide.{FreeSide}
 use Rattle.mx_cpus.specs.declared.progress.Progress.{Progress}
 use Rattle.mx_cpus.specs.declared.progress.Progress.TheVariants.{GoesOn, Full}
 use Rattle.mx_cpus.specs.Progresses.{IsRoundTo, IsSweepTo}
-use Rattle.mx_cpus.specs.Courses.{AreRounds, AreTried, AreTurns, IsAsked, IsLastTurn, IsOneMore, IsOneMoreBy, IsProcessorRun, IsRespawnerRun, IsRound, IsRoundToFull, IsSweepToFull, IsTurn, IsTicked, IsTickToFull, IsTried, IsWait, slots, turn_number}
+use Rattle.mx_cpus.specs.Courses.{AreRounds, AreTried, AreTurns, IsAsked, IsLastRound, IsLastTurn, IsOneMore, IsOneMoreBy, IsProcessorRun, IsRespawnerRun, IsRound, IsRoundAsked, IsRoundToFull, IsSweepToFull, IsTurn, IsTicked, IsTickToFull, IsTried, IsWait, slots, turn_number}
 use Rattle.mx_cpus.specs.Loops.{AreTicksAndRespawns, HasMadeTurns, HasTickedAndRespawned, ticks_among, turns_of}
 
 pub follows_self : (s : SeatView) → s.mine ≡ part_of s.seen s.actor → Follows s s
@@ -260,7 +259,7 @@ tick_full_made : (boot : World) (left : ℕ) (s t : SeatView) → IsTickToFull b
 tick_full_made boot zero s t full = absurd full
 tick_full_made boot (suc n) s t full = refused_made boot s t events.Tick LogFull full
 
-round_made : (boot : World) (left : ℕ) (s t : SeatView) → s.mine ≡ part_of s.seen s.actor → IsRound boot left s t → HasTickedAndRespawned (left - (left - 1)) s t
+pub round_made : (boot : World) (left : ℕ) (s t : SeatView) → s.mine ≡ part_of s.seen s.actor → IsRound boot left s t → HasTickedAndRespawned (left - (left - 1)) s t
 round_made boot left s t own made =
     let first = tick_made boot left s made.0 own made.1 in
     rounds_both (left - (left - 1)) 0 (left - (left - 1)) s made.0 t first (slots_made boot made.0 first.follows.own slots t made.2) (omega arith)
@@ -273,10 +272,6 @@ round_full_made boot left s t own full = elim full [
       rounds_both (left - (left - 1)) 0 left s later.0 t first (sweep_made boot later.0 t first.follows.own later.2) (omega arith)
 ]
 
--- the seat stays one of the table's
-pub round_table : (boot : World) (left : ℕ) (s t : SeatView) (z : TableId) → s.mine ≡ part_of s.seen s.actor → IsRound boot left s t → s.table ≡ z → t.table ≡ z
-round_table boot left s t z own made at = (round_made boot left s t own made).follows.table ∙ at
-
 module _ (boot : World) (WasCalled : GateCall → Type 0) (ticks : ℕ) (s : SeatView) (own : s.mine ≡ part_of s.seen s.actor) where
   rounds_made : (n : ℕ) (t : SeatView) → AreRounds boot WasCalled ticks s n t → HasTickedAndRespawned (ticks - (ticks - n)) s t
   rounds_made zero t same =
@@ -284,11 +279,12 @@ module _ (boot : World) (WasCalled : GateCall → Type 0) (ticks : ℕ) (s : Sea
       subst (λ k. HasTickedAndRespawned k s t) (sym none) (no_rounds s t own same)
   rounds_made (suc n) t more =
       let u = more.0 in
-      let v = more.1 in
-      let before = rounds_made n u more.2 in
-      let now = round_made boot (ticks - n) u v before.follows.own more.3 in
+      let asked = more.2 in
+      let v = asked.0 in
+      let before = rounds_made n u more.1 in
+      let now = round_made boot (ticks - n) u v before.follows.own asked.1 in
       let both = rounds_both (ticks - (ticks - n)) (ticks - n - (ticks - n - 1)) (ticks - (ticks - suc n)) s u v before now (omega arith) in
-      rounds_both (ticks - (ticks - suc n)) 0 (ticks - (ticks - suc n)) s v t both (rest_made boot v t more.4.rest more.4.rests) (omega arith)
+      rounds_both (ticks - (ticks - suc n)) 0 (ticks - (ticks - suc n)) s v t both (rest_made boot v t asked.2.rest asked.2.rests) (omega arith)
 
   -- what a respawner's loop leaves
   pub respawner_made : (t : SeatView) → IsRespawnerRun boot WasCalled ticks s t → HasTickedAndRespawned ticks s t
@@ -321,42 +317,28 @@ pub record RoundsSoFar (boot : World) (WasCalled : GateCall → Type 0) (ticks :
   pub actor : side.actor ≡ s.actor
   pub goes_on : side.goes_on ≡ true
 
--- it goes on after a round
-pub rounds_go_on : (boot : World) (WasCalled : GateCall → Type 0) (ticks : ℕ) (s t u v : SeatView) (x y : FreeSide) (left next : ℕ) → RoundsSoFar boot WasCalled ticks s t x left → IsRound boot left t u
-    → IsAsked boot WasCalled u v y.goes_on → y.actor ≡ x.actor → y.goes_on ≡ true → next ≡ left - 1 → RoundsSoFar boot WasCalled ticks s v y next
-rounds_go_on boot WasCalled ticks s t u v x y left next so_far round asked who on down =
-    let made = round_made boot left t u so_far.follows.own round in
-    record {
-      rounds = suc so_far.rounds;
-      course = (t, u, so_far.course, subst (λ k. IsRound boot k t u) so_far.left round, subst (IsAsked boot WasCalled u v) on asked);
-      follows = follows_trans s t v so_far.follows (follows_trans t u v made.follows asked.rests.follows);
-      left = omega (arith, so_far.left, down);
-      actor = who ∙ so_far.actor;
-      goes_on = on;
-    }
+module _ (boot : World) (WasCalled : GateCall → Type 0) (ticks : ℕ) (s t v : SeatView) (x y : FreeSide) (left : ℕ) (so_far : RoundsSoFar boot WasCalled ticks s t x left) where
+  -- it goes on after a round
+  pub rounds_go_on : (next : ℕ) → IsRoundAsked boot WasCalled left t v true → y.actor ≡ x.actor → y.goes_on ≡ true → next ≡ left - 1 → RoundsSoFar boot WasCalled ticks s v y next
+  rounds_go_on next asked who on down =
+      let made = round_made boot left t asked.0 so_far.follows.own asked.1 in
+      record {
+        rounds = suc so_far.rounds;
+        course = (t, so_far.course, subst (λ k. IsRoundAsked boot WasCalled k t v true) so_far.left asked);
+        follows = follows_trans s t v so_far.follows (follows_trans t asked.0 v made.follows asked.2.rests.follows);
+        left = omega (arith, so_far.left, down);
+        actor = who ∙ so_far.actor;
+        goes_on = on;
+      }
 
--- the gate ends it
-pub rounds_end : (boot : World) (WasCalled : GateCall → Type 0) (ticks : ℕ) (s t u v : SeatView) (x y : FreeSide) (left : ℕ) → RoundsSoFar boot WasCalled ticks s t x left → IsRound boot left t u
-    → IsAsked boot WasCalled u v y.goes_on → y.goes_on ≡ false → IsRespawnerRun boot WasCalled ticks s v
-rounds_end boot WasCalled ticks s t u v x y left so_far round asked off = record {
-  rounds = so_far.rounds;
-  last = t;
-  course = so_far.course;
-  ends = inr (u, subst (λ k. IsRound boot k t u) so_far.left round, subst (IsAsked boot WasCalled u v) off asked);
-}
-
--- the actor stays, too
-pub round_actor : (boot : World) (WasCalled : GateCall → Type 0) (ticks : ℕ) (s t u : SeatView) (x : FreeSide) (left : ℕ) → RoundsSoFar boot WasCalled ticks s t x left → IsRound boot left t u → x.actor ≡ u.actor
-round_actor boot WasCalled ticks s t u x left so_far round = so_far.actor ∙ sym so_far.follows.actor ∙ sym (round_made boot left t u so_far.follows.own round).follows.actor
-
--- a full history ends it
-pub rounds_full : (boot : World) (WasCalled : GateCall → Type 0) (ticks : ℕ) (s t u : SeatView) (x : FreeSide) (left : ℕ) → RoundsSoFar boot WasCalled ticks s t x left → IsRoundToFull boot left t u → IsRespawnerRun boot WasCalled ticks s u
-rounds_full boot WasCalled ticks s t u x left so_far full = record {
-  rounds = so_far.rounds;
-  last = t;
-  course = so_far.course;
-  ends = inl (subst (λ k. IsRoundToFull boot k t u) so_far.left full);
-}
+  -- a full history ends it, and so does the gate
+  pub rounds_end : IsLastRound boot WasCalled left t v → IsRespawnerRun boot WasCalled ticks s v
+  rounds_end last = record {
+    rounds = so_far.rounds;
+    last = t;
+    course = so_far.course;
+    ends = subst (λ k. IsLastRound boot WasCalled k t v) so_far.left last;
+  }
 
 -- a round without a tick
 pub none_left : (boot : World) (left : ℕ) (s t : SeatView) (p : Progress) → left ≡ 0 → IsSweepTo boot s t p → IsRoundTo boot left s t p

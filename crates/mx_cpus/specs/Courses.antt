@@ -126,21 +126,27 @@ IsRound boot left s t = (u : SeatView) × IsTicked boot left s u × IsSweep boot
 abbrev pub IsRoundToFull : World → ℕ → SeatView → SeatView → Type 0
 IsRoundToFull boot left s t = IsTickToFull boot left s t ⊎ ((u : SeatView) × IsTicked boot left s u × IsSweepToFull boot u t)
 
+-- a round, and a question to the gate after it
+abbrev pub IsRoundAsked : World → (GateCall → Type 0) → ℕ → SeatView → SeatView → Bool → Type 0
+IsRoundAsked boot WasCalled left s t goes_on = (u : SeatView) × IsRound boot left s u × IsAsked boot WasCalled u t goes_on
+
+-- what ends a respawner's loop: a round finds the history full, or the gate ends it
+abbrev pub IsLastRound : World → (GateCall → Type 0) → ℕ → SeatView → SeatView → Type 0
+IsLastRound boot WasCalled left s t = IsRoundToFull boot left s t ⊎ IsRoundAsked boot WasCalled left s t false
+
 -- a respawner's loop so far, from the seat s on: n rounds in a row, after each of which the gate was asked, and the loop
 -- went on, led to the seat t
 abbrev pub AreRounds : World → (GateCall → Type 0) → ℕ → SeatView → ℕ → SeatView → Type 0
 AreRounds boot WasCalled ticks s zero t = t ≡ s
 AreRounds boot WasCalled ticks s (suc n) t =
-    (u : SeatView) × (v : SeatView) × AreRounds boot WasCalled ticks s n u × IsRound boot (ticks - n) u v × IsAsked boot WasCalled v t true
+    (u : SeatView) × AreRounds boot WasCalled ticks s n u × IsRoundAsked boot WasCalled (ticks - n) u t true
 
 -- THE RESPAWNER'S LOOP from the seat s to the seat t: after some rounds one finds the history full, or the gate ends it.
 pub record IsRespawnerRun (boot : World) (WasCalled : GateCall → Type 0) (ticks : ℕ) (s t : SeatView) : Type 0 where
   pub rounds : ℕ
   pub last : SeatView
   pub course : AreRounds boot WasCalled ticks s rounds last
-  pub ends :
-      IsRoundToFull boot (ticks - rounds) last t
-      ⊎ ((u : SeatView) × IsRound boot (ticks - rounds) last u × IsAsked boot WasCalled u t false)
+  pub ends : IsLastRound boot WasCalled (ticks - rounds) last t
 
 -- ---- all loops
 

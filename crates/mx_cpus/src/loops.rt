@@ -3,7 +3,7 @@
 ghost use Rattle.std.specs.Prelude.{◌≡◌, ◌<◌, ◌+◌, ℕ, true, false, None, if◌then◌else◌, length, nat_lt, IfErr, OnOk};
 ghost use Rattle.mx_machine.specs.declared.events.Event.TheVariants as events;
 ghost use Rattle.mx_cpus.specs.Calls.{IsRefusedCall};
-ghost use Rattle.mx_cpus.specs.Courses.{IsLastTurn, IsOneMoreBy, IsProcessorRun, IsRespawnerRun, IsTurn, turn_number};
+ghost use Rattle.mx_cpus.specs.Courses.{IsLastRound, IsLastTurn, IsOneMoreBy, IsProcessorRun, IsRespawnerRun, IsRoundAsked, IsTurn, turn_number};
 ghost use Rattle.mx_cpus.specs.Gates.{unwatched};
 ghost use Rattle.mx_cpus.specs.Loops.{HasMadeTurns, HasTickedAndRespawned};
 ghost use Rattle.mx_cpus.specs.Progresses.{IsRoundTo, IsSweepTo};
@@ -170,6 +170,36 @@ fn make_round<M: Naming, R: Wait>(
     sweep(rt, shared, seat)
 }
 
+/// A round, and a question to the gate after it. Answers whether the loop goes on; it doesn't at a full history, of
+/// which the gate isn't asked.
+fn round_and_question<M: Naming, G: WatchingGate, R: Wait>(
+    context: &LoopContext<'_, M, G, R>,
+    seat: ActorSeat,
+    side: FreeSide,
+    left: u32,
+) -> (ActorSeat, FreeSide, bool)
+    requires table { seat.table ≡ M.table }
+    requires actor { side.actor ≡ seat.actor }
+    requires goes_on { side.goes_on ≡ true }
+    ensures more { result.2 ≡ true
+        → IsRoundAsked M.boot (G.was_called context.now.door.gate.now) left seat result.0 true }
+    ensures ends { result.2 ≡ false
+        → IsLastRound M.boot (G.was_called context.now.door.gate.now) left seat result.0 }
+    ensures actor { result.1.actor ≡ side.actor }
+    ensures goes_on { result.2 ≡ true → result.1.goes_on ≡ true }
+{
+    seat.facts();
+    let (seat, progress) = make_round(context.rt, context.shared, seat, left);
+    match progress {
+        Progress::Full => (seat, side, false),
+        Progress::GoesOn => {
+            let (seat, side) = context.ask(seat, side);
+            let goes_on = side.goes_on();
+            (seat, side, goes_on)
+        }
+    }
+}
+
 /// The respawner's rounds, and its questions of the gate.
 pub(crate) fn make_rounds<M: Naming, G: WatchingGate, R: Wait>(
     context: &LoopContext<'_, M, G, R>,
@@ -190,18 +220,13 @@ pub(crate) fn make_rounds<M: Naming, G: WatchingGate, R: Wait>(
     let mut side = side;
     let mut left = ticks;
     for _ in context.rt.forever() {
-        let (next, progress) = make_round(context.rt, context.shared, seat, left);
-        left = left.saturating_sub(1);
-        match progress {
-            Progress::Full => return (next, side),
-            Progress::GoesOn => {}
-        }
-        let (next, after) = context.ask(next, side);
+        let (next, after, goes_on) = round_and_question(context, seat, side, left);
         seat = next;
         side = after;
-        if !side.goes_on() {
+        if !goes_on {
             return (seat, side);
         }
+        left = left.saturating_sub(1);
     }
     unreachable!()
 }

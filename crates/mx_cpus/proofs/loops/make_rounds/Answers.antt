@@ -1,45 +1,31 @@
-use Rattle.std.proofs.Common.{◌≡◌, ◌∙◌, false, rules, subst, true}
-use Rattle.mx_cpus.specs.Progresses.{IsRoundTo}
-use Rattle.mx_cpus.proofs.LoopLemmas.{respawner_made, round_actor, round_table, rounds_end, rounds_full, rounds_go_on}
+use Rattle.std.proofs.Common.{◌≡◌, ◌∙◌, false, rules, sym, true}
+use Rattle.mx_cpus.proofs.LoopLemmas.{respawner_made, rounds_end, rounds_go_on}
 use Rattle.mx_cpus.proofs.loops.make_rounds.Goals as goal
 
-pub returns-in-Full-clause-course : goal.returns-in-Full-clause-course
-returns-in-Full-clause-course g c =
-    let next = c.make_round-next.result.0 in
-    rounds_full g.M.Naming.boot (g.G.Gate.was_called c.args.context.now.door.gate.now) c.args.ticks c.args.seat c.loop.seat next c.loop.side c.loop.left c.loop.invariant
-    (subst (IsRoundTo g.M.Naming.boot c.loop.left c.loop.seat next) c.in-Full.is c.make_round-next.ensures)
+pub round_and_question-next-requires-clause-table : goal.round_and_question-next-requires-clause-table
+round_and_question-next-requires-clause-table g c = c.loop.invariant.follows.table ∙ c.requires.table
 
-pub returns-in-Full-clause-made : goal.returns-in-Full-clause-made
-returns-in-Full-clause-made g c =
-    respawner_made g.M.Naming.boot (g.G.Gate.was_called c.args.context.now.door.gate.now) c.args.ticks c.args.seat c.facts.ensures.mine c.make_round-next.result.0 (returns-in-Full-clause-course g c)
+pub round_and_question-next-requires-clause-actor : goal.round_and_question-next-requires-clause-actor
+round_and_question-next-requires-clause-actor g c = c.loop.invariant.actor ∙ sym c.loop.invariant.follows.actor
 
-pub ask-next-requires : goal.ask-next-requires
-ask-next-requires g c =
-    let next = c.make_round-next.result.0 in
-    record {
-      actor = round_actor g.M.Naming.boot (g.G.Gate.was_called c.args.context.now.door.gate.now) c.args.ticks c.args.seat c.loop.seat next c.loop.side c.loop.left c.loop.invariant
-          (subst (IsRoundTo g.M.Naming.boot c.loop.left c.loop.seat next) c.in-GoesOn.is c.make_round-next.ensures);
-      goes_on = c.loop.invariant.goes_on;
-      table = round_table g.M.Naming.boot c.loop.left c.loop.seat next g.M.Naming.table c.loop.invariant.follows.own
-          (subst (IsRoundTo g.M.Naming.boot c.loop.left c.loop.seat next) c.in-GoesOn.is c.make_round-next.ensures) (c.loop.invariant.follows.table ∙ c.requires.table);
-    }
+pub round_and_question-next-requires-clause-goes_on : goal.round_and_question-next-requires-clause-goes_on
+round_and_question-next-requires-clause-goes_on g c = c.loop.invariant.goes_on
 
 pub returns-then-not-goes_on-clause-course : goal.returns-then-not-goes_on-clause-course
 returns-then-not-goes_on-clause-course g c =
-    let next = c.make_round-next.result.0 in
-    let off : c.ask-next.result.1.goes_on ≡ false = search rules in
-    rounds_end g.M.Naming.boot (g.G.Gate.was_called c.args.context.now.door.gate.now) c.args.ticks c.args.seat c.loop.seat next c.ask-next.result.0 c.loop.side c.ask-next.result.1 c.loop.left c.loop.invariant
-    (subst (IsRoundTo g.M.Naming.boot c.loop.left c.loop.seat next) c.in-GoesOn.is c.make_round-next.ensures)
-    c.ask-next.ensures.asked off
+    let next = c.round_and_question-next in
+    let off : next.result.2 ≡ false = search rules in
+    rounds_end g.M.Naming.boot (g.G.Gate.was_called c.args.context.now.door.gate.now) c.args.ticks c.args.seat c.loop.seat next.result.0 c.loop.side next.result.1 c.loop.left c.loop.invariant (next.ensures.ends off)
 
 pub returns-then-not-goes_on-clause-made : goal.returns-then-not-goes_on-clause-made
 returns-then-not-goes_on-clause-made g c =
-    respawner_made g.M.Naming.boot (g.G.Gate.was_called c.args.context.now.door.gate.now) c.args.ticks c.args.seat c.facts.ensures.mine c.ask-next.result.0 (returns-then-not-goes_on-clause-course g c)
+    respawner_made g.M.Naming.boot (g.G.Gate.was_called c.args.context.now.door.gate.now) c.args.ticks c.args.seat c.facts.ensures.mine c.round_and_question-next.result.0 (returns-then-not-goes_on-clause-course g c)
+
+pub returns-then-not-goes_on-clause-side : goal.returns-then-not-goes_on-clause-side
+returns-then-not-goes_on-clause-side g c = c.round_and_question-next.ensures.actor ∙ c.loop.invariant.actor
 
 pub loop-preserved : goal.loop-preserved
 loop-preserved g c =
-    let next = c.make_round-next.result.0 in
-    let on : c.ask-next.result.1.goes_on ≡ true = search rules in
-    rounds_go_on g.M.Naming.boot (g.G.Gate.was_called c.args.context.now.door.gate.now) c.args.ticks c.args.seat c.loop.seat next c.ask-next.result.0 c.loop.side c.ask-next.result.1 c.loop.left c.saturating_sub-left.result c.loop.invariant
-    (subst (IsRoundTo g.M.Naming.boot c.loop.left c.loop.seat next) c.in-GoesOn.is c.make_round-next.ensures)
-    c.ask-next.ensures.asked c.ask-next.ensures.side.0 on c.saturating_sub-left.ensures
+    let next = c.round_and_question-next in
+    let on : next.result.2 ≡ true = search rules in
+    rounds_go_on g.M.Naming.boot (g.G.Gate.was_called c.args.context.now.door.gate.now) c.args.ticks c.args.seat c.loop.seat next.result.0 c.loop.side next.result.1 c.loop.left c.loop.invariant c.saturating_sub-left.result (next.ensures.more on) next.ensures.actor (next.ensures.goes_on on) c.saturating_sub-left.ensures
