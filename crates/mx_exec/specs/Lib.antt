@@ -1,4 +1,5 @@
 pub mod Image
+pub mod Families
 pub mod Ending
 pub mod Lasting
 pub mod Operands

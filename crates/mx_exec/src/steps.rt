@@ -3,6 +3,7 @@
 ghost use Rattle.std.specs.Prelude.{◌≡◌, ℕ, true, drop, Ok, Err};
 ghost use Rattle.mx_decode.specs.Decode.{front};
 ghost use Rattle.mx_insn.specs.Families.{is_calculation};
+ghost use Rattle.mx_exec.specs.Families.{is_move};
 ghost use Rattle.mx_exec.specs.Image.{code_bytes, Performs};
 ghost use Rattle.mx_exec.specs.Ending.{Leads};
 ghost use Rattle.mx_exec.specs.Lasting.{lasting};
@@ -29,6 +30,41 @@ pub fn outcome(insn: &Insn) -> Outcome
     }
 }
 
+/// Performs an instruction that moves data, and tests and calculates nothing.
+fn move_data(image: &mut Image, insn: &Insn) -> TurnEnd
+    requires { is_move insn.now ≡ true }
+    ensures { (next : ℕ) → Leads next image.old (after insn.now next image.old) result image.new }
+{
+    match insn {
+        Insn::Move(operands) => moves::move_operand(image, operands),
+        Insn::Exchange {
+            size,
+            operand,
+            register,
+        } => moves::exchange(image, *size, operand, *register),
+        Insn::LoadAddress { size, to, memory } => {
+            let at = memory.spot(&image.regs);
+            moves::load_address(image, size.size(), *to, at)
+        }
+        Insn::ZeroExtend {
+            extension,
+            to,
+            from,
+        } => moves::extend_into(image, Signedness::Unsigned, *extension, *to, from),
+        Insn::SignExtend {
+            extension,
+            to,
+            from,
+        } => moves::extend_into(image, Signedness::Signed, *extension, *to, from),
+        Insn::Push(operand) => stack::push_from(image, operand),
+        Insn::PushImmediate(value) => stack::push(image, *value),
+        Insn::Pop(register) => stack::pop(image, *register),
+        Insn::ExtendAccumulator(size) => moves::extend_accumulator(image, *size),
+        Insn::SpreadSign(size) => moves::spread_accumulator(image, *size),
+        _ => unreachable!(),
+    }
+}
+
 /// Performs an instruction that moves, tests or calculates.
 fn calculate(image: &mut Image, insn: &Insn) -> TurnEnd
     requires { is_calculation insn.now ≡ true }
@@ -39,7 +75,6 @@ fn calculate(image: &mut Image, insn: &Insn) -> TurnEnd
             operation,
             operands,
         } => arithmetic::operate_on(image, *operation, operands),
-        Insn::Move(operands) => moves::move_operand(image, operands),
         Insn::Test {
             size,
             operand,
@@ -47,15 +82,6 @@ fn calculate(image: &mut Image, insn: &Insn) -> TurnEnd
         } => arithmetic::test(image, *size, operand, register),
         Insn::TestImmediate { operand, value } => {
             arithmetic::test(image, value.size(), operand, value)
-        }
-        Insn::Exchange {
-            size,
-            operand,
-            register,
-        } => moves::exchange(image, *size, operand, *register),
-        Insn::LoadAddress { size, to, memory } => {
-            let at = memory.spot(&image.regs);
-            moves::load_address(image, size.size(), *to, at)
         }
         Insn::Unary {
             operation,
@@ -109,25 +135,10 @@ fn calculate(image: &mut Image, insn: &Insn) -> TurnEnd
             to,
             from,
         } => bits::scan(image, *operation, *to, from),
-        Insn::ZeroExtend {
-            extension,
-            to,
-            from,
-        } => moves::extend_into(image, Signedness::Unsigned, *extension, *to, from),
-        Insn::SignExtend {
-            extension,
-            to,
-            from,
-        } => moves::extend_into(image, Signedness::Signed, *extension, *to, from),
         Insn::SetCondition { condition, operand } => {
             moves::set_condition(image, *condition, operand)
         }
-        Insn::Push(operand) => stack::push_from(image, operand),
-        Insn::PushImmediate(value) => stack::push(image, *value),
-        Insn::Pop(register) => stack::pop(image, *register),
-        Insn::ExtendAccumulator(size) => moves::extend_accumulator(image, *size),
-        Insn::SpreadSign(size) => moves::spread_accumulator(image, *size),
-        _ => unreachable!(),
+        _ => move_data(image, insn),
     }
 }
 

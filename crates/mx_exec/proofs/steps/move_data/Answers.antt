@@ -1,8 +1,8 @@
 use Rattle.std.proofs.Common.{sym}
-use Rattle.mx_exec.proofs.steps.calculate.Goals as goal
+use Rattle.mx_exec.proofs.steps.move_data.Goals as goal
 
 pub returns-in-LoadAddress : goal.returns-in-LoadAddress
 returns-in-LoadAddress c next =
     rw c.in-LoadAddress.is (
     rw (sym c.spot-at.ensures) (
-    rw (sym c.size-in-LoadAddress.ensures) (c.load_address.ensures next)))
+    rw (sym c.size.ensures) (c.load_address.ensures next)))
