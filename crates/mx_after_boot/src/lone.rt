@@ -104,6 +104,20 @@ fn lent_turn<M: Naming>(
     }
 }
 
+/// Whether the five turns are those, by a seat.
+fn turns_lent<M: Naming>(rt: &impl Wait, shared: &Shared<M>, seat: ActorSeat) -> bool
+    requires { seat.table ≡ M.table }
+{
+    let mut seat = seat;
+    let mut is_done = true;
+    for turn in TURNS {
+        let (next, is_turn) = lent_turn(rt, shared, seat, turn);
+        seat = next;
+        is_done = is_done && is_turn;
+    }
+    is_done
+}
+
 /// Whether the five turns are those, by the first processor's seat.
 fn are_lent<M: Naming>(rt: &(impl Wait + Eprint), blank: Blank, mut seats: Vec<ActorSeat>) -> bool
     requires table { blank.table ≡ M.table }
@@ -111,18 +125,12 @@ fn are_lent<M: Naming>(rt: &(impl Wait + Eprint), blank: Blank, mut seats: Vec<A
     requires tables { All (λ s. s.table ≡ M.table) seats.items }
 {
     let shared: Shared<M> = blank.open();
-    let _other = last_seat::<M>(&mut seats);
-    let Some(mut seat) = last_seat::<M>(&mut seats) else {
-        let _kernel = shared.into_kernel(seats);
-        return false;
-    };
-    let mut is_done = true;
     mark(rt);
-    for turn in TURNS {
-        let (next, is_turn) = lent_turn(rt, &shared, seat, turn);
-        seat = next;
-        is_done = is_done && is_turn;
-    }
+    let _other = last_seat::<M>(&mut seats);
+    let is_done = match last_seat::<M>(&mut seats) {
+        Some(seat) => turns_lent(rt, &shared, seat),
+        None => false,
+    };
     let kernel = shared.into_kernel(seats);
     mark(rt);
     is_done && kernel.history().len() == 10
@@ -159,6 +167,25 @@ fn replace_process<M: Naming>(
     }
 }
 
+/// How many rounds are made by a seat, up to the first that is refused.
+fn make_rounds<M: Naming>(rt: &impl Wait, shared: &Shared<M>, seat: ActorSeat) -> u32
+    requires { seat.table ≡ M.table }
+{
+    let mut seat = seat;
+    let mut made: u32 = 0;
+    let mut last: u32 = 0;
+    for round in 0..ROUNDS {
+        let (next, endpoint) = replace_process(rt, shared, seat, last);
+        seat = next;
+        made = round + 1;
+        last = made * GENERATION;
+        if endpoint != Some(last) {
+            break;
+        }
+    }
+    made
+}
+
 /// How many rounds are made, up to the first that is refused, and how many records there are then.
 fn rounds_made<M: Naming>(
     rt: &(impl Wait + Eprint),
@@ -170,22 +197,11 @@ fn rounds_made<M: Naming>(
     requires tables { All (λ s. s.table ≡ M.table) seats.items }
 {
     let shared: Shared<M> = blank.open();
-    let Some(mut seat) = last_seat::<M>(&mut seats) else {
-        let _kernel = shared.into_kernel(seats);
-        return (0, 0);
-    };
-    let mut made: u32 = 0;
-    let mut last: u32 = 0;
     mark(rt);
-    for round in 0..ROUNDS {
-        let (next, endpoint) = replace_process(rt, &shared, seat, last);
-        seat = next;
-        made = round + 1;
-        last = made * GENERATION;
-        if endpoint != Some(last) {
-            break;
-        }
-    }
+    let made = match last_seat::<M>(&mut seats) {
+        Some(seat) => make_rounds(rt, &shared, seat),
+        None => 0,
+    };
     let kernel = shared.into_kernel(seats);
     mark(rt);
     (made, kernel.history().len())

@@ -31,17 +31,11 @@ fn words_of(rt: &(impl Env + AllocGlobal)) -> Result<Vec<String>, Fault> {
     Ok(words)
 }
 
-/// Does what the words ask for: a task over the machine of a configuration, and the file that its history is
-/// written to.
-fn perform<R>(rt: &R) -> Result<(), Fault>
+/// Does a task over the machine of a configuration. Its history goes into the file `log`.
+fn perform_task<R>(rt: &R, task: &str, config: &str, log: &str) -> Result<(), Fault>
 where
-    R: Env + Files + Print + Eprint + AllocGlobal + Threads + Wait + Sync,
+    R: Files + Print + Eprint + AllocGlobal + Threads + Wait + Sync,
 {
-    let words = words_of(rt)?;
-    let (Some(task), Some(config), Some(log)) = (words.get(1), words.get(2), words.get(3)) else {
-        return Ok(());
-    };
-    let (task, config, log) = (task.as_str(), config.as_str(), log.as_str());
     if task == "soak" {
         fill_history(rt, config, log)
     } else if task == "script" {
@@ -55,6 +49,18 @@ where
     } else {
         Err(Fault("there is no such task"))
     }
+}
+
+/// Does what the words ask for: a task, a configuration, and the file of its history.
+fn perform<R>(rt: &R) -> Result<(), Fault>
+where
+    R: Env + Files + Print + Eprint + AllocGlobal + Threads + Wait + Sync,
+{
+    let words = words_of(rt)?;
+    let (Some(task), Some(config), Some(log)) = (words.get(1), words.get(2), words.get(3)) else {
+        return Ok(());
+    };
+    perform_task(rt, task.as_str(), config.as_str(), log.as_str())
 }
 
 fn main(rt: HostRuntime) -> ExitCode {

@@ -183,31 +183,54 @@ fn run_until_full<M: Naming + Send + Sync, R: Threads + Wait + Eprint + Sync>(
     )
 }
 
-/// Drives a machine until its history is full.
+/// The course of a machine's eight actors: it ends after the history is full.
+fn run_course<M: Naming + Send + Sync, R: Threads + Wait + Eprint + Sync>(
+    rt: &R,
+    shared: &Shared<M>,
+    seats: Vec<ActorSeat>,
+) -> Result<(), Fault>
+    requires tables { All (λ s. s.table ≡ M.table) seats.items }
+    requires empties { All (λ s. s.held ≡ None) seats.items }
+{
+    if seats.len() + 1 != THREADS {
+        return Err(Fault("there are to be eight actors"));
+    }
+    let course = Course::new();
+    if run_until_full(rt, shared, seats, &course) {
+        Ok(())
+    } else {
+        Err(Fault("no thread"))
+    }
+}
+
+/// Drives a machine until its history is full. Its kernel, and whether that was done.
 fn drive_until_full<M: Naming + Send + Sync, R: Threads + Wait + Eprint + Sync>(
     rt: &R,
     alloc: Global,
     blank: Blank,
     seats: Vec<ActorSeat>,
-) -> Result<Kernel, Fault>
+) -> (Kernel, Result<(), Fault>)
     requires table { blank.table ≡ M.table }
     requires boot { blank.boot ≡ M.boot }
     requires tables { All (λ s. s.table ≡ M.table) seats.items }
     requires empties { All (λ s. s.held ≡ None) seats.items }
 {
     let shared: Shared<M> = blank.open();
-    if seats.len() + 1 != THREADS {
-        let _kernel = shared.into_kernel(seats);
-        return Err(Fault("there are to be eight actors"));
+    let done = run_course(rt, &shared, seats);
+    (shared.into_kernel(Vec::new(alloc)), done)
+}
+
+/// Writes the history of a machine, and prints its report.
+fn save<R: Files + Print + AllocGlobal>(rt: &R, kernel: &Kernel, log: &str) -> Result<(), Fault> {
+    let saved = saved_text(rt.alloc(), kernel).map_err(|_| Fault("no memory"))?;
+    let printed = report(rt.alloc(), kernel).map_err(|_| Fault("no memory"))?;
+    let mut files = RuntimeWriter::new(rt);
+    if files.write(rt.alloc(), log, saved.as_slice()).is_err() {
+        return Err(Fault("the history can't be written"));
     }
-    let course = Course::new();
-    let is_done = run_until_full(rt, &shared, seats, &course);
-    let kernel = shared.into_kernel(Vec::new(alloc));
-    if is_done {
-        Ok(kernel)
-    } else {
-        Err(Fault("no thread"))
-    }
+    print_text(printed.as_slice(), &mut io::writer(rt)).map_err(|_| Fault(
+        "the report can't be printed",
+    ))
 }
 
 /// Runs the machine of a configuration with four processors and four other actors until its history is full,
@@ -217,14 +240,9 @@ where
     R: Files + Print + Eprint + AllocGlobal + Threads + Wait + Sync,
 {
     let (blank, seats) = boot_config(rt, config)?;
-    let kernel = drive_until_full::<Brand, _>(rt, rt.alloc(), blank, seats)?;
-    let saved = saved_text(rt.alloc(), &kernel).map_err(|_| Fault("no memory"))?;
-    let printed = report(rt.alloc(), &kernel).map_err(|_| Fault("no memory"))?;
-    let mut files = RuntimeWriter::new(rt);
-    if files.write(rt.alloc(), log, saved.as_slice()).is_err() {
-        return Err(Fault("the history can't be written"));
+    let (kernel, done) = drive_until_full::<Brand, _>(rt, rt.alloc(), blank, seats);
+    match done {
+        Ok(()) => save(rt, &kernel, log),
+        Err(fault) => Err(fault),
     }
-    print_text(printed.as_slice(), &mut io::writer(rt)).map_err(|_| Fault(
-        "the report can't be printed",
-    ))
 }
