@@ -13,7 +13,7 @@ use Rattle.mx_app_failure.specs.declared.failure.Failure.{Failure}
 use Rattle.mx_app_failure.specs.declared.failure.Failure.TheVariants.{NoMemory}
 use Rattle.mx_app_failure.specs.Failure.{failure_of, failure_of_lines}
 use Rattle.mx_app_start.specs.Asked.{Asked, file_given}
-use Rattle.mx_app_start.specs.Setup.{AreServicesRead, IsConfigFault, IsConfigRead, IsNoTextGiven, IsNotStarted, IsServiceRead, IsServicesFault, IsFileRefused, IsSetup, IsSetupFault, IsStart, IsTextGiven}
+use Rattle.mx_app_start.specs.Setup.{AreServicesRead, IsConfigFault, IsConfigRead, IsFirstFault, IsNoTextGiven, IsNotStarted, IsServiceRead, IsServicesFault, IsFileRefused, IsSetup, IsSetupFault, IsStart, IsTextGiven}
 
 pub never : false ≡ true → ⊥
 never h = absurd cc
@@ -106,19 +106,19 @@ as_many_services name qs config vs h = as_many config.lines h.1 vs h.6
 
 -- ---- and the text that drives the machine
 
-pub first_setup : {L : Type 0} (Says : List ℕ → Config → Config → List L → Type 0) (Tells : List ℕ → Config → BootError → Type 0) (config_name name : List ℕ) (qs : List Asked) (f : Failure)
-    → IsSetupFault config_name qs f → IsNotStarted Says Tells config_name name qs f
-first_setup Says Tells config_name name qs f h = inl (inl h)
+pub first_setup : (Tells : List ℕ → Config → BootError → Type 0) (config_name name : List ℕ) (qs : List Asked) (f : Failure)
+    → IsSetupFault config_name qs f → IsFirstFault Tells config_name name qs f
+first_setup Tells config_name name qs f h = inl h
 
-pub first_no_text : {L : Type 0} (Says : List ℕ → Config → Config → List L → Type 0) (Tells : List ℕ → Config → BootError → Type 0) (config_name name : List ℕ) (qs : List Asked) (q : Asked) (config : Config) (vs : List Service) (f : Failure)
-    → IsSetup config_name qs config vs → IsNoTextGiven name q f → IsNotStarted Says Tells config_name name (qs ++ q ∷ []) f
-first_no_text Says Tells config_name name qs q config vs f s h = inl (inr (qs, q, config, vs, refl, s, inl h))
+pub first_no_text : (Tells : List ℕ → Config → BootError → Type 0) (config_name name : List ℕ) (qs : List Asked) (q : Asked) (config : Config) (vs : List Service) (f : Failure)
+    → IsSetup config_name qs config vs → IsNoTextGiven name q f → IsFirstFault Tells config_name name (qs ++ q ∷ []) f
+first_no_text Tells config_name name qs q config vs f s h = inr (qs, q, config, vs, refl, s, inl h)
 
-pub first_faulty : {L : Type 0} (Says : List ℕ → Config → Config → List L → Type 0) (Tells : List ℕ → Config → BootError → Type 0) (config_name name text slice : List ℕ) (qs : List Asked) (q : Asked) (config : Config) (vs : List Service) (e : BootError)
+pub first_faulty : (Tells : List ℕ → Config → BootError → Type 0) (config_name name text slice : List ℕ) (qs : List Asked) (q : Asked) (config : Config) (vs : List Service) (e : BootError)
     → IsSetup config_name qs config vs → slice ≡ text → IsTextGiven name q text → Tells slice config e
-    → IsNotStarted Says Tells config_name name (qs ++ q ∷ []) (failure_of_lines e)
-first_faulty Says Tells config_name name text slice qs q config vs e s of t h =
-    inl (inr (qs, q, config, vs, refl, s, inr (text, e, t, subst (λ (x : List ℕ). Tells x config e) of h, refl)))
+    → IsFirstFault Tells config_name name (qs ++ q ∷ []) (failure_of_lines e)
+first_faulty Tells config_name name text slice qs q config vs e s of t h =
+    inr (qs, q, config, vs, refl, s, inr (text, e, t, subst (λ (x : List ℕ). Tells x config e) of h, refl))
 
 pub not_booted : {L : Type 0} (Says : List ℕ → Config → Config → List L → Type 0) (Tells : List ℕ → Config → BootError → Type 0) (config_name name : List ℕ) (qs : List Asked) (config : Config) (vs : List Service) (said : List L) (f : Failure)
     → IsStart Says config_name name qs config vs said → f ≡ NoMemory → IsNotStarted Says Tells config_name name qs f

@@ -7,7 +7,7 @@ ghost use Rattle.mx_boot.specs.Config.{Config as Configured};
 ghost use Rattle.mx_machine.specs.Boot.{world_at_boot};
 ghost use Rattle.mx_machine.specs.World.{actors};
 ghost use Rattle.mx_app_start.specs.Asked.{Asked};
-ghost use Rattle.mx_app_start.specs.Setup.{IsNotStarted, IsStart};
+ghost use Rattle.mx_app_start.specs.Setup.{IsFirstFault, IsNotStarted, IsStart};
 
 use crate::course::Course;
 use crate::reader::Reader;
@@ -44,6 +44,30 @@ fn boot(alloc: Global, config: &Config, services: Vec<Service>) -> Result<Machin
 }
 
 /// Reads a configuration, the programs of its services in the order of their lines, and the text that
+/// drives the machine, each checked before the next is read. Answers the configuration by which the machine
+/// boots, its services, and what the text's lines say; or the first fault.
+fn read_all<C: Course, R: Reader>(
+    alloc: Global,
+    reader: &mut R,
+    config: &str,
+    text: &str,
+) -> Result<(Config, Vec<Service>, Vec<C::Line>), Failure>
+    ensures read { IfOk result (λ r. (qs : List Asked)
+        × (R.asked reader.new ≡ R.asked reader.old ++ qs)
+        × IsStart C.IsSaid config.now text.now qs r.0 r.1.items r.2.items) }
+    ensures some { IfOk result (λ r. 0 < length r.1.items) }
+    ensures few { IfOk result (λ r. length r.1.items ≤ 32) }
+    ensures fault { IfErr result (λ f. (qs : List Asked)
+        × (R.asked reader.new ≡ R.asked reader.old ++ qs)
+        × IsFirstFault C.Tells config.now text.now qs f) }
+{
+    let (mut config, services) = setup_of(alloc, reader, config)?;
+    let text = text_of(alloc, reader, text)?;
+    let lines = C::read(alloc, text.as_str(), &mut config)?;
+    Ok((config, services, lines))
+}
+
+/// Reads a configuration, the programs of its services in the order of their lines, and the text that
 /// drives the machine, each checked before the next is read; then boots the machine. Out of memory is
 /// answered only if nothing that was read is at fault.
 pub fn start<C: Course, R: Reader>(
@@ -66,9 +90,7 @@ where
         × (R.asked reader.new ≡ R.asked reader.old ++ qs)
         × IsNotStarted C.IsSaid C.Tells config.now text.now qs f) }
 {
-    let (mut config, services) = setup_of(alloc, reader, config)?;
-    let text = text_of(alloc, reader, text)?;
-    let lines = C::read(alloc, text.as_str(), &mut config)?;
+    let (config, services, lines) = read_all::<C, R>(alloc, reader, config, text)?;
     let machine = boot(alloc, &config, services)?;
     let other = config.cpus;
     Ok(Started {

@@ -1,77 +1,46 @@
-use Rattle.std.proofs.Common.{[], ◌∷◌, ◌++◌, arith, refl}
+use Rattle.std.proofs.Common.{inl, refl}
 use Rattle.std.proofs.lemmas.Result.{err_from_is_err_and}
-use Rattle.std.specs.Prelude.{string_bytes}
 use Rattle.mx_machine.specs.Machine.{world_of}
 use Rattle.mx_app_start.proofs.BootLemmas.{other_booted}
-use Rattle.mx_app_start.proofs.SetupLemmas.{as_many_services, asked_on, first_faulty, first_no_text, first_setup, not_booted, started}
+use Rattle.mx_app_start.proofs.SetupLemmas.{not_booted}
 use Rattle.mx_app_start.proofs.starting.start.Goals as goal
 
 pub returns-in_err-config-clause-fault : goal.returns-in_err-config-clause-fault
 returns-in_err-config-clause-fault g c =
     let p = err_from_is_err_and c.from_residual.result c.from_residual.ensures.1 in
     let h = c.in_err-config.ensures.fault in
-    rw (p.1, p.2) (h.0, h.1, first_setup g.C.Course.IsSaid g.C.Course.Tells c.args.config.now c.args.text.now h.0 c.in_err-config.field-0.0 h.2)
-
-pub returns-in_err-text-clause-fault : goal.returns-in_err-text-clause-fault
-returns-in_err-text-clause-fault g c =
-    let p = err_from_is_err_and c.from_residual-in_err-text.result c.from_residual-in_err-text.ensures.1 in
-    let s = c.in_ok-config.ensures.read in
-    let h = c.in_err-text.ensures.fault in
-    rw (p.1, p.2) (
-      s.0 ++ h.0 ∷ [],
-      asked_on (g.R.Reader.asked c.args.reader.now) (g.R.Reader.asked c.setup_of.new.reader) (g.R.Reader.asked c.text_of.new.reader) s.0 (h.0 ∷ []) s.1 h.1,
-      first_no_text g.C.Course.IsSaid g.C.Course.Tells c.args.config.now c.args.text.now s.0 h.0 c.in_ok-config.config c.in_ok-config.services.items c.in_err-text.field-0.0 s.2 h.2,
-    )
-
-pub returns-in_err-lines-clause-fault : goal.returns-in_err-lines-clause-fault
-returns-in_err-lines-clause-fault g c =
-    let p = err_from_is_err_and c.from_residual-in_err-lines.result c.from_residual-in_err-lines.ensures.1 in
-    let s = c.in_ok-config.ensures.read in
-    let t = c.in_ok-text.ensures.text in
-    rw (p.1, p.2) (
-      s.0 ++ t.0 ∷ [],
-      asked_on (g.R.Reader.asked c.args.reader.now) (g.R.Reader.asked c.setup_of.new.reader) (g.R.Reader.asked c.text_of.new.reader) s.0 (t.0 ∷ []) s.1 t.1,
-      first_faulty g.C.Course.IsSaid g.C.Course.Tells c.args.config.now c.args.text.now (string_bytes c.in_ok-text.text) c.as_str.result.now s.0 t.0 c.in_ok-config.config c.in_ok-config.services.items c.in_err-lines.field-0.0 s.2 c.as_str.ensures.value t.2 c.in_err-lines.ensures.fault,
-    )
+    rw (p.1, p.2) (h.0, h.1, inl h.2)
 
 pub returns-in_err-machine-clause-fault : goal.returns-in_err-machine-clause-fault
 returns-in_err-machine-clause-fault g c =
     let p = err_from_is_err_and c.from_residual-in_err-machine.result c.from_residual-in_err-machine.ensures.1 in
-    let s = c.in_ok-config.ensures.read in
-    let t = c.in_ok-text.ensures.text in
+    let h = c.in_ok-config.ensures.read in
     rw (p.1, p.2) (
-      s.0 ++ t.0 ∷ [],
-      asked_on (g.R.Reader.asked c.args.reader.now) (g.R.Reader.asked c.setup_of.new.reader) (g.R.Reader.asked c.text_of.new.reader) s.0 (t.0 ∷ []) s.1 t.1,
-      not_booted g.C.Course.IsSaid g.C.Course.Tells c.args.config.now c.args.text.now (s.0 ++ t.0 ∷ []) c.read.new.config c.in_ok-config.services.items c.in_ok-lines.lines.items _
-          (started g.C.Course.IsSaid c.args.config.now c.args.text.now (string_bytes c.in_ok-text.text) c.as_str.result.now s.0 t.0 c.in_ok-config.config c.read.new.config c.in_ok-config.services.items c.in_ok-lines.lines.items s.2 c.as_str.ensures.value t.2 c.in_ok-lines.ensures.said)
-          (search),
+      h.0,
+      h.1,
+      not_booted g.C.Course.IsSaid g.C.Course.Tells c.args.config.now c.args.text.now h.0 c.in_ok-config.config c.in_ok-config.services.items c.in_ok-config.lines.items _ h.2 (search),
     )
 
 pub boot-requires-clause-some : goal.boot-requires-clause-some
-boot-requires-clause-some g c =
-    let s = c.in_ok-config.ensures.read in
-    omega (arith, as_many_services c.args.config.now s.0 c.in_ok-config.config c.in_ok-config.services.items s.2, c.in_ok-config.config.some_lines)
+boot-requires-clause-some g c = c.in_ok-config.ensures.some
 
 pub boot-requires-clause-few : goal.boot-requires-clause-few
-boot-requires-clause-few g c =
-    let s = c.in_ok-config.ensures.read in
-    omega (arith, as_many_services c.args.config.now s.0 c.in_ok-config.config c.in_ok-config.services.items s.2, c.in_ok-config.config.lines_fit)
+boot-requires-clause-few g c = c.in_ok-config.ensures.few
 
 pub returns-clause-started : goal.returns-clause-started
 returns-clause-started g c =
-    let s = c.in_ok-config.ensures.read in
-    let t = c.in_ok-text.ensures.text in (
-      s.0 ++ t.0 ∷ [],
-      c.read.new.config,
+    let h = c.in_ok-config.ensures.read in (
+      h.0,
+      c.in_ok-config.config,
       c.in_ok-config.services.items,
-      asked_on (g.R.Reader.asked c.args.reader.now) (g.R.Reader.asked c.setup_of.new.reader) (g.R.Reader.asked c.text_of.new.reader) s.0 (t.0 ∷ []) s.1 t.1,
-      started g.C.Course.IsSaid c.args.config.now c.args.text.now (string_bytes c.in_ok-text.text) c.as_str.result.now s.0 t.0 c.in_ok-config.config c.read.new.config c.in_ok-config.services.items c.in_ok-lines.lines.items s.2 c.as_str.ensures.value t.2 c.in_ok-lines.ensures.said,
+      h.1,
+      h.2,
       c.in_ok-machine.ensures.world,
       refl,
       refl,
-      omega (arith, as_many_services c.args.config.now s.0 c.in_ok-config.config c.in_ok-config.services.items s.2, c.in_ok-config.config.some_lines),
-      omega (arith, as_many_services c.args.config.now s.0 c.in_ok-config.config c.in_ok-config.services.items s.2, c.in_ok-config.config.lines_fit),
+      c.in_ok-config.ensures.some,
+      c.in_ok-config.ensures.few,
     )
 
 pub returns-clause-other : goal.returns-clause-other
-returns-clause-other g c = other_booted (world_of c.in_ok-machine.machine) c.read.new.config c.in_ok-config.services.items c.in_ok-machine.ensures.world
+returns-clause-other g c = other_booted (world_of c.in_ok-machine.machine) c.in_ok-config.config c.in_ok-config.services.items c.in_ok-machine.ensures.world
