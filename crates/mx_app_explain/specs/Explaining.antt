@@ -226,15 +226,21 @@ abbrev pub faulty_words : Kind → Option (List ℕ) → List (List ℕ)
 faulty_words (Faulty f) (Some text) = words_at text f.line
 faulty_words f text = []
 
--- what was wanted of a line of the text that was read first, if that is known
-abbrev pub config_detail_or : List ℕ → Option (List ℕ) → List ℕ
-config_detail_or wanted None = wanted_told [] wanted []
-config_detail_or wanted (Some detail) = detail
+-- what was wanted of the line at fault of a text, if that is known
+abbrev pub text_detail : Kind → List ℕ → Option (List ℕ)
+text_detail (Misstated (lines.BadLine n)) text = config_detail text n
+text_detail (Faulty f) text = Some (advice_told (advised f.problem (words_at text f.line)))
+text_detail f text = None
 
+-- that, or else what was wanted of no line that is known
+abbrev pub detail_or : List ℕ → Option (List ℕ) → List ℕ
+detail_or plain None = plain
+detail_or plain (Some detail) = detail
+
+-- by the text that was read first
 abbrev pub detail_of : CommandRequest → Kind → Bool → Bool → Option (List ℕ) → List ℕ
-detail_of r (Misstated (lines.BadLine n)) m u (Some text) = config_detail_or (lines_wanted r (lines.BadLine n)) (config_detail text n)
-detail_of r (Faulty f) m u (Some text) = advice_told (advised f.problem (words_at text f.line))
-detail_of r f m u text = wanted_told [] (wanted_of r f m u text) []
+detail_of r f m u None = plain_detail r f m u None
+detail_of r f m u (Some text) = detail_or (plain_detail r f m u (Some text)) (text_detail f text)
 
 -- ---- the line, without its end
 

@@ -1,8 +1,8 @@
 //! The second line of a failure.
 
-ghost use Rattle.std.specs.Prelude.{◌≡◌, IfOk, option_map, string_bytes};
+ghost use Rattle.std.specs.Prelude.{◌≡◌, IfOk, Some, option_map, string_bytes};
 ghost use Rattle.mx_app_explain.specs.Details.{detail_told};
-ghost use Rattle.mx_app_explain.specs.Explaining.{detail_of, explained, explanation_told, faulty_words, plain_detail};
+ghost use Rattle.mx_app_explain.specs.Explaining.{detail_of, explained, explanation_told, faulty_words, plain_detail, text_detail};
 ghost use Rattle.mx_text.specs.Fields.{fields};
 
 use crate::detail::{Detail, Label, config_detail, line_below};
@@ -66,6 +66,19 @@ fn plain_detail<'a>(request: CommandRequest<'_>, failure: Failure, notes: Notes<
     }
 }
 
+/// What was wanted of the line of a text that is at fault: of a text for the assembler its words are given. None if
+/// no line of the text is known for it.
+fn text_detail<'a>(failure: Failure, text: &'a [u8], words: &'a [u8]) -> Option<Detail<'a>>
+    requires { fields words.now ≡ faulty_words failure (Some text.now) }
+    ensures { option_map detail_told result ≡ text_detail failure text.now }
+{
+    match failure {
+        Failure::Misstated(BootError::BadLine(number)) => config_detail(text, number),
+        Failure::Faulty(fault) => Some(advice_on(words, fault.problem).detail()),
+        _ => None,
+    }
+}
+
 /// What was wanted, by the line at fault if that is known: of a text for the assembler its words are given.
 fn detail_of<'a>(
     request: CommandRequest<'a>,
@@ -77,15 +90,13 @@ fn detail_of<'a>(
     ensures { detail_told result ≡ detail_of request.entry failure notes.entry.is_missed
         notes.entry.is_unwritten (option_map (λ t. t.now) notes.entry.text) }
 {
-    match (failure, notes.text) {
-        (Failure::Misstated(BootError::BadLine(number)), Some(text)) => {
-            match config_detail(text, number) {
-                Some(detail) => detail,
-                None => plain_detail(request, failure, notes),
-            }
-        }
-        (Failure::Faulty(fault), Some(_)) => advice_on(words, fault.problem).detail(),
-        _ => plain_detail(request, failure, notes),
+    let detail = match notes.text {
+        Some(text) => text_detail(failure, text, words),
+        None => None,
+    };
+    match detail {
+        Some(detail) => detail,
+        None => plain_detail(request, failure, notes),
     }
 }
 
