@@ -1,15 +1,16 @@
 //! What the second other actor does: outside events, and waits between them.
 
-ghost use Rattle.std.specs.Prelude.{◌≡◌, true};
+ghost use Rattle.std.specs.Prelude.{◌≡◌, true, false, IfNone, IfSome, length};
 ghost use Rattle.mx_machine.specs.KernelState.{is_for_all};
 ghost use Rattle.mx_cpus.specs.CallEnds.{IsCallTo, IsEventTo, IsWaitTo, goes_on_after};
-ghost use Rattle.mx_cpus.specs.Gates.{unwatched};
+ghost use Rattle.mx_cpus.specs.Calls.{IsRestCall};
+ghost use Rattle.mx_cpus.specs.Gates.{again_call, seen_call, unwatched};
 ghost use Rattle.mx_cpus.specs.Outsiders.{HasMadeCalls, IsOutsiderRun};
 
 use crate::gate::{Gate, Unwatched, WatchingGate};
 use crate::outside::OutsideCall;
 use crate::side::{FreeSide, LoopContext};
-use crate::{ActorSeat, Naming, Shared};
+use crate::{ActorSeat, HowFar, Naming, Shared};
 use mx_machine::{Event, Refusal};
 use std::sync::Wait;
 
@@ -42,6 +43,32 @@ fn make_event<M: Naming, G: WatchingGate, R: Wait>(
     }
 }
 
+/// Shows the gate how far the machine is, asks it whether the loop goes on, and looks at the machine again if it
+/// does. How far the machine is then; None if the loop ends.
+fn ask_and_look<M: Naming, G: WatchingGate, R: Wait>(
+    context: &LoopContext<'_, M, G, R>,
+    seat: ActorSeat,
+    side: FreeSide,
+    seen: HowFar,
+) -> (ActorSeat, FreeSide, Option<HowFar>)
+    requires table { seat.table ≡ M.table }
+    requires goes_on { side.goes_on ≡ true }
+    ensures seen { G.was_called context.now.door.gate.now (seen_call side.actor seen.records) }
+    ensures called { G.was_called context.now.door.gate.now
+        (again_call side.actor seen.at_rest result.1.goes_on) }
+    ensures actor { result.1.actor ≡ side.actor }
+    ensures ends { IfNone result.2 ((result.1.goes_on ≡ false) × (result.0 ≡ seat)) }
+    ensures looks { IfSome result.2 (λ far. (result.1.goes_on ≡ true)
+        × IsRestCall M.boot seat result.0 far.at_rest × (far.records ≡ length result.0.seen)) }
+{
+    let side = side.ask(&context.door, seen);
+    if !side.goes_on() {
+        return (seat, side, None);
+    }
+    let (seat, far) = context.shared.how_far(context.rt, seat);
+    (seat, side, Some(far))
+}
+
 /// Looks at the machine again and again, until its history has `more` records more than at the first look, or
 /// it is at rest. Between two looks the gate decides whether the loop goes on.
 fn wait_for<M: Naming, G: WatchingGate, R: Wait>(
@@ -66,13 +93,13 @@ fn wait_for<M: Naming, G: WatchingGate, R: Wait>(
         if seen.at_rest || seen.records.saturating_sub(first.records) >= more as usize {
             return (seat, side, CallEnd::Made);
         }
-        side = side.ask(&context.door, seen);
-        if !side.goes_on() {
-            return (seat, side, CallEnd::Stopped);
-        }
-        let (next, now) = context.shared.how_far(context.rt, seat);
+        let (next, asked, far) = ask_and_look(context, seat, side, seen);
         seat = next;
-        seen = now;
+        side = asked;
+        match far {
+            Some(far) => seen = far,
+            None => return (seat, side, CallEnd::Stopped),
+        }
     }
     unreachable!()
 }
