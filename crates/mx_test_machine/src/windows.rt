@@ -112,7 +112,76 @@ const OUT_OF: Copied = Copied {
     count: 16,
 };
 
-static ROWS: &[Row] = &[
+/// Four processes that may make these kernel calls.
+fn processes(rt: &impl Abort, alloc: Global, rules: Rules, calls: u32) -> Result<Table, Fail> {
+    let mut table = Table::new(alloc, rules)?;
+    for _ in 0..4u8 {
+        let masks = Masks {
+            traps: ALL_TRAPS,
+            sends: ALL_SENDS,
+            calls,
+        };
+        add_process(rt, alloc, &mut table, masks, 7)?;
+    }
+    Ok(table)
+}
+
+/// A call's result.
+fn result_of(rt: &impl Abort, table: &mut Table, slot: Slot, words: &[u32; 6]) -> Option<u32> {
+    match make_call(rt, table, slot, words) {
+        After::Reply(result) => Some(result),
+        After::Died => None,
+    }
+}
+
+fn make_grant(rt: &impl Abort, table: &mut Table, grant: &Opening) -> Option<u32> {
+    let words = [GRANT, grant.user, grant.place, grant.count, grant.access, 0];
+    result_of(rt, table, grant.owner, &words)
+}
+
+fn make_copy(rt: &impl Abort, table: &mut Table, caller: Slot, copy: &Copied) -> Option<u32> {
+    let words = [
+        VIRCOPY,
+        copy.source,
+        copy.from,
+        copy.target,
+        copy.to,
+        copy.count,
+    ];
+    result_of(rt, table, caller, &words)
+}
+
+fn are_granted(rt: &impl Abort, table: &mut Table, grants: &[Opening]) -> bool {
+    for one in grants {
+        if make_grant(rt, table, one) != Some(OK) {
+            return false;
+        }
+    }
+    true
+}
+
+fn is_answered(rt: &impl Abort, table: &mut Table, row: &Row) -> bool {
+    let result = match &row.call {
+        Copies(copy) => make_copy(rt, table, row.caller, copy),
+        Grants(one) => make_grant(rt, table, one),
+    };
+    result == Some(row.result)
+}
+
+/// Each row on a new table.
+fn all_answered(rt: &impl Abort, alloc: Global, rows: &[Row]) -> Result<(), Fail> {
+    for row in rows {
+        let name = row.name;
+        let mut table = processes(rt, alloc, Rules::Strict, ALL_CALLS)?;
+        send_away(rt, &mut table, 3);
+        let is_right = are_granted(rt, &mut table, row.grants) && is_answered(rt, &mut table, row);
+        assert!(rt; is_right, "{name}");
+    }
+    Ok(())
+}
+
+/// Where a window begins and ends.
+static EXTENTS: &[Row] = &[
     Row {
         name: "the whole window",
         grants: &[WRITTEN],
@@ -149,6 +218,37 @@ static ROWS: &[Row] = &[
         }),
         result: EPERM,
     },
+    Row {
+        name: "no bytes at the window's end",
+        grants: &[WRITTEN],
+        caller: 0,
+        call: Copies(Copied {
+            to: 272,
+            count: 0,
+            ..INTO
+        }),
+        result: OK,
+    },
+    Row {
+        name: "no bytes past the window's end",
+        grants: &[WRITTEN],
+        caller: 0,
+        call: Copies(Copied {
+            to: 273,
+            count: 0,
+            ..INTO
+        }),
+        result: EPERM,
+    },
+];
+
+#[test]
+fn extents(rt: HostRuntime) -> Result<(), Fail> {
+    all_answered(&rt, rt.alloc(), EXTENTS)
+}
+
+/// Windows for reading, for writing, and for both.
+static ACCESSES: &[Row] = &[
     Row {
         name: "from a window for writing",
         grants: &[WRITTEN],
@@ -197,6 +297,28 @@ static ROWS: &[Row] = &[
         result: OK,
     },
     Row {
+        name: "an access that a later grant took back",
+        grants: &[
+            WRITTEN,
+            Opening {
+                access: READ,
+                ..WRITTEN
+            },
+        ],
+        caller: 0,
+        call: Copies(INTO),
+        result: EPERM,
+    },
+];
+
+#[test]
+fn accesses(rt: HostRuntime) -> Result<(), Fail> {
+    all_answered(&rt, rt.alloc(), ACCESSES)
+}
+
+/// Windows that are no more, or are another's.
+static NO_WINDOWS: &[Row] = &[
+    Row {
         name: "a window that was closed",
         grants: &[WRITTEN, CLOSED],
         caller: 0,
@@ -236,45 +358,10 @@ static ROWS: &[Row] = &[
         result: OK,
     },
     Row {
-        name: "an access that a later grant took back",
-        grants: &[
-            WRITTEN,
-            Opening {
-                access: READ,
-                ..WRITTEN
-            },
-        ],
-        caller: 0,
-        call: Copies(INTO),
-        result: EPERM,
-    },
-    Row {
         name: "another's window",
         grants: &[WRITTEN],
         caller: 2,
         call: Copies(Copied { source: 2, ..INTO }),
-        result: EPERM,
-    },
-    Row {
-        name: "no bytes at the window's end",
-        grants: &[WRITTEN],
-        caller: 0,
-        call: Copies(Copied {
-            to: 272,
-            count: 0,
-            ..INTO
-        }),
-        result: OK,
-    },
-    Row {
-        name: "no bytes past the window's end",
-        grants: &[WRITTEN],
-        caller: 0,
-        call: Copies(Copied {
-            to: 273,
-            count: 0,
-            ..INTO
-        }),
         result: EPERM,
     },
     Row {
@@ -284,6 +371,26 @@ static ROWS: &[Row] = &[
         call: Copies(Copied { count: 0, ..INTO }),
         result: EPERM,
     },
+    Row {
+        name: "who is on a processor, and has granted nothing",
+        grants: &[],
+        caller: 0,
+        call: Copies(Copied {
+            target: 3,
+            count: 4,
+            ..INTO
+        }),
+        result: ENOTREADY,
+    },
+];
+
+#[test]
+fn no_windows(rt: HostRuntime) -> Result<(), Fail> {
+    all_answered(&rt, rt.alloc(), NO_WINDOWS)
+}
+
+/// Copies between two others.
+static BETWEEN_OTHERS: &[Row] = &[
     Row {
         name: "from one to another, with both windows",
         grants: &[SOURCE, TARGET],
@@ -321,6 +428,15 @@ static ROWS: &[Row] = &[
         call: Copies(OUT_OF),
         result: EPERM,
     },
+];
+
+#[test]
+fn between_others(rt: HostRuntime) -> Result<(), Fail> {
+    all_answered(&rt, rt.alloc(), BETWEEN_OTHERS)
+}
+
+/// Copies within one memory, and past limits.
+static COPIES_AT_LIMITS: &[Row] = &[
     Row {
         name: "within one's own memory",
         grants: &[],
@@ -367,17 +483,15 @@ static ROWS: &[Row] = &[
         }),
         result: EPERM,
     },
-    Row {
-        name: "who is on a processor, and has granted nothing",
-        grants: &[],
-        caller: 0,
-        call: Copies(Copied {
-            target: 3,
-            count: 4,
-            ..INTO
-        }),
-        result: ENOTREADY,
-    },
+];
+
+#[test]
+fn copies_at_limits(rt: HostRuntime) -> Result<(), Fail> {
+    all_answered(&rt, rt.alloc(), COPIES_AT_LIMITS)
+}
+
+/// Grants up to the limit and past it.
+static GRANTS_AT_LIMITS: &[Row] = &[
     Row {
         name: "a grant up to the limit",
         grants: &[],
@@ -423,13 +537,15 @@ static ROWS: &[Row] = &[
         }),
         result: OK,
     },
-    Row {
-        name: "a grant for who is on a processor",
-        grants: &[],
-        caller: 1,
-        call: Grants(Opening { user: 3, ..WRITTEN }),
-        result: OK,
-    },
+];
+
+#[test]
+fn grants_at_limits(rt: HostRuntime) -> Result<(), Fail> {
+    all_answered(&rt, rt.alloc(), GRANTS_AT_LIMITS)
+}
+
+/// Grants with a wrong access, and to oneself.
+static WRONG_GRANTS: &[Row] = &[
     Row {
         name: "access 4",
         grants: &[],
@@ -470,6 +586,22 @@ static ROWS: &[Row] = &[
             ..WRITTEN
         }),
         result: EINVAL,
+    },
+];
+
+#[test]
+fn wrong_grants(rt: HostRuntime) -> Result<(), Fail> {
+    all_answered(&rt, rt.alloc(), WRONG_GRANTS)
+}
+
+/// For whom a window is opened.
+static USERS: &[Row] = &[
+    Row {
+        name: "a grant for who is on a processor",
+        grants: &[],
+        caller: 1,
+        call: Grants(Opening { user: 3, ..WRITTEN }),
+        result: OK,
     },
     Row {
         name: "a grant to another generation of oneself",
@@ -532,73 +664,9 @@ static ROWS: &[Row] = &[
     },
 ];
 
-/// Four processes that may make these kernel calls.
-fn processes(rt: &impl Abort, alloc: Global, rules: Rules, calls: u32) -> Result<Table, Fail> {
-    let mut table = Table::new(alloc, rules)?;
-    for _ in 0..4u8 {
-        let masks = Masks {
-            traps: ALL_TRAPS,
-            sends: ALL_SENDS,
-            calls,
-        };
-        add_process(rt, alloc, &mut table, masks, 7)?;
-    }
-    Ok(table)
-}
-
-/// A call's result.
-fn result_of(rt: &impl Abort, table: &mut Table, slot: Slot, words: &[u32; 6]) -> Option<u32> {
-    match make_call(rt, table, slot, words) {
-        After::Reply(result) => Some(result),
-        After::Died => None,
-    }
-}
-
-fn make_grant(rt: &impl Abort, table: &mut Table, grant: &Opening) -> Option<u32> {
-    let words = [GRANT, grant.user, grant.place, grant.count, grant.access, 0];
-    result_of(rt, table, grant.owner, &words)
-}
-
-fn make_copy(rt: &impl Abort, table: &mut Table, caller: Slot, copy: &Copied) -> Option<u32> {
-    let words = [
-        VIRCOPY,
-        copy.source,
-        copy.from,
-        copy.target,
-        copy.to,
-        copy.count,
-    ];
-    result_of(rt, table, caller, &words)
-}
-
-fn are_granted(rt: &impl Abort, table: &mut Table, grants: &[Opening]) -> bool {
-    for one in grants {
-        if make_grant(rt, table, one) != Some(OK) {
-            return false;
-        }
-    }
-    true
-}
-
-fn is_answered(rt: &impl Abort, table: &mut Table, row: &Row) -> bool {
-    let result = match &row.call {
-        Copies(copy) => make_copy(rt, table, row.caller, copy),
-        Grants(one) => make_grant(rt, table, one),
-    };
-    result == Some(row.result)
-}
-
 #[test]
-fn copies_through_windows(rt: HostRuntime) -> Result<(), Fail> {
-    for row in ROWS {
-        let name = row.name;
-        let mut table = processes(&rt, rt.alloc(), Rules::Strict, ALL_CALLS)?;
-        send_away(&rt, &mut table, 3);
-        let is_right = are_granted(&rt, &mut table, row.grants)
-            && is_answered(&rt, &mut table, row);
-        assert!(rt; is_right, "{name}");
-    }
-    Ok(())
+fn users(rt: HostRuntime) -> Result<(), Fail> {
+    all_answered(&rt, rt.alloc(), USERS)
 }
 
 /// The results of slot 1's grant to slot 0, and of slot 0's copy into slot 1 without a window, under some
