@@ -5,7 +5,7 @@ use crate::numbers::{
     EFAULT, EINVAL, ENOTREADY, EPERM, EXIT, GRANT, IRQCTL, KILL, NOTIFY_MESSAGE, OK, SETALARM,
     VIRCOPY, WHOIS,
 };
-use crate::tables::{add_process, has_words, word_at};
+use crate::tables::{Processes, has_words, table_of, word_at};
 use mx_exec::Image;
 use mx_ipc::{receive, send};
 use mx_kcall::{After, call, raise, tick};
@@ -152,16 +152,18 @@ static DEATHS: &[Death] = &[
 
 /// Some processes that may make these kernel calls.
 fn processes(rt: &impl Abort, alloc: Global, used: u8, calls: u32) -> Result<Table, Fail> {
-    let mut table = Table::new(alloc, Rules::Lenient)?;
-    for _ in 0..used {
-        let masks = Masks {
-            traps: ALL_TRAPS,
-            sends: ALL_SENDS,
-            calls,
-        };
-        add_process(rt, alloc, &mut table, masks, 7)?;
-    }
-    Ok(table)
+    let masks = Masks {
+        traps: ALL_TRAPS,
+        sends: ALL_SENDS,
+        calls,
+    };
+    let wanted = Processes {
+        rules: Rules::Lenient,
+        used,
+        masks,
+        best: 7,
+    };
+    table_of(rt, alloc, &wanted)
 }
 
 fn write_words(image: &mut Image, words: &[u32; 6]) {
@@ -826,37 +828,53 @@ fn calls_that_kill(rt: HostRuntime) -> Result<(), Fail> {
     Ok(())
 }
 
+/// What the only process of a table does.
+#[derive(Clone, Copy)]
+enum Work {
+    TakesLines,
+    SetsAlarm,
+    TakesLineAgain,
+    WritesRegisters,
+    WritesConsole,
+}
+
+fn is_right(rt: &impl Abort, table: &mut Table, work: Work) -> bool {
+    match work {
+        Work::TakesLines => is_timed(rt, table),
+        Work::SetsAlarm => rings(rt, table),
+        Work::TakesLineAgain => is_taken_again(rt, table),
+        Work::WritesRegisters => keep_words(rt, table),
+        Work::WritesConsole => keeps_last_bytes(rt, table),
+    }
+}
+
+fn one_works(rt: &impl Abort, alloc: Global, work: Work) -> Result<(), Fail> {
+    let mut table = one_process(rt, alloc)?;
+    assert!(rt; is_right(rt, &mut table, work));
+    Ok(())
+}
+
 #[test]
 fn lines_and_a_cancelled_alarm(rt: HostRuntime) -> Result<(), Fail> {
-    let mut table = one_process(&rt, rt.alloc())?;
-    assert!(rt; is_timed(&rt, &mut table));
-    Ok(())
+    one_works(&rt, rt.alloc(), Work::TakesLines)
 }
 
 #[test]
 fn an_alarm_rings(rt: HostRuntime) -> Result<(), Fail> {
-    let mut table = one_process(&rt, rt.alloc())?;
-    assert!(rt; rings(&rt, &mut table));
-    Ok(())
+    one_works(&rt, rt.alloc(), Work::SetsAlarm)
 }
 
 #[test]
 fn own_line(rt: HostRuntime) -> Result<(), Fail> {
-    let mut table = one_process(&rt, rt.alloc())?;
-    assert!(rt; is_taken_again(&rt, &mut table));
-    Ok(())
+    one_works(&rt, rt.alloc(), Work::TakesLineAgain)
 }
 
 #[test]
 fn registers_of_the_machine(rt: HostRuntime) -> Result<(), Fail> {
-    let mut table = one_process(&rt, rt.alloc())?;
-    assert!(rt; keep_words(&rt, &mut table));
-    Ok(())
+    one_works(&rt, rt.alloc(), Work::WritesRegisters)
 }
 
 #[test]
 fn bytes_of_the_console(rt: HostRuntime) -> Result<(), Fail> {
-    let mut table = one_process(&rt, rt.alloc())?;
-    assert!(rt; keeps_last_bytes(&rt, &mut table));
-    Ok(())
+    one_works(&rt, rt.alloc(), Work::WritesConsole)
 }

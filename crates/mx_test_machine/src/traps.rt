@@ -737,13 +737,6 @@ fn are_delivered(rt: &impl Abort, table: &mut Table) -> bool {
         && are_kept(table)
 }
 
-#[test]
-fn deliveries(rt: HostRuntime) -> Result<(), Fail> {
-    let mut table = five_processes(&rt, rt.alloc())?;
-    assert!(rt; are_delivered(&rt, &mut table));
-    Ok(())
-}
-
 /// The delivery of a message from slot 2 to slot 1.
 fn delivery_of(message_type: u32) -> Delivery {
     Delivery {
@@ -765,13 +758,6 @@ fn are_last_kept(rt: &impl Abort, table: &mut Table) -> bool {
     table.delivery(0) == Some(delivery_of(1))
         && table.delivery(1023) == Some(delivery_of(1024))
         && table.delivery(1024).is_none()
-}
-
-#[test]
-fn last_deliveries(rt: HostRuntime) -> Result<(), Fail> {
-    let mut table = five_processes(&rt, rt.alloc())?;
-    assert!(rt; are_last_kept(&rt, &mut table));
-    Ok(())
 }
 
 /// A slot that spends a quantum, and the level that it comes to.
@@ -842,16 +828,46 @@ fn come_down(rt: &impl Abort, table: &mut Table) {
     assert!(rt; level_after(rt, table, 1) == 14, "from the last level");
 }
 
-/// Slot 0 is picked then.
+/// Slots 0 and 1 spend quanta by turns, slot 1 many after one another, and slot 0 one more: it is picked then.
+fn are_spent(rt: &impl Abort, table: &mut Table) -> bool {
+    come_to_levels(rt, table);
+    come_down(rt, table);
+    level_after(rt, table, 0) == 5 && pick(table) == Some(0)
+}
+
+/// What five processes do.
+#[derive(Clone, Copy)]
+enum Work {
+    Deliver,
+    DeliverMany,
+    Spend,
+}
+
+fn is_right(rt: &impl Abort, table: &mut Table, work: Work) -> bool {
+    match work {
+        Work::Deliver => are_delivered(rt, table),
+        Work::DeliverMany => are_last_kept(rt, table),
+        Work::Spend => are_spent(rt, table),
+    }
+}
+
+fn five_work(rt: &impl Abort, alloc: Global, work: Work) -> Result<(), Fail> {
+    let mut table = five_processes(rt, alloc)?;
+    assert!(rt; is_right(rt, &mut table, work));
+    Ok(())
+}
+
+#[test]
+fn deliveries(rt: HostRuntime) -> Result<(), Fail> {
+    five_work(&rt, rt.alloc(), Work::Deliver)
+}
+
+#[test]
+fn last_deliveries(rt: HostRuntime) -> Result<(), Fail> {
+    five_work(&rt, rt.alloc(), Work::DeliverMany)
+}
+
 #[test]
 fn levels(rt: HostRuntime) -> Result<(), Fail> {
-    let mut table = five_processes(&rt, rt.alloc())?;
-    come_to_levels(&rt, &mut table);
-    come_down(&rt, &mut table);
-    assert!(rt;
-        level_after(&rt, &mut table, 0) == 5,
-        "slot 0 after slot 1, from level 6"
-    );
-    assert!(rt; pick(&table) == Some(0));
-    Ok(())
+    five_work(&rt, rt.alloc(), Work::Spend)
 }

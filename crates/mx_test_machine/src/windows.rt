@@ -5,7 +5,7 @@ use crate::numbers::{
     ALL_BUT_GRANT, ALL_CALLS, ALL_SENDS, ALL_TRAPS, EBADREQUEST, EBADSRCDST, ECALLDENIED, EDEADDST,
     EFAULT, EINVAL, ENOTREADY, EPERM, EXIT, GRANT, OK, VIRCOPY,
 };
-use crate::tables::add_process;
+use crate::tables::{Processes, table_of};
 use mx_kcall::{After, window_allows};
 use mx_proc::{ANY, Access, Endpoint, Masks, Rules, SYSTEM, Slot, Table, Window};
 use std::alloc::Global;
@@ -114,16 +114,18 @@ const OUT_OF: Copied = Copied {
 
 /// Four processes that may make these kernel calls.
 fn processes(rt: &impl Abort, alloc: Global, rules: Rules, calls: u32) -> Result<Table, Fail> {
-    let mut table = Table::new(alloc, rules)?;
-    for _ in 0..4u8 {
-        let masks = Masks {
-            traps: ALL_TRAPS,
-            sends: ALL_SENDS,
-            calls,
-        };
-        add_process(rt, alloc, &mut table, masks, 7)?;
-    }
-    Ok(table)
+    let masks = Masks {
+        traps: ALL_TRAPS,
+        sends: ALL_SENDS,
+        calls,
+    };
+    let wanted = Processes {
+        rules,
+        used: 4,
+        masks,
+        best: 7,
+    };
+    table_of(rt, alloc, &wanted)
 }
 
 /// A call's result.
@@ -168,14 +170,17 @@ fn is_answered(rt: &impl Abort, table: &mut Table, row: &Row) -> bool {
     result == Some(row.result)
 }
 
+fn is_right(rt: &impl Abort, table: &mut Table, row: &Row) -> bool {
+    send_away(rt, table, 3);
+    are_granted(rt, table, row.grants) && is_answered(rt, table, row)
+}
+
 /// Each row on a new table.
 fn all_answered(rt: &impl Abort, alloc: Global, rows: &[Row]) -> Result<(), Fail> {
     for row in rows {
         let name = row.name;
         let mut table = processes(rt, alloc, Rules::Strict, ALL_CALLS)?;
-        send_away(rt, &mut table, 3);
-        let is_right = are_granted(rt, &mut table, row.grants) && is_answered(rt, &mut table, row);
-        assert!(rt; is_right, "{name}");
+        assert!(rt; is_right(rt, &mut table, row), "{name}");
     }
     Ok(())
 }
@@ -711,52 +716,64 @@ static BY_RULES: &[RulesRow] = &[
     },
 ];
 
+fn is_by_rules(rt: &impl Abort, table: &mut Table, row: &RulesRow) -> bool {
+    let copy = Copied { count: 4, ..INTO };
+    make_copy(rt, table, 0, &copy) == Some(row.copied)
+        && make_grant(rt, table, &WRITTEN) == Some(row.granted)
+}
+
 #[test]
 fn both_rules(rt: HostRuntime) -> Result<(), Fail> {
     for row in BY_RULES {
         let name = row.name;
         let mut table = processes(&rt, rt.alloc(), row.rules, row.mask)?;
-        let copy = Copied { count: 4, ..INTO };
-        let is_so = make_copy(&rt, &mut table, 0, &copy) == Some(row.copied)
-            && make_grant(&rt, &mut table, &WRITTEN) == Some(row.granted);
-        assert!(rt; is_so, "{name}");
+        assert!(rt; is_by_rules(&rt, &mut table, row), "{name}");
     }
     Ok(())
 }
 
-/// A death clears the windows of who died and those that were opened for it, and no others.
+/// Slots 1 and 0 open windows for each other, and so do slots 1 and 2.
+static OPENED: &[Opening] = &[
+    WRITTEN,
+    Opening {
+        owner: 0,
+        user: 1,
+        place: 0,
+        count: 8,
+        access: READ,
+    },
+    Opening {
+        user: 2,
+        place: 0,
+        count: 8,
+        access: READ,
+        ..WRITTEN
+    },
+    Opening {
+        owner: 2,
+        user: 1,
+        place: 0,
+        count: 8,
+        access: BOTH,
+    },
+];
+
+/// Whether the death of slot 0 clears its windows and those that were opened for it, and no others.
+fn are_cleared(rt: &impl Abort, table: &mut Table) -> bool {
+    let are_opened = are_granted(rt, table, OPENED);
+    make_call(rt, table, 0, &[EXIT, 0, 0, 0, 0, 0]);
+    assert!(rt; table.slot_count() == 4);
+    are_opened
+        && table.window(1, 0).is_none()
+        && table.window(0, 1).is_none()
+        && table.window(1, 2).is_some()
+        && table.window(2, 1).is_some()
+}
+
 #[test]
 fn deaths_close_windows(rt: HostRuntime) -> Result<(), Fail> {
     let mut table = processes(&rt, rt.alloc(), Rules::Strict, ALL_CALLS)?;
-    let all = [
-        WRITTEN,
-        Opening {
-            user: 2,
-            place: 0,
-            count: 8,
-            access: READ,
-            ..WRITTEN
-        },
-        Opening {
-            owner: 0,
-            user: 1,
-            place: 0,
-            count: 8,
-            access: READ,
-        },
-        Opening {
-            owner: 2,
-            user: 1,
-            place: 0,
-            count: 8,
-            access: BOTH,
-        },
-    ];
-    assert!(rt; are_granted(&rt, &mut table, &all));
-    make_call(&rt, &mut table, 0, &[EXIT, 0, 0, 0, 0, 0]);
-    assert!(rt; table.slot_count() == 4);
-    assert!(rt; table.window(1, 0).is_none() && table.window(0, 1).is_none());
-    assert!(rt; table.window(1, 2).is_some() && table.window(2, 1).is_some());
+    assert!(rt; are_cleared(&rt, &mut table));
     Ok(())
 }
 
