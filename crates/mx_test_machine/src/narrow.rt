@@ -199,13 +199,17 @@ fn is_saved(alloc: Global, machine: &Machine, room: usize) -> bool {
         && sink.into_writer().bytes.as_slice() == &text[..room.min(text.len())]
 }
 
+fn save_in_each_room(rt: &impl Abort, alloc: Global, machine: &mut Machine) {
+    assert!(rt; make_turns(machine));
+    for room in 0..TURNS.len() + 2 {
+        assert!(rt; is_saved(alloc, machine, room), "room {room}");
+    }
+}
+
 #[test]
 fn saves_what_there_is_room_for(rt: HostRuntime) -> Result<(), Fail> {
     let started = start::<Script, _>(rt.alloc(), &mut reader(), "pair", "empty");
     let mut machine = started.map_err(|_| "no start")?.machine;
-    assert!(rt; make_turns(&mut machine));
-    for room in 0..TURNS.len() + 2 {
-        assert!(rt; is_saved(rt.alloc(), &machine, room), "room {room}");
-    }
+    save_in_each_room(&rt, rt.alloc(), &mut machine);
     Ok(())
 }

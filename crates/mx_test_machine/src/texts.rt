@@ -477,7 +477,7 @@ fn debug_lines(rt: HostRuntime) {
     all_read(&rt, rt.alloc(), TextKind::DebugScript, DEBUG_LINES);
 }
 
-/// Their numbers.
+/// The numbers of lines for a debugger.
 static DEBUG_NUMBERS: &[Text] = &[
     Text {
         name: "a number too few",

@@ -66,7 +66,7 @@ fn turns(rt: HostRuntime) {
 }
 
 /// A history that is full.
-static FULL: &[Turned] = &[
+static FULL_HISTORIES: &[Turned] = &[
     Turned {
         name: "up to a full history",
         words: &["mx", "turns", "restart", "new.log", "--turns", "40"],
@@ -86,7 +86,7 @@ static FULL: &[Turned] = &[
 
 #[test]
 fn full_histories(rt: HostRuntime) {
-    all_end(&rt, rt.alloc(), FULL);
+    all_end(&rt, rt.alloc(), FULL_HISTORIES);
 }
 
 /// Runs by threads.
