@@ -5,7 +5,7 @@ use crate::numbers::{
     EFAULT, EINVAL, ENOTREADY, EPERM, EXIT, GRANT, IRQCTL, KILL, NOTIFY_MESSAGE, OK, SETALARM,
     VIRCOPY, WHOIS,
 };
-use crate::tables::{add_process, has_words, word_at};
+use crate::tables::{Processes, has_words, table_of, word_at};
 use mx_exec::Image;
 use mx_ipc::{receive, send};
 use mx_kcall::{After, call, raise, tick};
@@ -75,248 +75,6 @@ const REQUEST: Request = Request {
     answer: 0,
 };
 
-/// The type is tried before the mask, and the mask before the call's own reasons. A row that is wrong in
-/// two ways shows which of them comes first.
-static REQUESTS: &[Request] = &[
-    Request {
-        name: "GRANT is no call under these rules",
-        words: [GRANT, 0, 0, 0, 0, 0],
-        result: EBADREQUEST,
-        ..REQUEST
-    },
-    Request {
-        name: "GRANT is no call, and the mask is empty",
-        mask: 0,
-        words: [GRANT, 0, 0, 0, 0, 0],
-        result: EBADREQUEST,
-        ..REQUEST
-    },
-    Request {
-        name: "EXIT is not in the mask",
-        mask: NO_EXIT,
-        words: [EXIT, 0, 0, 0, 0, 0],
-        result: ECALLDENIED,
-        ..REQUEST
-    },
-    Request {
-        name: "VIRCOPY is not in the mask, and copies too many bytes",
-        mask: NO_VIRCOPY,
-        words: [VIRCOPY, 0, 0, 0, 0, 65_537],
-        result: ECALLDENIED,
-        ..REQUEST
-    },
-    Request {
-        name: "SETALARM: the first alarm",
-        words: [SETALARM, 5, 0, 0, 0, 0],
-        ..REQUEST
-    },
-    Request {
-        name: "IRQCTL: a wrong action on another's line",
-        words: [IRQCTL, 2, 5, 0, 0, 0],
-        result: EINVAL,
-        ..REQUEST
-    },
-    Request {
-        name: "IRQCTL gives up a line after the last one",
-        words: [IRQCTL, 0, 16, 0, 0, 0],
-        result: EINVAL,
-        ..REQUEST
-    },
-    Request {
-        name: "IRQCTL takes another's line",
-        words: [IRQCTL, 1, 5, 0, 0, 0],
-        result: EPERM,
-        ..REQUEST
-    },
-    Request {
-        name: "IRQCTL gives up another's line",
-        words: [IRQCTL, 0, 5, 0, 0, 0],
-        result: EPERM,
-        ..REQUEST
-    },
-    Request {
-        name: "IRQCTL gives up a free line",
-        words: [IRQCTL, 0, 3, 0, 0, 0],
-        result: EPERM,
-        ..REQUEST
-    },
-    Request {
-        name: "IRQCTL takes a free line",
-        words: [IRQCTL, 1, 3, 0, 0, 0],
-        ..REQUEST
-    },
-    Request {
-        name: "DEVIO writes a byte to the console",
-        words: [DEVIO, 1, 0, 0x41, 0, 0],
-        ..REQUEST
-    },
-    Request {
-        name: "DEVIO reads the console",
-        words: [DEVIO, 0, 0, 0, 0, 0],
-        ..REQUEST
-    },
-    Request {
-        name: "DEVIO reads a register after the last one",
-        words: [DEVIO, 0, 256, 0, 0, 0],
-        result: EINVAL,
-        ..REQUEST
-    },
-    Request {
-        name: "DEVIO: a wrong action",
-        words: [DEVIO, 2, 0, 0, 0, 0],
-        result: EINVAL,
-        ..REQUEST
-    },
-    Request {
-        name: "VIRCOPY of too many bytes, both slots unused",
-        words: [VIRCOPY, 4, 0, 4, 0, 65_537],
-        result: EINVAL,
-        ..REQUEST
-    },
-    Request {
-        name: "VIRCOPY from an unused slot to another generation",
-        words: [VIRCOPY, 4, 0, 1024, 0, 0],
-        result: EBADSRCDST,
-        ..REQUEST
-    },
-    Request {
-        name: "VIRCOPY from another generation to an unused slot",
-        words: [VIRCOPY, 1024, 0, 4, 0, 0],
-        result: EDEADDST,
-        ..REQUEST
-    },
-    Request {
-        name: "VIRCOPY to an unused slot",
-        words: [VIRCOPY, 0, 0, 4, 0, 0],
-        result: EBADSRCDST,
-        ..REQUEST
-    },
-    Request {
-        name: "VIRCOPY from a slot on a processor to an unused slot",
-        words: [VIRCOPY, 2, 0, 4, 0, 0],
-        result: EBADSRCDST,
-        ..REQUEST
-    },
-    Request {
-        name: "VIRCOPY from a slot on a processor to a dead one",
-        words: [VIRCOPY, 2, 0, 3, 0, 0],
-        result: EDEADDST,
-        ..REQUEST
-    },
-    Request {
-        name: "VIRCOPY from a slot on a processor, past its limit",
-        words: [VIRCOPY, 2, 4097, 0, 0, 0],
-        result: ENOTREADY,
-        ..REQUEST
-    },
-    Request {
-        name: "VIRCOPY from past the limit to a slot on a processor",
-        words: [VIRCOPY, 0, 4097, 2, 0, 0],
-        result: ENOTREADY,
-        ..REQUEST
-    },
-    Request {
-        name: "VIRCOPY to a slot on a processor, past its limit",
-        words: [VIRCOPY, 0, 0, 2, 4097, 0],
-        result: ENOTREADY,
-        ..REQUEST
-    },
-    Request {
-        name: "VIRCOPY of no bytes, from and to one past the limit",
-        words: [VIRCOPY, 0, 4097, 1, 4097, 0],
-        result: EFAULT,
-        ..REQUEST
-    },
-    Request {
-        name: "VIRCOPY of no bytes, from and to the limit",
-        words: [VIRCOPY, 0, 4096, 1, 4096, 0],
-        ..REQUEST
-    },
-    Request {
-        name: "VIRCOPY of no bytes, from one past the limit",
-        words: [VIRCOPY, 0, 4097, 1, 4096, 0],
-        result: EFAULT,
-        ..REQUEST
-    },
-    Request {
-        name: "VIRCOPY of no bytes, to one past the limit",
-        words: [VIRCOPY, 0, 4096, 1, 4097, 0],
-        result: EFAULT,
-        ..REQUEST
-    },
-    Request {
-        name: "VIRCOPY of four bytes, the last of them past the limit",
-        words: [VIRCOPY, 0, 4093, 1, 4092, 4],
-        result: EFAULT,
-        ..REQUEST
-    },
-    Request {
-        name: "KILL of an unused slot",
-        words: [KILL, 4, 0, 0, 0, 0],
-        result: EBADSRCDST,
-        ..REQUEST
-    },
-    Request {
-        name: "KILL of the hardware",
-        words: [KILL, HARDWARE, 0, 0, 0, 0],
-        result: EBADSRCDST,
-        ..REQUEST
-    },
-    Request {
-        name: "KILL of another generation of a ready slot",
-        words: [KILL, 1025, 0, 0, 0, 0],
-        result: EDEADDST,
-        ..REQUEST
-    },
-    Request {
-        name: "KILL of another generation of a slot on a processor",
-        words: [KILL, 1026, 0, 0, 0, 0],
-        result: EDEADDST,
-        ..REQUEST
-    },
-    Request {
-        name: "KILL of a dead slot",
-        words: [KILL, 3, 0, 0, 0, 0],
-        result: EDEADDST,
-        ..REQUEST
-    },
-    Request {
-        name: "KILL of a slot on a processor",
-        words: [KILL, 2, 0, 0, 0, 0],
-        result: ENOTREADY,
-        ..REQUEST
-    },
-    Request {
-        name: "KILL of a ready slot",
-        words: [KILL, 1, 0, 0, 0, 0],
-        ..REQUEST
-    },
-    Request {
-        name: "WHOIS of a ready slot",
-        words: [WHOIS, 1, 0, 0, 0, 0],
-        answer: 1,
-        ..REQUEST
-    },
-    Request {
-        name: "WHOIS of a slot on a processor",
-        words: [WHOIS, 2, 0, 0, 0, 0],
-        answer: 2,
-        ..REQUEST
-    },
-    Request {
-        name: "WHOIS of an unused slot",
-        words: [WHOIS, 4, 0, 0, 0, 0],
-        result: EINVAL,
-        ..REQUEST
-    },
-    Request {
-        name: "WHOIS of a dead slot",
-        words: [WHOIS, 3, 0, 0, 0, 0],
-        result: EDEADDST,
-        ..REQUEST
-    },
-];
-
 /// A copy within one process. Its buffer is at 512, and the bytes 1 to 5 are at 100.
 struct Copied {
     name: &'static str,
@@ -327,81 +85,6 @@ struct Copied {
     place: u32,
     word: u32,
 }
-
-static COPIES: &[Copied] = &[
-    Copied {
-        name: "up by one byte: the first byte stays",
-        from: 100,
-        to: 101,
-        count: 4,
-        place: 100,
-        word: 0x0302_0101,
-    },
-    Copied {
-        name: "up by one byte: the copied bytes",
-        from: 100,
-        to: 101,
-        count: 4,
-        place: 101,
-        word: 0x0403_0201,
-    },
-    Copied {
-        name: "down by one byte: the copied bytes",
-        from: 101,
-        to: 100,
-        count: 4,
-        place: 100,
-        word: 0x0504_0302,
-    },
-    Copied {
-        name: "down by one byte: the last byte stays",
-        from: 101,
-        to: 100,
-        count: 4,
-        place: 101,
-        word: 0x0505_0403,
-    },
-    Copied {
-        name: "out of the caller's own message: its type",
-        from: 516,
-        to: 600,
-        count: 4,
-        place: 600,
-        word: VIRCOPY,
-    },
-    Copied {
-        name: "onto p0 of the message: the reply comes after",
-        from: 100,
-        to: 520,
-        count: 4,
-        place: 520,
-        word: 0,
-    },
-    Copied {
-        name: "onto the whole message: the reply's source comes after",
-        from: 100,
-        to: 512,
-        count: 36,
-        place: 512,
-        word: SYSTEM,
-    },
-    Copied {
-        name: "onto the message's end and past it: the end is the reply's",
-        from: 97,
-        to: 544,
-        count: 8,
-        place: 544,
-        word: 0,
-    },
-    Copied {
-        name: "onto the message's end and past it: the bytes past it",
-        from: 97,
-        to: 544,
-        count: 8,
-        place: 548,
-        word: 0x0504_0302,
-    },
-];
 
 /// What waits for a process that a call of slot 0 kills, how it died, and who runs then in turn.
 struct Death {
@@ -469,16 +152,18 @@ static DEATHS: &[Death] = &[
 
 /// Some processes that may make these kernel calls.
 fn processes(rt: &impl Abort, alloc: Global, used: u8, calls: u32) -> Result<Table, Fail> {
-    let mut table = Table::new(alloc, Rules::Lenient)?;
-    for _ in 0..used {
-        let masks = Masks {
-            traps: ALL_TRAPS,
-            sends: ALL_SENDS,
-            calls,
-        };
-        add_process(rt, alloc, &mut table, masks, 7)?;
-    }
-    Ok(table)
+    let masks = Masks {
+        traps: ALL_TRAPS,
+        sends: ALL_SENDS,
+        calls,
+    };
+    let wanted = Processes {
+        rules: Rules::Lenient,
+        used,
+        masks,
+        best: 7,
+    };
+    table_of(rt, alloc, &wanted)
 }
 
 fn write_words(image: &mut Image, words: &[u32; 6]) {
@@ -713,24 +398,424 @@ fn numbers_of_pseudo_endpoints(rt: HostRuntime) {
     }
 }
 
-#[test]
-fn kernel_calls(rt: HostRuntime) -> Result<(), Fail> {
-    for row in REQUESTS {
+/// Each row on a new table.
+fn all_replied(rt: &impl Abort, alloc: Global, rows: &[Request]) -> Result<(), Fail> {
+    for row in rows {
         let name = row.name;
-        let mut table = processes(&rt, rt.alloc(), 4, row.mask)?;
-        assert!(rt; is_replied(&rt, &mut table, row), "{name}");
+        let mut table = processes(rt, alloc, 4, row.mask)?;
+        assert!(rt; is_replied(rt, &mut table, row), "{name}");
     }
     Ok(())
 }
 
+/// The type is tried before the mask, and the mask before the call's own reasons. A row that is wrong in
+/// two ways shows which of them comes first.
+static MASKED: &[Request] = &[
+    Request {
+        name: "GRANT is no call under these rules",
+        words: [GRANT, 0, 0, 0, 0, 0],
+        result: EBADREQUEST,
+        ..REQUEST
+    },
+    Request {
+        name: "GRANT is no call, and the mask is empty",
+        mask: 0,
+        words: [GRANT, 0, 0, 0, 0, 0],
+        result: EBADREQUEST,
+        ..REQUEST
+    },
+    Request {
+        name: "EXIT is not in the mask",
+        mask: NO_EXIT,
+        words: [EXIT, 0, 0, 0, 0, 0],
+        result: ECALLDENIED,
+        ..REQUEST
+    },
+    Request {
+        name: "VIRCOPY is not in the mask, and copies too many bytes",
+        mask: NO_VIRCOPY,
+        words: [VIRCOPY, 0, 0, 0, 0, 65_537],
+        result: ECALLDENIED,
+        ..REQUEST
+    },
+];
+
 #[test]
-fn copies_within_one_process(rt: HostRuntime) -> Result<(), Fail> {
-    for row in COPIES {
-        let name = row.name;
-        let mut table = one_process(&rt, rt.alloc())?;
-        assert!(rt; is_copied(&rt, &mut table, row), "{name}");
+fn masked_calls(rt: HostRuntime) -> Result<(), Fail> {
+    all_replied(&rt, rt.alloc(), MASKED)
+}
+
+/// Lines that are taken and given up.
+static LINES: &[Request] = &[
+    Request {
+        name: "IRQCTL: a wrong action on another's line",
+        words: [IRQCTL, 2, 5, 0, 0, 0],
+        result: EINVAL,
+        ..REQUEST
+    },
+    Request {
+        name: "IRQCTL gives up a line after the last one",
+        words: [IRQCTL, 0, 16, 0, 0, 0],
+        result: EINVAL,
+        ..REQUEST
+    },
+    Request {
+        name: "IRQCTL takes another's line",
+        words: [IRQCTL, 1, 5, 0, 0, 0],
+        result: EPERM,
+        ..REQUEST
+    },
+    Request {
+        name: "IRQCTL gives up another's line",
+        words: [IRQCTL, 0, 5, 0, 0, 0],
+        result: EPERM,
+        ..REQUEST
+    },
+    Request {
+        name: "IRQCTL gives up a free line",
+        words: [IRQCTL, 0, 3, 0, 0, 0],
+        result: EPERM,
+        ..REQUEST
+    },
+    Request {
+        name: "IRQCTL takes a free line",
+        words: [IRQCTL, 1, 3, 0, 0, 0],
+        ..REQUEST
+    },
+];
+
+#[test]
+fn calls_for_lines(rt: HostRuntime) -> Result<(), Fail> {
+    all_replied(&rt, rt.alloc(), LINES)
+}
+
+/// The clock, the console and the registers.
+static DEVICES: &[Request] = &[
+    Request {
+        name: "SETALARM: the first alarm",
+        words: [SETALARM, 5, 0, 0, 0, 0],
+        ..REQUEST
+    },
+    Request {
+        name: "DEVIO writes a byte to the console",
+        words: [DEVIO, 1, 0, 0x41, 0, 0],
+        ..REQUEST
+    },
+    Request {
+        name: "DEVIO reads the console",
+        words: [DEVIO, 0, 0, 0, 0, 0],
+        ..REQUEST
+    },
+    Request {
+        name: "DEVIO reads a register after the last one",
+        words: [DEVIO, 0, 256, 0, 0, 0],
+        result: EINVAL,
+        ..REQUEST
+    },
+    Request {
+        name: "DEVIO: a wrong action",
+        words: [DEVIO, 2, 0, 0, 0, 0],
+        result: EINVAL,
+        ..REQUEST
+    },
+];
+
+#[test]
+fn calls_for_devices(rt: HostRuntime) -> Result<(), Fail> {
+    all_replied(&rt, rt.alloc(), DEVICES)
+}
+
+/// Copies of slots that have no process.
+static NO_PARTIES: &[Request] = &[
+    Request {
+        name: "VIRCOPY of too many bytes, both slots unused",
+        words: [VIRCOPY, 4, 0, 4, 0, 65_537],
+        result: EINVAL,
+        ..REQUEST
+    },
+    Request {
+        name: "VIRCOPY from an unused slot to another generation",
+        words: [VIRCOPY, 4, 0, 1024, 0, 0],
+        result: EBADSRCDST,
+        ..REQUEST
+    },
+    Request {
+        name: "VIRCOPY from another generation to an unused slot",
+        words: [VIRCOPY, 1024, 0, 4, 0, 0],
+        result: EDEADDST,
+        ..REQUEST
+    },
+    Request {
+        name: "VIRCOPY to an unused slot",
+        words: [VIRCOPY, 0, 0, 4, 0, 0],
+        result: EBADSRCDST,
+        ..REQUEST
+    },
+    Request {
+        name: "VIRCOPY from a slot on a processor to an unused slot",
+        words: [VIRCOPY, 2, 0, 4, 0, 0],
+        result: EBADSRCDST,
+        ..REQUEST
+    },
+    Request {
+        name: "VIRCOPY from a slot on a processor to a dead one",
+        words: [VIRCOPY, 2, 0, 3, 0, 0],
+        result: EDEADDST,
+        ..REQUEST
+    },
+];
+
+#[test]
+fn copies_of_no_process(rt: HostRuntime) -> Result<(), Fail> {
+    all_replied(&rt, rt.alloc(), NO_PARTIES)
+}
+
+/// Copies of a process that is on a processor.
+static AWAY: &[Request] = &[
+    Request {
+        name: "VIRCOPY from a slot on a processor, past its limit",
+        words: [VIRCOPY, 2, 4097, 0, 0, 0],
+        result: ENOTREADY,
+        ..REQUEST
+    },
+    Request {
+        name: "VIRCOPY from past the limit to a slot on a processor",
+        words: [VIRCOPY, 0, 4097, 2, 0, 0],
+        result: ENOTREADY,
+        ..REQUEST
+    },
+    Request {
+        name: "VIRCOPY to a slot on a processor, past its limit",
+        words: [VIRCOPY, 0, 0, 2, 4097, 0],
+        result: ENOTREADY,
+        ..REQUEST
+    },
+];
+
+#[test]
+fn copies_of_processes_away(rt: HostRuntime) -> Result<(), Fail> {
+    all_replied(&rt, rt.alloc(), AWAY)
+}
+
+/// Copies up to the limit and past it.
+static AT_LIMITS: &[Request] = &[
+    Request {
+        name: "VIRCOPY of no bytes, from and to one past the limit",
+        words: [VIRCOPY, 0, 4097, 1, 4097, 0],
+        result: EFAULT,
+        ..REQUEST
+    },
+    Request {
+        name: "VIRCOPY of no bytes, from and to the limit",
+        words: [VIRCOPY, 0, 4096, 1, 4096, 0],
+        ..REQUEST
+    },
+    Request {
+        name: "VIRCOPY of no bytes, from one past the limit",
+        words: [VIRCOPY, 0, 4097, 1, 4096, 0],
+        result: EFAULT,
+        ..REQUEST
+    },
+    Request {
+        name: "VIRCOPY of no bytes, to one past the limit",
+        words: [VIRCOPY, 0, 4096, 1, 4097, 0],
+        result: EFAULT,
+        ..REQUEST
+    },
+    Request {
+        name: "VIRCOPY of four bytes, the last of them past the limit",
+        words: [VIRCOPY, 0, 4093, 1, 4092, 4],
+        result: EFAULT,
+        ..REQUEST
+    },
+];
+
+#[test]
+fn copies_at_limits(rt: HostRuntime) -> Result<(), Fail> {
+    all_replied(&rt, rt.alloc(), AT_LIMITS)
+}
+
+/// Whom a process kills.
+static KILLS: &[Request] = &[
+    Request {
+        name: "KILL of an unused slot",
+        words: [KILL, 4, 0, 0, 0, 0],
+        result: EBADSRCDST,
+        ..REQUEST
+    },
+    Request {
+        name: "KILL of the hardware",
+        words: [KILL, HARDWARE, 0, 0, 0, 0],
+        result: EBADSRCDST,
+        ..REQUEST
+    },
+    Request {
+        name: "KILL of another generation of a ready slot",
+        words: [KILL, 1025, 0, 0, 0, 0],
+        result: EDEADDST,
+        ..REQUEST
+    },
+    Request {
+        name: "KILL of another generation of a slot on a processor",
+        words: [KILL, 1026, 0, 0, 0, 0],
+        result: EDEADDST,
+        ..REQUEST
+    },
+    Request {
+        name: "KILL of a dead slot",
+        words: [KILL, 3, 0, 0, 0, 0],
+        result: EDEADDST,
+        ..REQUEST
+    },
+    Request {
+        name: "KILL of a slot on a processor",
+        words: [KILL, 2, 0, 0, 0, 0],
+        result: ENOTREADY,
+        ..REQUEST
+    },
+    Request {
+        name: "KILL of a ready slot",
+        words: [KILL, 1, 0, 0, 0, 0],
+        ..REQUEST
+    },
+];
+
+#[test]
+fn kills(rt: HostRuntime) -> Result<(), Fail> {
+    all_replied(&rt, rt.alloc(), KILLS)
+}
+
+/// Whose endpoint a process asks for.
+static QUESTIONS: &[Request] = &[
+    Request {
+        name: "WHOIS of a ready slot",
+        words: [WHOIS, 1, 0, 0, 0, 0],
+        answer: 1,
+        ..REQUEST
+    },
+    Request {
+        name: "WHOIS of a slot on a processor",
+        words: [WHOIS, 2, 0, 0, 0, 0],
+        answer: 2,
+        ..REQUEST
+    },
+    Request {
+        name: "WHOIS of an unused slot",
+        words: [WHOIS, 4, 0, 0, 0, 0],
+        result: EINVAL,
+        ..REQUEST
+    },
+    Request {
+        name: "WHOIS of a dead slot",
+        words: [WHOIS, 3, 0, 0, 0, 0],
+        result: EDEADDST,
+        ..REQUEST
+    },
+];
+
+#[test]
+fn questions(rt: HostRuntime) -> Result<(), Fail> {
+    all_replied(&rt, rt.alloc(), QUESTIONS)
+}
+
+/// Each copy on a new table.
+fn all_copied(rt: &impl Abort, alloc: Global, copies: &[Copied]) -> Result<(), Fail> {
+    for copy in copies {
+        let name = copy.name;
+        let mut table = one_process(rt, alloc)?;
+        assert!(rt; is_copied(rt, &mut table, copy), "{name}");
     }
     Ok(())
+}
+
+/// Bytes that are copied by one place.
+static OVERLAPS: &[Copied] = &[
+    Copied {
+        name: "up by one byte: the first byte stays",
+        from: 100,
+        to: 101,
+        count: 4,
+        place: 100,
+        word: 0x0302_0101,
+    },
+    Copied {
+        name: "up by one byte: the copied bytes",
+        from: 100,
+        to: 101,
+        count: 4,
+        place: 101,
+        word: 0x0403_0201,
+    },
+    Copied {
+        name: "down by one byte: the copied bytes",
+        from: 101,
+        to: 100,
+        count: 4,
+        place: 100,
+        word: 0x0504_0302,
+    },
+    Copied {
+        name: "down by one byte: the last byte stays",
+        from: 101,
+        to: 100,
+        count: 4,
+        place: 101,
+        word: 0x0505_0403,
+    },
+];
+
+#[test]
+fn copies_that_overlap(rt: HostRuntime) -> Result<(), Fail> {
+    all_copied(&rt, rt.alloc(), OVERLAPS)
+}
+
+/// Copies out of the caller's message, and onto it.
+static MESSAGES: &[Copied] = &[
+    Copied {
+        name: "out of the caller's own message: its type",
+        from: 516,
+        to: 600,
+        count: 4,
+        place: 600,
+        word: VIRCOPY,
+    },
+    Copied {
+        name: "onto p0 of the message: the reply comes after",
+        from: 100,
+        to: 520,
+        count: 4,
+        place: 520,
+        word: 0,
+    },
+    Copied {
+        name: "onto the whole message: the reply's source comes after",
+        from: 100,
+        to: 512,
+        count: 36,
+        place: 512,
+        word: SYSTEM,
+    },
+    Copied {
+        name: "onto the message's end and past it: the end is the reply's",
+        from: 97,
+        to: 544,
+        count: 8,
+        place: 544,
+        word: 0,
+    },
+    Copied {
+        name: "onto the message's end and past it: the bytes past it",
+        from: 97,
+        to: 544,
+        count: 8,
+        place: 548,
+        word: 0x0504_0302,
+    },
+];
+
+#[test]
+fn copies_of_the_message(rt: HostRuntime) -> Result<(), Fail> {
+    all_copied(&rt, rt.alloc(), MESSAGES)
 }
 
 #[test]
@@ -743,37 +828,53 @@ fn calls_that_kill(rt: HostRuntime) -> Result<(), Fail> {
     Ok(())
 }
 
+/// What the only process of a table does.
+#[derive(Clone, Copy)]
+enum Work {
+    TakesLines,
+    SetsAlarm,
+    TakesLineAgain,
+    WritesRegisters,
+    WritesConsole,
+}
+
+fn is_right(rt: &impl Abort, table: &mut Table, work: Work) -> bool {
+    match work {
+        Work::TakesLines => is_timed(rt, table),
+        Work::SetsAlarm => rings(rt, table),
+        Work::TakesLineAgain => is_taken_again(rt, table),
+        Work::WritesRegisters => keep_words(rt, table),
+        Work::WritesConsole => keeps_last_bytes(rt, table),
+    }
+}
+
+fn one_works(rt: &impl Abort, alloc: Global, work: Work) -> Result<(), Fail> {
+    let mut table = one_process(rt, alloc)?;
+    assert!(rt; is_right(rt, &mut table, work));
+    Ok(())
+}
+
 #[test]
 fn lines_and_a_cancelled_alarm(rt: HostRuntime) -> Result<(), Fail> {
-    let mut table = one_process(&rt, rt.alloc())?;
-    assert!(rt; is_timed(&rt, &mut table));
-    Ok(())
+    one_works(&rt, rt.alloc(), Work::TakesLines)
 }
 
 #[test]
 fn an_alarm_rings(rt: HostRuntime) -> Result<(), Fail> {
-    let mut table = one_process(&rt, rt.alloc())?;
-    assert!(rt; rings(&rt, &mut table));
-    Ok(())
+    one_works(&rt, rt.alloc(), Work::SetsAlarm)
 }
 
 #[test]
 fn own_line(rt: HostRuntime) -> Result<(), Fail> {
-    let mut table = one_process(&rt, rt.alloc())?;
-    assert!(rt; is_taken_again(&rt, &mut table));
-    Ok(())
+    one_works(&rt, rt.alloc(), Work::TakesLineAgain)
 }
 
 #[test]
 fn registers_of_the_machine(rt: HostRuntime) -> Result<(), Fail> {
-    let mut table = one_process(&rt, rt.alloc())?;
-    assert!(rt; keep_words(&rt, &mut table));
-    Ok(())
+    one_works(&rt, rt.alloc(), Work::WritesRegisters)
 }
 
 #[test]
 fn bytes_of_the_console(rt: HostRuntime) -> Result<(), Fail> {
-    let mut table = one_process(&rt, rt.alloc())?;
-    assert!(rt; keeps_last_bytes(&rt, &mut table));
-    Ok(())
+    one_works(&rt, rt.alloc(), Work::WritesConsole)
 }

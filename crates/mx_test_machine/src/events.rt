@@ -109,505 +109,6 @@ struct Worn {
     is_worn: bool,
 }
 
-static ROWS: &[Row] = &[
-    Row {
-        name: "a call and its answer",
-        config: "asked",
-        task: Task::Turns {
-            turns: &[
-                turn! { actor: 0, event: Event::Take, answer: Ok(Answer::Taken(0, 20)) },
-                turn! { actor: 0, event: Event::Step, times: 4, answer: TRAP },
-                turn! { actor: 0, event: Event::Back, answer: Ok(Answer::Returned(4)) },
-                turn! { actor: 0, event: Event::Take, answer: Ok(Answer::Taken(1, 20)) },
-                turn! { actor: 0, event: Event::Step, times: 4, answer: TRAP },
-                turn! { actor: 0, event: Event::Back, answer: Ok(Answer::Returned(4)) },
-                turn! { actor: 0, event: Event::Take, answer: Ok(Answer::Taken(0, 16)) },
-                turn! { actor: 0, event: Event::Step, times: 3, answer: TRAP },
-                turn! { actor: 0, event: Event::Back, answer: Ok(Answer::Returned(3)) },
-                turn! { actor: 0, event: Event::Take, answer: Ok(Answer::Taken(0, 13)) },
-                turn! { actor: 0, event: Event::Step, times: 5, answer: TRAP },
-                turn! { actor: 0, event: Event::Back, answer: Ok(Answer::Returned(5)) },
-                turn! { actor: 0, event: Event::Take, answer: Ok(Answer::Taken(1, 16)) },
-                turn! { actor: 0, event: Event::Step, times: 4, answer: TRAP },
-                turn! { actor: 0, event: Event::Back, answer: Ok(Answer::Returned(4)) },
-                turn! { actor: 0, event: Event::Take, answer: Err(Refusal::NoProcess) },
-            ],
-            ends: &[
-                end! { slot: 0, state: RECEIVING, level: 4, ticks: 8, steps: 12,
-                    eax: ANY, place: 0, word: 1 },
-                end! { slot: 1, state: EXITED, level: 7, ticks: 12, steps: 8,
-                    eax: SYSTEM, place: 4, word: EXIT },
-            ],
-        },
-    },
-    Row {
-        name: "a trap that is no call, and then the end of the text",
-        config: "short",
-        task: Task::Turns {
-            turns: &[
-                turn! { actor: 0, event: Event::Take, answer: Ok(Answer::Taken(0, 5)) },
-                turn! { actor: 0, event: Event::Step, times: 3, answer: TRAP },
-                turn! { actor: 0, event: Event::Step, answer: Err(Refusal::AtStop) },
-                turn! { actor: 0, event: Event::Back, answer: Ok(Answer::Returned(3)) },
-                turn! { actor: 0, event: Event::Take, answer: Ok(Answer::Taken(0, 2)) },
-                turn! { actor: 0, event: Event::Step, answer: FAULT },
-                turn! { actor: 0, event: Event::Back, answer: Ok(Answer::Returned(1)) },
-                turn! { actor: 0, event: Event::Take, answer: Err(Refusal::NoProcess) },
-            ],
-            ends: &[
-                end! { slot: 0, state: FAULTED, level: 7, ticks: 1, steps: 4,
-                    eax: ECALLDENIED, place: 0, word: 0 },
-            ],
-        },
-    },
-    Row {
-        name: "what is refused if a process is dead and has no restart",
-        config: "short",
-        task: Task::Turns {
-            turns: &[
-                turn! { actor: OTHER, event: Event::Tick, answer: DONE },
-                turn! { actor: OTHER, event: Event::Kill(0), answer: DONE },
-                turn! { actor: OTHER, event: Event::Kill(0), answer: Err(Refusal::NoProcess) },
-                turn! { actor: OTHER, event: Event::Respawn(0), answer: Err(Refusal::Worn) },
-                turn! { actor: OTHER, event: Event::Line(3), answer: Err(Refusal::NoLine) },
-                turn! { actor: OTHER, event: Event::Respawn(5), answer: Err(Refusal::NoService) },
-                turn! { actor: 0, event: Event::Back, answer: Err(Refusal::CpuEmpty) },
-            ],
-            ends: &[end! { slot: 0, state: KILLED, level: 7, ticks: 5, steps: 0,
-                    eax: 0, place: 0, word: 0 }],
-        },
-    },
-    Row {
-        name: "a history with room for two records",
-        config: "log_of_two",
-        task: Task::Turns {
-            turns: &[
-                turn! { actor: 0, event: Event::Take, answer: Ok(Answer::Taken(0, 5)) },
-                turn! { actor: 0, event: Event::Back, answer: Ok(Answer::Returned(0)) },
-                turn! { actor: 1, event: Event::Tick, answer: Err(Refusal::LogFull) },
-            ],
-            ends: &[],
-        },
-    },
-    Row {
-        name: "a history with room for one record",
-        config: "log_of_one",
-        task: Task::Turns {
-            turns: &[
-                turn! { actor: 0, event: Event::Take, answer: Err(Refusal::LogFull) },
-                turn! { actor: 0, event: Event::Tick, answer: DONE },
-            ],
-            ends: &[],
-        },
-    },
-    Row {
-        name: "who awaits a process that is killed goes on with EDEADDST",
-        config: "looks",
-        task: Task::Turns {
-            turns: &[
-                turn! { actor: 0, event: Event::Take, answer: Ok(Answer::Taken(3, 20)) },
-                turn! { actor: 0, event: Event::Step, times: 5, answer: TRAP },
-                turn! { actor: 0, event: Event::Back, answer: Ok(Answer::Returned(5)) },
-                turn! { actor: 0, event: Event::Take, answer: Ok(Answer::Taken(0, 20)) },
-                turn! { actor: 0, event: Event::Step, times: 4, answer: TRAP },
-                turn! { actor: 0, event: Event::Back, answer: Ok(Answer::Returned(4)) },
-                turn! { actor: OTHER, event: Event::Kill(3), answer: DONE },
-            ],
-            ends: &[
-                end! { slot: 0, state: READY, level: 7, ticks: 16, steps: 4,
-                    eax: EDEADDST, place: 0, word: 0 },
-                end! { slot: 3, state: KILLED, level: 4, ticks: 15, steps: 5,
-                    eax: OK, place: 0, word: 7 },
-            ],
-        },
-    },
-    Row {
-        name: "the driver is respawned: SEND to its old endpoint gives EDEADDST",
-        config: "looks",
-        task: Task::Turns {
-            turns: &[
-                turn! { actor: 0, event: Event::Take, answer: Ok(Answer::Taken(3, 20)) },
-                turn! { actor: 0, event: Event::Step, times: 5, answer: TRAP },
-                turn! { actor: 0, event: Event::Back, answer: Ok(Answer::Returned(5)) },
-                turn! { actor: 0, event: Event::Take, answer: Ok(Answer::Taken(0, 20)) },
-                turn! { actor: 0, event: Event::Step, times: 4, answer: TRAP },
-                turn! { actor: 0, event: Event::Back, answer: Ok(Answer::Returned(4)) },
-                turn! { actor: OTHER, event: Event::Kill(3), answer: DONE },
-                turn! { actor: OTHER, event: Event::Respawn(3), answer: Ok(Answer::Respawned(1027)) },
-                turn! { actor: 0, event: Event::Take, answer: Ok(Answer::Taken(1027, 20)) },
-                turn! { actor: 1, event: Event::Take, answer: Ok(Answer::Taken(0, 16)) },
-                turn! { actor: 1, event: Event::Step, times: 3, answer: TRAP },
-                turn! { actor: 1, event: Event::Back, answer: Ok(Answer::Returned(3)) },
-            ],
-            ends: &[end! { slot: 0, state: READY, level: 7, ticks: 13, steps: 7,
-                    eax: EDEADDST, place: 8, word: 0 }],
-        },
-    },
-    Row {
-        name: "the driver is respawned: its data are the file's, and WHOIS answers its new endpoint",
-        config: "looks",
-        task: Task::Turns {
-            turns: &[
-                turn! { actor: 0, event: Event::Take, answer: Ok(Answer::Taken(3, 20)) },
-                turn! { actor: 0, event: Event::Step, times: 5, answer: TRAP },
-                turn! { actor: 0, event: Event::Back, answer: Ok(Answer::Returned(5)) },
-                turn! { actor: 0, event: Event::Take, answer: Ok(Answer::Taken(0, 20)) },
-                turn! { actor: 0, event: Event::Step, times: 4, answer: TRAP },
-                turn! { actor: 0, event: Event::Back, answer: Ok(Answer::Returned(4)) },
-                turn! { actor: OTHER, event: Event::Kill(3), answer: DONE },
-                turn! { actor: OTHER, event: Event::Respawn(3), answer: Ok(Answer::Respawned(1027)) },
-                turn! { actor: OTHER, event: Event::Respawn(3), answer: Err(Refusal::NotDown) },
-                turn! { actor: 0, event: Event::Take, answer: Ok(Answer::Taken(1027, 20)) },
-                turn! { actor: 1, event: Event::Take, answer: Ok(Answer::Taken(0, 16)) },
-                turn! { actor: 1, event: Event::Step, times: 3, answer: TRAP },
-                turn! { actor: 1, event: Event::Back, answer: Ok(Answer::Returned(3)) },
-                turn! { actor: 1, event: Event::Take, answer: Ok(Answer::Taken(0, 13)) },
-                turn! { actor: 1, event: Event::Step, times: 5, answer: TRAP },
-                turn! { actor: 1, event: Event::Back, answer: Ok(Answer::Returned(5)) },
-                turn! { actor: 0, event: Event::Back, answer: Ok(Answer::Returned(0)) },
-            ],
-            ends: &[
-                end! { slot: 0, state: READY, level: 7, ticks: 8, steps: 12,
-                    eax: OK, place: 8, word: 1027 },
-                end! { slot: 3, state: READY, level: 4, ticks: 20, steps: 0,
-                    eax: 0, place: 0, word: 0 },
-            ],
-        },
-    },
-    Row {
-        name: "a process is killed on a processor: it dies as it comes back, and its call isn't made",
-        config: "works",
-        task: Task::Turns {
-            turns: &[
-                turn! { actor: 0, event: Event::Take, answer: Ok(Answer::Taken(0, 24)) },
-                turn! { actor: 0, event: Event::Step, times: 4, answer: TRAP },
-                turn! { actor: 0, event: Event::Back, answer: Ok(Answer::Returned(4)) },
-                turn! { actor: 0, event: Event::Take, answer: Ok(Answer::Taken(1, 20)) },
-                turn! { actor: 0, event: Event::Step, times: 4, answer: TRAP },
-                turn! { actor: 0, event: Event::Back, answer: Ok(Answer::Returned(4)) },
-                turn! { actor: 0, event: Event::Take, answer: Ok(Answer::Taken(0, 20)) },
-                turn! { actor: 0, event: Event::Step, times: 10, answer: GO },
-                turn! { actor: OTHER, event: Event::Kill(0), answer: DONE },
-                turn! { actor: OTHER, event: Event::Respawn(0), answer: Err(Refusal::NotDown) },
-                turn! { actor: 1, event: Event::Take, answer: Err(Refusal::NoProcess) },
-                turn! { actor: 0, event: Event::Tick, answer: DONE },
-                turn! { actor: 0, event: Event::Step, times: 10, answer: TRAP },
-                turn! { actor: 0, event: Event::Back, answer: Ok(Answer::Returned(20)) },
-            ],
-            ends: &[
-                end! { slot: 0, state: KILLED, level: 4, ticks: 0, steps: 24,
-                    eax: 19, place: 0x40, word: 1 },
-                end! { slot: 1, state: READY, level: 7, ticks: 16, steps: 4,
-                    eax: EDEADDST, place: 0, word: 0 },
-            ],
-        },
-    },
-    Row {
-        name: "eight processors take eight processes in slot order",
-        config: "eight",
-        task: Task::Turns {
-            turns: &[
-                turn! { actor: 0, event: Event::Take, answer: Ok(Answer::Taken(0, 5)) },
-                turn! { actor: 1, event: Event::Take, answer: Ok(Answer::Taken(1, 5)) },
-                turn! { actor: 2, event: Event::Take, answer: Ok(Answer::Taken(2, 5)) },
-                turn! { actor: 3, event: Event::Take, answer: Ok(Answer::Taken(3, 5)) },
-                turn! { actor: 4, event: Event::Take, answer: Ok(Answer::Taken(4, 5)) },
-                turn! { actor: 5, event: Event::Take, answer: Ok(Answer::Taken(5, 5)) },
-                turn! { actor: 6, event: Event::Take, answer: Ok(Answer::Taken(6, 5)) },
-                turn! { actor: 7, event: Event::Take, answer: Ok(Answer::Taken(7, 5)) },
-                turn! { actor: 7, event: Event::Take, answer: Err(Refusal::CpuBusy) },
-                turn! { actor: 7, event: Event::Step, times: 3, answer: TRAP },
-                turn! { actor: 7, event: Event::Back, answer: Ok(Answer::Returned(3)) },
-                turn! { actor: 6, event: Event::Back, answer: Ok(Answer::Returned(0)) },
-                turn! { actor: 7, event: Event::Take, answer: Ok(Answer::Taken(6, 5)) },
-                turn! { actor: 6, event: Event::Take, answer: Ok(Answer::Taken(7, 2)) },
-                turn! { actor: 6, event: Event::Back, answer: Ok(Answer::Returned(0)) },
-            ],
-            ends: &[end! { slot: 7, state: READY, level: 7, ticks: 2, steps: 3,
-                    eax: ECALLDENIED, place: 0, word: 0 }],
-        },
-    },
-    Row {
-        name: "TIMES counts the steps up to its own trap",
-        config: "times",
-        task: Task::Turns {
-            turns: &[
-                turn! { actor: OTHER, event: Event::Tick, answer: DONE },
-                turn! { actor: 0, event: Event::Take, answer: Ok(Answer::Taken(0, 20)) },
-                turn! { actor: 0, event: Event::Step, times: 2, answer: GO },
-                turn! { actor: 0, event: Event::Back, answer: Ok(Answer::Returned(2)) },
-                turn! { actor: 0, event: Event::Take, answer: Ok(Answer::Taken(0, 18)) },
-                turn! { actor: 0, event: Event::Step, times: 3, answer: TRAP },
-                turn! { actor: 0, event: Event::Back, answer: Ok(Answer::Returned(3)) },
-            ],
-            ends: &[
-                end! { slot: 0, state: READY, level: 7, ticks: 15, steps: 5,
-                    eax: OK, place: 8, word: 1 },
-                end! { slot: 0, state: READY, level: 7, ticks: 15, steps: 5,
-                    eax: OK, place: 12, word: 5 },
-            ],
-        },
-    },
-    Row {
-        name: "a copy into a window that was granted",
-        config: "granted",
-        task: Task::Turns {
-            turns: &[
-                turn! { actor: 0, event: Event::Take, answer: Ok(Answer::Taken(0, 40)) },
-                turn! { actor: 1, event: Event::Take, answer: Ok(Answer::Taken(1, 40)) },
-                turn! { actor: 1, event: Event::Step, times: 8, answer: TRAP },
-                turn! { actor: 1, event: Event::Back, answer: Ok(Answer::Returned(8)) },
-                turn! { actor: 1, event: Event::Take, answer: Ok(Answer::Taken(1, 32)) },
-                turn! { actor: 1, event: Event::Step, times: 3, answer: TRAP },
-                turn! { actor: 1, event: Event::Back, answer: Ok(Answer::Returned(3)) },
-                turn! { actor: 0, event: Event::Step, times: 6, answer: TRAP },
-                turn! { actor: 0, event: Event::Back, answer: Ok(Answer::Returned(6)) },
-                turn! { actor: 0, event: Event::Take, answer: Ok(Answer::Taken(0, 34)) },
-                turn! { actor: 0, event: Event::Step, times: 8, answer: TRAP },
-                turn! { actor: 0, event: Event::Back, answer: Ok(Answer::Returned(8)) },
-            ],
-            ends: &[
-                end! { slot: 0, state: READY, level: 4, ticks: 26, steps: 14,
-                    eax: OK, place: 4, word: OK },
-                end! { slot: 1, state: RECEIVING, level: 7, ticks: 29, steps: 11,
-                    eax: ANY, place: 256, word: VIRCOPY },
-            ],
-        },
-    },
-    Row {
-        name: "who granted is dead, and its endpoint with it",
-        config: "granted",
-        task: Task::Turns {
-            turns: &[
-                turn! { actor: 0, event: Event::Take, answer: Ok(Answer::Taken(0, 40)) },
-                turn! { actor: 1, event: Event::Take, answer: Ok(Answer::Taken(1, 40)) },
-                turn! { actor: 1, event: Event::Step, times: 8, answer: TRAP },
-                turn! { actor: 1, event: Event::Back, answer: Ok(Answer::Returned(8)) },
-                turn! { actor: 1, event: Event::Take, answer: Ok(Answer::Taken(1, 32)) },
-                turn! { actor: 1, event: Event::Step, times: 3, answer: TRAP },
-                turn! { actor: 1, event: Event::Back, answer: Ok(Answer::Returned(3)) },
-                turn! { actor: OTHER, event: Event::Kill(1), answer: DONE },
-                turn! { actor: OTHER, event: Event::Respawn(1), answer: Ok(Answer::Respawned(1025)) },
-                turn! { actor: 0, event: Event::Step, times: 6, answer: TRAP },
-                turn! { actor: 0, event: Event::Back, answer: Ok(Answer::Returned(6)) },
-                turn! { actor: 0, event: Event::Take, answer: Ok(Answer::Taken(0, 34)) },
-                turn! { actor: 0, event: Event::Step, times: 8, answer: TRAP },
-                turn! { actor: 0, event: Event::Back, answer: Ok(Answer::Returned(8)) },
-            ],
-            ends: &[
-                end! { slot: 0, state: READY, level: 4, ticks: 26, steps: 14,
-                    eax: OK, place: 4, word: EDEADDST },
-            ],
-        },
-    },
-    Row {
-        name: "the process after who granted has granted nothing",
-        config: "granted",
-        task: Task::Turns {
-            turns: &[
-                turn! { actor: 0, event: Event::Take, answer: Ok(Answer::Taken(0, 40)) },
-                turn! { actor: 1, event: Event::Take, answer: Ok(Answer::Taken(1, 40)) },
-                turn! { actor: 1, event: Event::Step, times: 8, answer: TRAP },
-                turn! { actor: 1, event: Event::Back, answer: Ok(Answer::Returned(8)) },
-                turn! { actor: 1, event: Event::Take, answer: Ok(Answer::Taken(1, 32)) },
-                turn! { actor: 1, event: Event::Step, times: 3, answer: TRAP },
-                turn! { actor: 1, event: Event::Back, answer: Ok(Answer::Returned(3)) },
-                turn! { actor: OTHER, event: Event::Kill(1), answer: DONE },
-                turn! { actor: OTHER, event: Event::Respawn(1), answer: Ok(Answer::Respawned(1025)) },
-                turn! { actor: 0, event: Event::Step, times: 6, answer: TRAP },
-                turn! { actor: 0, event: Event::Back, answer: Ok(Answer::Returned(6)) },
-                turn! { actor: 0, event: Event::Take, answer: Ok(Answer::Taken(0, 34)) },
-                turn! { actor: 0, event: Event::Step, times: 8, answer: TRAP },
-                turn! { actor: 0, event: Event::Back, answer: Ok(Answer::Returned(8)) },
-                turn! { actor: 0, event: Event::Take, answer: Ok(Answer::Taken(0, 26)) },
-                turn! { actor: 0, event: Event::Step, times: 8, answer: TRAP },
-                turn! { actor: 0, event: Event::Back, answer: Ok(Answer::Returned(8)) },
-            ],
-            ends: &[
-                end! { slot: 0, state: READY, level: 4, ticks: 18, steps: 22,
-                    eax: OK, place: 4, word: EPERM },
-                end! { slot: 1, state: READY, level: 7, ticks: 40, steps: 0,
-                    eax: 0, place: 256, word: 0 },
-            ],
-        },
-    },
-    Row {
-        name: "a window isn't for the process after the one that it was opened for",
-        config: "granted",
-        task: Task::Turns {
-            turns: &[
-                turn! { actor: 0, event: Event::Take, answer: Ok(Answer::Taken(0, 40)) },
-                turn! { actor: 1, event: Event::Take, answer: Ok(Answer::Taken(1, 40)) },
-                turn! { actor: 1, event: Event::Step, times: 8, answer: TRAP },
-                turn! { actor: 1, event: Event::Back, answer: Ok(Answer::Returned(8)) },
-                turn! { actor: 1, event: Event::Take, answer: Ok(Answer::Taken(1, 32)) },
-                turn! { actor: 1, event: Event::Step, times: 3, answer: TRAP },
-                turn! { actor: 1, event: Event::Back, answer: Ok(Answer::Returned(3)) },
-                turn! { actor: 0, event: Event::Back, answer: Ok(Answer::Returned(0)) },
-                turn! { actor: OTHER, event: Event::Kill(0), answer: DONE },
-                turn! { actor: OTHER, event: Event::Respawn(0), answer: Ok(Answer::Respawned(1024)) },
-                turn! { actor: 0, event: Event::Take, answer: Ok(Answer::Taken(1024, 40)) },
-                turn! { actor: 0, event: Event::Step, times: 6, answer: TRAP },
-                turn! { actor: 0, event: Event::Back, answer: Ok(Answer::Returned(6)) },
-                turn! { actor: 0, event: Event::Take, answer: Ok(Answer::Taken(1024, 34)) },
-                turn! { actor: 0, event: Event::Step, times: 8, answer: TRAP },
-                turn! { actor: 0, event: Event::Back, answer: Ok(Answer::Returned(8)) },
-            ],
-            ends: &[
-                end! { slot: 0, state: READY, level: 4, ticks: 26, steps: 14,
-                    eax: OK, place: 4, word: EPERM },
-                end! { slot: 1, state: RECEIVING, level: 7, ticks: 29, steps: 11,
-                    eax: ANY, place: 256, word: 0 },
-            ],
-        },
-    },
-    Row {
-        name: "lenient rules: GRANT is no call, and a copy needs no window",
-        config: "lenient",
-        task: Task::Turns {
-            turns: &[
-                turn! { actor: 0, event: Event::Take, answer: Ok(Answer::Taken(0, 40)) },
-                turn! { actor: 1, event: Event::Take, answer: Ok(Answer::Taken(1, 40)) },
-                turn! { actor: 1, event: Event::Step, times: 8, answer: TRAP },
-                turn! { actor: 1, event: Event::Back, answer: Ok(Answer::Returned(8)) },
-                turn! { actor: 1, event: Event::Take, answer: Ok(Answer::Taken(1, 32)) },
-                turn! { actor: 1, event: Event::Step, times: 3, answer: TRAP },
-                turn! { actor: 1, event: Event::Back, answer: Ok(Answer::Returned(3)) },
-                turn! { actor: 0, event: Event::Step, times: 6, answer: TRAP },
-                turn! { actor: 0, event: Event::Back, answer: Ok(Answer::Returned(6)) },
-                turn! { actor: 0, event: Event::Take, answer: Ok(Answer::Taken(0, 34)) },
-                turn! { actor: 0, event: Event::Step, times: 8, answer: TRAP },
-                turn! { actor: 0, event: Event::Back, answer: Ok(Answer::Returned(8)) },
-            ],
-            ends: &[
-                end! { slot: 0, state: READY, level: 4, ticks: 26, steps: 14,
-                    eax: OK, place: 4, word: OK },
-                end! { slot: 1, state: RECEIVING, level: 7, ticks: 29, steps: 11,
-                    eax: ANY, place: 4, word: EBADREQUEST },
-                end! { slot: 1, state: RECEIVING, level: 7, ticks: 29, steps: 11,
-                    eax: ANY, place: 256, word: VIRCOPY },
-            ],
-        },
-    },
-    Row {
-        name: "five rounds of a call and its answer",
-        config: "asked",
-        task: Task::Rounds(&[
-            Round {
-                process: 0,
-                budget: 20,
-                steps: 4,
-            },
-            Round {
-                process: 1,
-                budget: 20,
-                steps: 4,
-            },
-            Round {
-                process: 0,
-                budget: 16,
-                steps: 3,
-            },
-            Round {
-                process: 0,
-                budget: 13,
-                steps: 5,
-            },
-            Round {
-                process: 1,
-                budget: 16,
-                steps: 4,
-            },
-        ]),
-    },
-    Row {
-        name: "a tool's runs",
-        config: "short",
-        task: Task::Runs,
-    },
-    Row {
-        name: "a thousand interrupts for a ready owner are one message with the bit of line 5",
-        config: "button",
-        task: Task::Turns {
-            turns: &[
-                turn! { actor: 0, event: Event::Take, answer: Ok(Answer::Taken(0, 99)) },
-                turn! { actor: 0, event: Event::Step, times: 7, answer: TRAP },
-                turn! { actor: 0, event: Event::Back, answer: Ok(Answer::Returned(7)) },
-                turn! { actor: OTHER, event: Event::Line(5), times: 1000, answer: DONE },
-                turn! { actor: 0, event: Event::Take, answer: Ok(Answer::Taken(0, 92)) },
-                turn! { actor: 0, event: Event::Step, times: 3, answer: TRAP },
-                turn! { actor: 0, event: Event::Back, answer: Ok(Answer::Returned(3)) },
-            ],
-            ends: &[
-                end! { slot: 0, state: READY, level: 4, ticks: 89, steps: 10,
-                    eax: OK, place: 12, word: 0x20 },
-            ],
-        },
-    },
-    Row {
-        name: "a thousand interrupts, and ticks until the history is full",
-        config: "button",
-        task: Task::Turns {
-            turns: &[
-                turn! { actor: 0, event: Event::Take, answer: Ok(Answer::Taken(0, 99)) },
-                turn! { actor: 0, event: Event::Step, times: 7, answer: TRAP },
-                turn! { actor: 0, event: Event::Back, answer: Ok(Answer::Returned(7)) },
-                turn! { actor: OTHER, event: Event::Line(5), times: 1000, answer: DONE },
-                turn! { actor: 0, event: Event::Take, answer: Ok(Answer::Taken(0, 92)) },
-                turn! { actor: 0, event: Event::Step, times: 3, answer: TRAP },
-                turn! { actor: 0, event: Event::Back, answer: Ok(Answer::Returned(3)) },
-                turn! { actor: 0, event: Event::Take, answer: Ok(Answer::Taken(0, 89)) },
-                turn! { actor: 0, event: Event::Step, times: 10, answer: TRAP },
-                turn! { actor: 0, event: Event::Back, answer: Ok(Answer::Returned(10)) },
-                turn! { actor: 0, event: Event::Take, answer: Ok(Answer::Taken(0, 79)) },
-                turn! { actor: 0, event: Event::Step, times: 4, answer: TRAP },
-                turn! { actor: 0, event: Event::Back, answer: Ok(Answer::Returned(4)) },
-                turn! { actor: 0, event: Event::Take, answer: Err(Refusal::NoProcess) },
-                // There are 1,008 records by now.
-                turn! { actor: OTHER, event: Event::Tick, times: 92, answer: DONE },
-                turn! { actor: OTHER, event: Event::Tick, answer: Err(Refusal::LogFull) },
-            ],
-            ends: &[],
-        },
-    },
-    Row {
-        name: "neither the last generation nor the last restart: not worn",
-        config: "looks",
-        task: Task::Worn(Worn {
-            generation: 0,
-            restarts_used: 0,
-            is_worn: false,
-        }),
-    },
-    Row {
-        name: "the only restart is used: worn",
-        config: "looks",
-        task: Task::Worn(Worn {
-            generation: 1,
-            restarts_used: 1,
-            is_worn: true,
-        }),
-    },
-    Row {
-        name: "the last generation but one: not worn",
-        config: "looks",
-        task: Task::Worn(Worn {
-            generation: 1_048_574,
-            restarts_used: 0,
-            is_worn: false,
-        }),
-    },
-    Row {
-        name: "the last generation: worn",
-        config: "looks",
-        task: Task::Worn(Worn {
-            generation: 1_048_575,
-            restarts_used: 0,
-            is_worn: true,
-        }),
-    },
-];
-
 fn sends<T: Send>(_: &T) {}
 
 /// One run of this many steps.
@@ -758,10 +259,593 @@ fn is_worked(rt: &impl Abort, alloc: Global, row: &Row) -> bool {
     }
 }
 
-#[test]
-fn events(rt: HostRuntime) {
-    for row in ROWS {
+fn all_worked(rt: &impl Abort, alloc: Global, rows: &[Row]) {
+    for row in rows {
         let name = row.name;
-        assert!(rt; is_worked(&rt, rt.alloc(), row), "{name}");
+        assert!(rt; is_worked(rt, alloc, row), "{name}");
     }
+}
+
+/// Calls, their answers, and a trap that is none.
+static CALLS: &[Row] = &[
+    Row {
+        name: "a call and its answer",
+        config: "asked",
+        task: Task::Turns {
+            turns: &[
+                turn! { actor: 0, event: Event::Take, answer: Ok(Answer::Taken(0, 20)) },
+                turn! { actor: 0, event: Event::Step, times: 4, answer: TRAP },
+                turn! { actor: 0, event: Event::Back, answer: Ok(Answer::Returned(4)) },
+                turn! { actor: 0, event: Event::Take, answer: Ok(Answer::Taken(1, 20)) },
+                turn! { actor: 0, event: Event::Step, times: 4, answer: TRAP },
+                turn! { actor: 0, event: Event::Back, answer: Ok(Answer::Returned(4)) },
+                turn! { actor: 0, event: Event::Take, answer: Ok(Answer::Taken(0, 16)) },
+                turn! { actor: 0, event: Event::Step, times: 3, answer: TRAP },
+                turn! { actor: 0, event: Event::Back, answer: Ok(Answer::Returned(3)) },
+                turn! { actor: 0, event: Event::Take, answer: Ok(Answer::Taken(0, 13)) },
+                turn! { actor: 0, event: Event::Step, times: 5, answer: TRAP },
+                turn! { actor: 0, event: Event::Back, answer: Ok(Answer::Returned(5)) },
+                turn! { actor: 0, event: Event::Take, answer: Ok(Answer::Taken(1, 16)) },
+                turn! { actor: 0, event: Event::Step, times: 4, answer: TRAP },
+                turn! { actor: 0, event: Event::Back, answer: Ok(Answer::Returned(4)) },
+                turn! { actor: 0, event: Event::Take, answer: Err(Refusal::NoProcess) },
+            ],
+            ends: &[
+                end! { slot: 0, state: RECEIVING, level: 4, ticks: 8, steps: 12,
+                    eax: ANY, place: 0, word: 1 },
+                end! { slot: 1, state: EXITED, level: 7, ticks: 12, steps: 8,
+                    eax: SYSTEM, place: 4, word: EXIT },
+            ],
+        },
+    },
+    Row {
+        name: "a trap that is no call, and then the end of the text",
+        config: "short",
+        task: Task::Turns {
+            turns: &[
+                turn! { actor: 0, event: Event::Take, answer: Ok(Answer::Taken(0, 5)) },
+                turn! { actor: 0, event: Event::Step, times: 3, answer: TRAP },
+                turn! { actor: 0, event: Event::Step, answer: Err(Refusal::AtStop) },
+                turn! { actor: 0, event: Event::Back, answer: Ok(Answer::Returned(3)) },
+                turn! { actor: 0, event: Event::Take, answer: Ok(Answer::Taken(0, 2)) },
+                turn! { actor: 0, event: Event::Step, answer: FAULT },
+                turn! { actor: 0, event: Event::Back, answer: Ok(Answer::Returned(1)) },
+                turn! { actor: 0, event: Event::Take, answer: Err(Refusal::NoProcess) },
+            ],
+            ends: &[
+                end! { slot: 0, state: FAULTED, level: 7, ticks: 1, steps: 4,
+                    eax: ECALLDENIED, place: 0, word: 0 },
+            ],
+        },
+    },
+    Row {
+        name: "TIMES counts the steps up to its own trap",
+        config: "times",
+        task: Task::Turns {
+            turns: &[
+                turn! { actor: OTHER, event: Event::Tick, answer: DONE },
+                turn! { actor: 0, event: Event::Take, answer: Ok(Answer::Taken(0, 20)) },
+                turn! { actor: 0, event: Event::Step, times: 2, answer: GO },
+                turn! { actor: 0, event: Event::Back, answer: Ok(Answer::Returned(2)) },
+                turn! { actor: 0, event: Event::Take, answer: Ok(Answer::Taken(0, 18)) },
+                turn! { actor: 0, event: Event::Step, times: 3, answer: TRAP },
+                turn! { actor: 0, event: Event::Back, answer: Ok(Answer::Returned(3)) },
+            ],
+            ends: &[
+                end! { slot: 0, state: READY, level: 7, ticks: 15, steps: 5,
+                    eax: OK, place: 8, word: 1 },
+                end! { slot: 0, state: READY, level: 7, ticks: 15, steps: 5,
+                    eax: OK, place: 12, word: 5 },
+            ],
+        },
+    },
+];
+
+#[test]
+fn calls(rt: HostRuntime) {
+    all_worked(&rt, rt.alloc(), CALLS);
+}
+
+/// Events that are refused.
+static REFUSALS: &[Row] = &[
+    Row {
+        name: "what is refused if a process is dead and has no restart",
+        config: "short",
+        task: Task::Turns {
+            turns: &[
+                turn! { actor: OTHER, event: Event::Tick, answer: DONE },
+                turn! { actor: OTHER, event: Event::Kill(0), answer: DONE },
+                turn! { actor: OTHER, event: Event::Kill(0), answer: Err(Refusal::NoProcess) },
+                turn! { actor: OTHER, event: Event::Respawn(0), answer: Err(Refusal::Worn) },
+                turn! { actor: OTHER, event: Event::Line(3), answer: Err(Refusal::NoLine) },
+                turn! { actor: OTHER, event: Event::Respawn(5), answer: Err(Refusal::NoService) },
+                turn! { actor: 0, event: Event::Back, answer: Err(Refusal::CpuEmpty) },
+            ],
+            ends: &[end! { slot: 0, state: KILLED, level: 7, ticks: 5, steps: 0,
+                    eax: 0, place: 0, word: 0 }],
+        },
+    },
+    Row {
+        name: "a history with room for two records",
+        config: "log_of_two",
+        task: Task::Turns {
+            turns: &[
+                turn! { actor: 0, event: Event::Take, answer: Ok(Answer::Taken(0, 5)) },
+                turn! { actor: 0, event: Event::Back, answer: Ok(Answer::Returned(0)) },
+                turn! { actor: 1, event: Event::Tick, answer: Err(Refusal::LogFull) },
+            ],
+            ends: &[],
+        },
+    },
+    Row {
+        name: "a history with room for one record",
+        config: "log_of_one",
+        task: Task::Turns {
+            turns: &[
+                turn! { actor: 0, event: Event::Take, answer: Err(Refusal::LogFull) },
+                turn! { actor: 0, event: Event::Tick, answer: DONE },
+            ],
+            ends: &[],
+        },
+    },
+    Row {
+        name: "eight processors take eight processes in slot order",
+        config: "eight",
+        task: Task::Turns {
+            turns: &[
+                turn! { actor: 0, event: Event::Take, answer: Ok(Answer::Taken(0, 5)) },
+                turn! { actor: 1, event: Event::Take, answer: Ok(Answer::Taken(1, 5)) },
+                turn! { actor: 2, event: Event::Take, answer: Ok(Answer::Taken(2, 5)) },
+                turn! { actor: 3, event: Event::Take, answer: Ok(Answer::Taken(3, 5)) },
+                turn! { actor: 4, event: Event::Take, answer: Ok(Answer::Taken(4, 5)) },
+                turn! { actor: 5, event: Event::Take, answer: Ok(Answer::Taken(5, 5)) },
+                turn! { actor: 6, event: Event::Take, answer: Ok(Answer::Taken(6, 5)) },
+                turn! { actor: 7, event: Event::Take, answer: Ok(Answer::Taken(7, 5)) },
+                turn! { actor: 7, event: Event::Take, answer: Err(Refusal::CpuBusy) },
+                turn! { actor: 7, event: Event::Step, times: 3, answer: TRAP },
+                turn! { actor: 7, event: Event::Back, answer: Ok(Answer::Returned(3)) },
+                turn! { actor: 6, event: Event::Back, answer: Ok(Answer::Returned(0)) },
+                turn! { actor: 7, event: Event::Take, answer: Ok(Answer::Taken(6, 5)) },
+                turn! { actor: 6, event: Event::Take, answer: Ok(Answer::Taken(7, 2)) },
+                turn! { actor: 6, event: Event::Back, answer: Ok(Answer::Returned(0)) },
+            ],
+            ends: &[end! { slot: 7, state: READY, level: 7, ticks: 2, steps: 3,
+                    eax: ECALLDENIED, place: 0, word: 0 }],
+        },
+    },
+];
+
+#[test]
+fn refusals(rt: HostRuntime) {
+    all_worked(&rt, rt.alloc(), REFUSALS);
+}
+
+/// Processes that are killed while another awaits them.
+static DEATHS: &[Row] = &[
+    Row {
+        name: "who awaits a process that is killed goes on with EDEADDST",
+        config: "looks",
+        task: Task::Turns {
+            turns: &[
+                turn! { actor: 0, event: Event::Take, answer: Ok(Answer::Taken(3, 20)) },
+                turn! { actor: 0, event: Event::Step, times: 5, answer: TRAP },
+                turn! { actor: 0, event: Event::Back, answer: Ok(Answer::Returned(5)) },
+                turn! { actor: 0, event: Event::Take, answer: Ok(Answer::Taken(0, 20)) },
+                turn! { actor: 0, event: Event::Step, times: 4, answer: TRAP },
+                turn! { actor: 0, event: Event::Back, answer: Ok(Answer::Returned(4)) },
+                turn! { actor: OTHER, event: Event::Kill(3), answer: DONE },
+            ],
+            ends: &[
+                end! { slot: 0, state: READY, level: 7, ticks: 16, steps: 4,
+                    eax: EDEADDST, place: 0, word: 0 },
+                end! { slot: 3, state: KILLED, level: 4, ticks: 15, steps: 5,
+                    eax: OK, place: 0, word: 7 },
+            ],
+        },
+    },
+    Row {
+        name: "a process is killed on a processor: it dies as it comes back, and its call isn't made",
+        config: "works",
+        task: Task::Turns {
+            turns: &[
+                turn! { actor: 0, event: Event::Take, answer: Ok(Answer::Taken(0, 24)) },
+                turn! { actor: 0, event: Event::Step, times: 4, answer: TRAP },
+                turn! { actor: 0, event: Event::Back, answer: Ok(Answer::Returned(4)) },
+                turn! { actor: 0, event: Event::Take, answer: Ok(Answer::Taken(1, 20)) },
+                turn! { actor: 0, event: Event::Step, times: 4, answer: TRAP },
+                turn! { actor: 0, event: Event::Back, answer: Ok(Answer::Returned(4)) },
+                turn! { actor: 0, event: Event::Take, answer: Ok(Answer::Taken(0, 20)) },
+                turn! { actor: 0, event: Event::Step, times: 10, answer: GO },
+                turn! { actor: OTHER, event: Event::Kill(0), answer: DONE },
+                turn! { actor: OTHER, event: Event::Respawn(0), answer: Err(Refusal::NotDown) },
+                turn! { actor: 1, event: Event::Take, answer: Err(Refusal::NoProcess) },
+                turn! { actor: 0, event: Event::Tick, answer: DONE },
+                turn! { actor: 0, event: Event::Step, times: 10, answer: TRAP },
+                turn! { actor: 0, event: Event::Back, answer: Ok(Answer::Returned(20)) },
+            ],
+            ends: &[
+                end! { slot: 0, state: KILLED, level: 4, ticks: 0, steps: 24,
+                    eax: 19, place: 0x40, word: 1 },
+                end! { slot: 1, state: READY, level: 7, ticks: 16, steps: 4,
+                    eax: EDEADDST, place: 0, word: 0 },
+            ],
+        },
+    },
+];
+
+#[test]
+fn deaths(rt: HostRuntime) {
+    all_worked(&rt, rt.alloc(), DEATHS);
+}
+
+/// A driver that is killed and respawned.
+static RESPAWNS: &[Row] = &[
+    Row {
+        name: "the driver is respawned: SEND to its old endpoint gives EDEADDST",
+        config: "looks",
+        task: Task::Turns {
+            turns: &[
+                turn! { actor: 0, event: Event::Take, answer: Ok(Answer::Taken(3, 20)) },
+                turn! { actor: 0, event: Event::Step, times: 5, answer: TRAP },
+                turn! { actor: 0, event: Event::Back, answer: Ok(Answer::Returned(5)) },
+                turn! { actor: 0, event: Event::Take, answer: Ok(Answer::Taken(0, 20)) },
+                turn! { actor: 0, event: Event::Step, times: 4, answer: TRAP },
+                turn! { actor: 0, event: Event::Back, answer: Ok(Answer::Returned(4)) },
+                turn! { actor: OTHER, event: Event::Kill(3), answer: DONE },
+                turn! { actor: OTHER, event: Event::Respawn(3), answer: Ok(Answer::Respawned(1027)) },
+                turn! { actor: 0, event: Event::Take, answer: Ok(Answer::Taken(1027, 20)) },
+                turn! { actor: 1, event: Event::Take, answer: Ok(Answer::Taken(0, 16)) },
+                turn! { actor: 1, event: Event::Step, times: 3, answer: TRAP },
+                turn! { actor: 1, event: Event::Back, answer: Ok(Answer::Returned(3)) },
+            ],
+            ends: &[end! { slot: 0, state: READY, level: 7, ticks: 13, steps: 7,
+                    eax: EDEADDST, place: 8, word: 0 }],
+        },
+    },
+    Row {
+        name: "the driver is respawned: its data are the file's, and WHOIS answers its new endpoint",
+        config: "looks",
+        task: Task::Turns {
+            turns: &[
+                turn! { actor: 0, event: Event::Take, answer: Ok(Answer::Taken(3, 20)) },
+                turn! { actor: 0, event: Event::Step, times: 5, answer: TRAP },
+                turn! { actor: 0, event: Event::Back, answer: Ok(Answer::Returned(5)) },
+                turn! { actor: 0, event: Event::Take, answer: Ok(Answer::Taken(0, 20)) },
+                turn! { actor: 0, event: Event::Step, times: 4, answer: TRAP },
+                turn! { actor: 0, event: Event::Back, answer: Ok(Answer::Returned(4)) },
+                turn! { actor: OTHER, event: Event::Kill(3), answer: DONE },
+                turn! { actor: OTHER, event: Event::Respawn(3), answer: Ok(Answer::Respawned(1027)) },
+                turn! { actor: OTHER, event: Event::Respawn(3), answer: Err(Refusal::NotDown) },
+                turn! { actor: 0, event: Event::Take, answer: Ok(Answer::Taken(1027, 20)) },
+                turn! { actor: 1, event: Event::Take, answer: Ok(Answer::Taken(0, 16)) },
+                turn! { actor: 1, event: Event::Step, times: 3, answer: TRAP },
+                turn! { actor: 1, event: Event::Back, answer: Ok(Answer::Returned(3)) },
+                turn! { actor: 1, event: Event::Take, answer: Ok(Answer::Taken(0, 13)) },
+                turn! { actor: 1, event: Event::Step, times: 5, answer: TRAP },
+                turn! { actor: 1, event: Event::Back, answer: Ok(Answer::Returned(5)) },
+                turn! { actor: 0, event: Event::Back, answer: Ok(Answer::Returned(0)) },
+            ],
+            ends: &[
+                end! { slot: 0, state: READY, level: 7, ticks: 8, steps: 12,
+                    eax: OK, place: 8, word: 1027 },
+                end! { slot: 3, state: READY, level: 4, ticks: 20, steps: 0,
+                    eax: 0, place: 0, word: 0 },
+            ],
+        },
+    },
+];
+
+#[test]
+fn respawns(rt: HostRuntime) {
+    all_worked(&rt, rt.alloc(), RESPAWNS);
+}
+
+/// Copies with a window, and by the rules that have none.
+static WINDOWS: &[Row] = &[
+    Row {
+        name: "a copy into a window that was granted",
+        config: "granted",
+        task: Task::Turns {
+            turns: &[
+                turn! { actor: 0, event: Event::Take, answer: Ok(Answer::Taken(0, 40)) },
+                turn! { actor: 1, event: Event::Take, answer: Ok(Answer::Taken(1, 40)) },
+                turn! { actor: 1, event: Event::Step, times: 8, answer: TRAP },
+                turn! { actor: 1, event: Event::Back, answer: Ok(Answer::Returned(8)) },
+                turn! { actor: 1, event: Event::Take, answer: Ok(Answer::Taken(1, 32)) },
+                turn! { actor: 1, event: Event::Step, times: 3, answer: TRAP },
+                turn! { actor: 1, event: Event::Back, answer: Ok(Answer::Returned(3)) },
+                turn! { actor: 0, event: Event::Step, times: 6, answer: TRAP },
+                turn! { actor: 0, event: Event::Back, answer: Ok(Answer::Returned(6)) },
+                turn! { actor: 0, event: Event::Take, answer: Ok(Answer::Taken(0, 34)) },
+                turn! { actor: 0, event: Event::Step, times: 8, answer: TRAP },
+                turn! { actor: 0, event: Event::Back, answer: Ok(Answer::Returned(8)) },
+            ],
+            ends: &[
+                end! { slot: 0, state: READY, level: 4, ticks: 26, steps: 14,
+                    eax: OK, place: 4, word: OK },
+                end! { slot: 1, state: RECEIVING, level: 7, ticks: 29, steps: 11,
+                    eax: ANY, place: 256, word: VIRCOPY },
+            ],
+        },
+    },
+    Row {
+        name: "lenient rules: GRANT is no call, and a copy needs no window",
+        config: "lenient",
+        task: Task::Turns {
+            turns: &[
+                turn! { actor: 0, event: Event::Take, answer: Ok(Answer::Taken(0, 40)) },
+                turn! { actor: 1, event: Event::Take, answer: Ok(Answer::Taken(1, 40)) },
+                turn! { actor: 1, event: Event::Step, times: 8, answer: TRAP },
+                turn! { actor: 1, event: Event::Back, answer: Ok(Answer::Returned(8)) },
+                turn! { actor: 1, event: Event::Take, answer: Ok(Answer::Taken(1, 32)) },
+                turn! { actor: 1, event: Event::Step, times: 3, answer: TRAP },
+                turn! { actor: 1, event: Event::Back, answer: Ok(Answer::Returned(3)) },
+                turn! { actor: 0, event: Event::Step, times: 6, answer: TRAP },
+                turn! { actor: 0, event: Event::Back, answer: Ok(Answer::Returned(6)) },
+                turn! { actor: 0, event: Event::Take, answer: Ok(Answer::Taken(0, 34)) },
+                turn! { actor: 0, event: Event::Step, times: 8, answer: TRAP },
+                turn! { actor: 0, event: Event::Back, answer: Ok(Answer::Returned(8)) },
+            ],
+            ends: &[
+                end! { slot: 0, state: READY, level: 4, ticks: 26, steps: 14,
+                    eax: OK, place: 4, word: OK },
+                end! { slot: 1, state: RECEIVING, level: 7, ticks: 29, steps: 11,
+                    eax: ANY, place: 4, word: EBADREQUEST },
+                end! { slot: 1, state: RECEIVING, level: 7, ticks: 29, steps: 11,
+                    eax: ANY, place: 256, word: VIRCOPY },
+            ],
+        },
+    },
+];
+
+#[test]
+fn windows(rt: HostRuntime) {
+    all_worked(&rt, rt.alloc(), WINDOWS);
+}
+
+/// Windows whose owner has died.
+static DEAD_OWNERS: &[Row] = &[
+    Row {
+        name: "who granted is dead, and its endpoint with it",
+        config: "granted",
+        task: Task::Turns {
+            turns: &[
+                turn! { actor: 0, event: Event::Take, answer: Ok(Answer::Taken(0, 40)) },
+                turn! { actor: 1, event: Event::Take, answer: Ok(Answer::Taken(1, 40)) },
+                turn! { actor: 1, event: Event::Step, times: 8, answer: TRAP },
+                turn! { actor: 1, event: Event::Back, answer: Ok(Answer::Returned(8)) },
+                turn! { actor: 1, event: Event::Take, answer: Ok(Answer::Taken(1, 32)) },
+                turn! { actor: 1, event: Event::Step, times: 3, answer: TRAP },
+                turn! { actor: 1, event: Event::Back, answer: Ok(Answer::Returned(3)) },
+                turn! { actor: OTHER, event: Event::Kill(1), answer: DONE },
+                turn! { actor: OTHER, event: Event::Respawn(1), answer: Ok(Answer::Respawned(1025)) },
+                turn! { actor: 0, event: Event::Step, times: 6, answer: TRAP },
+                turn! { actor: 0, event: Event::Back, answer: Ok(Answer::Returned(6)) },
+                turn! { actor: 0, event: Event::Take, answer: Ok(Answer::Taken(0, 34)) },
+                turn! { actor: 0, event: Event::Step, times: 8, answer: TRAP },
+                turn! { actor: 0, event: Event::Back, answer: Ok(Answer::Returned(8)) },
+            ],
+            ends: &[
+                end! { slot: 0, state: READY, level: 4, ticks: 26, steps: 14,
+                    eax: OK, place: 4, word: EDEADDST },
+            ],
+        },
+    },
+    Row {
+        name: "the process after who granted has granted nothing",
+        config: "granted",
+        task: Task::Turns {
+            turns: &[
+                turn! { actor: 0, event: Event::Take, answer: Ok(Answer::Taken(0, 40)) },
+                turn! { actor: 1, event: Event::Take, answer: Ok(Answer::Taken(1, 40)) },
+                turn! { actor: 1, event: Event::Step, times: 8, answer: TRAP },
+                turn! { actor: 1, event: Event::Back, answer: Ok(Answer::Returned(8)) },
+                turn! { actor: 1, event: Event::Take, answer: Ok(Answer::Taken(1, 32)) },
+                turn! { actor: 1, event: Event::Step, times: 3, answer: TRAP },
+                turn! { actor: 1, event: Event::Back, answer: Ok(Answer::Returned(3)) },
+                turn! { actor: OTHER, event: Event::Kill(1), answer: DONE },
+                turn! { actor: OTHER, event: Event::Respawn(1), answer: Ok(Answer::Respawned(1025)) },
+                turn! { actor: 0, event: Event::Step, times: 6, answer: TRAP },
+                turn! { actor: 0, event: Event::Back, answer: Ok(Answer::Returned(6)) },
+                turn! { actor: 0, event: Event::Take, answer: Ok(Answer::Taken(0, 34)) },
+                turn! { actor: 0, event: Event::Step, times: 8, answer: TRAP },
+                turn! { actor: 0, event: Event::Back, answer: Ok(Answer::Returned(8)) },
+                turn! { actor: 0, event: Event::Take, answer: Ok(Answer::Taken(0, 26)) },
+                turn! { actor: 0, event: Event::Step, times: 8, answer: TRAP },
+                turn! { actor: 0, event: Event::Back, answer: Ok(Answer::Returned(8)) },
+            ],
+            ends: &[
+                end! { slot: 0, state: READY, level: 4, ticks: 18, steps: 22,
+                    eax: OK, place: 4, word: EPERM },
+                end! { slot: 1, state: READY, level: 7, ticks: 40, steps: 0,
+                    eax: 0, place: 256, word: 0 },
+            ],
+        },
+    },
+];
+
+#[test]
+fn windows_of_dead_owners(rt: HostRuntime) {
+    all_worked(&rt, rt.alloc(), DEAD_OWNERS);
+}
+
+/// A window for a process that has died.
+static DEAD_USERS: &[Row] = &[Row {
+    name: "a window isn't for the process after the one that it was opened for",
+    config: "granted",
+    task: Task::Turns {
+        turns: &[
+            turn! { actor: 0, event: Event::Take, answer: Ok(Answer::Taken(0, 40)) },
+            turn! { actor: 1, event: Event::Take, answer: Ok(Answer::Taken(1, 40)) },
+            turn! { actor: 1, event: Event::Step, times: 8, answer: TRAP },
+            turn! { actor: 1, event: Event::Back, answer: Ok(Answer::Returned(8)) },
+            turn! { actor: 1, event: Event::Take, answer: Ok(Answer::Taken(1, 32)) },
+            turn! { actor: 1, event: Event::Step, times: 3, answer: TRAP },
+            turn! { actor: 1, event: Event::Back, answer: Ok(Answer::Returned(3)) },
+            turn! { actor: 0, event: Event::Back, answer: Ok(Answer::Returned(0)) },
+            turn! { actor: OTHER, event: Event::Kill(0), answer: DONE },
+            turn! { actor: OTHER, event: Event::Respawn(0), answer: Ok(Answer::Respawned(1024)) },
+            turn! { actor: 0, event: Event::Take, answer: Ok(Answer::Taken(1024, 40)) },
+            turn! { actor: 0, event: Event::Step, times: 6, answer: TRAP },
+            turn! { actor: 0, event: Event::Back, answer: Ok(Answer::Returned(6)) },
+            turn! { actor: 0, event: Event::Take, answer: Ok(Answer::Taken(1024, 34)) },
+            turn! { actor: 0, event: Event::Step, times: 8, answer: TRAP },
+            turn! { actor: 0, event: Event::Back, answer: Ok(Answer::Returned(8)) },
+        ],
+        ends: &[
+            end! { slot: 0, state: READY, level: 4, ticks: 26, steps: 14,
+                    eax: OK, place: 4, word: EPERM },
+            end! { slot: 1, state: RECEIVING, level: 7, ticks: 29, steps: 11,
+                    eax: ANY, place: 256, word: 0 },
+        ],
+    },
+}];
+
+#[test]
+fn windows_for_dead_users(rt: HostRuntime) {
+    all_worked(&rt, rt.alloc(), DEAD_USERS);
+}
+
+/// More interrupts than a process takes.
+static INTERRUPTS: &[Row] = &[
+    Row {
+        name: "a thousand interrupts for a ready owner are one message with the bit of line 5",
+        config: "button",
+        task: Task::Turns {
+            turns: &[
+                turn! { actor: 0, event: Event::Take, answer: Ok(Answer::Taken(0, 99)) },
+                turn! { actor: 0, event: Event::Step, times: 7, answer: TRAP },
+                turn! { actor: 0, event: Event::Back, answer: Ok(Answer::Returned(7)) },
+                turn! { actor: OTHER, event: Event::Line(5), times: 1000, answer: DONE },
+                turn! { actor: 0, event: Event::Take, answer: Ok(Answer::Taken(0, 92)) },
+                turn! { actor: 0, event: Event::Step, times: 3, answer: TRAP },
+                turn! { actor: 0, event: Event::Back, answer: Ok(Answer::Returned(3)) },
+            ],
+            ends: &[
+                end! { slot: 0, state: READY, level: 4, ticks: 89, steps: 10,
+                    eax: OK, place: 12, word: 0x20 },
+            ],
+        },
+    },
+    Row {
+        name: "a thousand interrupts, and ticks until the history is full",
+        config: "button",
+        task: Task::Turns {
+            turns: &[
+                turn! { actor: 0, event: Event::Take, answer: Ok(Answer::Taken(0, 99)) },
+                turn! { actor: 0, event: Event::Step, times: 7, answer: TRAP },
+                turn! { actor: 0, event: Event::Back, answer: Ok(Answer::Returned(7)) },
+                turn! { actor: OTHER, event: Event::Line(5), times: 1000, answer: DONE },
+                turn! { actor: 0, event: Event::Take, answer: Ok(Answer::Taken(0, 92)) },
+                turn! { actor: 0, event: Event::Step, times: 3, answer: TRAP },
+                turn! { actor: 0, event: Event::Back, answer: Ok(Answer::Returned(3)) },
+                turn! { actor: 0, event: Event::Take, answer: Ok(Answer::Taken(0, 89)) },
+                turn! { actor: 0, event: Event::Step, times: 10, answer: TRAP },
+                turn! { actor: 0, event: Event::Back, answer: Ok(Answer::Returned(10)) },
+                turn! { actor: 0, event: Event::Take, answer: Ok(Answer::Taken(0, 79)) },
+                turn! { actor: 0, event: Event::Step, times: 4, answer: TRAP },
+                turn! { actor: 0, event: Event::Back, answer: Ok(Answer::Returned(4)) },
+                turn! { actor: 0, event: Event::Take, answer: Err(Refusal::NoProcess) },
+                // There are 1,008 records by now.
+                turn! { actor: OTHER, event: Event::Tick, times: 92, answer: DONE },
+                turn! { actor: OTHER, event: Event::Tick, answer: Err(Refusal::LogFull) },
+            ],
+            ends: &[],
+        },
+    },
+];
+
+#[test]
+fn interrupts(rt: HostRuntime) {
+    all_worked(&rt, rt.alloc(), INTERRUPTS);
+}
+
+/// Events by a list, and by a tool.
+static LISTS: &[Row] = &[
+    Row {
+        name: "five rounds of a call and its answer",
+        config: "asked",
+        task: Task::Rounds(&[
+            Round {
+                process: 0,
+                budget: 20,
+                steps: 4,
+            },
+            Round {
+                process: 1,
+                budget: 20,
+                steps: 4,
+            },
+            Round {
+                process: 0,
+                budget: 16,
+                steps: 3,
+            },
+            Round {
+                process: 0,
+                budget: 13,
+                steps: 5,
+            },
+            Round {
+                process: 1,
+                budget: 16,
+                steps: 4,
+            },
+        ]),
+    },
+    Row {
+        name: "a tool's runs",
+        config: "short",
+        task: Task::Runs,
+    },
+];
+
+#[test]
+fn lists_and_tools(rt: HostRuntime) {
+    all_worked(&rt, rt.alloc(), LISTS);
+}
+
+/// Processes that are down, worn or not.
+static WORN: &[Row] = &[
+    Row {
+        name: "neither the last generation nor the last restart: not worn",
+        config: "looks",
+        task: Task::Worn(Worn {
+            generation: 0,
+            restarts_used: 0,
+            is_worn: false,
+        }),
+    },
+    Row {
+        name: "the only restart is used: worn",
+        config: "looks",
+        task: Task::Worn(Worn {
+            generation: 1,
+            restarts_used: 1,
+            is_worn: true,
+        }),
+    },
+    Row {
+        name: "the last generation but one: not worn",
+        config: "looks",
+        task: Task::Worn(Worn {
+            generation: 1_048_574,
+            restarts_used: 0,
+            is_worn: false,
+        }),
+    },
+    Row {
+        name: "the last generation: worn",
+        config: "looks",
+        task: Task::Worn(Worn {
+            generation: 1_048_575,
+            restarts_used: 0,
+            is_worn: true,
+        }),
+    },
+];
+
+#[test]
+fn worn_processes(rt: HostRuntime) {
+    all_worked(&rt, rt.alloc(), WORN);
 }

@@ -63,56 +63,8 @@ pub(crate) const SUM: &[u8] = &[
     0xCD, 0x21, // int 0x21
 ];
 
-/// SEND to 0.
-const SENDS: &[u8] = &[
-    // The header: text 0x11, data 0x0, bss 0x80, entry 0x0, total 0x1000, symbols 0x0.
-    1, 3, 0x30, 0x10, 0x20, 0, 0, 0, 0x11, 0, 0, 0, 0, 0, 0, 0, 0x80, 0, 0, 0, 0, 0, 0, 0, 0, 0x10,
-    0, 0, 0, 0, 0, 0,
-    // The text.
-    0xB9, 1, 0, 0, 0, // mov ecx, 0x1
-    0xB8, 0, 0, 0, 0, // mov eax, 0x0
-    0xBB, 0, 0, 0, 0, // mov ebx, 0x0
-    0xCD, 0x21, // int 0x21
-];
-
-/// RECEIVE from the hardware.
-const HEARS: &[u8] = &[
-    // The header: text 0x11, data 0x0, bss 0x80, entry 0x0, total 0x1000, symbols 0x0.
-    1, 3, 0x30, 0x10, 0x20, 0, 0, 0, 0x11, 0, 0, 0, 0, 0, 0, 0, 0x80, 0, 0, 0, 0, 0, 0, 0, 0, 0x10,
-    0, 0, 0, 0, 0, 0,
-    // The text.
-    0xB9, 2, 0, 0, 0, // mov ecx, 0x2
-    0xB8, 0xFF, 0xFF, 0xFF, 0xFF, // mov eax, 0xffffffff
-    0xBB, 0, 0, 0, 0, // mov ebx, 0x0
-    0xCD, 0x21, // int 0x21
-];
-
-/// Copies 4 bytes of its own to 256 of process 1. If that is refused it faults, else EXIT.
-const CROSSES: &[u8] = &[
-    // The header: text 0x63, data 0x0, bss 0x80, entry 0x0, total 0x1000, symbols 0x0.
-    1, 3, 0x30, 0x10, 0x20, 0, 0, 0, 0x63, 0, 0, 0, 0, 0, 0, 0, 0x80, 0, 0, 0, 0, 0, 0, 0, 0, 0x10,
-    0, 0, 0, 0, 0, 0,
-    // The text.
-    0xBB, 0, 0, 0, 0, // mov ebx, 0x0
-    0xC7, 5, 4, 0, 0, 0, 5, 6, 0, 0, // mov dword [0x4], 0x605
-    0xC7, 5, 0xC, 0, 0, 0, 4, 0, 0, 0, // mov dword [0xc], 0x4
-    0xC7, 5, 0x10, 0, 0, 0, 1, 0, 0, 0, // mov dword [0x10], 0x1
-    0xC7, 5, 0x14, 0, 0, 0, 0, 1, 0, 0, // mov dword [0x14], 0x100
-    0xC7, 5, 0x18, 0, 0, 0, 4, 0, 0, 0, // mov dword [0x18], 0x4
-    0xB9, 3, 0, 0, 0, // mov ecx, 0x3
-    0xB8, 0xFE, 0xFF, 0xFF, 0xFF, // mov eax, 0xfffffffe
-    0xCD, 0x21, // int 0x21
-    0x83, 0x3D, 4, 0, 0, 0, 0, // cmp dword [0x4], 0x0
-    0x75, 0x16, // jnz 0x62
-    0xC7, 5, 4, 0, 0, 0, 0, 6, 0, 0, // mov dword [0x4], 0x600
-    0xB9, 3, 0, 0, 0, // mov ecx, 0x3
-    0xB8, 0xFE, 0xFF, 0xFF, 0xFF, // mov eax, 0xfffffffe
-    0xCD, 0x21, // int 0x21
-    0xF4, // hlt
-];
-
 /// A file with a separate text of two bytes, INT 33, and a total of 4096.
-const TRAP: &[u8] = &[
+pub(crate) const TRAP: &[u8] = &[
     // The header: text 0x2, data 0x0, bss 0x0, entry 0x0, total 0x1000, symbols 0x0.
     0x01, 0x03, 0x30, 0x10, 0x20, 0, 0, 0, 2, 0, 0, 0, 0, 0, 0, 0, 0, 0, 0, 0, 0, 0, 0, 0, 0, 0x10,
     0, 0, 0, 0, 0, 0,
@@ -400,16 +352,106 @@ const CALLS: &[u8] = &[
     0x65, 0x6E, 0x64, 0, 0, 0, 0, 0, 9, 0, 0, 0, 2, 0, 0, 0, // end: 0x9 of the text
 ];
 
+// The files of several lists.
+
+pub(crate) const PAIR_FILE: NamedFile<'static> = NamedFile {
+    name: "pair",
+    bytes: PAIR,
+};
+
+pub(crate) const ONE: NamedFile<'static> = NamedFile {
+    name: "one",
+    bytes: b"cpus 1\nlog 8\n\
+        service a a.out traps 1e send 0 calls 0 level 7 best 5 quantum 5 restarts 0\n",
+};
+
+pub(crate) const AGAIN: NamedFile<'static> = NamedFile {
+    name: "again",
+    bytes: b"log 8\n\
+        service a a.out traps 1e send 0 calls 0 level 7 best 5 quantum 5 restarts 1\n",
+};
+
+pub(crate) const CUT_FIRST: NamedFile<'static> = NamedFile {
+    name: "cut_first",
+    bytes: b"service a cut traps 1e send 0 calls 0 level 7 best 5 quantum 5 restarts 0\n\
+        service b none traps 1e send 0 calls 0 level 7 best 5 quantum 5 restarts 0\n",
+};
+
+pub(crate) const NONE_FIRST: NamedFile<'static> = NamedFile {
+    name: "none_first",
+    bytes: b"service a none traps 1e send 0 calls 0 level 7 best 5 quantum 5 restarts 0\n\
+        service b cut traps 1e send 0 calls 0 level 7 best 5 quantum 5 restarts 0\n",
+};
+
+pub(crate) const BAD: NamedFile<'static> = NamedFile {
+    name: "bad",
+    bytes: b"cpus 1\ncpus 9\nservice",
+};
+
+pub(crate) const NO_TEXT: NamedFile<'static> = NamedFile {
+    name: "no_text",
+    bytes: b"cpus 9 \xFF",
+};
+
+pub(crate) const DRIVER_FILE: NamedFile<'static> = NamedFile {
+    name: "drv.out",
+    bytes: DRIVER,
+};
+
+pub(crate) const CLIENT_FILE: NamedFile<'static> = NamedFile {
+    name: "cli.out",
+    bytes: CLIENT,
+};
+
+pub(crate) const SUM_FILE: NamedFile<'static> = NamedFile {
+    name: "a.out",
+    bytes: SUM,
+};
+
+pub(crate) const TRAP_FILE: NamedFile<'static> = NamedFile {
+    name: "good",
+    bytes: TRAP,
+};
+
+pub(crate) const CUT: NamedFile<'static> = NamedFile {
+    name: "cut",
+    bytes: &[1, 3],
+};
+
+pub(crate) const KILLS: NamedFile<'static> = NamedFile {
+    name: "kills",
+    bytes: b"tick\nkill 0\nkill 0\nrespawn 0\nline 3\nrespawn 5",
+};
+
+pub(crate) const TOCK: NamedFile<'static> = NamedFile {
+    name: "tock",
+    bytes: b"tick\ntock",
+};
+
+pub(crate) const WHOLE: NamedFile<'static> = NamedFile {
+    name: "whole",
+    bytes: b"0 take\n0 back 3\n0 take\n0 back 1\n",
+};
+
+pub(crate) const EARLY: NamedFile<'static> = NamedFile {
+    name: "early",
+    bytes: b"0 back 1\n",
+};
+
+pub(crate) const STRICT_EARLY: NamedFile<'static> = NamedFile {
+    name: "strict_early",
+    bytes: b"rules 2\n0 back 1\n",
+};
+
+pub(crate) const LONG: NamedFile<'static> = NamedFile {
+    name: "long",
+    bytes: b"0 take\n0 back 4\n",
+};
+
+/// The files of commands and of the machines that they drive.
 static FILES: &[NamedFile<'static>] = &[
-    NamedFile {
-        name: "pair",
-        bytes: PAIR,
-    },
-    NamedFile {
-        name: "one",
-        bytes: b"cpus 1\nlog 8\n\
-            service a a.out traps 1e send 0 calls 0 level 7 best 5 quantum 5 restarts 0\n",
-    },
+    PAIR_FILE,
+    ONE,
     NamedFile {
         name: "calls",
         bytes: b"cpus 1\nlog 8\n\
@@ -502,83 +544,16 @@ static FILES: &[NamedFile<'static>] = &[
         name: "button.out",
         bytes: BUTTON,
     },
-    NamedFile {
-        name: "again",
-        bytes: b"log 8\n\
-            service a a.out traps 1e send 0 calls 0 level 7 best 5 quantum 5 restarts 1\n",
-    },
-    NamedFile {
-        name: "good_first",
-        bytes: b"service a good traps 1e send 0 calls 0 level 7 best 5 quantum 5 restarts 0\n\
-            service b more traps 1e send 0 calls 0 level 7 best 5 quantum 5 restarts 0\n",
-    },
-    NamedFile {
-        name: "cut_first",
-        bytes: b"service a cut traps 1e send 0 calls 0 level 7 best 5 quantum 5 restarts 0\n\
-            service b none traps 1e send 0 calls 0 level 7 best 5 quantum 5 restarts 0\n",
-    },
-    NamedFile {
-        name: "none_first",
-        bytes: b"service a none traps 1e send 0 calls 0 level 7 best 5 quantum 5 restarts 0\n\
-            service b cut traps 1e send 0 calls 0 level 7 best 5 quantum 5 restarts 0\n",
-    },
-    NamedFile {
-        name: "bad",
-        bytes: b"cpus 1\ncpus 9\nservice",
-    },
-    NamedFile {
-        name: "no_text",
-        bytes: b"cpus 9 \xFF",
-    },
-    NamedFile {
-        name: "drv.out",
-        bytes: DRIVER,
-    },
-    NamedFile {
-        name: "cli.out",
-        bytes: CLIENT,
-    },
-    NamedFile {
-        name: "a.out",
-        bytes: SUM,
-    },
-    NamedFile {
-        name: "good",
-        bytes: TRAP,
-    },
-    NamedFile {
-        name: "more",
-        bytes: TRAP,
-    },
-    NamedFile {
-        name: "cut",
-        bytes: &[1, 3],
-    },
-    NamedFile {
-        name: "script",
-        bytes: b"take 0\ntick\n",
-    },
-    NamedFile {
-        name: "bad_script",
-        bytes: b"take 0\nfoo\n",
-    },
-    NamedFile {
-        name: "turns",
-        bytes: b"take 0\nstep 0 99\nback 0\ntake 0\nstep 0 99\nback 0\ntake 0\nstep 0 99\nback 0\n\
-            take 0\nstep 0 99\nback 0\ntake 0\nstep 0 99\nback 0\n",
-    },
-    NamedFile {
-        name: "sums",
-        bytes: b"take 0\nstep 0 9\nback 0\ntake 0\nstep 0 9\nback 0\ntake 0",
-    },
-    NamedFile {
-        name: "kills",
-        bytes: b"tick\nkill 0\nkill 0\nrespawn 0\nline 3\nrespawn 5",
-    },
-    NamedFile {
-        name: "edges",
-        bytes: b"take 9\nstep 9 0\nstep 9 1\ntake 0\nstep 0 1\nstep 0 9\nstep 0 1\nback 9",
-    },
+    AGAIN,
+    CUT_FIRST,
+    NONE_FIRST,
+    BAD,
+    NO_TEXT,
+    DRIVER_FILE,
+    CLIENT_FILE,
+    SUM_FILE,
+    CUT,
+    KILLS,
     // By sha256sum: of the text cpus 1, others 1, log 8, rules 2, service a traps 30 send 0 calls 0 level 7 best 5
     // quantum 5 restarts 0, an item a line, and of SUM; in `calls_sums` of CALLS.
     NamedFile {
@@ -600,23 +575,9 @@ static FILES: &[NamedFile<'static>] = &[
         bytes: b"3b5a26d3364ad53fd6848f37200b677c89c9cc77ad11c907da526511a2eaa372  configuration\n\
             b790507903336d3b86dd9d0d3c958c9b7a781de1b927490283fc9c3cf64dd013  a\n\n",
     },
-    NamedFile {
-        name: "tock",
-        bytes: b"tick\ntock",
-    },
-    NamedFile {
-        name: "whole",
-        bytes: b"0 take\n0 back 3\n0 take\n0 back 1\n",
-    },
-    NamedFile {
-        name: "early",
-        bytes: b"0 back 1\n",
-    },
-    NamedFile {
-        name: "lenient_one",
-        bytes: b"cpus 1\nlog 8\nrules 1\n\
-            service a a.out traps 1e send 0 calls 0 level 7 best 5 quantum 5 restarts 0\n",
-    },
+    TOCK,
+    WHOLE,
+    EARLY,
     NamedFile {
         name: "masks",
         bytes: b"service a none traps 1f send 7 calls 1ff level 7 best 5 quantum 5 restarts 1048575\n\
@@ -629,142 +590,8 @@ static FILES: &[NamedFile<'static>] = &[
         bytes: b"rules 1\n\
             service a none traps a send 1 calls 3ff level 7 best 5 quantum 5 restarts 0\n",
     },
-    NamedFile {
-        name: "strict_whole",
-        bytes: b"rules 2\n0 take\n0 back 3\n0 take\n0 back 1\n",
-    },
-    NamedFile {
-        name: "strict_early",
-        bytes: b"rules 2\n0 back 1\n",
-    },
-    NamedFile {
-        name: "late_rules",
-        bytes: b"0 take\nrules 2\n",
-    },
-    NamedFile {
-        name: "long",
-        bytes: b"0 take\n0 back 4\n",
-    },
-    NamedFile {
-        name: "breaks",
-        bytes: b"break 0 top\ntake 0\ngo 0 99\nback 0\ntake 0\ngo 0 99\nback 0\ntake 0\n\
-            mem 0 0 4\nregs 0\ngo 0 99\nback 0\ntake 0\ngo 0 99\ngo 0 99\nback 0\ntake 0\ngo 0 99\n\
-            back 0\nmessages\n",
-    },
-    NamedFile {
-        name: "waiting_slots",
-        bytes: b"take 0\nstep 0 99\nback 0\nregs of 0\nmem of 0 buf 4\ntake 0\nstep 0 99\nback 0\n\
-            mem of 0 buf 4\nmem of 1 0x20 4\nmessages 1\nregs of 2\nmem of 0 nope 1\nmem of 2 0 1\n\
-            mem 0 buf 4\ntake 0\nmem 0 buf+2 2\nmem 0 buf+4093 4\n",
-    },
-    NamedFile {
-        name: "refusals",
-        bytes: b"break 2 top\nbreak 0 nope\nclear 0 abcdefghijk\nclear 0 5\ngo 0 0\nregs 0\n\
-            mem 0 0 0\ntake 0\ngo 0 4\ngo 0 1\ngo 0 0\nmem 0 4096 0\nmem 0 4090 7\nmem 0 4079 17\n\
-            regs 1\n",
-    },
-    NamedFile {
-        name: "many",
-        bytes: b"break 0 0\nbreak 0 1\nbreak 0 2\nbreak 0 3\nbreak 0 4\nbreak 0 5\nbreak 0 6\n\
-            break 0 7\nbreak 0 8\nbreak 0 9\nbreak 0 10\nbreak 0 11\nbreak 0 12\nbreak 0 13\n\
-            break 0 14\nbreak 0 15\nbreak 0 16\nbreak 0 17\nbreak 0 18\nbreak 0 19\nbreak 0 20\n\
-            break 0 21\nbreak 0 22\nbreak 0 23\nbreak 0 24\nbreak 0 25\nbreak 0 26\nbreak 0 27\n\
-            break 0 28\nbreak 0 29\nbreak 0 30\nbreak 0 31\nbreak 0 32\nbreak 0 33\nbreak 0 34\n\
-            break 0 35\nbreak 0 36\nbreak 0 37\nbreak 0 38\nbreak 0 39\nbreak 0 40\nbreak 0 41\n\
-            break 0 42\nbreak 0 43\nbreak 0 44\nbreak 0 45\nbreak 0 46\nbreak 0 47\nbreak 0 48\n\
-            break 0 49\nbreak 0 50\nbreak 0 51\nbreak 0 52\nbreak 0 53\nbreak 0 54\nbreak 0 55\n\
-            break 0 56\nbreak 0 57\nbreak 0 58\nbreak 0 59\nbreak 0 60\nbreak 0 61\nbreak 0 62\n\
-            break 0 63\nbreak 0 64\nbreak 0 3\nclear 0 3\nbreak 1 64\nbreak 1 65\n",
-    },
-    NamedFile {
-        name: "four_of_eight",
-        bytes: b"cpus 4\nlog 8\n\
-            service a good traps 1e send 0 calls 0 level 7 best 7 quantum 5 restarts 0\n\
-            service b good traps 1e send 0 calls 0 level 7 best 7 quantum 5 restarts 0\n\
-            service c good traps 1e send 0 calls 0 level 7 best 7 quantum 5 restarts 0\n\
-            service d good traps 1e send 0 calls 0 level 7 best 7 quantum 5 restarts 0\n",
-    },
-    NamedFile {
-        name: "four_of_seven",
-        bytes: b"cpus 4\nlog 7\n\
-            service a good traps 1e send 0 calls 0 level 7 best 7 quantum 5 restarts 0\n\
-            service b good traps 1e send 0 calls 0 level 7 best 7 quantum 5 restarts 0\n\
-            service c good traps 1e send 0 calls 0 level 7 best 7 quantum 5 restarts 0\n\
-            service d good traps 1e send 0 calls 0 level 7 best 7 quantum 5 restarts 0\n",
-    },
-    NamedFile {
-        name: "takes_of_eight",
-        bytes: b"take 0\ntake 1\ntake 2\ntake 3\nback 0\nback 1\nback 2\nback 3\ntick\n",
-    },
-    NamedFile {
-        name: "takes_of_seven",
-        bytes: b"take 0\ntake 1\ntake 2\ntake 3\ntick\nback 0\nback 1\nback 2\n",
-    },
-    NamedFile {
-        name: "waits",
-        bytes: b"cpus 1\nlog 64\n\
-            service a good traps 1e send 0 calls 0 level 14 best 14 quantum 20 restarts 0\n\
-            service b sends.out traps 1e send 1 calls 0 level 7 best 7 quantum 20 restarts 0\n\
-            service c cli.out traps 1e send 1 calls 0 level 7 best 7 quantum 20 restarts 0\n\
-            service d hears.out traps 1e send 0 calls 0 level 7 best 7 quantum 20 restarts 0\n",
-    },
-    NamedFile {
-        name: "sends.out",
-        bytes: SENDS,
-    },
-    NamedFile {
-        name: "hears.out",
-        bytes: HEARS,
-    },
-    NamedFile {
-        name: "waiting",
-        bytes: b"take 0\nstep 0 9\nback 0\ntake 0\nstep 0 9\nback 0\ntake 0\nstep 0 9\nback 0\n\
-            take 0\nkill 0\n",
-    },
-    NamedFile {
-        name: "crossed",
-        bytes: b"cpus 1\nlog 8\n\
-            service a crosses.out traps 1e send 0 calls 20 level 4 best 4 quantum 40 restarts 0\n\
-            service b good traps 1e send 0 calls 0 level 14 best 14 quantum 20 restarts 0\n",
-    },
-    NamedFile {
-        name: "lenient_crossed",
-        bytes: b"cpus 1\nlog 8\nrules 1\n\
-            service a crosses.out traps 1e send 0 calls 20 level 4 best 4 quantum 40 restarts 0\n\
-            service b good traps 1e send 0 calls 0 level 14 best 14 quantum 20 restarts 0\n",
-    },
-    NamedFile {
-        name: "crosses.out",
-        bytes: CROSSES,
-    },
-    NamedFile {
-        name: "crossing",
-        bytes: b"0 take\n0 back 9\n0 take\n0 back 3\n",
-    },
-    NamedFile {
-        name: "strict_crossing",
-        bytes: b"rules 2\n0 take\n0 back 9\n0 take\n0 back 3\n",
-    },
-    NamedFile {
-        name: "killed_out",
-        bytes: b"take 0\nkill 0\nstep 0 1\nback 0\n",
-    },
-    NamedFile {
-        name: "killed_at_break",
-        bytes: b"break 0 5\ntake 0\ngo 0 9\nkill 0\ngo 0 9\nback 0\n",
-    },
-    NamedFile {
-        name: "killed_before",
-        bytes: b"break 0 5\ntake 0\nkill 0\ngo 0 9\nback 0\n",
-    },
-    NamedFile {
-        name: "ninth",
-        bytes: b"0 take\n9 tick\n",
-    },
-    NamedFile {
-        name: "foo",
-        bytes: b"tick\nfoo\n",
-    },
+    STRICT_EARLY,
+    LONG,
     NamedFile {
         name: "look",
         bytes: b"break 0 top\nmessages\n",
@@ -787,7 +614,7 @@ static FILES: &[NamedFile<'static>] = &[
     },
 ];
 
-/// What reads the files of machines that texts drive.
+/// What reads them.
 pub(crate) fn reader() -> NamedFiles<'static> {
     NamedFiles::new(FILES)
 }

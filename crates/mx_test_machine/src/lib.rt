@@ -14,6 +14,8 @@ mod cuts;
 #[cfg(test)]
 mod debugging;
 #[cfg(test)]
+mod driven_files;
+#[cfg(test)]
 mod driving;
 #[cfg(test)]
 mod events;

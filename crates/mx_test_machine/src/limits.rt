@@ -56,6 +56,15 @@ fn works(machine: &mut Machine, slot: u8) -> bool {
         && machine.apply(0, Event::Back) == Ok(Answer::Returned(1))
 }
 
+/// Each memory is as large, and the first process works.
+fn see_largest(rt: &impl Abort, machine: &mut Machine) {
+    assert!(rt; machine.kernel().table().slot_count() == 32);
+    for slot in 0..32_u8 {
+        assert!(rt; is_large(rt, machine, slot), "slot {slot}");
+    }
+    assert!(rt; works(machine, 0));
+}
+
 #[test]
 fn largest_machine(rt: HostRuntime) -> Result<(), Fail> {
     let config = largest_config(rt.alloc())?;
@@ -76,10 +85,6 @@ fn largest_machine(rt: HostRuntime) -> Result<(), Fail> {
     let mut reader = NamedFiles::new(&files);
     let started = start::<Script, _>(rt.alloc(), &mut reader, "largest", "empty");
     let mut machine = started.map_err(|_| "no start")?.machine;
-    assert!(rt; machine.kernel().table().slot_count() == 32);
-    for slot in 0..32_u8 {
-        assert!(rt; is_large(&rt, &machine, slot), "slot {slot}");
-    }
-    assert!(rt; works(&mut machine, 0));
+    see_largest(&rt, &mut machine);
     Ok(())
 }

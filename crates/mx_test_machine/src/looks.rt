@@ -5,8 +5,8 @@ use mx_app::{CommandIo, Done, NoProgress, perform};
 use mx_app_command::CommandRequest;
 use mx_app_db::{Channels, InputLines, MemoryWriter};
 use std::alloc::Global;
+use std::process::Abort;
 use std::sync::Wait;
-use std::test::Fail;
 use std::thread::Threads;
 use std::time::Clock;
 
@@ -19,7 +19,45 @@ struct Session {
     printed: &'static str,
 }
 
-static SESSIONS: &[Session] = &[
+fn is_printed<R: Threads + Wait + Clock + Sync>(
+    rt: &R,
+    alloc: Global,
+    config: &'static str,
+    row: &Session,
+) -> bool {
+    let mut io = CommandIo {
+        channels: Channels {
+            reader: reader(),
+            files: MemoryWriter::new(alloc),
+            out: Vec::new(alloc),
+        },
+        lines: InputLines::new(row.typed),
+        progress: NoProgress::new(),
+        asks: row.asks,
+    };
+    let request = CommandRequest::Look {
+        config,
+        log: row.log,
+    };
+    let answer = perform(rt, alloc, &mut io, request);
+    answer == Ok(Done::with_status(0)) && io.channels.out.as_slice() == row.printed.as_bytes()
+}
+
+/// Over the machine of a configuration.
+fn all_printed<R: Threads + Wait + Clock + Sync + Abort>(
+    rt: &R,
+    alloc: Global,
+    config: &'static str,
+    rows: &[Session],
+) {
+    for row in rows {
+        let name = row.name;
+        assert!(rt; is_printed(rt, alloc, config, row), "{name}");
+    }
+}
+
+/// Positions in the history of a sum and a fault, and what is told there.
+static MOVES: &[Session] = &[
     Session {
         name: "nothing is typed",
         log: "whole",
@@ -88,23 +126,15 @@ static SESSIONS: &[Session] = &[
         printed: "at 0 of 4, record 1: 0 take\nat 4 of 4, the end\n\
                   0 a 0 down fault 13 7 1\nuptime 0\nconsole 0\n",
     },
-    Session {
-        name: "abbreviations, spaces, empty lines, and what asks for nothing",
-        log: "whole",
-        asks: false,
-        typed: b"f\n\n  fo   2  \nba 1\nb\nst\nw\nstepb\ns 1\ngo 1 2\nfast\nwhere now\nhelp me\n\xFF\n",
-        printed: "at 0 of 4, record 1: 0 take\n\
-                  at 1 of 4, record 2: 0 back 3\na 0 00000000 mov eax, 0x5\n\
-                  at 3 of 4, record 4: 0 back 1\na 0 0000000a \n\
-                  at 2 of 4, record 3: 0 take\n\
-                  refused 73 BadRecord: back, break\n\
-                  refused 73 BadRecord: stack, step, stepback\n\
-                  refused 73 BadRecord: watch, where, why\n\
-                  at 1.3 of 4, record 2: 0 back 3\n\
-                  refused 73 BadRecord: stack, step, stepback\n\
-                  refused 73 BadRecord\nrefused 73 BadRecord\nrefused 73 BadRecord\n\
-                  refused 73 BadRecord\nrefused 73 BadRecord\n",
-    },
+];
+
+#[test]
+fn moves(rt: HostRuntime) {
+    all_printed(&rt, rt.alloc(), "one", MOVES);
+}
+
+/// Histories that are refused or empty.
+static ODD_HISTORIES: &[Session] = &[
     Session {
         name: "a history that is refused after its first record",
         log: "long",
@@ -136,6 +166,32 @@ static SESSIONS: &[Session] = &[
         printed: "at 0 of 0, the end\nat 0 of 0, the end\nat 0 of 0, the end\n\
                   at 0 of 0, the end\nboot\n",
     },
+];
+
+#[test]
+fn odd_histories(rt: HostRuntime) {
+    all_printed(&rt, rt.alloc(), "one", ODD_HISTORIES);
+}
+
+/// How lines are typed.
+static LINES: &[Session] = &[
+    Session {
+        name: "abbreviations, spaces, empty lines, and what asks for nothing",
+        log: "whole",
+        asks: false,
+        typed: b"f\n\n  fo   2  \nba 1\nb\nst\nw\nstepb\ns 1\ngo 1 2\nfast\nwhere now\nhelp me\n\xFF\n",
+        printed: "at 0 of 4, record 1: 0 take\n\
+                  at 1 of 4, record 2: 0 back 3\na 0 00000000 mov eax, 0x5\n\
+                  at 3 of 4, record 4: 0 back 1\na 0 0000000a \n\
+                  at 2 of 4, record 3: 0 take\n\
+                  refused 73 BadRecord: back, break\n\
+                  refused 73 BadRecord: stack, step, stepback\n\
+                  refused 73 BadRecord: watch, where, why\n\
+                  at 1.3 of 4, record 2: 0 back 3\n\
+                  refused 73 BadRecord: stack, step, stepback\n\
+                  refused 73 BadRecord\nrefused 73 BadRecord\nrefused 73 BadRecord\n\
+                  refused 73 BadRecord\nrefused 73 BadRecord\n",
+    },
     Session {
         name: "asked, up to the end of the input",
         log: "whole",
@@ -153,6 +209,11 @@ static SESSIONS: &[Session] = &[
         printed: "at 0 of 4, record 1: 0 take\n0> ",
     },
 ];
+
+#[test]
+fn lines(rt: HostRuntime) {
+    all_printed(&rt, rt.alloc(), "one", LINES);
+}
 
 /// Sessions over the history of a driver and its client. At 5.1 the driver, which has the client's message, is on
 /// the processor, and the client awaits its answer.
@@ -229,9 +290,13 @@ static OF_A_PAIR: &[Session] = &[
     },
 ];
 
-/// Searches over the same history. At 4 the driver gets the client's message, whose first word is the client's
-/// endpoint; the client's next instruction writes into its own message at 9.
-static SEARCHES: &[Session] = &[
+#[test]
+fn looks_at_a_pair(rt: HostRuntime) {
+    all_printed(&rt, rt.alloc(), "pair", OF_A_PAIR);
+}
+
+/// Breakpoints and watches over the same history.
+static POINTS: &[Session] = &[
     Session {
         name: "breakpoints and watches, and those that are refused",
         log: "pair_log",
@@ -272,6 +337,16 @@ static SEARCHES: &[Session] = &[
                   refused 73 BadRecord\nrefused 73 BadRecord\nrefused 73 BadRecord\n\
                   refused 73 BadRecord\n",
     },
+];
+
+#[test]
+fn breakpoints_and_watches(rt: HostRuntime) {
+    all_printed(&rt, rt.alloc(), "pair", POINTS);
+}
+
+/// Searches over the same history. At 4 the driver gets the client's message, whose first word is the client's
+/// endpoint; the client's next instruction writes into its own message at 9.
+static SEARCHES: &[Session] = &[
     Session {
         name: "on to a change and back to it, and where nothing is met",
         log: "pair_log",
@@ -346,6 +421,11 @@ static SEARCHES: &[Session] = &[
     },
 ];
 
+#[test]
+fn searches(rt: HostRuntime) {
+    all_printed(&rt, rt.alloc(), "pair", SEARCHES);
+}
+
 /// Sessions over the history of a process that calls.
 static OF_A_CALL: &[Session] = &[Session {
     name: "a stack that is empty, with a return address, and cut off",
@@ -359,47 +439,7 @@ static OF_A_CALL: &[Session] = &[Session {
               refused 42 NoService\nrefused 73 BadRecord\n",
 }];
 
-fn is_printed<R: Threads + Wait + Clock + Sync>(
-    rt: &R,
-    alloc: Global,
-    config: &'static str,
-    row: &Session,
-) -> bool {
-    let mut io = CommandIo {
-        channels: Channels {
-            reader: reader(),
-            files: MemoryWriter::new(alloc),
-            out: Vec::new(alloc),
-        },
-        lines: InputLines::new(row.typed),
-        progress: NoProgress::new(),
-        asks: row.asks,
-    };
-    let request = CommandRequest::Look {
-        config,
-        log: row.log,
-    };
-    let answer = perform(rt, alloc, &mut io, request);
-    answer == Ok(Done::with_status(0)) && io.channels.out.as_slice() == row.printed.as_bytes()
-}
-
 #[test]
-fn sessions(rt: HostRuntime) -> Result<(), Fail> {
-    for row in SESSIONS {
-        let name = row.name;
-        assert!(rt; is_printed(&rt, rt.alloc(), "one", row), "{name}");
-    }
-    for row in OF_A_PAIR {
-        let name = row.name;
-        assert!(rt; is_printed(&rt, rt.alloc(), "pair", row), "{name}");
-    }
-    for row in SEARCHES {
-        let name = row.name;
-        assert!(rt; is_printed(&rt, rt.alloc(), "pair", row), "{name}");
-    }
-    for row in OF_A_CALL {
-        let name = row.name;
-        assert!(rt; is_printed(&rt, rt.alloc(), "calls", row), "{name}");
-    }
-    Ok(())
+fn looks_at_a_call(rt: HostRuntime) {
+    all_printed(&rt, rt.alloc(), "calls", OF_A_CALL);
 }

@@ -26,7 +26,56 @@ const KILLED: &str = "done\ndone\nrefused 54 NoProcess\nrefused 41 Worn\nrefused
 
 const FAULTED: &str = "0 a 0 down fault 13 7 1\nuptime 0\nconsole 0\n";
 
-static ROWS: &[Row] = &[
+/// Whether a request fails exactly if standard output has no room for its text, and prints what it has
+/// room for.
+fn is_printed<R: Threads + Wait + Clock + Sync>(
+    rt: &R,
+    alloc: Global,
+    row: &Row,
+    room: usize,
+) -> bool {
+    let mut io = CommandIo {
+        channels: Channels {
+            reader: reader(),
+            files: MemoryWriter::new(alloc),
+            out: Narrow {
+                bytes: Vec::new(alloc),
+                room,
+            },
+        },
+        lines: InputLines::new(b"".as_slice()),
+        progress: NoProgress::new(),
+        asks: false,
+    };
+    let text = row.printed.as_bytes();
+    let wanted = if room < text.len() {
+        Err(Failure::File)
+    } else {
+        Ok(0)
+    };
+    let done = perform(rt, alloc, &mut io, row.request);
+    let answer = match done {
+        Ok(done) => Ok(done.status),
+        Err(failure) => Err(failure),
+    };
+    answer == wanted && io.channels.out.bytes.as_slice() == &text[..room.min(text.len())]
+}
+
+fn print_in_each_room<R: Threads + Wait + Clock + Sync + Abort>(rt: &R, alloc: Global, row: &Row) {
+    let name = row.name;
+    for room in 0..row.printed.len() + 2 {
+        assert!(rt; is_printed(rt, alloc, row, room), "{name}, room {room}");
+    }
+}
+
+fn all_printed<R: Threads + Wait + Clock + Sync + Abort>(rt: &R, alloc: Global, rows: &[Row]) {
+    for row in rows {
+        print_in_each_room(rt, alloc, row);
+    }
+}
+
+/// What is printed of single programs.
+static PROGRAMS: &[Row] = &[
     Row {
         name: "one",
         request: CommandRequest::One {
@@ -48,6 +97,15 @@ static ROWS: &[Row] = &[
         request: CommandRequest::Nm { file: "drv.out" },
         printed: "00000000 D buf\n00000000 T top\n",
     },
+];
+
+#[test]
+fn prints_of_programs_what_there_is_room_for(rt: HostRuntime) {
+    all_printed(&rt, rt.alloc(), PROGRAMS);
+}
+
+/// What is printed of machines.
+static MACHINES: &[Row] = &[
     Row {
         name: "step",
         request: CommandRequest::Step {
@@ -107,54 +165,9 @@ static ROWS: &[Row] = &[
     },
 ];
 
-/// Whether a request fails exactly if standard output has no room for its text, and prints what it has
-/// room for.
-fn is_printed<R: Threads + Wait + Clock + Sync>(
-    rt: &R,
-    alloc: Global,
-    row: &Row,
-    room: usize,
-) -> bool {
-    let mut io = CommandIo {
-        channels: Channels {
-            reader: reader(),
-            files: MemoryWriter::new(alloc),
-            out: Narrow {
-                bytes: Vec::new(alloc),
-                room,
-            },
-        },
-        lines: InputLines::new(b"".as_slice()),
-        progress: NoProgress::new(),
-        asks: false,
-    };
-    let text = row.printed.as_bytes();
-    let wanted = if room < text.len() {
-        Err(Failure::File)
-    } else {
-        Ok(0)
-    };
-    let done = perform(rt, alloc, &mut io, row.request);
-    let answer = match done {
-        Ok(done) => Ok(done.status),
-        Err(failure) => Err(failure),
-    };
-    answer == wanted && io.channels.out.bytes.as_slice() == &text[..room.min(text.len())]
-}
-
-fn print_in_each_room<R: Threads + Wait + Clock + Sync + Abort>(rt: &R, alloc: Global, row: &Row) {
-    let name = row.name;
-    for room in 0..row.printed.len() + 2 {
-        assert!(rt; is_printed(rt, alloc, row, room), "{name}, room {room}");
-    }
-}
-
 #[test]
-fn prints_what_there_is_room_for(rt: HostRuntime) -> Result<(), Fail> {
-    for row in ROWS {
-        print_in_each_room(&rt, rt.alloc(), row);
-    }
-    Ok(())
+fn prints_of_machines_what_there_is_room_for(rt: HostRuntime) {
+    all_printed(&rt, rt.alloc(), MACHINES);
 }
 
 /// The history of a driver and its client.
@@ -186,13 +199,17 @@ fn is_saved(alloc: Global, machine: &Machine, room: usize) -> bool {
         && sink.into_writer().bytes.as_slice() == &text[..room.min(text.len())]
 }
 
+fn save_in_each_room(rt: &impl Abort, alloc: Global, machine: &mut Machine) {
+    assert!(rt; make_turns(machine));
+    for room in 0..TURNS.len() + 2 {
+        assert!(rt; is_saved(alloc, machine, room), "room {room}");
+    }
+}
+
 #[test]
 fn saves_what_there_is_room_for(rt: HostRuntime) -> Result<(), Fail> {
     let started = start::<Script, _>(rt.alloc(), &mut reader(), "pair", "empty");
     let mut machine = started.map_err(|_| "no start")?.machine;
-    assert!(rt; make_turns(&mut machine));
-    for room in 0..TURNS.len() + 2 {
-        assert!(rt; is_saved(rt.alloc(), &machine, room), "room {room}");
-    }
+    save_in_each_room(&rt, rt.alloc(), &mut machine);
     Ok(())
 }

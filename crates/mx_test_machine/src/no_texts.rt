@@ -74,140 +74,6 @@ const LINE: &[u8] = b"tick\n";
 
 const RECORD: &[u8] = b"1 tick\n";
 
-static ROWS: &[Row] = &[
-    // A letter may be in a comment and in a text, which has no end here; no other word begins with
-    // it.
-    Row {
-        name: "as: a comment",
-        request: ASSEMBLED,
-        front: b"int 33 ; ",
-        status: 0,
-    },
-    Row {
-        name: "as: a text without its end",
-        request: ASSEMBLED,
-        front: b".data\n.ascii \"",
-        status: 1,
-    },
-    Row {
-        name: "as: a line's first word",
-        request: ASSEMBLED,
-        front: b"int 33\n",
-        status: 1,
-    },
-    Row {
-        name: "step: a configuration",
-        request: CommandRequest::Step {
-            config: "text",
-            script: "empty",
-            save: None,
-            numbered: false,
-        },
-        front: SETUP,
-        status: 0,
-    },
-    Row {
-        name: "step: a script",
-        request: CommandRequest::Step {
-            config: "pair",
-            script: "text",
-            save: None,
-            numbered: false,
-        },
-        front: LINE,
-        status: 1,
-    },
-    Row {
-        name: "step with save: a configuration",
-        request: CommandRequest::Step {
-            config: "text",
-            script: "empty",
-            save: Some("new"),
-            numbered: false,
-        },
-        front: SETUP,
-        status: 0,
-    },
-    Row {
-        name: "step with save: a script",
-        request: CommandRequest::Step {
-            config: "pair",
-            script: "text",
-            save: Some("new"),
-            numbered: false,
-        },
-        front: LINE,
-        status: 1,
-    },
-    Row {
-        name: "replay: a configuration",
-        request: CommandRequest::Replay {
-            config: "text",
-            log: "empty",
-        },
-        front: SETUP,
-        status: 0,
-    },
-    Row {
-        name: "replay: a history",
-        request: CommandRequest::Replay {
-            config: "pair",
-            log: "text",
-        },
-        front: RECORD,
-        status: 1,
-    },
-    Row {
-        name: "trace: a configuration",
-        request: CommandRequest::Trace {
-            config: "text",
-            log: "empty",
-            range: WHOLE,
-        },
-        front: SETUP,
-        status: 0,
-    },
-    Row {
-        name: "trace: a history",
-        request: CommandRequest::Trace {
-            config: "pair",
-            log: "text",
-            range: WHOLE,
-        },
-        front: RECORD,
-        status: 1,
-    },
-    Row {
-        name: "db: a configuration",
-        request: CommandRequest::Db {
-            config: "text",
-            script: "empty",
-        },
-        front: SETUP,
-        status: 0,
-    },
-    Row {
-        name: "db: a script",
-        request: CommandRequest::Db {
-            config: "pair",
-            script: "text",
-        },
-        front: LINE,
-        status: 1,
-    },
-    Row {
-        name: "run: a configuration",
-        request: CommandRequest::Run {
-            config: "text",
-            log: "new",
-            ticks: 0,
-            events: None,
-        },
-        front: SETUP,
-        status: 0,
-    },
-];
-
 fn file<'a>(name: &'a str, bytes: &'a [u8]) -> NamedFile<'a> {
     NamedFile { name, bytes }
 }
@@ -268,14 +134,180 @@ fn refuse_each<R: Threads + Wait + Clock + Sync + Abort>(
     Ok(())
 }
 
-#[test]
-fn no_texts(rt: HostRuntime) -> Result<(), Fail> {
-    for row in ROWS {
-        refuse_each(&rt, rt.alloc(), row)?;
+/// Each row's text is refused so, and isn't if it ends with a letter.
+fn all_refused<R: Threads + Wait + Clock + Sync + Abort>(
+    rt: &R,
+    alloc: Global,
+    rows: &[Row],
+) -> Result<(), Fail> {
+    for row in rows {
+        refuse_each(rt, alloc, row)?;
         let name = row.name;
-        let (answer, _) = answer(&rt, rt.alloc(), row, LETTER)?;
+        let (answer, _) = answer(rt, alloc, row, LETTER)?;
         assert!(rt; status(answer) == row.status, "{name}: a letter");
     }
+    Ok(())
+}
+
+/// Texts of programs. A letter may be in a comment and in a text, which has no end here; no other word
+/// begins with it.
+static PROGRAMS: &[Row] = &[
+    Row {
+        name: "as: a comment",
+        request: ASSEMBLED,
+        front: b"int 33 ; ",
+        status: 0,
+    },
+    Row {
+        name: "as: a text without its end",
+        request: ASSEMBLED,
+        front: b".data\n.ascii \"",
+        status: 1,
+    },
+    Row {
+        name: "as: a line's first word",
+        request: ASSEMBLED,
+        front: b"int 33\n",
+        status: 1,
+    },
+];
+
+#[test]
+fn texts_of_programs(rt: HostRuntime) -> Result<(), Fail> {
+    all_refused(&rt, rt.alloc(), PROGRAMS)
+}
+
+/// Machines driven by scripts.
+static SCRIPTS: &[Row] = &[
+    Row {
+        name: "step: a configuration",
+        request: CommandRequest::Step {
+            config: "text",
+            script: "empty",
+            save: None,
+            numbered: false,
+        },
+        front: SETUP,
+        status: 0,
+    },
+    Row {
+        name: "step: a script",
+        request: CommandRequest::Step {
+            config: "pair",
+            script: "text",
+            save: None,
+            numbered: false,
+        },
+        front: LINE,
+        status: 1,
+    },
+    Row {
+        name: "step with save: a configuration",
+        request: CommandRequest::Step {
+            config: "text",
+            script: "empty",
+            save: Some("new"),
+            numbered: false,
+        },
+        front: SETUP,
+        status: 0,
+    },
+    Row {
+        name: "step with save: a script",
+        request: CommandRequest::Step {
+            config: "pair",
+            script: "text",
+            save: Some("new"),
+            numbered: false,
+        },
+        front: LINE,
+        status: 1,
+    },
+    Row {
+        name: "db: a configuration",
+        request: CommandRequest::Db {
+            config: "text",
+            script: "empty",
+        },
+        front: SETUP,
+        status: 0,
+    },
+    Row {
+        name: "db: a script",
+        request: CommandRequest::Db {
+            config: "pair",
+            script: "text",
+        },
+        front: LINE,
+        status: 1,
+    },
+];
+
+#[test]
+fn scripts(rt: HostRuntime) -> Result<(), Fail> {
+    all_refused(&rt, rt.alloc(), SCRIPTS)
+}
+
+/// Machines driven by histories, and a run.
+static HISTORIES: &[Row] = &[
+    Row {
+        name: "replay: a configuration",
+        request: CommandRequest::Replay {
+            config: "text",
+            log: "empty",
+        },
+        front: SETUP,
+        status: 0,
+    },
+    Row {
+        name: "replay: a history",
+        request: CommandRequest::Replay {
+            config: "pair",
+            log: "text",
+        },
+        front: RECORD,
+        status: 1,
+    },
+    Row {
+        name: "trace: a configuration",
+        request: CommandRequest::Trace {
+            config: "text",
+            log: "empty",
+            range: WHOLE,
+        },
+        front: SETUP,
+        status: 0,
+    },
+    Row {
+        name: "trace: a history",
+        request: CommandRequest::Trace {
+            config: "pair",
+            log: "text",
+            range: WHOLE,
+        },
+        front: RECORD,
+        status: 1,
+    },
+    Row {
+        name: "run: a configuration",
+        request: CommandRequest::Run {
+            config: "text",
+            log: "new",
+            ticks: 0,
+            events: None,
+        },
+        front: SETUP,
+        status: 0,
+    },
+];
+
+#[test]
+fn histories(rt: HostRuntime) -> Result<(), Fail> {
+    all_refused(&rt, rt.alloc(), HISTORIES)
+}
+
+#[test]
+fn line_of_the_failure(rt: HostRuntime) -> Result<(), Fail> {
     let line = format!(in rt.alloc(); "{}", Failure::File)?;
     assert!(rt; line.as_str() == "mx: 80 File" && Failure::File.status() == 3);
     Ok(())

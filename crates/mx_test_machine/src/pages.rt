@@ -2,7 +2,7 @@
 
 use crate::calls::{Trap, make_call, make_trap};
 use crate::numbers::{ALL_BUT_GRANT, ALL_TRAPS, OK, VIRCOPY, WHOIS};
-use crate::tables::word_at;
+use crate::tables::{add_image, word_at};
 use mx_exec::Image;
 use mx_kcall::After;
 use mx_mem::Segment;
@@ -59,18 +59,27 @@ fn byte_before(at: u32) -> u8 {
     (at % 251) as u8
 }
 
-fn image_of(alloc: Global, words: &[u32; 9]) -> Result<Image, Fail> {
-    let mut image = Image::blank(alloc);
-    image.memory = Segment::new(alloc, LIMIT)?;
-    image.regs.set(Size::Dword, Register::Ebx, BUFFER);
+fn write_bytes(memory: &mut Segment) -> Result<(), Fail> {
     for at in 0..END {
-        image
-            .memory
-            .write(at, Size::Byte, u32::from(byte_before(at)))?;
+        memory.write(at, Size::Byte, u32::from(byte_before(at)))?;
     }
+    Ok(())
+}
+
+/// Writes a buffer's words.
+fn write_words(memory: &mut Segment, words: &[u32; 9]) -> Result<(), Fail> {
     for (place, word) in (BUFFER..BUFFER + 36).step_by(4).zip(words.iter()) {
-        image.memory.write(place, Size::Dword, *word)?;
+        memory.write(place, Size::Dword, *word)?;
     }
+    write_bytes(memory)
+}
+
+fn image_of(alloc: Global, words: &[u32; 9]) -> Result<Image, Fail> {
+    let mut memory = Segment::new(alloc, LIMIT)?;
+    write_words(&mut memory, words)?;
+    let mut image = Image::blank(alloc);
+    image.memory = memory;
+    image.regs.set(Size::Dword, Register::Ebx, BUFFER);
     Ok(image)
 }
 
@@ -94,16 +103,18 @@ fn add_with(
         quantum: 5,
         restarts: 0,
     };
-    assert!(rt; table.slot_count() < 32);
-    table.add(alloc, &mut image, terms)?;
-    Ok(())
+    add_image(rt, alloc, table, &mut image, terms)
 }
 
 /// Slot 0 has a message in its buffer.
+fn add_both(rt: &impl Abort, alloc: Global, table: &mut Table) -> Result<(), Fail> {
+    add_with(rt, alloc, table, &[0xEE, 1, 2, 3, 4, 5, 6, 7, 8])?;
+    add_with(rt, alloc, table, &[0xEE; 9])
+}
+
 fn two_processes(rt: &impl Abort, alloc: Global) -> Result<Table, Fail> {
     let mut table = Table::new(alloc, Rules::Lenient)?;
-    add_with(rt, alloc, &mut table, &[0xEE, 1, 2, 3, 4, 5, 6, 7, 8])?;
-    add_with(rt, alloc, &mut table, &[0xEE; 9])?;
+    add_both(rt, alloc, &mut table)?;
     Ok(table)
 }
 
@@ -150,14 +161,16 @@ fn is_copied(rt: &impl Abort, table: &mut Table, copy: &Copied) -> bool {
     true
 }
 
+fn is_right(rt: &impl Abort, table: &mut Table, copy: &Copied) -> bool {
+    is_sent(rt, table) && is_told(rt, table) && is_copied(rt, table, copy)
+}
+
 #[test]
 fn pages(rt: HostRuntime) -> Result<(), Fail> {
     for copy in COPIES {
         let name = copy.name;
         let mut table = two_processes(&rt, rt.alloc())?;
-        assert!(rt; is_sent(&rt, &mut table), "{name}");
-        assert!(rt; is_told(&rt, &mut table), "{name}");
-        assert!(rt; is_copied(&rt, &mut table, copy), "{name}");
+        assert!(rt; is_right(&rt, &mut table, copy), "{name}");
     }
     Ok(())
 }

@@ -5,6 +5,7 @@ use clap::error::ErrorKind;
 use mx_app_command::{CommandRequest, Mistake, command};
 use mx_app_program::print_one;
 use std::alloc::Global;
+use std::process::Abort;
 use std::test::Fail;
 
 /// A program's text and entry, how many steps are made, and what is printed.
@@ -25,7 +26,22 @@ const COUNT: [u8; 15] = [
     0xCD, 0x21, // int 0x21
 ];
 
-static ROWS: &[Row] = &[
+fn is_printed(alloc: Global, file: &[u8], row: &Row) -> bool {
+    let mut out = Vec::new(alloc);
+    print_one(alloc, file, row.steps, &mut out).is_ok() && out.as_slice() == row.printed.as_bytes()
+}
+
+fn all_printed(rt: &impl Abort, alloc: Global, rows: &[Row]) -> Result<(), Fail> {
+    for row in rows {
+        let name = row.name;
+        let file = separate_file(alloc, row.text, row.entry)?;
+        assert!(rt; is_printed(alloc, file.as_slice(), row), "{name}");
+    }
+    Ok(())
+}
+
+/// Steps up to a trap, or as many as are asked for.
+static STEPS: &[Row] = &[
     Row {
         name: "mov eax, 0x5; add eax, 0x7b; int 0x21",
         text: &[0xB8, 0x05, 0, 0, 0, 0x83, 0xC0, 0x7B, 0xCD, 0x21],
@@ -66,6 +82,15 @@ static ROWS: &[Row] = &[
                   EIP 00000000 CF 0 PF 0 AF 0 ZF 0 SF 0 DF 0 OF 0\n\
                   stop spent after 0\n",
     },
+];
+
+#[test]
+fn steps_of_a_program(rt: HostRuntime) -> Result<(), Fail> {
+    all_printed(&rt, rt.alloc(), STEPS)
+}
+
+/// Steps out of the text, and an entry past it.
+static OUTSIDE: &[Row] = &[
     Row {
         name: "jnz 0x81, which is outside the text",
         text: &[0x75, 0x7F],
@@ -98,19 +123,9 @@ static ROWS: &[Row] = &[
     },
 ];
 
-fn is_printed(alloc: Global, file: &[u8], row: &Row) -> bool {
-    let mut out = Vec::new(alloc);
-    print_one(alloc, file, row.steps, &mut out).is_ok() && out.as_slice() == row.printed.as_bytes()
-}
-
 #[test]
-fn steps(rt: HostRuntime) -> Result<(), Fail> {
-    for row in ROWS {
-        let name = row.name;
-        let file = separate_file(rt.alloc(), row.text, row.entry)?;
-        assert!(rt; is_printed(rt.alloc(), file.as_slice(), row), "{name}");
-    }
-    Ok(())
+fn steps_out_of_the_text(rt: HostRuntime) -> Result<(), Fail> {
+    all_printed(&rt, rt.alloc(), OUTSIDE)
 }
 
 /// What the words of a row ask for.
@@ -130,68 +145,6 @@ struct Line {
     words: &'static [&'static str],
     asked: Asked,
 }
-
-static LINES: &[Line] = &[
-    Line {
-        name: "one with the most steps",
-        words: &["mx", "one", "sum.out", "4294967295"],
-        asked: Asked::Most,
-    },
-    Line {
-        name: "as",
-        words: &["mx", "as", "a.s", "a.out"],
-        asked: Asked::Assembled,
-    },
-    Line {
-        name: "replay",
-        words: &["mx", "replay", "pair", "log"],
-        asked: Asked::Replayed,
-    },
-    Line {
-        name: "db",
-        words: &["mx", "db", "pair", "look"],
-        asked: Asked::Debugged,
-    },
-    Line {
-        name: "one with one step more than the most",
-        words: &["mx", "one", "sum.out", "4294967296"],
-        asked: Asked::Nothing(ErrorKind::ValueValidation),
-    },
-    Line {
-        name: "step without a script",
-        words: &["mx", "step", "pair"],
-        asked: Asked::Nothing(ErrorKind::MissingRequiredArgument),
-    },
-    Line {
-        name: "a command that is not known",
-        words: &["mx", "two", "sum.out", "9"],
-        asked: Asked::Nothing(ErrorKind::InvalidSubcommand),
-    },
-    Line {
-        name: "no command",
-        words: &["mx"],
-        asked: Asked::Nothing(ErrorKind::MissingSubcommand),
-    },
-    Line {
-        name: "turns with ticks and outside events",
-        words: &[
-            "mx", "turns", "config", "log", "--ticks", "0", "--events", "events",
-        ],
-        asked: Asked::Nothing(ErrorKind::ArgumentConflict),
-    },
-    Line {
-        name: "turns with outside events",
-        words: &[
-            "mx", "turns", "config", "log", "--turns", "7", "--events", "events",
-        ],
-        asked: Asked::TurnedByEvents,
-    },
-    Line {
-        name: "db --help",
-        words: &["mx", "db", "--help"],
-        asked: Asked::Nothing(ErrorKind::DisplayHelp),
-    },
-];
 
 /// Whether a request is the one that a row's words ask for.
 fn is_request(request: CommandRequest<'_>, asked: Asked) -> bool {
@@ -235,11 +188,86 @@ fn is_asked(alloc: Global, line: &Line) -> bool {
     }
 }
 
-#[test]
-fn words(rt: HostRuntime) -> Result<(), Fail> {
-    for line in LINES {
+fn all_asked(rt: &impl Abort, alloc: Global, lines: &[Line]) {
+    for line in lines {
         let name = line.name;
-        assert!(rt; is_asked(rt.alloc(), line), "{name}");
+        assert!(rt; is_asked(alloc, line), "{name}");
     }
-    Ok(())
+}
+
+/// Words that ask for something.
+static REQUESTS: &[Line] = &[
+    Line {
+        name: "one with the most steps",
+        words: &["mx", "one", "sum.out", "4294967295"],
+        asked: Asked::Most,
+    },
+    Line {
+        name: "as",
+        words: &["mx", "as", "a.s", "a.out"],
+        asked: Asked::Assembled,
+    },
+    Line {
+        name: "replay",
+        words: &["mx", "replay", "pair", "log"],
+        asked: Asked::Replayed,
+    },
+    Line {
+        name: "db",
+        words: &["mx", "db", "pair", "look"],
+        asked: Asked::Debugged,
+    },
+    Line {
+        name: "turns with outside events",
+        words: &[
+            "mx", "turns", "config", "log", "--turns", "7", "--events", "events",
+        ],
+        asked: Asked::TurnedByEvents,
+    },
+];
+
+#[test]
+fn requests(rt: HostRuntime) {
+    all_asked(&rt, rt.alloc(), REQUESTS);
+}
+
+/// Words that ask for nothing.
+static MISTAKES: &[Line] = &[
+    Line {
+        name: "one with one step more than the most",
+        words: &["mx", "one", "sum.out", "4294967296"],
+        asked: Asked::Nothing(ErrorKind::ValueValidation),
+    },
+    Line {
+        name: "step without a script",
+        words: &["mx", "step", "pair"],
+        asked: Asked::Nothing(ErrorKind::MissingRequiredArgument),
+    },
+    Line {
+        name: "a command that is not known",
+        words: &["mx", "two", "sum.out", "9"],
+        asked: Asked::Nothing(ErrorKind::InvalidSubcommand),
+    },
+    Line {
+        name: "no command",
+        words: &["mx"],
+        asked: Asked::Nothing(ErrorKind::MissingSubcommand),
+    },
+    Line {
+        name: "turns with ticks and outside events",
+        words: &[
+            "mx", "turns", "config", "log", "--ticks", "0", "--events", "events",
+        ],
+        asked: Asked::Nothing(ErrorKind::ArgumentConflict),
+    },
+    Line {
+        name: "db --help",
+        words: &["mx", "db", "--help"],
+        asked: Asked::Nothing(ErrorKind::DisplayHelp),
+    },
+];
+
+#[test]
+fn mistakes(rt: HostRuntime) {
+    all_asked(&rt, rt.alloc(), MISTAKES);
 }

@@ -4,7 +4,7 @@ ghost use Rattle.std.specs.Prelude.{◌≡◌};
 ghost use Rattle.mx_proc.specs.States.{is_out};
 
 use crate::numbers::{ALL_SENDS, ALL_TRAPS};
-use crate::tables::{add_process, word_at};
+use crate::tables::{Processes, table_of, word_at};
 use mx_ipc::{receive, send, sendrec};
 use mx_proc::{ANY, DeathCause, Masks, Partner, Rules, SYSTEM, Slot, Source, State, Table, Terms};
 use mx_respawn::die;
@@ -24,11 +24,13 @@ const LAST: u32 = 0xF_FFFF;
 
 /// 32 services at level 7, whose best is 5 and whose quantum is 5.
 fn services(rt: &impl Abort, alloc: Global) -> Result<Table, Fail> {
-    let mut table = Table::new(alloc, Rules::Lenient)?;
-    for _ in 0..32u8 {
-        add_process(rt, alloc, &mut table, MASKS, 5)?;
-    }
-    Ok(table)
+    let wanted = Processes {
+        rules: Rules::Lenient,
+        used: 32,
+        masks: MASKS,
+        best: 5,
+    };
+    table_of(rt, alloc, &wanted)
 }
 
 /// What a process does, or what is done to it.
@@ -181,14 +183,18 @@ fn receives(rt: &impl Abort, table: &mut Table, sources: &[u32]) -> bool {
     table.process(0).state == State::Receiving(Partner::Any)
 }
 
+fn are_left(rt: &impl Abort, table: &mut Table, row: &Killed) -> bool {
+    send_in_turn(rt, table, row.senders);
+    kill(rt, table, row.killed);
+    receives(rt, table, row.sources)
+}
+
 #[test]
 fn killed_callers(rt: HostRuntime) -> Result<(), Fail> {
     for row in KILLED {
         let name = row.name;
         let mut table = services(&rt, rt.alloc())?;
-        send_in_turn(&rt, &mut table, row.senders);
-        kill(&rt, &mut table, row.killed);
-        assert!(rt; receives(&rt, &mut table, row.sources), "{name}");
+        assert!(rt; are_left(&rt, &mut table, row), "{name}");
     }
     Ok(())
 }
@@ -503,17 +509,31 @@ fn are_alike(rt: &impl Abort, table: &Table, plain: &Plain, other: Slot) -> bool
     pick(table) == plain.pick()
 }
 
-#[test]
-fn against_plain_lists(rt: HostRuntime) -> Result<(), Fail> {
-    let mut table = services(&rt, rt.alloc())?;
-    let mut plain = Plain::new(rt.alloc())?;
+/// Makes the next event on both, and sees that they are alike.
+fn follow(
+    rt: &impl Abort,
+    table: &mut Table,
+    plain: &mut Plain,
+    numbers: &mut Numbers,
+) -> Result<bool, Fail> {
+    let (slot, deed) = next_event(plain, numbers);
+    perform(rt, table, slot, deed);
+    plain.perform(slot, deed)?;
+    let other = numbers.slot();
+    Ok(are_alike(rt, table, plain, other))
+}
+
+fn follow_all(rt: &impl Abort, table: &mut Table, plain: &mut Plain) -> Result<(), Fail> {
     let mut numbers = Numbers { last: 1987 };
     for number in 0..100_000u32 {
-        let (slot, deed) = next_event(&plain, &mut numbers);
-        perform(&rt, &mut table, slot, deed);
-        plain.perform(slot, deed)?;
-        let other = numbers.slot();
-        assert!(rt; are_alike(&rt, &table, &plain, other), "event {number}");
+        assert!(rt; follow(rt, table, plain, &mut numbers)?, "event {number}");
     }
     Ok(())
+}
+
+#[test]
+fn against_plain_lists(rt: HostRuntime) -> Result<(), Fail> {
+    let mut plain = Plain::new(rt.alloc())?;
+    let mut table = services(&rt, rt.alloc())?;
+    follow_all(&rt, &mut table, &mut plain)
 }

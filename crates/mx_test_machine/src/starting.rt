@@ -1,11 +1,11 @@
 //! Of two faults in a machine's files the first is reported, in the order of the files.
 
-use crate::files::reader;
+use crate::files::{BAD, CUT, CUT_FIRST, NO_TEXT, NONE_FIRST, TRAP, TRAP_FILE};
 use mx_aout::FileError;
-use mx_app_db::{Failure, Script, start};
+use mx_app_db::{Failure, NamedFile, NamedFiles, Script, start};
 use mx_boot::BootError;
 use std::alloc::Global;
-use std::test::Fail;
+use std::process::Abort;
 
 const BAD_LINE: Failure = Failure::Misstated(BootError::BadLine(2));
 
@@ -21,7 +21,49 @@ struct Row {
     wanted: Option<Failure>,
 }
 
-static ROWS: &[Row] = &[
+static FILES: &[NamedFile<'static>] = &[
+    NamedFile {
+        name: "good_first",
+        bytes: b"service a good traps 1e send 0 calls 0 level 7 best 5 quantum 5 restarts 0\n\
+            service b more traps 1e send 0 calls 0 level 7 best 5 quantum 5 restarts 0\n",
+    },
+    CUT_FIRST,
+    NONE_FIRST,
+    BAD,
+    NO_TEXT,
+    TRAP_FILE,
+    NamedFile {
+        name: "more",
+        bytes: TRAP,
+    },
+    CUT,
+    NamedFile {
+        name: "script",
+        bytes: b"take 0\ntick\n",
+    },
+    NamedFile {
+        name: "bad_script",
+        bytes: b"take 0\nfoo\n",
+    },
+];
+
+fn reader() -> NamedFiles<'static> {
+    NamedFiles::new(FILES)
+}
+
+fn fault_of_start(alloc: Global, row: &Row) -> Option<Failure> {
+    start::<Script, _>(alloc, &mut reader(), row.config, row.script).err()
+}
+
+fn all_reported(rt: &impl Abort, alloc: Global, rows: &[Row]) {
+    for row in rows {
+        let name = row.name;
+        assert!(rt; fault_of_start(alloc, row) == row.wanted, "{name}");
+    }
+}
+
+/// Configurations and programs with a fault.
+static BEFORE_SCRIPTS: &[Row] = &[
     Row {
         name: "no configuration before a bad script",
         config: "nothing",
@@ -58,6 +100,15 @@ static ROWS: &[Row] = &[
         script: "bad_script",
         wanted: Some(TRUNCATED),
     },
+];
+
+#[test]
+fn faults_before_the_script(rt: HostRuntime) {
+    all_reported(&rt, rt.alloc(), BEFORE_SCRIPTS);
+}
+
+/// Scripts with a fault, and one without.
+static OF_SCRIPTS: &[Row] = &[
     Row {
         name: "no script",
         config: "good_first",
@@ -84,15 +135,7 @@ static ROWS: &[Row] = &[
     },
 ];
 
-fn fault_of_start(alloc: Global, row: &Row) -> Option<Failure> {
-    start::<Script, _>(alloc, &mut reader(), row.config, row.script).err()
-}
-
 #[test]
-fn first_faults(rt: HostRuntime) -> Result<(), Fail> {
-    for row in ROWS {
-        let name = row.name;
-        assert!(rt; fault_of_start(rt.alloc(), row) == row.wanted, "{name}");
-    }
-    Ok(())
+fn faults_of_the_script(rt: HostRuntime) {
+    all_reported(&rt, rt.alloc(), OF_SCRIPTS);
 }

@@ -2,7 +2,7 @@
 
 use mx_exec::Image;
 use mx_mem::Segment;
-use mx_proc::{Masks, Slot, Table, Terms};
+use mx_proc::{Masks, Rules, Slot, Table, Terms};
 use mx_word::{Register, Size};
 use std::alloc::Global;
 use std::process::Abort;
@@ -20,6 +20,19 @@ fn image_of(alloc: Global) -> Result<Image, Fail> {
     Ok(image)
 }
 
+/// Adds a process that has this image.
+pub(crate) fn add_image(
+    rt: &impl Abort,
+    alloc: Global,
+    table: &mut Table,
+    image: &mut Image,
+    terms: Terms,
+) -> Result<(), Fail> {
+    assert!(rt; table.slot_count() < 32);
+    table.add(alloc, image, terms)?;
+    Ok(())
+}
+
 /// Adds a process at level 7 with a quantum of 5: its EBX is 512, and five bytes are at 100.
 pub(crate) fn add_process(
     rt: &impl Abort,
@@ -29,7 +42,7 @@ pub(crate) fn add_process(
     best: u8,
 ) -> Result<(), Fail> {
     let mut image = image_of(alloc)?;
-    assert!(rt; table.slot_count() < 32 && best <= 7);
+    assert!(rt; best <= 7);
     let terms = Terms {
         masks,
         level: 7,
@@ -37,8 +50,25 @@ pub(crate) fn add_process(
         quantum: 5,
         restarts: 0,
     };
-    table.add(alloc, &mut image, terms)?;
-    Ok(())
+    add_image(rt, alloc, table, &mut image, terms)
+}
+
+/// The processes of a new table: its rules, how many they are, what they may do, and their best level.
+#[derive(Clone, Copy)]
+pub(crate) struct Processes {
+    pub rules: Rules,
+    pub used: u8,
+    pub masks: Masks,
+    pub best: u8,
+}
+
+/// A table of such processes.
+pub(crate) fn table_of(rt: &impl Abort, alloc: Global, wanted: &Processes) -> Result<Table, Fail> {
+    let mut table = Table::new(alloc, wanted.rules)?;
+    for _ in 0..wanted.used {
+        add_process(rt, alloc, &mut table, wanted.masks, wanted.best)?;
+    }
+    Ok(table)
 }
 
 /// The number at a place of a slot's memory.

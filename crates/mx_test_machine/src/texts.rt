@@ -21,223 +21,6 @@ struct Setup {
     fault: Option<BootError>,
 }
 
-static SETUPS: &[Setup] = &[
-    Setup {
-        name: "an empty text",
-        text: "",
-        fault: Some(BadLine(1)),
-    },
-    Setup {
-        name: "no service",
-        text: "cpus 1\n# x\n",
-        fault: Some(BadLine(2)),
-    },
-    Setup {
-        name: "one service",
-        text: "service a a.out traps 1e send 0 calls ff level 7 best 5 quantum 5 restarts 1\n",
-        fault: None,
-    },
-    Setup {
-        name: "blanks, comments, a carriage return, a zero and the largest history",
-        text: "  service   a a.out traps 1e send 0 calls ff level 7 best 5 quantum 5 restarts 1#x\r\n\n\
-         # x\ncpus 08\nlog 1048576",
-        fault: None,
-    },
-    Setup {
-        name: "a word too many",
-        text: "service a a.out traps 1e send 0 calls ff level 7 best 5 quantum 5 restarts 1 1",
-        fault: Some(BadLine(1)),
-    },
-    Setup {
-        name: "a carriage return without a line feed",
-        text: "service a a.out traps 1e send 0 calls ff level 7 best 5 quantum 5 restarts 1\r",
-        fault: Some(BadLine(1)),
-    },
-    Setup {
-        name: "a register's name",
-        text: "service eax a.out traps 1e send 0 calls ff level 7 best 5 quantum 5 restarts 1",
-        fault: Some(BadLine(1)),
-    },
-    Setup {
-        name: "nine processors",
-        text: "cpus 9\n\
-         service a a.out traps 1e send 0 calls ff level 7 best 5 quantum 5 restarts 1",
-        fault: Some(BadLine(1)),
-    },
-    Setup {
-        name: "a history without room",
-        text: "log 0\n\
-         service a a.out traps 1e send 0 calls ff level 7 best 5 quantum 5 restarts 1",
-        fault: Some(BadLine(1)),
-    },
-    Setup {
-        name: "a quantum one over the limit",
-        text: "service a a.out traps 1e send 0 calls ff level 7 best 5 quantum 65536 restarts 1",
-        fault: Some(BadLine(1)),
-    },
-    Setup {
-        name: "best over level",
-        text: "# x\nservice a a.out traps 1e send 0 calls ff level 7 best 8 quantum 5 restarts 1",
-        fault: Some(BadLine(2)),
-    },
-    Setup {
-        name: "a history one over the limit",
-        text: "log 1048577\n\
-         service a a.out traps 1e send 0 calls ff level 7 best 5 quantum 5 restarts 1",
-        fault: Some(BadLine(1)),
-    },
-    Setup {
-        name: "the largest quantum, and best at level",
-        text: "service a a.out traps 1e send 0 calls ff level 7 best 7 quantum 65535 restarts 1",
-        fault: None,
-    },
-    Setup {
-        name: "a quantum of 0",
-        text: "service a a.out traps 1e send 0 calls ff level 7 best 5 quantum 0 restarts 1",
-        fault: Some(BadLine(1)),
-    },
-    Setup {
-        name: "the smallest quantum",
-        text: "service a a.out traps 1e send 0 calls ff level 7 best 5 quantum 1 restarts 1",
-        fault: None,
-    },
-    Setup {
-        name: "a level one over the limit",
-        text: "service a a.out traps 1e send 0 calls ff level 15 best 5 quantum 5 restarts 1",
-        fault: Some(BadLine(1)),
-    },
-    Setup {
-        name: "the limits of level and best, and no restarts",
-        text: "service a a.out traps 1e send 0 calls ff level 14 best 0 quantum 5 restarts 0",
-        fault: None,
-    },
-    Setup {
-        name: "restarts one over the limit",
-        text: "service a a.out traps 1e send 0 calls ff level 7 best 5 quantum 5 restarts 1048576",
-        fault: Some(BadLine(1)),
-    },
-    Setup {
-        name: "the most restarts",
-        text: "service a a.out traps 1e send 0 calls ff level 7 best 5 quantum 5 restarts 1048575",
-        fault: None,
-    },
-    Setup {
-        name: "a mask of nine digits",
-        text: "service a a.out traps 00000001e send 0 calls ff level 7 best 5 quantum 5 restarts 1",
-        fault: Some(BadLine(1)),
-    },
-    Setup {
-        name: "masks of eight digits",
-        text: "service a a.out traps 0000001e send ffffffff calls 0 level 7 best 5 quantum 5 restarts 1",
-        fault: None,
-    },
-    Setup {
-        name: "a name of nine letters",
-        text: "service abcdefghi a.out traps 1e send 0 calls ff level 7 best 5 quantum 5 restarts 1",
-        fault: Some(BadLine(1)),
-    },
-    Setup {
-        name: "a name of eight letters",
-        text: "service abcdefgh a.out traps 1e send 0 calls ff level 7 best 5 quantum 5 restarts 1",
-        fault: None,
-    },
-    Setup {
-        name: "no processors",
-        text: "cpus 0",
-        fault: Some(BadLine(1)),
-    },
-    Setup {
-        name: "no other actors",
-        text: "cpus 1\nothers 0",
-        fault: Some(BadLine(2)),
-    },
-    Setup {
-        name: "the most processors and other actors, and the smallest history",
-        text: "cpus 8\nothers 4\nlog 1\n\
-         service a a.out traps 1e send 0 calls ff level 7 best 5 quantum 5 restarts 1",
-        fault: None,
-    },
-    Setup {
-        name: "cpus twice",
-        text: "cpus 1\ncpus 1",
-        fault: Some(TwiceNamed(2)),
-    },
-    Setup {
-        name: "others twice: that the second is over the limit is reported",
-        text: "others 2\nothers 5",
-        fault: Some(BadLine(2)),
-    },
-    Setup {
-        name: "rules twice",
-        text: "rules 1\nrules 2",
-        fault: Some(TwiceNamed(2)),
-    },
-    Setup {
-        name: "rules 3",
-        text: "rules 3",
-        fault: Some(BadLine(1)),
-    },
-    Setup {
-        name: "rules 0",
-        text: "rules 0",
-        fault: Some(BadLine(1)),
-    },
-    Setup {
-        name: "rules without a number",
-        text: "rules",
-        fault: Some(BadLine(1)),
-    },
-    Setup {
-        name: "a service's name twice",
-        text: "service a a.out traps 1e send 0 calls ff level 7 best 5 quantum 5 restarts 1\n\
-         service a a.out traps 1e send 0 calls ff level 7 best 5 quantum 5 restarts 1",
-        fault: Some(TwiceNamed(2)),
-    },
-    Setup {
-        name: "two services of one file",
-        text: "service a a.out traps 1e send 0 calls ff level 7 best 5 quantum 5 restarts 1\n\
-         service b a.out traps 1e send 0 calls ff level 7 best 5 quantum 5 restarts 1",
-        fault: None,
-    },
-    Setup {
-        name: "33 services",
-        text: "service n0 a.out traps 1e send 0 calls ff level 7 best 5 quantum 5 restarts 1\n\
-         service n1 a.out traps 1e send 0 calls ff level 7 best 5 quantum 5 restarts 1\n\
-         service n2 a.out traps 1e send 0 calls ff level 7 best 5 quantum 5 restarts 1\n\
-         service n3 a.out traps 1e send 0 calls ff level 7 best 5 quantum 5 restarts 1\n\
-         service n4 a.out traps 1e send 0 calls ff level 7 best 5 quantum 5 restarts 1\n\
-         service n5 a.out traps 1e send 0 calls ff level 7 best 5 quantum 5 restarts 1\n\
-         service n6 a.out traps 1e send 0 calls ff level 7 best 5 quantum 5 restarts 1\n\
-         service n7 a.out traps 1e send 0 calls ff level 7 best 5 quantum 5 restarts 1\n\
-         service n8 a.out traps 1e send 0 calls ff level 7 best 5 quantum 5 restarts 1\n\
-         service n9 a.out traps 1e send 0 calls ff level 7 best 5 quantum 5 restarts 1\n\
-         service n10 a.out traps 1e send 0 calls ff level 7 best 5 quantum 5 restarts 1\n\
-         service n11 a.out traps 1e send 0 calls ff level 7 best 5 quantum 5 restarts 1\n\
-         service n12 a.out traps 1e send 0 calls ff level 7 best 5 quantum 5 restarts 1\n\
-         service n13 a.out traps 1e send 0 calls ff level 7 best 5 quantum 5 restarts 1\n\
-         service n14 a.out traps 1e send 0 calls ff level 7 best 5 quantum 5 restarts 1\n\
-         service n15 a.out traps 1e send 0 calls ff level 7 best 5 quantum 5 restarts 1\n\
-         service n16 a.out traps 1e send 0 calls ff level 7 best 5 quantum 5 restarts 1\n\
-         service n17 a.out traps 1e send 0 calls ff level 7 best 5 quantum 5 restarts 1\n\
-         service n18 a.out traps 1e send 0 calls ff level 7 best 5 quantum 5 restarts 1\n\
-         service n19 a.out traps 1e send 0 calls ff level 7 best 5 quantum 5 restarts 1\n\
-         service n20 a.out traps 1e send 0 calls ff level 7 best 5 quantum 5 restarts 1\n\
-         service n21 a.out traps 1e send 0 calls ff level 7 best 5 quantum 5 restarts 1\n\
-         service n22 a.out traps 1e send 0 calls ff level 7 best 5 quantum 5 restarts 1\n\
-         service n23 a.out traps 1e send 0 calls ff level 7 best 5 quantum 5 restarts 1\n\
-         service n24 a.out traps 1e send 0 calls ff level 7 best 5 quantum 5 restarts 1\n\
-         service n25 a.out traps 1e send 0 calls ff level 7 best 5 quantum 5 restarts 1\n\
-         service n26 a.out traps 1e send 0 calls ff level 7 best 5 quantum 5 restarts 1\n\
-         service n27 a.out traps 1e send 0 calls ff level 7 best 5 quantum 5 restarts 1\n\
-         service n28 a.out traps 1e send 0 calls ff level 7 best 5 quantum 5 restarts 1\n\
-         service n29 a.out traps 1e send 0 calls ff level 7 best 5 quantum 5 restarts 1\n\
-         service n30 a.out traps 1e send 0 calls ff level 7 best 5 quantum 5 restarts 1\n\
-         service n31 a.out traps 1e send 0 calls ff level 7 best 5 quantum 5 restarts 1\n\
-         service n32 a.out traps 1e send 0 calls ff level 7 best 5 quantum 5 restarts 1\n",
-        fault: Some(TooMany(33)),
-    },
-];
-
 const WHOLE: &str = "\
 cpus 2 # two
 log 64
@@ -269,16 +52,283 @@ fn fault_of(alloc: Global, text: &str) -> Option<BootError> {
     config(alloc, text).err()
 }
 
-#[test]
-fn configurations(rt: HostRuntime) -> Result<(), Fail> {
-    for setup in SETUPS {
-        let name = setup.name;
-        assert!(rt; fault_of(rt.alloc(), setup.text) == setup.fault, "{name}");
+fn all_found(rt: &impl Abort, alloc: Global, rows: &[Setup]) {
+    for row in rows {
+        let name = row.name;
+        assert!(rt; fault_of(alloc, row.text) == row.fault, "{name}");
     }
-    assert!(rt; is_read_whole(rt.alloc()));
+}
+
+/// Lines, blanks and comments.
+static SETUP_LINES: &[Setup] = &[
+    Setup {
+        name: "an empty text",
+        text: "",
+        fault: Some(BadLine(1)),
+    },
+    Setup {
+        name: "no service",
+        text: "cpus 1\n# x\n",
+        fault: Some(BadLine(2)),
+    },
+    Setup {
+        name: "one service",
+        text: "service a a.out traps 1e send 0 calls ff level 7 best 5 quantum 5 restarts 1\n",
+        fault: None,
+    },
+    Setup {
+        name: "blanks, comments, a carriage return, a zero and the largest history",
+        text: "  service   a a.out traps 1e send 0 calls ff level 7 best 5 quantum 5 restarts 1#x\r\n\n\
+         # x\ncpus 08\nlog 1048576",
+        fault: None,
+    },
+    Setup {
+        name: "a word too many",
+        text: "service a a.out traps 1e send 0 calls ff level 7 best 5 quantum 5 restarts 1 1",
+        fault: Some(BadLine(1)),
+    },
+    Setup {
+        name: "a carriage return without a line feed",
+        text: "service a a.out traps 1e send 0 calls ff level 7 best 5 quantum 5 restarts 1\r",
+        fault: Some(BadLine(1)),
+    },
+];
+
+#[test]
+fn lines_of_configurations(rt: HostRuntime) {
+    all_found(&rt, rt.alloc(), SETUP_LINES);
+}
+
+/// Processors, other actors, and the history.
+static MACHINES: &[Setup] = &[
+    Setup {
+        name: "nine processors",
+        text: "cpus 9\n\
+         service a a.out traps 1e send 0 calls ff level 7 best 5 quantum 5 restarts 1",
+        fault: Some(BadLine(1)),
+    },
+    Setup {
+        name: "no processors",
+        text: "cpus 0",
+        fault: Some(BadLine(1)),
+    },
+    Setup {
+        name: "no other actors",
+        text: "cpus 1\nothers 0",
+        fault: Some(BadLine(2)),
+    },
+    Setup {
+        name: "a history without room",
+        text: "log 0\n\
+         service a a.out traps 1e send 0 calls ff level 7 best 5 quantum 5 restarts 1",
+        fault: Some(BadLine(1)),
+    },
+    Setup {
+        name: "a history one over the limit",
+        text: "log 1048577\n\
+         service a a.out traps 1e send 0 calls ff level 7 best 5 quantum 5 restarts 1",
+        fault: Some(BadLine(1)),
+    },
+    Setup {
+        name: "the most processors and other actors, and the smallest history",
+        text: "cpus 8\nothers 4\nlog 1\n\
+         service a a.out traps 1e send 0 calls ff level 7 best 5 quantum 5 restarts 1",
+        fault: None,
+    },
+];
+
+#[test]
+fn processors_actors_and_histories(rt: HostRuntime) {
+    all_found(&rt, rt.alloc(), MACHINES);
+}
+
+/// The quantum of a service.
+static QUANTA: &[Setup] = &[
+    Setup {
+        name: "a quantum one over the limit",
+        text: "service a a.out traps 1e send 0 calls ff level 7 best 5 quantum 65536 restarts 1",
+        fault: Some(BadLine(1)),
+    },
+    Setup {
+        name: "the largest quantum, and best at level",
+        text: "service a a.out traps 1e send 0 calls ff level 7 best 7 quantum 65535 restarts 1",
+        fault: None,
+    },
+    Setup {
+        name: "a quantum of 0",
+        text: "service a a.out traps 1e send 0 calls ff level 7 best 5 quantum 0 restarts 1",
+        fault: Some(BadLine(1)),
+    },
+    Setup {
+        name: "the smallest quantum",
+        text: "service a a.out traps 1e send 0 calls ff level 7 best 5 quantum 1 restarts 1",
+        fault: None,
+    },
+];
+
+#[test]
+fn quanta(rt: HostRuntime) {
+    all_found(&rt, rt.alloc(), QUANTA);
+}
+
+/// Levels and restarts of a service.
+static LEVELS: &[Setup] = &[
+    Setup {
+        name: "best over level",
+        text: "# x\nservice a a.out traps 1e send 0 calls ff level 7 best 8 quantum 5 restarts 1",
+        fault: Some(BadLine(2)),
+    },
+    Setup {
+        name: "a level one over the limit",
+        text: "service a a.out traps 1e send 0 calls ff level 15 best 5 quantum 5 restarts 1",
+        fault: Some(BadLine(1)),
+    },
+    Setup {
+        name: "the limits of level and best, and no restarts",
+        text: "service a a.out traps 1e send 0 calls ff level 14 best 0 quantum 5 restarts 0",
+        fault: None,
+    },
+    Setup {
+        name: "restarts one over the limit",
+        text: "service a a.out traps 1e send 0 calls ff level 7 best 5 quantum 5 restarts 1048576",
+        fault: Some(BadLine(1)),
+    },
+    Setup {
+        name: "the most restarts",
+        text: "service a a.out traps 1e send 0 calls ff level 7 best 5 quantum 5 restarts 1048575",
+        fault: None,
+    },
+];
+
+#[test]
+fn levels_and_restarts(rt: HostRuntime) {
+    all_found(&rt, rt.alloc(), LEVELS);
+}
+
+/// Names and masks of a service.
+static NAMES: &[Setup] = &[
+    Setup {
+        name: "a register's name",
+        text: "service eax a.out traps 1e send 0 calls ff level 7 best 5 quantum 5 restarts 1",
+        fault: Some(BadLine(1)),
+    },
+    Setup {
+        name: "a name of nine letters",
+        text: "service abcdefghi a.out traps 1e send 0 calls ff level 7 best 5 quantum 5 restarts 1",
+        fault: Some(BadLine(1)),
+    },
+    Setup {
+        name: "a name of eight letters",
+        text: "service abcdefgh a.out traps 1e send 0 calls ff level 7 best 5 quantum 5 restarts 1",
+        fault: None,
+    },
+    Setup {
+        name: "a mask of nine digits",
+        text: "service a a.out traps 00000001e send 0 calls ff level 7 best 5 quantum 5 restarts 1",
+        fault: Some(BadLine(1)),
+    },
+    Setup {
+        name: "masks of eight digits",
+        text: "service a a.out traps 0000001e send ffffffff calls 0 level 7 best 5 quantum 5 restarts 1",
+        fault: None,
+    },
+];
+
+#[test]
+fn names_and_masks(rt: HostRuntime) {
+    all_found(&rt, rt.alloc(), NAMES);
+}
+
+/// The rules of the machine.
+static RULES: &[Setup] = &[
+    Setup {
+        name: "rules twice",
+        text: "rules 1\nrules 2",
+        fault: Some(TwiceNamed(2)),
+    },
+    Setup {
+        name: "rules 3",
+        text: "rules 3",
+        fault: Some(BadLine(1)),
+    },
+    Setup {
+        name: "rules 0",
+        text: "rules 0",
+        fault: Some(BadLine(1)),
+    },
+    Setup {
+        name: "rules without a number",
+        text: "rules",
+        fault: Some(BadLine(1)),
+    },
+];
+
+#[test]
+fn rules_of_configurations(rt: HostRuntime) {
+    all_found(&rt, rt.alloc(), RULES);
+}
+
+/// What is named twice.
+static TWICE: &[Setup] = &[
+    Setup {
+        name: "cpus twice",
+        text: "cpus 1\ncpus 1",
+        fault: Some(TwiceNamed(2)),
+    },
+    Setup {
+        name: "others twice: that the second is over the limit is reported",
+        text: "others 2\nothers 5",
+        fault: Some(BadLine(2)),
+    },
+    Setup {
+        name: "a service's name twice",
+        text: "service a a.out traps 1e send 0 calls ff level 7 best 5 quantum 5 restarts 1\n\
+         service a a.out traps 1e send 0 calls ff level 7 best 5 quantum 5 restarts 1",
+        fault: Some(TwiceNamed(2)),
+    },
+    Setup {
+        name: "two services of one file",
+        text: "service a a.out traps 1e send 0 calls ff level 7 best 5 quantum 5 restarts 1\n\
+         service b a.out traps 1e send 0 calls ff level 7 best 5 quantum 5 restarts 1",
+        fault: None,
+    },
+];
+
+#[test]
+fn named_twice(rt: HostRuntime) {
+    all_found(&rt, rt.alloc(), TWICE);
+}
+
+/// A configuration with so many services, a line each.
+fn services(alloc: Global, count: u8) -> Result<String, Fail> {
+    let mut text = String::new(alloc);
+    for number in 0..count {
+        let line = "a.out traps 1e send 0 calls ff level 7 best 5 quantum 5 restarts 1";
+        write!(text, "service n{number} {line}\n")?;
+    }
+    Ok(text)
+}
+
+#[test]
+fn one_service_too_many(rt: HostRuntime) -> Result<(), Fail> {
+    let text = services(rt.alloc(), 33)?;
+    assert!(rt; fault_of(rt.alloc(), text.as_str()) == Some(TooMany(33)));
     let line = format!(in rt.alloc(); "{}", TooMany(33))?;
     assert!(rt; line.as_str() == "72 TooMany line 33");
     Ok(())
+}
+
+#[test]
+fn whole_configuration(rt: HostRuntime) {
+    assert!(rt; is_read_whole(rt.alloc()));
+}
+
+/// How a text is read.
+#[derive(Clone, Copy)]
+enum TextKind {
+    Script,
+    DebugScript,
+    History,
 }
 
 /// A text, and what it is read as: how many lines or records it has, or the fault.
@@ -288,7 +338,44 @@ struct Text {
     wanted: Result<usize, BootError>,
 }
 
-static SCRIPTS: &[Text] = &[
+/// A machine of one processor and one other actor.
+const MACHINE: &str =
+    "service a a.out traps 1e send 0 calls ff level 7 best 5 quantum 5 restarts 1";
+
+fn count_or_fault<T: Drop>(read: Result<Vec<T>, BootError>) -> Result<usize, BootError> {
+    match read {
+        Ok(lines) => Ok(lines.len()),
+        Err(fault) => Err(fault),
+    }
+}
+
+/// The records of a history.
+fn records_of(alloc: Global, text: &str, machine: &Config) -> Result<Vec<Record>, BootError> {
+    let (_, records) = log(alloc, text, machine)?;
+    Ok(records)
+}
+
+/// How many lines or records a text has, or its fault.
+fn read_as(alloc: Global, kind: TextKind, text: &str) -> Result<usize, BootError> {
+    match kind {
+        TextKind::Script => count_or_fault(script(alloc, text)),
+        TextKind::DebugScript => count_or_fault(debug_script(alloc, text)),
+        TextKind::History => {
+            let machine = config(alloc, MACHINE)?;
+            count_or_fault(records_of(alloc, text, &machine))
+        }
+    }
+}
+
+fn all_read(rt: &impl Abort, alloc: Global, kind: TextKind, rows: &[Text]) {
+    for row in rows {
+        let name = row.name;
+        assert!(rt; read_as(alloc, kind, row.text) == row.wanted, "{name}");
+    }
+}
+
+/// Lines that are no events.
+static SCRIPT_LINES: &[Text] = &[
     Text {
         name: "an empty line",
         text: "tick\n\ntick\n",
@@ -299,6 +386,30 @@ static SCRIPTS: &[Text] = &[
         text: "tick\nfoo",
         wanted: Err(BadRecord(2)),
     },
+    Text {
+        name: "a comment",
+        text: "tick # c",
+        wanted: Err(BadRecord(1)),
+    },
+    Text {
+        name: "a carriage return",
+        text: "tick\r\n",
+        wanted: Err(BadRecord(1)),
+    },
+    Text {
+        name: "a debugger's command",
+        text: "messages",
+        wanted: Err(BadRecord(1)),
+    },
+];
+
+#[test]
+fn script_lines(rt: HostRuntime) {
+    all_read(&rt, rt.alloc(), TextKind::Script, SCRIPT_LINES);
+}
+
+/// The numbers of events.
+static SCRIPT_NUMBERS: &[Text] = &[
     Text {
         name: "a number too few",
         text: "step 0",
@@ -325,28 +436,19 @@ static SCRIPTS: &[Text] = &[
         wanted: Err(BadRecord(1)),
     },
     Text {
-        name: "a comment",
-        text: "tick # c",
-        wanted: Err(BadRecord(1)),
-    },
-    Text {
-        name: "a carriage return",
-        text: "tick\r\n",
-        wanted: Err(BadRecord(1)),
-    },
-    Text {
-        name: "a debugger's command",
-        text: "messages",
-        wanted: Err(BadRecord(1)),
-    },
-    Text {
         name: "blanks, zeros and the largest numbers",
         text: "step 255 2147483647\n  take   0  \ntake 9\nback 00\nline 16\nkill 31438\nrespawn 32",
         wanted: Ok(7),
     },
 ];
 
-static DEBUG_SCRIPTS: &[Text] = &[
+#[test]
+fn script_numbers(rt: HostRuntime) {
+    all_read(&rt, rt.alloc(), TextKind::Script, SCRIPT_NUMBERS);
+}
+
+/// Lines for a debugger.
+static DEBUG_LINES: &[Text] = &[
     Text {
         name: "each command, and an event",
         text: "break 0 top\nbreak 0 +5\nbreak 0 01\nclear 0 abcdefghijk\ngo 0 9\nregs 1\n\
@@ -368,6 +470,15 @@ static DEBUG_SCRIPTS: &[Text] = &[
         text: "mem of 3 buf+ 4",
         wanted: Err(BadRecord(1)),
     },
+];
+
+#[test]
+fn debug_lines(rt: HostRuntime) {
+    all_read(&rt, rt.alloc(), TextKind::DebugScript, DEBUG_LINES);
+}
+
+/// The numbers of lines for a debugger.
+static DEBUG_NUMBERS: &[Text] = &[
     Text {
         name: "a number too few",
         text: "mem 0 0",
@@ -395,8 +506,13 @@ static DEBUG_SCRIPTS: &[Text] = &[
     },
 ];
 
-/// The line of the rules counts as a line, and is no record.
-static HISTORIES: &[Text] = &[
+#[test]
+fn debug_numbers(rt: HostRuntime) {
+    all_read(&rt, rt.alloc(), TextKind::DebugScript, DEBUG_NUMBERS);
+}
+
+/// Lines of histories, and their ends.
+static HISTORY_LINES: &[Text] = &[
     Text {
         name: "an empty text",
         text: "",
@@ -418,6 +534,25 @@ static HISTORIES: &[Text] = &[
         wanted: Err(BadRecord(2)),
     },
     Text {
+        name: "an empty line",
+        text: "0 tick\n\n",
+        wanted: Err(BadRecord(2)),
+    },
+    Text {
+        name: "a carriage return",
+        text: "0 tick\r\n",
+        wanted: Err(BadRecord(1)),
+    },
+];
+
+#[test]
+fn history_lines(rt: HostRuntime) {
+    all_read(&rt, rt.alloc(), TextKind::History, HISTORY_LINES);
+}
+
+/// Records that are none.
+static HISTORY_RECORDS: &[Text] = &[
+    Text {
         name: "an actor out of range",
         text: "2 tick\n",
         wanted: Err(BadRecord(1)),
@@ -437,16 +572,15 @@ static HISTORIES: &[Text] = &[
         text: "0 step 1\n",
         wanted: Err(BadRecord(1)),
     },
-    Text {
-        name: "an empty line",
-        text: "0 tick\n\n",
-        wanted: Err(BadRecord(2)),
-    },
-    Text {
-        name: "a carriage return",
-        text: "0 tick\r\n",
-        wanted: Err(BadRecord(1)),
-    },
+];
+
+#[test]
+fn history_records(rt: HostRuntime) {
+    all_read(&rt, rt.alloc(), TextKind::History, HISTORY_RECORDS);
+}
+
+/// The line of the rules counts as a line, and is no record.
+static HISTORY_RULES: &[Text] = &[
     Text {
         name: "the line of the rules alone",
         text: "rules 2\n",
@@ -477,6 +611,15 @@ static HISTORIES: &[Text] = &[
         text: "rules 2\n0 tick\n0 tick",
         wanted: Err(BadRecord(3)),
     },
+];
+
+#[test]
+fn history_rules(rt: HostRuntime) {
+    all_read(&rt, rt.alloc(), TextKind::History, HISTORY_RULES);
+}
+
+/// Lines that are no line of the rules.
+static WRONG_RULES: &[Text] = &[
     Text {
         name: "rules after a record",
         text: "0 tick\nrules 2\n",
@@ -509,47 +652,9 @@ static HISTORIES: &[Text] = &[
     },
 ];
 
-fn count_or_fault<T: Drop>(read: Result<Vec<T>, BootError>) -> Result<usize, BootError> {
-    match read {
-        Ok(lines) => Ok(lines.len()),
-        Err(fault) => Err(fault),
-    }
-}
-
-/// The records of a history.
-fn records_of(alloc: Global, text: &str, machine: &Config) -> Result<Vec<Record>, BootError> {
-    let (_, records) = log(alloc, text, machine)?;
-    Ok(records)
-}
-
-fn read_scripts(rt: &impl Abort, alloc: Global) {
-    for row in SCRIPTS {
-        let name = row.name;
-        assert!(rt;
-            count_or_fault(script(alloc, row.text)) == row.wanted,
-            "{name}"
-        );
-    }
-}
-
-fn read_debug_scripts(rt: &impl Abort, alloc: Global) {
-    for row in DEBUG_SCRIPTS {
-        let name = row.name;
-        assert!(rt;
-            count_or_fault(debug_script(alloc, row.text)) == row.wanted,
-            "{name}"
-        );
-    }
-}
-
-fn read_histories(rt: &impl Abort, alloc: Global, machine: &Config) {
-    for row in HISTORIES {
-        let name = row.name;
-        assert!(rt;
-            count_or_fault(records_of(alloc, row.text, machine)) == row.wanted,
-            "{name}"
-        );
-    }
+#[test]
+fn wrong_rules(rt: HostRuntime) {
+    all_read(&rt, rt.alloc(), TextKind::History, WRONG_RULES);
 }
 
 static LINES: &[ScriptLine] = &[
@@ -764,10 +869,6 @@ fn saves_histories(rt: HostRuntime) {
     }
 }
 
-/// A machine of one processor and one other actor.
-const MACHINE: &str =
-    "service a a.out traps 1e send 0 calls ff level 7 best 5 quantum 5 restarts 1";
-
 fn read_saves_again(rt: &impl Abort, alloc: Global, machine: &Config) {
     for row in SAVES {
         let name = row.name;
@@ -779,12 +880,13 @@ fn read_saves_again(rt: &impl Abort, alloc: Global, machine: &Config) {
 }
 
 #[test]
-fn scripts_and_histories(rt: HostRuntime) -> Result<(), Fail> {
-    let machine = config(rt.alloc(), MACHINE)?;
-    read_scripts(&rt, rt.alloc());
-    read_debug_scripts(&rt, rt.alloc());
-    read_histories(&rt, rt.alloc(), &machine);
+fn lines_of_a_script(rt: HostRuntime) {
     assert!(rt; is_script_read(rt.alloc()));
+}
+
+#[test]
+fn saves_are_read_again(rt: HostRuntime) -> Result<(), Fail> {
+    let machine = config(rt.alloc(), MACHINE)?;
     read_saves_again(&rt, rt.alloc(), &machine);
     Ok(())
 }

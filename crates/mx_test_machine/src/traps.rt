@@ -57,7 +57,97 @@ const WAITS: Seen = Stays(State::Receiving(Partner::Any));
 
 const SENDS: Seen = Stays(State::Sending);
 
-static RUNS: &[Run] = &[
+/// A process that may make all four traps, and send to each of the five.
+const FREE: Masks = Masks {
+    traps: ALL_TRAPS,
+    sends: 0x1F,
+    calls: 0,
+};
+
+/// The masks of five processes: slot 3 may make no call, slot 4 may send to nobody.
+static MASKS: &[Masks] = &[
+    FREE,
+    FREE,
+    FREE,
+    Masks { traps: 0, ..FREE },
+    Masks { sends: 0, ..FREE },
+];
+
+fn five_processes(rt: &impl Abort, alloc: Global) -> Result<Table, Fail> {
+    let mut table = Table::new(alloc, Rules::Lenient)?;
+    for masks in MASKS {
+        add_process(rt, alloc, &mut table, *masks, 5)?;
+    }
+    Ok(table)
+}
+
+/// A ready process makes a trap by its ECX, EAX and EBX, with a message in its buffer.
+fn make_trap(
+    rt: &impl Abort,
+    table: &mut Table,
+    slot: Slot,
+    words: (u32, u32, u32),
+    message: &[u8],
+) -> TrapAnswer {
+    assert!(rt; slot < table.slot_count());
+    assert!(rt; table.process(slot).state.is_ready());
+    dequeue(table, slot);
+    let mut image = table.lend(slot);
+    image.regs.set(Size::Dword, Register::Ecx, words.0);
+    image.regs.set(Size::Dword, Register::Eax, words.1);
+    image.regs.set(Size::Dword, Register::Ebx, words.2);
+    let _ = image.memory.fill_from(words.2, message);
+    table.take_home(slot, image);
+    trap(table, slot)
+}
+
+fn look_at(rt: &impl Abort, table: &Table, slot: Slot) -> Seen {
+    assert!(rt; slot < table.slot_count());
+    let process = table.process(slot);
+    match process.state {
+        State::Ready => Goes(process.image.register(Register::Eax)),
+        state => Stays(state),
+    }
+}
+
+/// Whether the other slot that a step names, if it names one, is then as the step wants.
+fn is_other_seen(rt: &impl Abort, table: &Table, step: &Step) -> bool {
+    match step.other {
+        Some((slot, seen)) => look_at(rt, table, slot) == seen,
+        None => true,
+    }
+}
+
+/// Whether a step's slot and the other are then as the step wants, and the answer shows whether a
+/// call is left to the kernel.
+fn is_seen(rt: &impl Abort, table: &mut Table, step: &Step) -> bool {
+    let words = (step.call, step.partner, step.buffer);
+    let after = make_trap(rt, table, step.slot, words, &[]);
+    let is_left = step.own == Stays(State::Home);
+    look_at(rt, table, step.slot) == step.own
+        && is_other_seen(rt, table, step)
+        && (after == TrapAnswer::Kernel) == is_left
+}
+
+fn make_all(rt: &impl Abort, table: &mut Table, run: &Run) {
+    let run_name = run.name;
+    for step in run.steps {
+        let name = step.name;
+        assert!(rt; is_seen(rt, table, step), "{run_name}: {name}");
+    }
+}
+
+/// Each run on a new table.
+fn all_made(rt: &impl Abort, alloc: Global, runs: &[Run]) -> Result<(), Fail> {
+    for run in runs {
+        let mut table = five_processes(rt, alloc)?;
+        make_all(rt, &mut table, run);
+    }
+    Ok(())
+}
+
+/// Processes that would wait for themselves.
+static LOCKS: &[Run] = &[
     Run {
         name: "two that send to each other, and one that sends to itself",
         steps: &[
@@ -120,6 +210,15 @@ static RUNS: &[Run] = &[
             },
         ],
     },
+];
+
+#[test]
+fn locks(rt: HostRuntime) -> Result<(), Fail> {
+    all_made(&rt, rt.alloc(), LOCKS)
+}
+
+/// Notifications that wait.
+static NOTIFICATIONS: &[Run] = &[
     Run {
         name: "two notifications are one message",
         steps: &[
@@ -210,6 +309,15 @@ static RUNS: &[Run] = &[
             },
         ],
     },
+];
+
+#[test]
+fn notifications(rt: HostRuntime) -> Result<(), Fail> {
+    all_made(&rt, rt.alloc(), NOTIFICATIONS)
+}
+
+/// Callers that wait, and whose message is taken.
+static CALLERS: &[Run] = &[
     Run {
         name: "a SENDREC whose message is taken turns to receiving",
         steps: &[
@@ -302,66 +410,94 @@ static RUNS: &[Run] = &[
         ],
     },
     Run {
-        name: "pseudo-processes, ANY, an unused slot, other generations and an unknown call",
-        steps: &[
-            Step {
-                name: "SEND to HARDWARE",
-                slot: 0,
-                call: SEND,
-                partner: HARDWARE,
-                own: Goes(ECALLDENIED),
-                ..STEP
-            },
-            Step {
-                name: "SENDREC to HARDWARE",
-                slot: 0,
-                call: SENDREC,
-                partner: HARDWARE,
-                own: Goes(EBADSRCDST),
-                ..STEP
-            },
-            Step {
-                name: "SEND to ANY",
-                slot: 0,
-                call: SEND,
-                partner: ANY,
-                own: Goes(EBADSRCDST),
-                ..STEP
-            },
-            Step {
-                name: "SEND to an unused slot",
-                slot: 0,
-                call: SEND,
-                partner: 5,
-                own: Goes(EBADSRCDST),
-                ..STEP
-            },
-            Step {
-                name: "SEND to another generation",
-                slot: 1,
-                call: SEND,
-                partner: 1024,
-                own: Goes(EDEADDST),
-                ..STEP
-            },
-            Step {
-                name: "RECEIVE from another generation",
-                slot: 1,
-                call: RECEIVE,
-                partner: 1024,
-                own: Goes(EDEADDST),
-                ..STEP
-            },
-            Step {
-                name: "call 5",
-                slot: 0,
-                call: 5,
-                partner: 1,
-                own: Goes(ECALLDENIED),
-                ..STEP
-            },
-        ],
+        name: "a SENDREC to SYSTEM is left to the kernel",
+        steps: &[Step {
+            name: "the send mask is empty",
+            slot: 4,
+            call: SENDREC,
+            partner: SYSTEM,
+            own: Stays(State::Home),
+            other: Some((0, Goes(OK))),
+            ..STEP
+        }],
     },
+];
+
+#[test]
+fn callers(rt: HostRuntime) -> Result<(), Fail> {
+    all_made(&rt, rt.alloc(), CALLERS)
+}
+
+/// Partners that are no process.
+static PARTNERS: &[Run] = &[Run {
+    name: "pseudo-processes, ANY, an unused slot, other generations and an unknown call",
+    steps: &[
+        Step {
+            name: "SEND to HARDWARE",
+            slot: 0,
+            call: SEND,
+            partner: HARDWARE,
+            own: Goes(ECALLDENIED),
+            ..STEP
+        },
+        Step {
+            name: "SENDREC to HARDWARE",
+            slot: 0,
+            call: SENDREC,
+            partner: HARDWARE,
+            own: Goes(EBADSRCDST),
+            ..STEP
+        },
+        Step {
+            name: "SEND to ANY",
+            slot: 0,
+            call: SEND,
+            partner: ANY,
+            own: Goes(EBADSRCDST),
+            ..STEP
+        },
+        Step {
+            name: "SEND to an unused slot",
+            slot: 0,
+            call: SEND,
+            partner: 5,
+            own: Goes(EBADSRCDST),
+            ..STEP
+        },
+        Step {
+            name: "SEND to another generation",
+            slot: 1,
+            call: SEND,
+            partner: 1024,
+            own: Goes(EDEADDST),
+            ..STEP
+        },
+        Step {
+            name: "RECEIVE from another generation",
+            slot: 1,
+            call: RECEIVE,
+            partner: 1024,
+            own: Goes(EDEADDST),
+            ..STEP
+        },
+        Step {
+            name: "call 5",
+            slot: 0,
+            call: 5,
+            partner: 1,
+            own: Goes(ECALLDENIED),
+            ..STEP
+        },
+    ],
+}];
+
+#[test]
+fn partners(rt: HostRuntime) -> Result<(), Fail> {
+    all_made(&rt, rt.alloc(), PARTNERS)
+}
+
+/// Buffers at the limit, and checks that a trap does not need.
+static CHECKS: &[Run] = &[
     Run {
         name: "a buffer at the limit",
         steps: &[
@@ -409,18 +545,15 @@ static RUNS: &[Run] = &[
             },
         ],
     },
-    Run {
-        name: "a SENDREC to SYSTEM is left to the kernel",
-        steps: &[Step {
-            name: "the send mask is empty",
-            slot: 4,
-            call: SENDREC,
-            partner: SYSTEM,
-            own: Stays(State::Home),
-            other: Some((0, Goes(OK))),
-            ..STEP
-        }],
-    },
+];
+
+#[test]
+fn checks(rt: HostRuntime) -> Result<(), Fail> {
+    all_made(&rt, rt.alloc(), CHECKS)
+}
+
+/// The first of two checks that fail is reported.
+static FIRST_CHECKS: &[Run] = &[
     Run {
         name: "traps that fail in two ways, the first check is reported",
         steps: &[
@@ -543,93 +676,9 @@ static RUNS: &[Run] = &[
     },
 ];
 
-/// A process that may make all four traps, and send to each of the five.
-const FREE: Masks = Masks {
-    traps: ALL_TRAPS,
-    sends: 0x1F,
-    calls: 0,
-};
-
-/// The masks of five processes: slot 3 may make no call, slot 4 may send to nobody.
-static MASKS: &[Masks] = &[
-    FREE,
-    FREE,
-    FREE,
-    Masks { traps: 0, ..FREE },
-    Masks { sends: 0, ..FREE },
-];
-
-fn five_processes(rt: &impl Abort, alloc: Global) -> Result<Table, Fail> {
-    let mut table = Table::new(alloc, Rules::Lenient)?;
-    for masks in MASKS {
-        add_process(rt, alloc, &mut table, *masks, 5)?;
-    }
-    Ok(table)
-}
-
-/// A ready process makes a trap by its ECX, EAX and EBX, with a message in its buffer.
-fn make_trap(
-    rt: &impl Abort,
-    table: &mut Table,
-    slot: Slot,
-    words: (u32, u32, u32),
-    message: &[u8],
-) -> TrapAnswer {
-    assert!(rt; slot < table.slot_count());
-    assert!(rt; table.process(slot).state.is_ready());
-    dequeue(table, slot);
-    let mut image = table.lend(slot);
-    image.regs.set(Size::Dword, Register::Ecx, words.0);
-    image.regs.set(Size::Dword, Register::Eax, words.1);
-    image.regs.set(Size::Dword, Register::Ebx, words.2);
-    let _ = image.memory.fill_from(words.2, message);
-    table.take_home(slot, image);
-    trap(table, slot)
-}
-
-fn look_at(rt: &impl Abort, table: &Table, slot: Slot) -> Seen {
-    assert!(rt; slot < table.slot_count());
-    let process = table.process(slot);
-    match process.state {
-        State::Ready => Goes(process.image.register(Register::Eax)),
-        state => Stays(state),
-    }
-}
-
-/// Whether the other slot that a step names, if it names one, is then as the step wants.
-fn is_other_seen(rt: &impl Abort, table: &Table, step: &Step) -> bool {
-    match step.other {
-        Some((slot, seen)) => look_at(rt, table, slot) == seen,
-        None => true,
-    }
-}
-
-/// Whether a step's slot and the other are then as the step wants, and the answer shows whether a
-/// call is left to the kernel.
-fn is_seen(rt: &impl Abort, table: &mut Table, step: &Step) -> bool {
-    let words = (step.call, step.partner, step.buffer);
-    let after = make_trap(rt, table, step.slot, words, &[]);
-    let is_left = step.own == Stays(State::Home);
-    look_at(rt, table, step.slot) == step.own
-        && is_other_seen(rt, table, step)
-        && (after == TrapAnswer::Kernel) == is_left
-}
-
-fn make_all(rt: &impl Abort, table: &mut Table, run: &Run) {
-    let run_name = run.name;
-    for step in run.steps {
-        let name = step.name;
-        assert!(rt; is_seen(rt, table, step), "{run_name}: {name}");
-    }
-}
-
 #[test]
-fn traps(rt: HostRuntime) -> Result<(), Fail> {
-    for run in RUNS {
-        let mut table = five_processes(&rt, rt.alloc())?;
-        make_all(&rt, &mut table, run);
-    }
-    Ok(())
+fn first_checks(rt: HostRuntime) -> Result<(), Fail> {
+    all_made(&rt, rt.alloc(), FIRST_CHECKS)
 }
 
 /// What slot 2 sends; the kernel writes its source.
@@ -688,13 +737,6 @@ fn are_delivered(rt: &impl Abort, table: &mut Table) -> bool {
         && are_kept(table)
 }
 
-#[test]
-fn deliveries(rt: HostRuntime) -> Result<(), Fail> {
-    let mut table = five_processes(&rt, rt.alloc())?;
-    assert!(rt; are_delivered(&rt, &mut table));
-    Ok(())
-}
-
 /// The delivery of a message from slot 2 to slot 1.
 fn delivery_of(message_type: u32) -> Delivery {
     Delivery {
@@ -718,21 +760,14 @@ fn are_last_kept(rt: &impl Abort, table: &mut Table) -> bool {
         && table.delivery(1024).is_none()
 }
 
-#[test]
-fn last_deliveries(rt: HostRuntime) -> Result<(), Fail> {
-    let mut table = five_processes(&rt, rt.alloc())?;
-    assert!(rt; are_last_kept(&rt, &mut table));
-    Ok(())
-}
-
-/// A slot that spends a quantum, and the level that it comes to. The rows follow one after the other, and
-/// each slot begins at level 7.
+/// A slot that spends a quantum, and the level that it comes to.
 struct Spent {
     name: &'static str,
     slot: Slot,
     level: u8,
 }
 
+/// Two slots that begin at level 7, one row after the other.
 static LEVELS: &[Spent] = &[
     Spent {
         name: "slot 1 spends the first quantum",
@@ -764,61 +799,6 @@ static LEVELS: &[Spent] = &[
         slot: 1,
         level: 5,
     },
-    Spent {
-        name: "slot 1 again, from level 5",
-        slot: 1,
-        level: 6,
-    },
-    Spent {
-        name: "slot 1 again, from level 6",
-        slot: 1,
-        level: 7,
-    },
-    Spent {
-        name: "slot 1 again, from level 7",
-        slot: 1,
-        level: 8,
-    },
-    Spent {
-        name: "slot 1 again, from level 8",
-        slot: 1,
-        level: 9,
-    },
-    Spent {
-        name: "slot 1 again, from level 9",
-        slot: 1,
-        level: 10,
-    },
-    Spent {
-        name: "slot 1 again, from level 10",
-        slot: 1,
-        level: 11,
-    },
-    Spent {
-        name: "slot 1 again, from level 11",
-        slot: 1,
-        level: 12,
-    },
-    Spent {
-        name: "slot 1 again, from level 12",
-        slot: 1,
-        level: 13,
-    },
-    Spent {
-        name: "slot 1 again, from level 13",
-        slot: 1,
-        level: 14,
-    },
-    Spent {
-        name: "slot 1 again, from the last level",
-        slot: 1,
-        level: 14,
-    },
-    Spent {
-        name: "slot 0 after slot 1, from level 6",
-        slot: 0,
-        level: 5,
-    },
 ];
 
 /// The level of a ready process after a whole quantum.
@@ -840,11 +820,54 @@ fn come_to_levels(rt: &impl Abort, table: &mut Table) {
     }
 }
 
-/// Slot 0 is picked then.
+/// Slot 1, which spent the last quantum at level 5, comes a level lower each time, down to the last.
+fn come_down(rt: &impl Abort, table: &mut Table) {
+    for level in 6..15_u8 {
+        assert!(rt; level_after(rt, table, 1) == level, "to level {level}");
+    }
+    assert!(rt; level_after(rt, table, 1) == 14, "from the last level");
+}
+
+/// Slots 0 and 1 spend quanta by turns, slot 1 many after one another, and slot 0 one more: it is picked then.
+fn are_spent(rt: &impl Abort, table: &mut Table) -> bool {
+    come_to_levels(rt, table);
+    come_down(rt, table);
+    level_after(rt, table, 0) == 5 && pick(table) == Some(0)
+}
+
+/// What five processes do.
+#[derive(Clone, Copy)]
+enum Work {
+    Deliver,
+    DeliverMany,
+    Spend,
+}
+
+fn is_right(rt: &impl Abort, table: &mut Table, work: Work) -> bool {
+    match work {
+        Work::Deliver => are_delivered(rt, table),
+        Work::DeliverMany => are_last_kept(rt, table),
+        Work::Spend => are_spent(rt, table),
+    }
+}
+
+fn five_work(rt: &impl Abort, alloc: Global, work: Work) -> Result<(), Fail> {
+    let mut table = five_processes(rt, alloc)?;
+    assert!(rt; is_right(rt, &mut table, work));
+    Ok(())
+}
+
+#[test]
+fn deliveries(rt: HostRuntime) -> Result<(), Fail> {
+    five_work(&rt, rt.alloc(), Work::Deliver)
+}
+
+#[test]
+fn last_deliveries(rt: HostRuntime) -> Result<(), Fail> {
+    five_work(&rt, rt.alloc(), Work::DeliverMany)
+}
+
 #[test]
 fn levels(rt: HostRuntime) -> Result<(), Fail> {
-    let mut table = five_processes(&rt, rt.alloc())?;
-    come_to_levels(&rt, &mut table);
-    assert!(rt; pick(&table) == Some(0));
-    Ok(())
+    five_work(&rt, rt.alloc(), Work::Spend)
 }

@@ -5,7 +5,7 @@ use crate::numbers::{
     ALL_BUT_GRANT, ALL_CALLS, ALL_SENDS, ALL_TRAPS, EBADREQUEST, EBADSRCDST, ECALLDENIED, EDEADDST,
     EFAULT, EINVAL, ENOTREADY, EPERM, EXIT, GRANT, OK, VIRCOPY,
 };
-use crate::tables::add_process;
+use crate::tables::{Processes, table_of};
 use mx_kcall::{After, window_allows};
 use mx_proc::{ANY, Access, Endpoint, Masks, Rules, SYSTEM, Slot, Table, Window};
 use std::alloc::Global;
@@ -112,7 +112,81 @@ const OUT_OF: Copied = Copied {
     count: 16,
 };
 
-static ROWS: &[Row] = &[
+/// Four processes that may make these kernel calls.
+fn processes(rt: &impl Abort, alloc: Global, rules: Rules, calls: u32) -> Result<Table, Fail> {
+    let masks = Masks {
+        traps: ALL_TRAPS,
+        sends: ALL_SENDS,
+        calls,
+    };
+    let wanted = Processes {
+        rules,
+        used: 4,
+        masks,
+        best: 7,
+    };
+    table_of(rt, alloc, &wanted)
+}
+
+/// A call's result.
+fn result_of(rt: &impl Abort, table: &mut Table, slot: Slot, words: &[u32; 6]) -> Option<u32> {
+    match make_call(rt, table, slot, words) {
+        After::Reply(result) => Some(result),
+        After::Died => None,
+    }
+}
+
+fn make_grant(rt: &impl Abort, table: &mut Table, grant: &Opening) -> Option<u32> {
+    let words = [GRANT, grant.user, grant.place, grant.count, grant.access, 0];
+    result_of(rt, table, grant.owner, &words)
+}
+
+fn make_copy(rt: &impl Abort, table: &mut Table, caller: Slot, copy: &Copied) -> Option<u32> {
+    let words = [
+        VIRCOPY,
+        copy.source,
+        copy.from,
+        copy.target,
+        copy.to,
+        copy.count,
+    ];
+    result_of(rt, table, caller, &words)
+}
+
+fn are_granted(rt: &impl Abort, table: &mut Table, grants: &[Opening]) -> bool {
+    for one in grants {
+        if make_grant(rt, table, one) != Some(OK) {
+            return false;
+        }
+    }
+    true
+}
+
+fn is_answered(rt: &impl Abort, table: &mut Table, row: &Row) -> bool {
+    let result = match &row.call {
+        Copies(copy) => make_copy(rt, table, row.caller, copy),
+        Grants(one) => make_grant(rt, table, one),
+    };
+    result == Some(row.result)
+}
+
+fn is_right(rt: &impl Abort, table: &mut Table, row: &Row) -> bool {
+    send_away(rt, table, 3);
+    are_granted(rt, table, row.grants) && is_answered(rt, table, row)
+}
+
+/// Each row on a new table.
+fn all_answered(rt: &impl Abort, alloc: Global, rows: &[Row]) -> Result<(), Fail> {
+    for row in rows {
+        let name = row.name;
+        let mut table = processes(rt, alloc, Rules::Strict, ALL_CALLS)?;
+        assert!(rt; is_right(rt, &mut table, row), "{name}");
+    }
+    Ok(())
+}
+
+/// Where a window begins and ends.
+static EXTENTS: &[Row] = &[
     Row {
         name: "the whole window",
         grants: &[WRITTEN],
@@ -149,6 +223,37 @@ static ROWS: &[Row] = &[
         }),
         result: EPERM,
     },
+    Row {
+        name: "no bytes at the window's end",
+        grants: &[WRITTEN],
+        caller: 0,
+        call: Copies(Copied {
+            to: 272,
+            count: 0,
+            ..INTO
+        }),
+        result: OK,
+    },
+    Row {
+        name: "no bytes past the window's end",
+        grants: &[WRITTEN],
+        caller: 0,
+        call: Copies(Copied {
+            to: 273,
+            count: 0,
+            ..INTO
+        }),
+        result: EPERM,
+    },
+];
+
+#[test]
+fn extents(rt: HostRuntime) -> Result<(), Fail> {
+    all_answered(&rt, rt.alloc(), EXTENTS)
+}
+
+/// Windows for reading, for writing, and for both.
+static ACCESSES: &[Row] = &[
     Row {
         name: "from a window for writing",
         grants: &[WRITTEN],
@@ -197,6 +302,28 @@ static ROWS: &[Row] = &[
         result: OK,
     },
     Row {
+        name: "an access that a later grant took back",
+        grants: &[
+            WRITTEN,
+            Opening {
+                access: READ,
+                ..WRITTEN
+            },
+        ],
+        caller: 0,
+        call: Copies(INTO),
+        result: EPERM,
+    },
+];
+
+#[test]
+fn accesses(rt: HostRuntime) -> Result<(), Fail> {
+    all_answered(&rt, rt.alloc(), ACCESSES)
+}
+
+/// Windows that are no more, or are another's.
+static NO_WINDOWS: &[Row] = &[
+    Row {
         name: "a window that was closed",
         grants: &[WRITTEN, CLOSED],
         caller: 0,
@@ -236,45 +363,10 @@ static ROWS: &[Row] = &[
         result: OK,
     },
     Row {
-        name: "an access that a later grant took back",
-        grants: &[
-            WRITTEN,
-            Opening {
-                access: READ,
-                ..WRITTEN
-            },
-        ],
-        caller: 0,
-        call: Copies(INTO),
-        result: EPERM,
-    },
-    Row {
         name: "another's window",
         grants: &[WRITTEN],
         caller: 2,
         call: Copies(Copied { source: 2, ..INTO }),
-        result: EPERM,
-    },
-    Row {
-        name: "no bytes at the window's end",
-        grants: &[WRITTEN],
-        caller: 0,
-        call: Copies(Copied {
-            to: 272,
-            count: 0,
-            ..INTO
-        }),
-        result: OK,
-    },
-    Row {
-        name: "no bytes past the window's end",
-        grants: &[WRITTEN],
-        caller: 0,
-        call: Copies(Copied {
-            to: 273,
-            count: 0,
-            ..INTO
-        }),
         result: EPERM,
     },
     Row {
@@ -284,6 +376,26 @@ static ROWS: &[Row] = &[
         call: Copies(Copied { count: 0, ..INTO }),
         result: EPERM,
     },
+    Row {
+        name: "who is on a processor, and has granted nothing",
+        grants: &[],
+        caller: 0,
+        call: Copies(Copied {
+            target: 3,
+            count: 4,
+            ..INTO
+        }),
+        result: ENOTREADY,
+    },
+];
+
+#[test]
+fn no_windows(rt: HostRuntime) -> Result<(), Fail> {
+    all_answered(&rt, rt.alloc(), NO_WINDOWS)
+}
+
+/// Copies between two others.
+static BETWEEN_OTHERS: &[Row] = &[
     Row {
         name: "from one to another, with both windows",
         grants: &[SOURCE, TARGET],
@@ -321,6 +433,15 @@ static ROWS: &[Row] = &[
         call: Copies(OUT_OF),
         result: EPERM,
     },
+];
+
+#[test]
+fn between_others(rt: HostRuntime) -> Result<(), Fail> {
+    all_answered(&rt, rt.alloc(), BETWEEN_OTHERS)
+}
+
+/// Copies within one memory, and past limits.
+static COPIES_AT_LIMITS: &[Row] = &[
     Row {
         name: "within one's own memory",
         grants: &[],
@@ -367,17 +488,15 @@ static ROWS: &[Row] = &[
         }),
         result: EPERM,
     },
-    Row {
-        name: "who is on a processor, and has granted nothing",
-        grants: &[],
-        caller: 0,
-        call: Copies(Copied {
-            target: 3,
-            count: 4,
-            ..INTO
-        }),
-        result: ENOTREADY,
-    },
+];
+
+#[test]
+fn copies_at_limits(rt: HostRuntime) -> Result<(), Fail> {
+    all_answered(&rt, rt.alloc(), COPIES_AT_LIMITS)
+}
+
+/// Grants up to the limit and past it.
+static GRANTS_AT_LIMITS: &[Row] = &[
     Row {
         name: "a grant up to the limit",
         grants: &[],
@@ -423,13 +542,15 @@ static ROWS: &[Row] = &[
         }),
         result: OK,
     },
-    Row {
-        name: "a grant for who is on a processor",
-        grants: &[],
-        caller: 1,
-        call: Grants(Opening { user: 3, ..WRITTEN }),
-        result: OK,
-    },
+];
+
+#[test]
+fn grants_at_limits(rt: HostRuntime) -> Result<(), Fail> {
+    all_answered(&rt, rt.alloc(), GRANTS_AT_LIMITS)
+}
+
+/// Grants with a wrong access, and to oneself.
+static WRONG_GRANTS: &[Row] = &[
     Row {
         name: "access 4",
         grants: &[],
@@ -470,6 +591,22 @@ static ROWS: &[Row] = &[
             ..WRITTEN
         }),
         result: EINVAL,
+    },
+];
+
+#[test]
+fn wrong_grants(rt: HostRuntime) -> Result<(), Fail> {
+    all_answered(&rt, rt.alloc(), WRONG_GRANTS)
+}
+
+/// For whom a window is opened.
+static USERS: &[Row] = &[
+    Row {
+        name: "a grant for who is on a processor",
+        grants: &[],
+        caller: 1,
+        call: Grants(Opening { user: 3, ..WRITTEN }),
+        result: OK,
     },
     Row {
         name: "a grant to another generation of oneself",
@@ -532,73 +669,9 @@ static ROWS: &[Row] = &[
     },
 ];
 
-/// Four processes that may make these kernel calls.
-fn processes(rt: &impl Abort, alloc: Global, rules: Rules, calls: u32) -> Result<Table, Fail> {
-    let mut table = Table::new(alloc, rules)?;
-    for _ in 0..4u8 {
-        let masks = Masks {
-            traps: ALL_TRAPS,
-            sends: ALL_SENDS,
-            calls,
-        };
-        add_process(rt, alloc, &mut table, masks, 7)?;
-    }
-    Ok(table)
-}
-
-/// A call's result.
-fn result_of(rt: &impl Abort, table: &mut Table, slot: Slot, words: &[u32; 6]) -> Option<u32> {
-    match make_call(rt, table, slot, words) {
-        After::Reply(result) => Some(result),
-        After::Died => None,
-    }
-}
-
-fn make_grant(rt: &impl Abort, table: &mut Table, grant: &Opening) -> Option<u32> {
-    let words = [GRANT, grant.user, grant.place, grant.count, grant.access, 0];
-    result_of(rt, table, grant.owner, &words)
-}
-
-fn make_copy(rt: &impl Abort, table: &mut Table, caller: Slot, copy: &Copied) -> Option<u32> {
-    let words = [
-        VIRCOPY,
-        copy.source,
-        copy.from,
-        copy.target,
-        copy.to,
-        copy.count,
-    ];
-    result_of(rt, table, caller, &words)
-}
-
-fn are_granted(rt: &impl Abort, table: &mut Table, grants: &[Opening]) -> bool {
-    for one in grants {
-        if make_grant(rt, table, one) != Some(OK) {
-            return false;
-        }
-    }
-    true
-}
-
-fn is_answered(rt: &impl Abort, table: &mut Table, row: &Row) -> bool {
-    let result = match &row.call {
-        Copies(copy) => make_copy(rt, table, row.caller, copy),
-        Grants(one) => make_grant(rt, table, one),
-    };
-    result == Some(row.result)
-}
-
 #[test]
-fn copies_through_windows(rt: HostRuntime) -> Result<(), Fail> {
-    for row in ROWS {
-        let name = row.name;
-        let mut table = processes(&rt, rt.alloc(), Rules::Strict, ALL_CALLS)?;
-        send_away(&rt, &mut table, 3);
-        let is_right = are_granted(&rt, &mut table, row.grants)
-            && is_answered(&rt, &mut table, row);
-        assert!(rt; is_right, "{name}");
-    }
-    Ok(())
+fn users(rt: HostRuntime) -> Result<(), Fail> {
+    all_answered(&rt, rt.alloc(), USERS)
 }
 
 /// The results of slot 1's grant to slot 0, and of slot 0's copy into slot 1 without a window, under some
@@ -643,52 +716,64 @@ static BY_RULES: &[RulesRow] = &[
     },
 ];
 
+fn is_by_rules(rt: &impl Abort, table: &mut Table, row: &RulesRow) -> bool {
+    let copy = Copied { count: 4, ..INTO };
+    make_copy(rt, table, 0, &copy) == Some(row.copied)
+        && make_grant(rt, table, &WRITTEN) == Some(row.granted)
+}
+
 #[test]
 fn both_rules(rt: HostRuntime) -> Result<(), Fail> {
     for row in BY_RULES {
         let name = row.name;
         let mut table = processes(&rt, rt.alloc(), row.rules, row.mask)?;
-        let copy = Copied { count: 4, ..INTO };
-        let is_so = make_copy(&rt, &mut table, 0, &copy) == Some(row.copied)
-            && make_grant(&rt, &mut table, &WRITTEN) == Some(row.granted);
-        assert!(rt; is_so, "{name}");
+        assert!(rt; is_by_rules(&rt, &mut table, row), "{name}");
     }
     Ok(())
 }
 
-/// A death clears the windows of who died and those that were opened for it, and no others.
+/// Slots 1 and 0 open windows for each other, and so do slots 1 and 2.
+static OPENED: &[Opening] = &[
+    WRITTEN,
+    Opening {
+        owner: 0,
+        user: 1,
+        place: 0,
+        count: 8,
+        access: READ,
+    },
+    Opening {
+        user: 2,
+        place: 0,
+        count: 8,
+        access: READ,
+        ..WRITTEN
+    },
+    Opening {
+        owner: 2,
+        user: 1,
+        place: 0,
+        count: 8,
+        access: BOTH,
+    },
+];
+
+/// Whether the death of slot 0 clears its windows and those that were opened for it, and no others.
+fn are_cleared(rt: &impl Abort, table: &mut Table) -> bool {
+    let are_opened = are_granted(rt, table, OPENED);
+    make_call(rt, table, 0, &[EXIT, 0, 0, 0, 0, 0]);
+    assert!(rt; table.slot_count() == 4);
+    are_opened
+        && table.window(1, 0).is_none()
+        && table.window(0, 1).is_none()
+        && table.window(1, 2).is_some()
+        && table.window(2, 1).is_some()
+}
+
 #[test]
 fn deaths_close_windows(rt: HostRuntime) -> Result<(), Fail> {
     let mut table = processes(&rt, rt.alloc(), Rules::Strict, ALL_CALLS)?;
-    let all = [
-        WRITTEN,
-        Opening {
-            user: 2,
-            place: 0,
-            count: 8,
-            access: READ,
-            ..WRITTEN
-        },
-        Opening {
-            owner: 0,
-            user: 1,
-            place: 0,
-            count: 8,
-            access: READ,
-        },
-        Opening {
-            owner: 2,
-            user: 1,
-            place: 0,
-            count: 8,
-            access: BOTH,
-        },
-    ];
-    assert!(rt; are_granted(&rt, &mut table, &all));
-    make_call(&rt, &mut table, 0, &[EXIT, 0, 0, 0, 0, 0]);
-    assert!(rt; table.slot_count() == 4);
-    assert!(rt; table.window(1, 0).is_none() && table.window(0, 1).is_none());
-    assert!(rt; table.window(1, 2).is_some() && table.window(2, 1).is_some());
+    assert!(rt; are_cleared(&rt, &mut table));
     Ok(())
 }
 
