@@ -39,7 +39,7 @@ use Rattle.mx_app_run.specs.Calls.{AreCallsGiven, IsCallsFault, call_line, tick_
 use Rattle.mx_text.specs.Lines.{lines}
 use Rattle.mx_text.specs.declared.error.BootError.{BootError}
 use Rattle.mx_boot.specs.Reading.{AreLinesRead, TellsUnread}
-use Rattle.mx_app_run.specs.Run.{EndsDriven, IsCalled, IsNotCalled, IsRun, IsTold, Runs, run_ending}
+use Rattle.mx_app_run.specs.Run.{EndsDriven, IsCalled, IsNotCalled, IsRun, IsRunTold, IsTold, Runs, run_ending}
 
 -- a kernel whose loops have ended is what a run comes to
 pub run_of : (c : Config) (vs : List Service) (ticks : ℕ) (xs : List OutsideCall) (k : BootAndHistory) (boot : World) (z : TableId) (seats : List SeatView)
@@ -120,27 +120,37 @@ module _ (config : List ℕ) (events : Option (List ℕ)) (log : List ℕ) (tick
   pub spared : (c : Config) (vs : List Service) (xs : List OutsideCall) (f : Kind) → IsCalled config events qs c vs xs → SparesProgram c log [] Prints f → Runs config events log ticks qs [] Prints (Err f)
   spared c vs xs f called named = inr (inl (c, vs, xs, apart, called, named))
 
-  module _ (c : Config) (vs : List Service) (xs : List OutsideCall) (called : IsCalled config events qs c vs xs) (unnamed : names_program c log ≡ false) where
-    pub no_memory : (r : Result Ending Kind) → IsErrAnd r (λ y. y ≡ NoMemory) → Runs config events log ticks qs [] Prints r
-    no_memory (Ok u) h = absurd h
-    no_memory (Err y) h = inl (refl, inr (apart, inr (c, vs, xs, called, unnamed, h)))
+  -- what was read is run and told
+  pub run_told : (c : Config) (vs : List Service) (xs : List OutsideCall) → IsCalled config events qs c vs xs → names_program c log ≡ false → (ws : List Written) (r : Result Ending Kind) → IsRunTold c vs xs log ticks ws Prints r
+      → Runs config events log ticks qs ws Prints r
+  run_told c vs xs called unnamed ws (Ok answered) h = (c, vs, xs, h.0, apart, called, unnamed, h.1, h.2, h.3, h.4)
+  run_told c vs xs called unnamed ws (Err f) h = elim h [
+    | inl none ↦ inl (none.0, inr (apart, inr (c, vs, xs, called, unnamed, none.1)))
+    | inr untold ↦ inr (inr (c, vs, xs, untold.0, apart, called, unnamed, untold.1, untold.2))
+  ]
 
-    module _ (k : BootAndHistory) (run : IsRun c vs ticks xs k) where
-      by_rules : text_kept k ≡ saved_text c.rules k.history
-      by_rules = ap (λ (r : Rules). saved_text r k.history) (ap (λ (w : World). w.table.rules) run.boot ∙ rules_at_boot c vs)
+-- ---- what a run of what was read came to
 
-      -- and then it is told
-      pub told : (ws : List Written) (ending : Ending) (r : Result Ending Kind) → ending ≡ run_ending c.log ticks xs k → IsTold log (text_kept k) ws (Prints (report_text (replay k).table (replay k).services)) ending r
-          → Runs config events log ticks qs ws Prints r
-      told ws ending (Ok answered) is h =
-          (c, vs, xs, k, apart, called, unnamed, run, h.0 ∙ ap (λ t. kept log t ∷ []) by_rules, h.1, h.2 ∙ is)
-      told ws ending (Err f) is h = elim h [
-        | inl why ↦ elim why [
-          | inl none ↦ inl (none.0, inr (apart, inr (c, vs, xs, called, unnamed, none.1)))
-          | inr file ↦ inr (inr (c, vs, xs, k, apart, called, unnamed, run, inl (file.0, file.1 ∙ ap (λ t. unkept log t file.0 ∷ []) by_rules, file.2)))
-        ]
-        | inr wanting ↦ inr (inr (c, vs, xs, k, apart, called, unnamed, run, inr (wanting.0 ∙ ap (λ t. kept log t ∷ []) by_rules, wanting.1)))
+module _ (c : Config) (vs : List Service) (xs : List OutsideCall) (log : List ℕ) (ticks : ℕ) (Prints : List ℕ → Type 0) where
+  pub no_memory : (r : Result Ending Kind) → IsErrAnd r (λ y. y ≡ NoMemory) → IsRunTold c vs xs log ticks [] Prints r
+  no_memory (Ok u) h = absurd h
+  no_memory (Err y) h = inl (refl, h)
+
+  module _ (k : BootAndHistory) (run : IsRun c vs ticks xs k) where
+    by_rules : text_kept k ≡ saved_text c.rules k.history
+    by_rules = ap (λ (r : Rules). saved_text r k.history) (ap (λ (w : World). w.table.rules) run.boot ∙ rules_at_boot c vs)
+
+    -- and then it is told
+    pub told : (ws : List Written) (ending : Ending) (r : Result Ending Kind) → ending ≡ run_ending c.log ticks xs k → IsTold log (text_kept k) ws (Prints (report_text (replay k).table (replay k).services)) ending r
+        → IsRunTold c vs xs log ticks ws Prints r
+    told ws ending (Ok answered) is h = (k, run, h.0 ∙ ap (λ t. kept log t ∷ []) by_rules, h.1, h.2 ∙ is)
+    told ws ending (Err f) is h = elim h [
+      | inl why ↦ elim why [
+        | inl none ↦ inl (none.0, none.1)
+        | inr file ↦ inr (k, run, inl (file.0, file.1 ∙ ap (λ t. unkept log t file.0 ∷ []) by_rules, file.2))
       ]
+      | inr wanting ↦ inr (k, run, inr (wanting.0 ∙ ap (λ t. kept log t ∷ []) by_rules, wanting.1))
+    ]
 
 -- a run that isn't told
 pub untold : (log text : List ℕ) (ws : List Written) (Printed : Type 0) (ending : Ending) (f : Kind) (r : Result Ending Kind) → IsTold log text ws Printed ending (Err f) → IsErrAnd r (λ y. y ≡ f) → IsTold log text ws Printed ending r

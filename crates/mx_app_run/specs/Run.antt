@@ -96,6 +96,17 @@ abbrev pub IsTold : List ℕ → List ℕ → List Written → Type 0 → Ending
 IsTold log text ws Printed ending (Ok answered) = (ws ≡ kept log text ∷ []) × Printed × (answered ≡ ending)
 IsTold log text ws Printed ending (Err f) = IsUnwritten log text ws f ⊎ ((ws ≡ kept log text ∷ []) × IsWanting f)
 
+-- what a run of what was read came to: there was no memory for it; or how it ended, after its history's text was written,
+-- whole, and the report on the replay of that history was printed; or why not all of this was done
+abbrev pub IsRunTold : Config → List Service → List OutsideCall → List ℕ → ℕ → List Written → (List ℕ → Type 0) → Result Ending Kind → Type 0
+IsRunTold c vs xs log ticks ws Prints (Ok ending) =
+    (k : BootAndHistory) × IsRun c vs ticks xs k
+    × (ws ≡ kept log (saved_text c.rules k.history) ∷ []) × Prints (report_text (replay k).table (replay k).services)
+    × (ending ≡ run_ending c.log ticks xs k)
+IsRunTold c vs xs log ticks ws Prints (Err f) =
+    ((ws ≡ []) × (f ≡ NoMemory))
+    ⊎ ((k : BootAndHistory) × IsRun c vs ticks xs k × IsRunUntold log (saved_text c.rules k.history) ws f)
+
 -- WHAT `mx run` DOES: it writes the text of a run's history, whole, and prints the report on the replay of that
 -- history, and answers how the run ended; or it reports why it didn't
 abbrev pub Runs : List ℕ → Option (List ℕ) → List ℕ → ℕ → List Asked → List Written → (List ℕ → Type 0) → Result Ending Kind → Type 0

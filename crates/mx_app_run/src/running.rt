@@ -7,8 +7,9 @@ ghost use Rattle.mx_app_step.specs.Asked.{Asked};
 ghost use Rattle.mx_app_step.specs.Kept.{text_kept};
 ghost use Rattle.mx_app_step.specs.Report.{report_text};
 ghost use Rattle.mx_app_step.specs.Written.{Written};
+ghost use Rattle.mx_cpus.specs.Outsiders.{AreDrivenWith};
 ghost use Rattle.mx_app_run.specs.Calls.{AreCallsGiven, IsCallsFault};
-ghost use Rattle.mx_app_run.specs.Run.{EndsDriven, IsCalled, IsNotCalled, IsRun, IsTold, Runs, run_ending};
+ghost use Rattle.mx_app_run.specs.Run.{EndsDriven, IsCalled, IsNotCalled, IsRun, IsRunTold, IsTold, Runs, run_ending};
 
 use crate::calls::{outside_calls, ticks_of};
 use crate::gate::{RunGate, RunPlan};
@@ -38,6 +39,30 @@ struct RunPlace<'a, T, P> {
     progress: &'a P,
 }
 
+/// Runs the loops of a machine's seats by the gate of a run. The seats after that, if there was memory for all threads.
+fn drive_seats<M: Naming + Send + Sync, T: Threads + Wait + Clock + Sync, P: SharedProgress + Sync>(
+    place: &RunPlace<'_, T, P>,
+    shared: &Shared<M>,
+    seats: Vec<ActorSeat>,
+    log: u32,
+    outside: Outside<'_>,
+) -> Result<Vec<ActorSeat>, NoMemory>
+    requires tables { All (λ s. s.table ≡ M.table) seats.items }
+    requires empties { All (λ s. s.held ≡ None) seats.items }
+    ensures driven { IfOk result (λ v. AreDrivenWith (length M.boot.cpus) outside.entry.ticks
+        outside.entry.calls.now seats.items v.items) }
+    ensures tables { IfOk result (λ v. All (λ s. s.table ≡ M.table) v.items) }
+{
+    let plan = RunPlan {
+        respawner: shared.cpus(),
+        ticks: outside.ticks,
+        has_calls: !outside.calls.is_empty(),
+        log: log as usize,
+    };
+    let gate = RunGate::new(place.rt, place.progress, plan);
+    drive_with(place.rt, shared, seats, &gate, outside)
+}
+
 /// Drives a machine that was just booted, until it is at rest after its ticks and calls, or its history is full.
 fn drive_blank<M: Naming + Send + Sync, T: Threads + Wait + Clock + Sync, P: SharedProgress + Sync>(
     place: &RunPlace<'_, T, P>,
@@ -56,14 +81,7 @@ fn drive_blank<M: Naming + Send + Sync, T: Threads + Wait + Clock + Sync, P: Sha
         seats.items kernel.history) }
 {
     let shared: Shared<M> = blank.open();
-    let plan = RunPlan {
-        respawner: shared.cpus(),
-        ticks: outside.ticks,
-        has_calls: !outside.calls.is_empty(),
-        log: log as usize,
-    };
-    let gate = RunGate::new(place.rt, place.progress, plan);
-    match drive_with(place.rt, &shared, seats, &gate, outside) {
+    match drive_seats(place, &shared, seats, log, outside) {
         Ok(seats) => Ok(shared.into_kernel(seats)),
         Err(NoMemory) => {
             let _kernel = shared.into_kernel(Vec::new(place.alloc));
@@ -196,6 +214,51 @@ fn tell<R: Drop, F: FileWriter + Drop, W: Write + Drop>(
     Ok(ending)
 }
 
+/// Runs the machine of what was read, writes its history, prints the report, and answers how the run ended.
+fn run_begun<
+    T: Threads + Wait + Clock + Sync,
+    R: Drop,
+    F: FileWriter + Drop,
+    W: Write + Drop,
+    P: Progress + SharedProgress + Sync,
+>(
+    rt: &T,
+    alloc: Global,
+    channels: &mut Channels<R, F, W>,
+    wanted: RunWanted<'_>,
+    begun: Begun,
+    progress: &mut P,
+) -> Result<Ending, Failure>
+    requires some { 0 < length begun.services.items }
+    requires few { length begun.services.items ≤ 32 }
+    ensures reader { channels.new.reader ≡ channels.old.reader }
+    ensures told { (ws : List Written)
+        × (F.written channels.new.files ≡ F.written channels.old.files ++ ws)
+        × IsRunTold begun.config begun.services.items begun.calls.items wanted.entry.log.now
+        wanted.entry.ticks ws (λ text. Appends (W.contents channels.old.out)
+        (W.contents channels.new.out) text) result }
+    ensures shown { P.shown progress.new ≡ P.shown progress.old }
+{
+    let Begun {
+        config,
+        services,
+        calls,
+    } = begun;
+    let outside = Outside {
+        ticks: wanted.ticks,
+        calls: calls.as_slice(),
+    };
+    let place = RunPlace {
+        rt,
+        alloc,
+        progress: &*progress,
+    };
+    let kernel = run_machine(&place, &config, services, outside)?;
+    progress.clear();
+    let ending = ending_of(&kernel, config.log, outside);
+    tell(alloc, channels, wanted.log, &kernel, ending)
+}
+
 /// Runs the machine of a configuration, each processor in a thread of its own, until it is at rest
 /// after all ticks and the outside events of a file, or its history is full, and answers which. Then writes the history
 /// to a file, and prints the report. No file that is read is written over: if LOG has the name of CONFIG or
@@ -226,25 +289,8 @@ pub fn run<
         return Err(Failure::File);
     }
     let begun = begin(alloc, &mut channels.reader, wanted.config, wanted.events)?;
-    let Begun {
-        config,
-        services,
-        calls,
-    } = begun;
-    if names_program(&config, wanted.log) {
+    if names_program(&begun.config, wanted.log) {
         return Err(Failure::File);
     }
-    let outside = Outside {
-        ticks: wanted.ticks,
-        calls: calls.as_slice(),
-    };
-    let place = RunPlace {
-        rt,
-        alloc,
-        progress: &*progress,
-    };
-    let kernel = run_machine(&place, &config, services, outside)?;
-    progress.clear();
-    let ending = ending_of(&kernel, config.log, outside);
-    tell(alloc, channels, wanted.log, &kernel, ending)
+    run_begun(rt, alloc, channels, wanted, begun, progress)
 }
