@@ -233,27 +233,6 @@ fn save<R: Files + Print + AllocGlobal>(rt: &R, kernel: &Kernel, log: &str) -> R
     ))
 }
 
-/// Drives a machine until its history is full, writes the history, and prints the report.
-fn fill_and_save<M: Naming + Send + Sync, R>(
-    rt: &R,
-    blank: Blank,
-    seats: Vec<ActorSeat>,
-    log: &str,
-) -> Result<(), Fault>
-where
-    R: Files + Print + Eprint + AllocGlobal + Threads + Wait + Sync,
-    requires table { blank.table ≡ M.table }
-    requires boot { blank.boot ≡ M.boot }
-    requires tables { All (λ s. s.table ≡ M.table) seats.items }
-    requires empties { All (λ s. s.held ≡ None) seats.items }
-{
-    let (kernel, done) = drive_until_full::<M, _>(rt, rt.alloc(), blank, seats);
-    match done {
-        Ok(()) => save(rt, &kernel, log),
-        Err(fault) => Err(fault),
-    }
-}
-
 /// Runs the machine of a configuration with four processors and four other actors until its history is full,
 /// writes the history, and prints the report.
 pub(crate) fn fill_history<R>(rt: &R, config: &str, log: &str) -> Result<(), Fault>
@@ -261,5 +240,9 @@ where
     R: Files + Print + Eprint + AllocGlobal + Threads + Wait + Sync,
 {
     let (blank, seats) = boot_config(rt, config)?;
-    fill_and_save::<Brand, _>(rt, blank, seats, log)
+    let (kernel, done) = drive_until_full::<Brand, _>(rt, rt.alloc(), blank, seats);
+    match done {
+        Ok(()) => save(rt, &kernel, log),
+        Err(fault) => Err(fault),
+    }
 }
