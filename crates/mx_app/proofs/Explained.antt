@@ -1,4 +1,4 @@
--- What is told of words that ask for nothing.
+-- What is reported of words that ask for nothing.
 use Rattle.std.proofs.Common.{◌≡◌, ◌≢◌, Result, Err, refl}
 use Rattle.clap.specs.declared.error.Error.{Error}
 use Rattle.clap.specs.declared.error.kind.ErrorKind.{ErrorKind}

@@ -23,7 +23,7 @@ shown Has name bytes slice Prints r same tells text = inr (
   subst (λ (b : List ℕ). OnOk r ((text : List ℕ) × Has b text × Prints text)) same text,
 )
 
--- what can't be read or written is told
+-- what can't be read or written is reported
 pub told : (kind : ErrorKind) (r : Result (Unit {0}) Kind) → IsErrAnd r (λ f. f ≡ failure_of_kind kind) → r ≡ Err (failure_of_kind kind)
 told kind (Ok u) h = absurd h
 told kind (Err f) h = ap Err h

@@ -1,4 +1,4 @@
--- Each statement's bytes stand at its address.
+-- Each statement's bytes are at its address.
 use Rattle.std.proofs.Common.{◌≡◌, ℕ, ◌+◌, ◌<◌, ◌^◌, Bool, true, false, List, [], ◌∷◌, ◌++◌, length, refl, sym, ◌∙◌, ap, subst, arith, append_assoc, append-nil, length-append}
 use Rattle.mx_asm_statement.specs.declared.statement.Section.{Section}
 use Rattle.mx_asm_statement.specs.declared.statement.Section.TheVariants.{Text, Data, Bss}

@@ -32,11 +32,11 @@ total_append : (x y : List Part) → total_size (x ++ y) ≡ total_size x + tota
 total_append [] y = omega arith
 total_append (p ∷ x) y = omega (arith, total_append x y)
 
--- after some more bytes of a text stand parts, of which the first are those that are told, and the others part the rest
+-- after some more bytes of a text come parts, of which the first are those that are named, and the others part the rest
 abbrev GoesOn : List Part → ℕ → List ℕ → Type 0
 GoesOn parts at rest = (front back : List Part) × (parts ≡ front ++ back) × (total_size front ≡ at) × IsParting rest back
 
--- an instruction, and what stands after it
+-- an instruction, and what is after it
 abbrev Meets : Section → LinesAbove → ℕ → ℕ → Statement → List ℕ → List Part → List ℕ → Type 0
 Meets section a at n t b parts after =
     ListedIfText section a at t b parts × (put_by_directive section t b ≡ [] → GoesOn parts (n + length (put_into Text section b)) after)

@@ -19,27 +19,24 @@ use Rattle.mx_cpus.specs.Seats.{SeatView}
 use Rattle.mx_cpus.specs.Boots.{all_seats}
 use Rattle.mx_app_step.specs.Asked.{Asked}
 use Rattle.mx_app_step.specs.ServiceLine.{ServiceLine}
-use Rattle.mx_app_step.specs.Programs.{SparesProgram, names_program}
 use Rattle.mx_app_step.specs.Setup.{AreServicesRead, IsSetup, IsTextGiven}
 use Rattle.mx_app_failure.specs.declared.failure.Failure.{Failure as Kind}
-use Rattle.mx_app_failure.specs.declared.failure.Failure.TheVariants.{NoMemory}
 use Rattle.mx_app_failure.specs.Failure.{failure_of_lines}
 use Rattle.mx_app_step.specs.Setup.{IsSetupFault}
 use Rattle.mx_app_step.specs.Kept.{text_kept}
-use Rattle.mx_app_step.specs.Written.{Written, kept, unkept}
+use Rattle.mx_app_step.specs.Written.{Written}
 use Rattle.mx_app_step.specs.Report.{report_text}
 use Rattle.mx_boot.specs.Text.{saved_text}
 use Rattle.mx_app_step.specs.Records.{IsFirstRefusal, IsRefusedAt, IsReplayPrinted}
 use Rattle.mx_app_step.specs.declared.records.Replayed.{Replayed}
 use Rattle.mx_app_step.specs.declared.records.Replayed.TheVariants as replayed
 use Rattle.mx_turns.specs.declared.turns.Ending.{Ending}
-use Rattle.mx_app_turns.specs.Turned.{writes_over}
 use Rattle.mx_cpus.specs.declared.outside.OutsideCall.{OutsideCall}
 use Rattle.mx_app_run.specs.Calls.{AreCallsGiven, IsCallsFault, call_line, tick_of, ticks_of}
 use Rattle.mx_text.specs.Lines.{lines}
 use Rattle.mx_text.specs.declared.error.BootError.{BootError}
 use Rattle.mx_boot.specs.Reading.{AreLinesRead, TellsUnread}
-use Rattle.mx_app_run.specs.Run.{EndsDriven, IsCalled, IsNotCalled, IsRun, IsRunTold, IsTold, Runs, run_ending}
+use Rattle.mx_app_run.specs.Run.{ComesTo, EndsDriven, IsCalled, IsNotCalled, IsReported, IsRun, run_ending}
 
 -- a kernel whose loops have ended is what a run comes to
 pub run_of : (c : Config) (vs : List Service) (ticks : ℕ) (xs : List OutsideCall) (k : BootAndHistory) (boot : World) (z : TableId) (seats : List SeatView)
@@ -109,53 +106,29 @@ some_called config o qs c vs xs h =
     let many = setup_of_called config o qs c vs xs h in
     (omega (arith, many, c.some_lines), omega (arith, many, c.lines_fit))
 
--- ---- what `mx run` reports, by how it ends
+-- ---- what `mx run` does, by how far it comes
 
-module _ (config : List ℕ) (events : Option (List ℕ)) (log : List ℕ) (ticks : ℕ) (qs : List Asked) (Prints : List ℕ → Type 0) (apart : writes_over config events log ≡ false) where
-  pub not_called : (f : Kind) (r : Result Ending Kind) → IsNotCalled config events qs f → IsErrAnd r (λ y. y ≡ f) → Runs config events log ticks qs [] Prints r
-  not_called f (Ok u) why h = absurd h
-  not_called f (Err y) why h = inl (refl, inr (apart, inl (subst (λ z. IsNotCalled config events qs z) (sym h) why)))
+-- an answer that is given on
+pub given_on : (P : Kind → Type 0) (f : Kind) (r : Result Ending Kind) → P f → IsErrAnd r (λ y. y ≡ f) → IsErrAnd r P
+given_on P f (Ok u) why h = absurd h
+given_on P f (Err y) why h = subst P (sym h) why
 
-  -- a program isn't written over
-  pub spared : (c : Config) (vs : List Service) (xs : List OutsideCall) (f : Kind) → IsCalled config events qs c vs xs → SparesProgram c log [] Prints f → Runs config events log ticks qs [] Prints (Err f)
-  spared c vs xs f called named = inr (inl (c, vs, xs, apart, called, named))
+-- a run that isn't reported
+pub unreported : (log text : List ℕ) (ws : List Written) (Printed : Type 0) (ending : Ending) (f : Kind) (r : Result Ending Kind) → IsReported log text ws Printed ending (Err f) → IsErrAnd r (λ y. y ≡ f) → IsReported log text ws Printed ending r
+unreported log text ws Printed ending f (Ok answered) why h = absurd h
+unreported log text ws Printed ending f (Err y) why h = subst (λ z. IsReported log text ws Printed ending (Err z)) (sym h) why
 
-  -- what was read is run and told
-  pub run_told : (c : Config) (vs : List Service) (xs : List OutsideCall) → IsCalled config events qs c vs xs → names_program c log ≡ false → (ws : List Written) (r : Result Ending Kind) → IsRunTold c vs xs log ticks ws Prints r
-      → Runs config events log ticks qs ws Prints r
-  run_told c vs xs called unnamed ws (Ok answered) h = (c, vs, xs, h.0, apart, called, unnamed, h.1, h.2, h.3, h.4)
-  run_told c vs xs called unnamed ws (Err f) h = elim h [
-    | inl none ↦ inl (none.0, inr (apart, inr (c, vs, xs, called, unnamed, none.1)))
-    | inr untold ↦ inr (inr (c, vs, xs, untold.0, apart, called, unnamed, untold.1, untold.2))
-  ]
+-- the text of a run's history is by the rules of its configuration
+by_rules : (c : Config) (vs : List Service) (ticks : ℕ) (xs : List OutsideCall) (k : BootAndHistory) → IsRun c vs ticks xs k → text_kept k ≡ saved_text c.rules k.history
+by_rules c vs ticks xs k run = ap (λ (r : Rules). saved_text r k.history) (ap (λ (w : World). w.table.rules) run.boot ∙ rules_at_boot c vs)
 
--- ---- what a run of what was read came to
-
-module _ (c : Config) (vs : List Service) (xs : List OutsideCall) (log : List ℕ) (ticks : ℕ) (Prints : List ℕ → Type 0) where
-  pub no_memory : (r : Result Ending Kind) → IsErrAnd r (λ y. y ≡ NoMemory) → IsRunTold c vs xs log ticks [] Prints r
-  no_memory (Ok u) h = absurd h
-  no_memory (Err y) h = inl (refl, h)
-
-  module _ (k : BootAndHistory) (run : IsRun c vs ticks xs k) where
-    by_rules : text_kept k ≡ saved_text c.rules k.history
-    by_rules = ap (λ (r : Rules). saved_text r k.history) (ap (λ (w : World). w.table.rules) run.boot ∙ rules_at_boot c vs)
-
-    -- and then it is told
-    pub told : (ws : List Written) (ending : Ending) (r : Result Ending Kind) → ending ≡ run_ending c.log ticks xs k → IsTold log (text_kept k) ws (Prints (report_text (replay k).table (replay k).services)) ending r
-        → IsRunTold c vs xs log ticks ws Prints r
-    told ws ending (Ok answered) is h = (k, run, h.0 ∙ ap (λ t. kept log t ∷ []) by_rules, h.1, h.2 ∙ is)
-    told ws ending (Err f) is h = elim h [
-      | inl why ↦ elim why [
-        | inl none ↦ inl (none.0, none.1)
-        | inr file ↦ inr (k, run, inl (file.0, file.1 ∙ ap (λ t. unkept log t file.0 ∷ []) by_rules, file.2))
-      ]
-      | inr wanting ↦ inr (k, run, inr (wanting.0 ∙ ap (λ t. kept log t ∷ []) by_rules, wanting.1))
-    ]
-
--- a run that isn't told
-pub untold : (log text : List ℕ) (ws : List Written) (Printed : Type 0) (ending : Ending) (f : Kind) (r : Result Ending Kind) → IsTold log text ws Printed ending (Err f) → IsErrAnd r (λ y. y ≡ f) → IsTold log text ws Printed ending r
-untold log text ws Printed ending f (Ok answered) why h = absurd h
-untold log text ws Printed ending f (Err y) why h = subst (λ z. IsTold log text ws Printed ending (Err z)) (sym h) why
+-- a run whose kernel is reported
+pub run_reported : (c : Config) (vs : List Service) (ticks : ℕ) (xs : List OutsideCall) (k : BootAndHistory) → IsRun c vs ticks xs k → (log : List ℕ) (ws : List Written) (Prints : List ℕ → Type 0) (ending : Ending) (r : Result Ending Kind)
+    → ending ≡ run_ending c.log ticks xs k → IsReported log (text_kept k) ws (Prints (report_text (replay k).table (replay k).services)) ending r → ComesTo c vs xs log ticks ws Prints r
+run_reported c vs ticks xs k run log ws Prints ending r is h =
+    let Printed = Prints (report_text (replay k).table (replay k).services) in
+    inr (k, run, subst (λ e. IsReported log (saved_text c.rules k.history) ws Printed e r) is
+    (subst (λ t. IsReported log t ws Printed ending r) (by_rules c vs ticks xs k run) h))
 
 -- ---- its replay
 

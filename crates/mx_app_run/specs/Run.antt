@@ -1,7 +1,6 @@
 -- Machines whose processors are threads, and what their runs leave (our own).
-use Rattle.std.specs.Prelude.{◌≡◌, ◌⊎◌, ◌==◌, ◌&&◌, ◌||◌, ◌+◌, ◌++◌, if◌then◌else◌, ℕ, Bool, true, false, nat_lt, List, [], ◌∷◌, length, All, Option, Some, None, Result, Ok, Err}
+use Rattle.std.specs.Prelude.{◌≡◌, ◌⊎◌, ◌==◌, ◌&&◌, ◌||◌, ◌+◌, ◌++◌, if◌then◌else◌, ℕ, Bool, true, false, nat_lt, List, [], ◌∷◌, length, All, Option, Some, None, Result, Ok, Err, IsErrAnd}
 use Rattle.std.specs.Io.KnownBytes.{Appends}
-use Rattle.std.specs.declared.io.ErrorKind.{ErrorKind}
 use Rattle.atomic_table.specs.Seated.{TableId}
 use Rattle.mx_machine.specs.declared.config.Config.{Config}
 use Rattle.mx_machine.specs.declared.history.Record.{Record}
@@ -21,7 +20,7 @@ use Rattle.mx_turns.specs.declared.turns.Ending.{Ending}
 use Rattle.mx_turns.specs.declared.turns.Ending.TheVariants.{Full, Rest}
 use Rattle.mx_app_failure.specs.declared.failure.Failure.{Failure as Kind}
 use Rattle.mx_app_failure.specs.declared.failure.Failure.TheVariants.{File, NoMemory}
-use Rattle.mx_app_failure.specs.Failure.{IsWanting, failure_of_kind}
+use Rattle.mx_app_failure.specs.Failure.{IsWanting}
 use Rattle.mx_app_step.specs.Asked.{Asked}
 use Rattle.mx_app_turns.specs.Turned.{writes_over}
 use Rattle.mx_app_run.specs.Calls.{AreCallsGiven, IsCallsFault, ticks_of}
@@ -29,7 +28,7 @@ use Rattle.mx_app_step.specs.Course.{IsSaved}
 use Rattle.mx_app_step.specs.Kept.{IsUnwritten}
 use Rattle.mx_app_step.specs.Programs.{SparesProgram, names_program}
 use Rattle.mx_app_step.specs.Setup.{IsSetup, IsSetupFault}
-use Rattle.mx_app_step.specs.Written.{Written, kept, unkept}
+use Rattle.mx_app_step.specs.Written.{Written, kept}
 use Rattle.mx_app_step.specs.Records.{IsReplayPrinted}
 use Rattle.mx_app_step.specs.declared.records.Replayed.{Replayed}
 use Rattle.mx_app_step.specs.declared.records.Replayed.TheVariants.{Whole}
@@ -76,52 +75,33 @@ IsNotCalled config (Some name) qs f =
     ⊎ ((before : List Asked) × (q : Asked) × (c : Config) × (vs : List Service) × (qs ≡ before ++ q ∷ []) × IsSetup config before c vs
     × IsCallsFault name q c.others f)
 
--- no history is written: a file that is read would be written over; or the first fault of these files; or, if there is
--- none, out of memory
+-- nothing is run: a file that is read would be written over; or the first fault of these files
 abbrev pub IsNotRun : List ℕ → Option (List ℕ) → List ℕ → List Asked → Kind → Type 0
 IsNotRun config events log qs f =
     ((writes_over config events log ≡ true) × (qs ≡ []) × (f ≡ File))
-    ⊎ ((writes_over config events log ≡ false)
-    × (IsNotCalled config events qs f ⊎ ((c : Config) × (vs : List Service) × (xs : List OutsideCall) × IsCalled config events qs c vs xs × (names_program c log ≡ false) × (f ≡ NoMemory))))
+    ⊎ ((writes_over config events log ≡ false) × IsNotCalled config events qs f)
 
--- what a run came to: its history's text couldn't be written, or it was, and the report couldn't be printed
-abbrev pub IsRunUntold : List ℕ → List ℕ → List Written → Kind → Type 0
-IsRunUntold log text ws f =
-    ((kind : ErrorKind) × (ws ≡ unkept log text kind ∷ []) × (f ≡ failure_of_kind kind))
-    ⊎ ((ws ≡ kept log text ∷ []) × IsWanting f)
-
--- a run was told: its history's text was written, whole, the report was printed, and the answer is how it ended; or not
+-- a run is reported: its history's text was written, whole, the report was printed, and the answer is how it ended; or not
 -- all of this, and the answer says why
-abbrev pub IsTold : List ℕ → List ℕ → List Written → Type 0 → Ending → Result Ending Kind → Type 0
-IsTold log text ws Printed ending (Ok answered) = (ws ≡ kept log text ∷ []) × Printed × (answered ≡ ending)
-IsTold log text ws Printed ending (Err f) = IsUnwritten log text ws f ⊎ ((ws ≡ kept log text ∷ []) × IsWanting f)
+abbrev pub IsReported : List ℕ → List ℕ → List Written → Type 0 → Ending → Result Ending Kind → Type 0
+IsReported log text ws Printed ending (Ok answered) = (ws ≡ kept log text ∷ []) × Printed × (answered ≡ ending)
+IsReported log text ws Printed ending (Err f) = IsUnwritten log text ws f ⊎ ((ws ≡ kept log text ∷ []) × IsWanting f)
 
--- what a run of what was read came to: there was no memory for it; or how it ended, after its history's text was written,
--- whole, and the report on the replay of that history was printed; or why not all of this was done
-abbrev pub IsRunTold : Config → List Service → List OutsideCall → List ℕ → ℕ → List Written → (List ℕ → Type 0) → Result Ending Kind → Type 0
-IsRunTold c vs xs log ticks ws Prints (Ok ending) =
-    (k : BootAndHistory) × IsRun c vs ticks xs k
-    × (ws ≡ kept log (saved_text c.rules k.history) ∷ []) × Prints (report_text (replay k).table (replay k).services)
-    × (ending ≡ run_ending c.log ticks xs k)
-IsRunTold c vs xs log ticks ws Prints (Err f) =
-    ((ws ≡ []) × (f ≡ NoMemory))
-    ⊎ ((k : BootAndHistory) × IsRun c vs ticks xs k × IsRunUntold log (saved_text c.rules k.history) ws f)
+-- WHAT A RUN OF WHAT WAS READ COMES TO: there is no memory for it; or it is reported, with the report on the replay of
+-- its history
+abbrev pub ComesTo : Config → List Service → List OutsideCall → List ℕ → ℕ → List Written → (List ℕ → Type 0) → Result Ending Kind → Type 0
+ComesTo c vs xs log ticks ws Prints r =
+    ((ws ≡ []) × IsErrAnd r (λ f. f ≡ NoMemory))
+    ⊎ ((k : BootAndHistory) × IsRun c vs ticks xs k
+    × IsReported log (saved_text c.rules k.history) ws (Prints (report_text (replay k).table (replay k).services)) (run_ending c.log ticks xs k) r)
 
--- WHAT `mx run` DOES: it writes the text of a run's history, whole, and prints the report on the replay of that
--- history, and answers how the run ended; or it reports why it didn't
+-- WHAT `mx run` DOES: it reports why nothing is run; or, after its files were read, it spares a service's program that the
+-- history would be written over; or else it does what a run of what was read comes to
 abbrev pub Runs : List ℕ → Option (List ℕ) → List ℕ → ℕ → List Asked → List Written → (List ℕ → Type 0) → Result Ending Kind → Type 0
-Runs config events log ticks qs ws Prints (Ok ending) =
-    (c : Config) × (vs : List Service) × (xs : List OutsideCall) × (k : BootAndHistory) × (writes_over config events log ≡ false) × IsCalled config events qs c vs xs
-    × (names_program c log ≡ false) × IsRun c vs ticks xs k
-    × (ws ≡ kept log (saved_text c.rules k.history) ∷ []) × Prints (report_text (replay k).table (replay k).services)
-    × (ending ≡ run_ending c.log ticks xs k)
-Runs config events log ticks qs ws Prints (Err f) =
-    ((ws ≡ []) × IsNotRun config events log qs f)
-    ⊎ (((c : Config) × (vs : List Service) × (xs : List OutsideCall) × (writes_over config events log ≡ false) × IsCalled config events qs c vs xs
-    × SparesProgram c log ws Prints f)
-    ⊎ ((c : Config) × (vs : List Service) × (xs : List OutsideCall) × (k : BootAndHistory) × (writes_over config events log ≡ false) × IsCalled config events qs c vs xs
-    × (names_program c log ≡ false) × IsRun c vs ticks xs k
-    × IsRunUntold log (saved_text c.rules k.history) ws f))
+Runs config events log ticks qs ws Prints r =
+    IsErrAnd r (λ f. (ws ≡ []) × IsNotRun config events log qs f)
+    ⊎ ((c : Config) × (vs : List Service) × (xs : List OutsideCall) × (writes_over config events log ≡ false) × IsCalled config events qs c vs xs
+    × (IsErrAnd r (SparesProgram c log ws Prints) ⊎ ((names_program c log ≡ false) × ComesTo c vs xs log ticks ws Prints r)))
 
 -- ---- its replay
 

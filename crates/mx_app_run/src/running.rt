@@ -9,7 +9,7 @@ ghost use Rattle.mx_app_step.specs.Report.{report_text};
 ghost use Rattle.mx_app_step.specs.Written.{Written};
 ghost use Rattle.mx_cpus.specs.Outsiders.{AreDrivenWith};
 ghost use Rattle.mx_app_run.specs.Calls.{AreCallsGiven, IsCallsFault};
-ghost use Rattle.mx_app_run.specs.Run.{EndsDriven, IsCalled, IsNotCalled, IsRun, IsRunTold, IsTold, Runs, run_ending};
+ghost use Rattle.mx_app_run.specs.Run.{ComesTo, EndsDriven, IsCalled, IsNotCalled, IsReported, IsRun, Runs, run_ending};
 
 use crate::calls::{outside_calls, ticks_of};
 use crate::gate::{RunGate, RunPlan};
@@ -195,7 +195,7 @@ fn begin<R: Reader>(
 
 /// Writes the history of a run to the file `log`, prints the report, and answers how the run ended. If memory runs out
 /// for the report, the history is written already.
-fn tell<R: Drop, F: FileWriter + Drop, W: Write + Drop>(
+fn report_run<R: Drop, F: FileWriter + Drop, W: Write + Drop>(
     alloc: Global,
     channels: &mut Channels<R, F, W>,
     log: &str,
@@ -203,9 +203,9 @@ fn tell<R: Drop, F: FileWriter + Drop, W: Write + Drop>(
     ending: Ending,
 ) -> Result<Ending, Failure>
     ensures reader { channels.new.reader ≡ channels.old.reader }
-    ensures told { (ws : List Written)
+    ensures reported { (ws : List Written)
         × (F.written channels.new.files ≡ F.written channels.old.files ++ ws)
-        × IsTold log.now (text_kept kernel.now) ws (Appends (W.contents channels.old.out)
+        × IsReported log.now (text_kept kernel.now) ws (Appends (W.contents channels.old.out)
         (W.contents channels.new.out) (report_text (replay kernel.now).table
         (replay kernel.now).services)) ending result }
 {
@@ -232,9 +232,9 @@ fn run_begun<
     requires some { 0 < length begun.services.items }
     requires few { length begun.services.items ≤ 32 }
     ensures reader { channels.new.reader ≡ channels.old.reader }
-    ensures told { (ws : List Written)
+    ensures reported { (ws : List Written)
         × (F.written channels.new.files ≡ F.written channels.old.files ++ ws)
-        × IsRunTold begun.config begun.services.items begun.calls.items wanted.entry.log.now
+        × ComesTo begun.config begun.services.items begun.calls.items wanted.entry.log.now
         wanted.entry.ticks ws (λ text. Appends (W.contents channels.old.out)
         (W.contents channels.new.out) text) result }
     ensures shown { P.shown progress.new ≡ P.shown progress.old }
@@ -256,7 +256,7 @@ fn run_begun<
     let kernel = run_machine(&place, &config, services, outside)?;
     progress.clear();
     let ending = ending_of(&kernel, config.log, outside);
-    tell(alloc, channels, wanted.log, &kernel, ending)
+    report_run(alloc, channels, wanted.log, &kernel, ending)
 }
 
 /// Runs the machine of a configuration, each processor in a thread of its own, until it is at rest

@@ -8,7 +8,7 @@ use Rattle.mx_look_trace.specs.Step.{Step}
 use Rattle.mx_look_trace.specs.Trace.{record_text}
 use Rattle.mx_app_step.specs.Traces.{step_of, told_of, trace_text}
 
--- nothing is told of a step before the first that is told
+-- nothing is printed of a step before the first that is printed
 untold : (from : ℕ) (x : Step) → x.number < from → told_of from x ≡ []
 untold from x lt = ap (λ b. cond b [] (record_text x)) (lt-ltb x.number from lt)
 
@@ -22,14 +22,14 @@ not_below n from le = by_bool (nat_lt n from) refl
 told : (from : ℕ) (x : Step) → from ≤ x.number → told_of from x ≡ record_text x
 told from x le = ap (λ b. cond b [] (record_text x)) (not_below x.number from le)
 
--- from any place before them all are told
+-- from any place before them all are printed
 all_told : (a b : ℕ) (w : World) (n : ℕ) (xs : List Record) → a ≤ n → b ≤ n → trace_text a w n xs ≡ trace_text b w n xs
 all_told a b w n [] le also = refl
 all_told a b w n (x ∷ xs) le also =
     let v = world_after_events w (events_of x.actor x.event) in
     ap₂ (λ s t. s ++ t) (told a (step_of w n x) le ∙ sym (told b (step_of w n x) also)) (all_told a b v (n + 1) xs (omega (arith, le)) (omega (arith, also)))
 
--- the first i records and those after them, up to the j-th; the first that is told of these is the one after the i-th
+-- the first i records and those after them, up to the j-th; the first that is printed of these is the one after the i-th
 pub parts_join : (a : ℕ) (w : World) (n i j : ℕ) (xs : List Record) (next : ℕ) → next ≡ n + i → a ≤ n + i → i ≤ j
     → trace_text a w n (take i xs) ++ trace_text next w n (take j xs) ≡ trace_text a w n (take j xs)
 parts_join a w n zero j xs next e le few = all_told next a w n (take j xs) (omega (arith, e)) (omega (arith, le))

@@ -98,7 +98,7 @@ shows_at c vs bound known log listed items ticks w before shown now same_bound s
   refl,
 )
 
--- ---- what `mx turns` tells, by how it ends
+-- ---- what `mx turns` reports, by how it ends
 
 rules_at_boot : (c : Config) (vs : List Service) → (world_at_boot c vs).table.rules ≡ c.rules
 unfolding first_table

@@ -74,7 +74,7 @@ taken_same one s (t ∷ ts) (l ∷ ls) (k ∷ ks) ((line, clean), more) ((other,
     let rest : ls ≡ ks = taken_same one (seen_with s l) ts ls ks more (subst (λ (x : Line). AreLinesTaken (seen_with s x) ts ks) same more') in
     cc
 
--- no program is made of lines that something stands against
+-- no program is made of lines with a fault
 abbrev pub NoneMade : Type 0
 NoneMade = (t : List ℕ) (ls : List Line) (p : Program) (f : Fault) → AreLinesTaken unseen (lines t) ls → AreAssembled ls p → fault_after ls ≡ Some f → ⊥
 

@@ -1,4 +1,4 @@
--- The entry that is named, once nothing stands against the lines.
+-- The entry that is named, if the lines have no fault.
 use Rattle.std.proofs.Common.{◌≡◌, ℕ, ◌+◌, Bool, true, false, List, [], ◌∷◌, refl, sym, subst, Option, Some, None}
 use Rattle.std.specs.Prelude.{not, is_some, IsSome}
 use Rattle.mx_text.specs.declared.names.Name.{Name}
@@ -12,7 +12,7 @@ use Rattle.mx_asm.specs.Faults.{undefined_where, problem_at, first_problem}
 use Rattle.mx_asm.specs.Assembled.{entry_under}
 use Rattle.mx_asm.proofs.Standing.{neither}
 
--- the name that .entry says stands
+-- the name that .entry says is defined
 abbrev pub NameStands : LinesAbove → Option Name → Type 0
 NameStands a None = Unit {0}
 NameStands a (Some name) = is_some (label_named a.labels name) ≡ true

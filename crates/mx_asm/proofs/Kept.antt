@@ -108,7 +108,7 @@ problem_on a s r i ks k next none same =
     let rest : Option Fault = first_problem_kept a (sizes_after s (statement_said k.line) (statement_length (statement_said k.line))) (drop (i + 1) ks) in
     ap (first_problem_kept a s) next ∙ ap (λ (p : Option Problem). fault_or p k.number rest) none ∙ ap (λ (x : SectionSizes). first_problem_kept a x (drop (i + 1) ks)) (sym same)
 
--- nothing stands against the next line, nor against those after it
+-- the next line has no fault, nor have those after it
 pub clean_here : (a : LinesAbove) (s : SectionSizes) (i : ℕ) (ks : List NumberedLine) (k : NumberedLine) → drop i ks ≡ k ∷ drop (i + 1) ks → first_problem_kept a s (drop i ks) ≡ None
     → problem_at a (address_of_offset a (section_offset_of s)) (statement_said k.line) ≡ None
 clean_here a s i ks k next e =
@@ -195,7 +195,7 @@ parts_kept a s n ls ks text init is p =
       init_is = p.init_is ∙ ap (λ (x : List NumberedLine). contents Data s (map line_in x) p.bytes) is ∙ sym f.init_is;
     }
 
--- ---- what is told of lines by those that are kept
+-- ---- what is known of lines by those that are kept
 
 decided : (a : LinesAbove) (ks : List NumberedLine) (count : ℕ) (ls : List Line) (found : Option Fault) → AreKept ls ks count → a ≡ laid_by no_lines_above ls → found ≡ first_problem_kept a no_lines_above.sizes ks
     → fault_after ls ≡ first_of found (too_large_in a ls)

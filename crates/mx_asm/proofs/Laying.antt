@@ -24,7 +24,7 @@ next_item i ls l h e = drop_more ls i l h ∙ ap (λ (x : Line). x ∷ drop (i +
 pub sizes_more : (s r : SectionSizes) (i : ℕ) → SizesWithin s (i * 2 ^ 64) → GrowsWithin s r (2 ^ 64) → SizesWithin r ((i + 1) * 2 ^ 64)
 sizes_more s r i (x, y, z) (u, v, w) = (omega arith, omega arith, omega arith)
 
--- where nothing stands against the next line, the first problem is one after it
+-- where the next line has no fault, the first problem is one after it
 pub problem_on : (a : LinesAbove) (s r : SectionSizes) (n i : ℕ) (ls : List Line) (l : Line) → drop i ls ≡ l ∷ drop (i + 1) ls → problem_at a (address_of_offset a (section_offset_of s)) (statement_said l) ≡ None
     → r ≡ sizes_after s (statement_said l) (statement_length (statement_said l)) → first_problem a s n (drop i ls) ≡ first_problem a r (n + 1) (drop (i + 1) ls)
 problem_on a s r n i ls l next none same =

@@ -65,7 +65,7 @@ named_length a i insn e =
 
 -- ---- statements
 
--- a statement's bytes have its length, wherever its names stand
+-- a statement's bytes have its length, wherever its names are
 bytes_length : (a : LinesAbove) (at : ℕ) (t : Statement) (b : List ℕ) → BytesOf a at t b → length b ≡ statement_length t
 bytes_length a at says.Nothing b h = ap length h
 bytes_length a at (says.Enter section) b h = ap length h

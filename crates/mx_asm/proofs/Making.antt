@@ -1,4 +1,4 @@
--- Lines against which nothing stands have their program.
+-- Lines without a fault have their program.
 use Rattle.std.proofs.Common.{◌≡◌, ℕ, ◌+◌, ◌*◌, ◌<◌, ◌≤◌, ◌^◌, Bool, true, false, List, [], ◌∷◌, length, map, replicate, refl, sym, ◌∙◌, ap, subst, arith, lit<, Option, Some, None, cond}
 use Rattle.std.specs.Prelude.{ℤ, pos, negsuc, ◌||◌, not, nat_lt, is_some, unwrap_or}
 use Rattle.std.specs.List.{list_any, flat_map}

@@ -1,4 +1,4 @@
--- No program is made of lines that something stands against.
+-- No program is made of lines with a fault.
 use Rattle.std.proofs.Common.{◌≡◌, ℕ, ◌+◌, ◌*◌, ◌≤◌, Bool, true, false, List, [], ◌∷◌, length, map, refl, sym, ◌∙◌, ap, subst, arith, Option, Some, None, cond}
 use Rattle.std.specs.Prelude.{◌||◌, not, is_some, is_none, unwrap_or}
 use Rattle.std.specs.List.{list_any}
@@ -64,13 +64,13 @@ then_defined : (a : LinesAbove) (v : Option Value) (o : Option Insn) (insn : Ins
 then_defined a v None insn e = cc
 then_defined a v (Some i) insn e = (i, refl, put_defined a with_displacement v i insn e)
 
--- ---- nothing stands against a statement whose bytes are there
+-- ---- a statement whose bytes are there has no fault
 
 not_too_far : (o : Option ℕ) (far : ℕ → Bool) (x : ℕ) → o ≡ Some x → far x ≡ false → undefined_or o far ≡ None
 not_too_far None far x e near = cc
 not_too_far (Some y) far x e near = let same : y ≡ x = cc in let here : far y ≡ false = ap far same ∙ near in ap (λ (b : Bool). cond b (Some TooFar) None) here
 
--- where .entry names a label that stands
+-- where .entry names a label that is defined
 abbrev EntryStands : LinesAbove → Statement → Type 0
 EntryStands a (says.Entry name) = is_some (label_named a.labels name) ≡ true
 EntryStands a _ = Unit {0}
@@ -92,7 +92,7 @@ none_against a at (says.Branch k target) b entry (x, e, chosen, n) =
     let chosen' = subst (λ (m : ℕ). Chosen (branch_by k (distance (at + m) x)) (branch_marks k) b) n chosen in
     not_too_far (value_under a target) (λ y. is_too_far k (distance (at + branch_length k) y)) x e (branch_reaches k (distance (at + branch_length k) x) b chosen' n)
 
--- ---- in bss nothing else stands
+-- ---- in bss there is nothing else
 
 stands_in_bss : (a : LinesAbove) (at : ℕ) (t : Statement) → EntryStands a t → is_misplaced Bss (begins_with t) ≡ false → problem_at a at t ≡ None
 stands_in_bss a at says.Nothing entry h = refl
@@ -114,7 +114,7 @@ none_stands Bss a at t b entry placed h = stands_in_bss a at t entry placed
 
 -- ---- what a line says that is taken
 
--- it stands in its place, and it is no second .entry
+-- it is in its place, and it is no second .entry
 pub record Placed (s : Seen) (t : Statement) : Type 0 where
   pub placed : is_misplaced s.section (begins_with t) ≡ false
   pub first : is_defined_twice s (begins_with t) ≡ false
@@ -173,7 +173,7 @@ entry_found : (a : LinesAbove) (name : Name) (o : Option SectionOffset) (n : ℕ
 entry_found a name None n e = cc
 entry_found a name (Some spot) n e = refl
 
--- the entry that a line names stands, since the last one does and it is that one
+-- the entry that a line names is defined, since the last one is and it is that one
 entry_stands : (a c : LinesAbove) (n : ℕ) (t : Statement) → entry_under a a.entry ≡ Some n → ((name : Name) → entry_with c.entry t ≡ Some name → a.entry ≡ Some name) → EntryStands a t
 entry_stands a c n says.Nothing e kept = tt
 entry_stands a c n (says.Enter section) e kept = tt

@@ -84,7 +84,7 @@ pub false_right : (x y : Bool) → (x || y) ≡ false → y ≡ false
 false_right true y h = cc
 false_right false y h = h
 
--- no reason stands
+-- there is no reason
 pub none_refused : (long twice unknown misplaced none : Bool) (r1 r2 r3 r4 r5 : Reason)
     → cond long (Some r1) (cond twice (Some r2) (cond unknown (Some r3) (cond misplaced (Some r4) (cond none (Some r5) None)))) ≡ None
     → (twice ≡ false) × (misplaced ≡ false) × (none ≡ false)

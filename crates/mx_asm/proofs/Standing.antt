@@ -1,4 +1,4 @@
--- Lines against which nothing stands, one more at a time.
+-- Lines without a fault, one more at a time.
 use Rattle.std.proofs.Common.{◌≡◌, ℕ, ◌+◌, ◌*◌, ◌<◌, ◌^◌, List, ◌∷◌, length, get_or, drop, refl, sym, ◌∙◌, ap, arith, Option, Some, None}
 use Rattle.std.proofs.lemmas.List.{drop_more}
 use Rattle.mx_asm_statement.specs.declared.line.Line.{Line}
@@ -19,7 +19,7 @@ next_item i ls l h e = drop_more ls i l h ∙ ap (λ (x : Line). x ∷ drop (i +
 pub sizes_more : (s r : SectionSizes) (n m : ℕ) → SizesWithin s (n * 2 ^ 64) → GrowsWithin s r (2 ^ 64) → m ≡ n + 1 → SizesWithin r (m * 2 ^ 64)
 sizes_more s r n m (x, y, z) (u, v, w) e = (omega arith, omega arith, omega arith)
 
--- nothing stands against the next line
+-- the next line has no fault
 pub clean_here : (a : LinesAbove) (s : SectionSizes) (n i : ℕ) (ls : List Line) (l : Line) → drop i ls ≡ l ∷ drop (i + 1) ls → first_problem a s n (drop i ls) ≡ None
     → problem_at a (address_of_offset a (section_offset_of s)) (statement_said l) ≡ None
 clean_here a s n i ls l next e =

@@ -1,4 +1,4 @@
--- What stands after the first tokens.
+-- What is after the first tokens.
 use Rattle.std.proofs.Common.{◌≡◌, ℕ, suc, Bool, true, false, cond, List, [], ◌∷◌, All, sym, subst, arith}
 use Rattle.mx_lex.specs.declared.kinds.Token.{Token}
 use Rattle.mx_lex.specs.Tokens.{IsSlice}

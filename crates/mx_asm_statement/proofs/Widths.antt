@@ -213,7 +213,7 @@ arithmetic_fits o xs = next PairFits StatementFits (operands_of xs) _ (pair_fits
 moved_fits : (xs : List Argument) → If StatementFits (move_statement xs)
 moved_fits xs = next PairFits StatementFits (operands_of xs) _ (pair_fits xs) (λ pair h. says_fits (insns.Move pair.operands) pair.immediate pair.displacement h)
 
--- ---- one operand, and what is beside it
+-- ---- one operand, and what is next to it
 
 unary_fits : (o : Unary) (xs : List Argument) → If StatementFits (unary o xs)
 unary_fits o [] = tt

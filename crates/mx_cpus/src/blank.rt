@@ -32,7 +32,6 @@ impl Model for Blank {
 /// all actors in order: the processors, then the others. Each seat is new: it holds nothing, and has
 /// recorded and seen nothing. The services are moved out of the list, which is left empty; if memory runs
 /// out, they stay.
-#[tactic(auto, using(crate::proofs::BootLemmas::new_seats_at, crate::proofs::BootLemmas::new_seats_empty, crate::proofs::BootLemmas::new_seats_fresh,))]
 pub fn boot(
     alloc: Global,
     config: &Config,

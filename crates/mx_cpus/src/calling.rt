@@ -160,7 +160,7 @@ pub(crate) fn make_calls<M: Naming, G: WatchingGate, R: Wait>(
 
 /// Makes calls in order: outside events, and waits. A wait ends once the history has as many records
 /// more as it names, counted from its first look at the machine, or the machine is at rest; the gate is
-/// asked between its looks. After the last call the gate is asked once more, and the loop ends. It ends at a
+/// asked between its looks. After the last call the gate is asked again, and the loop ends. It ends at a
 /// full history too, and if the gate says so while it waits. Another refusal doesn't end it. Takes no memory.
 pub fn outsider<M: Naming, G: Gate, R: Wait>(
     rt: &R,

@@ -15,7 +15,7 @@ lines_join at (p ∷ front) back =
     ap (λ (w : List ℕ). listing_line at p ++ w) (rest ∙ ap (λ (n : ℕ). lines_of (at + part_size p) front ++ lines_of n back) e)
     ∙ sym (append_assoc (listing_line at p) (lines_of (at + part_size p) front) (lines_of (at + (part_size p + total_size front)) back))
 
--- the first part's line stands before the listing of the rest
+-- the first part's line is before the listing of the rest
 pub one_more : (at : ℕ) (bytes : List ℕ) (p : Part) (text : List ℕ)
     → ((rest : List Part) → IsParting (drop (part_size p) bytes) rest → IsParting bytes (p ∷ rest))
     → IsListing (at + part_size p) (drop (part_size p) bytes) text → IsListing at bytes (listing_line at p ++ text)

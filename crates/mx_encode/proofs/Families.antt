@@ -60,7 +60,7 @@ use Rattle.mx_encode.proofs.Digits.{register_below, register_again, arithmetic_b
 use Rattle.mx_encode.proofs.Listed.{opcode_at, under_at, escaped_at, listed_at, arithmetic_rm_reg, arithmetic_reg_rm, move_rm_reg, move_reg_rm, test_rm_reg, exchange_rm_reg, inc_rm, dec_rm, not_rm, neg_rm, product_rm, shift_immediate, shift_one, shift_cl, transfer_listed, compare_listed, loop_listed, plain_listed, bit_test_immediate, bit_test_register, bit_scan, double_shift_immediate, double_shift_cl}
 use Rattle.mx_encode.proofs.Suits.{reads_nothing, reads_byte, reads_word, reads_dword, reads_whole_word, reads_whole_dword, reads_short, Suits, sized_suits}
 
--- a value that a byte stands for
+-- a value that a byte represents
 shortened : (w n : ℕ) (long : Bool) → shortens w n long ≡ true → is_short w n ≡ true
 shortened w n long h = (and_parts (not long) (is_short w n) h).1
 

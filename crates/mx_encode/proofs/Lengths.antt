@@ -83,7 +83,7 @@ displaced_count i short true n h =
     ∙ sym (spelled_given (choice i (record { immediate = short; displacement = true })))))
 displaced_count i short false n h = cc
 
--- whatever stands before them, four bytes are four
+-- whatever is before them, four bytes are four
 four_after : (before : List ℕ) (m n : ℕ) → length (before ++ bytes_of 4 n) ≡ length (before ++ bytes_of 4 m)
 four_after before m n = length-append before (bytes_of 4 n) ∙ sym (length-append before (bytes_of 4 m))
 

@@ -1,4 +1,4 @@
--- Each row that is chosen stands in the table.
+-- Each row that is chosen is in the table.
 use Rattle.std.proofs.Common.{◌≡◌, ℕ, ◌<◌, length, refl, lit<}
 use Rattle.std.specs.Prelude.{Bool, true, false, not, ◌&&◌, ◌==◌, Contains, slice_index_or}
 use Rattle.std.specs.List.{position_or_len}
@@ -34,7 +34,7 @@ use Rattle.mx_insn.specs.declared.row.Pattern.{Pattern}
 use Rattle.mx_insn.specs.declared.row.Pattern.TheVariants as patterns
 use Rattle.mx_insn.specs.Table.{sized, arithmetic_rm_reg_row, arithmetic_reg_rm_row, test_rm_reg_row, exchange_rm_reg_row, move_rm_reg_row, move_reg_rm_row, transfer_row, compare_row, shift_immediate_row, shift_one_row, shift_cl_row, loop_row, not_rm_row, neg_rm_row, product_row, increase_rm_row, decrease_rm_row, plain_row, bit_test_immediate_row, bit_test_register_row, bit_scan_row, double_shift_immediate_row, double_shift_cl_row, rows, no, ib}
 
--- ---- where a row stands
+-- ---- where a row is
 
 abbrev pub is_under : ℕ → ModRm → Bool
 is_under n (Only m) = n == m

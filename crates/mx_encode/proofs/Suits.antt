@@ -29,7 +29,7 @@ use Rattle.mx_encode.proofs.Standing.{place_fits, place_named, memory_mode}
 
 -- ---- immediates
 
--- the bytes may stand in the column, and give the number n
+-- the bytes may be in the column, and give the number n
 pub record Reads (column : ImmediateColumn) (resized : Bool) (size : Size) (x : Number) (n : ℕ) : Type 0 where
   pub long : length (number_bytes x) ≡ immediate_length column resized
   pub bytes : AreBytes (number_bytes x)
@@ -62,7 +62,7 @@ abbrev pub is_memory : Operand → Bool
 is_memory (operand.Register r) = false
 is_memory (operand.Memory m) = true
 
--- the reg field and the operand may stand in the column
+-- the reg field and the operand may be in the column
 abbrev pub RmSuits : ModRm → Option Rm → Type 0
 RmSuits Absent None = Unit {0}
 RmSuits Absent (Some rm) = ⊥

@@ -14,7 +14,7 @@ use mx_regs::Regs;
 use mx_word::{Register, Size};
 use std::alloc::Global;
 
-/// Where the code stands.
+/// Where the code is.
 #[derive(Drop)]
 pub enum Code {
     /// In a segment of its own, which nothing writes.
@@ -45,7 +45,7 @@ pub enum Outcome {
 }
 
 impl Image {
-    /// What stands where an image was moved out: no memory, and zeros. Takes no memory.
+    /// What is where an image was moved out: no memory, and zeros. Takes no memory.
     pub fn blank(alloc: Global) -> Image
         ensures { result ≡ blank }
     {
@@ -73,7 +73,7 @@ impl Image {
         self.regs.set(Size::Dword, register, value);
     }
 
-    /// The segment that the image's code stands in.
+    /// The segment that the image's code is in.
     #[inline(always)]
     pub fn code_segment(&self) -> &Segment
         ensures { result.now ≡ code_bytes self.now }

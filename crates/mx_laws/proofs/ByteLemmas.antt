@@ -158,14 +158,14 @@ outside_fewer : (place n many k : ℕ) → n ≤ many → IsOutside place many k
 outside_fewer place n many k le (inl lt) = inl lt
 outside_fewer place n many k le (inr ge) = inr (omega (arith, le, ge))
 
--- a result changes EAX alone
+-- a result changes EAX only
 result_left : (B : Type 0) (O : ℕ → Type 0) (m q : Image) (r : ℕ) → B → IsLeft B O (record m { regs = record m.regs { eax = r } }) q → IsLeft B O m q
 result_left B O m q r b h = record { bytes = h.bytes; limit = h.limit; rest = h.rest; result = λ n. absurd (n b) }
 
 abbrev image_with : Image → ℕ → List ℕ → Image
 image_with m place bytes = record m { memory = with_bytes_at m.memory place bytes }
 
--- bytes at a place change those alone
+-- bytes at a place change only those
 bytes_left : (B : Type 0) (O : ℕ → Type 0) (m q : Image) (place : ℕ) (bytes : List ℕ) → place + length bytes ≤ length m.memory → ((k : ℕ) → (B → IsOutside m.regs.ebx 36 k) → O k → IsOutside place (length bytes) k) → IsLeft B O (image_with m place bytes) q → IsLeft B O m q
 bytes_left B O m q place bytes le f h = record {
   bytes = λ k o u. h.bytes k o u ∙ with_bytes_outside m.memory place bytes k le (f k o u);

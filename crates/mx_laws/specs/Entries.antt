@@ -1,4 +1,4 @@
--- What may stand in a diary: whose doing each item is.
+-- What may be in a diary: whose doing each item is.
 use Rattle.std.specs.Prelude.{◌≡◌, ◌≢◌, ◌<◌, ◌≤◌, ◌⊎◌, ◌+◌, ℕ, Bool, true, false, List, [], ◌∷◌, length, Option, Some, None, slice_index_or}
 use Rattle.std.specs.Option.{option_map}
 use Rattle.mx_exec.specs.declared.image.Image.{Image}

@@ -21,7 +21,7 @@ pub record AllAnsweredAlike (q : ℕ) (w v : World) (xs : List (ℕ × Event)) :
   pub answers : (moves w xs).0 ≡ (moves v xs).0
   pub world : SameBut q (moves w xs).1 (moves v xs).1
 
--- SECRECY: an event that is apart from q tells nothing of q's image
+-- SECRECY: an event that is apart from q reveals nothing of q's image
 abbrev pub TellsNothing : ℕ → World → World → ℕ → Event → Type 0
 TellsNothing q w v a e = SameBut q w v → IsApart q w a e → AnsweredAlike q w v a e
 
@@ -55,7 +55,7 @@ pub record IsElsewhereSame (q : ℕ) (w v : World) : Type 0 where
 
 -- ---- where two such machines come from
 
--- Another image of the same limit may stand in slot q: the table is sound with either.
+-- Another image of the same limit may be in slot q: the table is sound with either.
 pub record MayStandIn (w : World) (q : ℕ) (m : Image) : Type 0 where
   pub before : Sound w.table
   pub after : Sound (with_image w.table q m)
@@ -64,6 +64,6 @@ pub record MayStandIn (w : World) (q : ℕ) (m : Image) : Type 0 where
 abbrev pub HomeImageIsHidden : World → ℕ → Image → Type 0
 HomeImageIsHidden w q m = MayStandIn w q m → SameBut q w (world_with_image w q m)
 
--- any image may stand on a processor in place of the one that it holds
+-- any image may be on a processor in place of the one that it holds
 abbrev pub HeldImageIsHidden : World → ℕ → HeldProcess → Image → Type 0
 HeldImageIsHidden w a l m = Sound w.table → held_by w a ≡ Some l → SameBut l.slot w (world_with_image_held w a l m)

@@ -98,7 +98,7 @@ at_same t a (OpenText x) (OpenText y) (quote, broken) (quote', broken') = broken
 at_same t a NoMemory f h k = absurd h
 at_same t a e NoMemory h k = absurd k
 
--- ---- before it stand the same tokens
+-- ---- before it are the same tokens
 
 -- a token where something is broken
 token_or_broken : (t : List ℕ) (a d : ℕ) (j : Token) (js : List Token) (c : ℕ) (e : LexError) → Gap t a d → BrokenAt t d e → AreTokens t a (j ∷ js) c → ⊥

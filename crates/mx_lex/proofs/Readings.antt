@@ -62,7 +62,7 @@ end_over t =
     let e : get_or t (length t) 0 ≡ 0 = get_or_end t in
     over_by t (length t) (λ p. omega (arith, e, p)) (λ p. omega (arith, e, p)) (λ p. omega (arith, e, p)) (λ p. omega (arith, e, p))
 
--- ---- the first byte tells the kind
+-- ---- the first byte gives the kind
 
 marks_same : (m n : Mark) → mark_byte m ≡ mark_byte n → m ≡ n
 marks_same Open Open e = refl
@@ -74,7 +74,7 @@ marks_same Comma Comma e = refl
 marks_same Colon Colon e = refl
 marks_same m n e = absurd (omega (arith, e))
 
--- a number beside the kind: which byte a mark is
+-- a number with the kind: which byte a mark is
 abbrev AreAlike : TokenKind → TokenKind → Type 0
 AreAlike kinds.LineFeed kinds.LineFeed = Unit {0}
 AreAlike (kinds.Mark m) (kinds.Mark n) = m ≡ n

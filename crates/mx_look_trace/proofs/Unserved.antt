@@ -1,4 +1,4 @@
--- Of a slot without a service nothing is told.
+-- Of a slot without a service nothing is printed.
 use Rattle.std.proofs.Common.{◌≡◌, ◌∙◌, ◌+◌, ◌&&◌, ◌||◌, ℕ, Bool, true, false, cond, List, [], ◌++◌, Option, Some, None, get_or, refl, ap}
 use Rattle.std.specs.Prelude.{codes, is_some}
 use Rattle.mx_look_facts.specs.declared.slot_glances.SlotGlance.{SlotGlance}

@@ -10,7 +10,7 @@ use Rattle.mx_look_facts.specs.Calls.{asks_kernel}
 use Rattle.mx_look_trace.specs.Numbers.{result_text, spaced_numbers}
 use Rattle.mx_look_trace.specs.Reasons.{request_reason}
 
--- the type stands after the source, and then the words
+-- the type comes after the source, and then the words
 abbrev pub words_from : ℕ → List ℕ → List ℕ
 words_from count message = spaced_numbers (take count (drop 2 message))
 
@@ -45,7 +45,7 @@ abbrev pub request_text_by : CpuGlance → Option (List ℕ) → List ℕ
 request_text_by h None = []
 request_text_by h (Some message) = if asks_kernel h then request_words message else []
 
--- A REQUEST, of SENDREC to SYSTEM alone, with the words inside
+-- A REQUEST, of SENDREC to SYSTEM only, with the words inside
 unfoldable pub request_text : CpuGlance → List ℕ
 request_text h = request_text_by h h.image.words
 

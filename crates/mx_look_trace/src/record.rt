@@ -1,4 +1,4 @@
-//! All that is told of a record.
+//! All that is printed of a record.
 
 ghost use Rattle.std.specs.Prelude.{◌≡◌, ◌++◌, OnOk, is_some};
 ghost use Rattle.mx_look_facts.specs.Step.{slot_in};
@@ -13,7 +13,7 @@ use crate::pending::push_kept_lines;
 use mx_look_facts::{Step, slot_in};
 use std::alloc::AllocError;
 
-/// Whether a slot has a service: of one without nothing is told.
+/// Whether a slot has a service: of one without nothing is printed.
 fn has_service(step: &Step, slot: u32) -> bool
     ensures { result ≡ is_some (slot_in step.now.after slot) }
 {

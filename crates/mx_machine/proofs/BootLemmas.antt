@@ -30,7 +30,7 @@ same_values f g a zero h = refl
 same_values f g a (suc n) h = ap (λ x. x ∷ map g (range_with_len (a + 1) n)) (h a (omega arith))
     ∙ ap (λ l. f a ∷ l) (same_values f g (a + 1) n (λ j b. h j (omega arith)))
 
--- where two functions differ at one place alone, so do their tables
+-- where two functions differ at one place only, so do their tables
 pub map-set : {X : Type 0} (f g : ℕ → X) (a n i k : ℕ) → i < n → a + i ≡ k → ((j : ℕ) → j ≢ k → g j ≡ f j)
     → map g (range_with_len a n) ≡ slice_set (map f (range_with_len a n)) i (g k)
 map-set f g a zero i k below is others = absurd (omega arith)

@@ -232,7 +232,7 @@ same-running k n os e h = subst (λ (x : BootAndHistory). IsMachineState (on x o
 pub took-below : (k n : BootAndHistory) (os : List (Option Out)) (a : ℕ) (l : HeldProcess) → length (replay n).cpus ≤ 8 → held_by (replay n) a ≡ Some l → a < 8
 took-below k n os a l few at = let b = holds_in (replay n).cpus a l at in omega arith
 
--- what is read of a list doesn't hang on what stands where nothing is
+-- what is read of a list doesn't depend on what is given where nothing is
 pub any_default : {X : Type 0} → (xs : List X) (i : ℕ) (d e : X) → i < length xs → get_or xs i d ≡ get_or xs i e
 any_default [] i d e b = absurd (omega arith)
 any_default (x ∷ xs) zero d e b = refl

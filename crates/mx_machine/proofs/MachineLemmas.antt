@@ -55,7 +55,7 @@ held_now-set (l ∷ ls) [] a x y b = absurd (omega arith)
 held_now-set (l ∷ ls) (o ∷ os) zero x y b = refl
 held_now-set (l ∷ ls) (o ∷ os) (suc a) x y b = ap (λ r. held_now l o ∷ r) (held_now-set ls os a x y (omega arith))
 
--- what a processor holds is replaced alone
+-- only what a processor holds is replaced
 pub held_now-replaced : (ls : List (Option HeldProcess)) (os : List (Option Out)) (a : ℕ) (l : HeldProcess) (o : Out) → a < length os → get_or ls a None ≡ Some l
     → all_held_now ls (slice_set os a (Some o)) ≡ slice_set (all_held_now ls os) a (Some (record l { out = o }))
 held_now-replaced ls os a l o b h =
@@ -241,7 +241,7 @@ empty-refused w a Tick i h = absurd i
 empty-refused w a (Kill e) i h = absurd i
 empty-refused w a (Respawn s) i h = absurd i
 
--- what a processor holds is replaced alone
+-- only what a processor holds is replaced
 pub world-replaced : (k : BootAndHistory) (os : List (Option Out)) (a : ℕ) (l : HeldProcess) (o : Out) → a < length os → held_by (replay k) a ≡ Some l
     → world_of (record { kernel = k; outs = slice_set os a (Some o) }) ≡ with_held (world_of (record { kernel = k; outs = os })) a (Some (record l { out = o }))
 unfolding world_of

@@ -113,7 +113,7 @@ recorded-agrees d n room more k a x v h accepted sound e is records capacity as_
       fresh = subst (λ (w : World). (b : ℕ) (l : HeldProcess) → held_by w b ≡ Some l → IsFresh w l) (sym z) fresh;
     }
 
--- a record that stands for one event
+-- a record that represents one event
 one-event : (k n : BootAndHistory) (a : ℕ) (e : Event) (x : Recorded) → events_of a x ≡ (a, e) ∷ [] → event_refusal (replay k) a e ≡ None → n ≡ with_record k a x → IsEventAccepted k n a e x
 one-event k n a e x is accepted same = record {
   accepted = accepted;

@@ -82,7 +82,7 @@ respawn_over : (w : World) (c s : ℕ) (m : HeldProcess) (v : Option Service) �
 respawn_over w c s m None = refl
 respawn_over w c s m (Some v) = refl
 
--- what happens beside a processor's process leaves it to be replaced after
+-- what happens apart from a processor's process leaves it to be replaced after
 after_over : (w : World) (c a : ℕ) (x : Event) (m : HeldProcess) → IsOthers c a x → world_after_event (with_held w c (Some m)) a x ≡ with_held (world_after_event w a x) c (Some m)
 unfolding world_after_event
 after_over w c a Step m n = ap (world_after_step (with_held w c (Some m)) a) (others_kept w c a m n) ∙ step_over w c a m (held_by w a) n

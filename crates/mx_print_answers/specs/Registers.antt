@@ -25,7 +25,7 @@ register_name Edi = codes "EDI"
 unfoldable pub register_field : RegisterValues → Register → List ℕ
 register_field w r = register_name r ++ codes " " ++ eight_digits (word_of_register w r)
 
--- two registers beside each other
+-- two registers next to each other
 unfoldable pub two_registers : RegisterValues → Register → Register → List ℕ
 two_registers w a b = register_field w a ++ codes " " ++ register_field w b
 

@@ -202,7 +202,7 @@ none_calls order callers e f =
 beyond : (lists : List (List ℕ)) (n l : ℕ) → length lists ≡ n → n ≤ l → list_at lists l ≡ []
 beyond lists n l e b = get_or-eq_default lists [] (omega arith)
 
--- who sends to nobody stands in no list
+-- who sends to nobody is in no list
 pub in_no_order : {to : List ℕ} {order callers : List (List ℕ)} {count : ℕ} (s : ℕ) → AreCallers to order callers count → times s (list_at order 0) ≡ 0 → InNoList order s
 in_no_order s h z zero = z
 in_no_order {order = order} s h z (suc l) = ap (times s) (beyond order 1 (suc l) h.order_long (omega arith))
@@ -213,7 +213,7 @@ in_no_queue {to = to} {order = order} {callers = callers} s h z l = elim (cases_
   | inr b ↦ ap (times s) (beyond callers 32 l h.callers_long b)
 ]
 
--- who stands in the order sends to a slot
+-- who is in the order sends to a slot
 pub sends_below : {to : List ℕ} {order callers : List (List ℕ)} {count : ℕ} (s : ℕ) → AreCallers to order callers count → 1 ≤ times s (list_at order 0) → (s < 32) × (slice_index to s < 32)
 sends_below {to = to} {order = order} s h m =
     let low : get_or to s 255 < 32 = elim (cases_lt (get_or to s 255) 32) [
@@ -278,7 +278,7 @@ one_calls_pairs {to = to} {order = order} s d order' h b z e =
 
 -- ---- a send less
 
--- who sends stands in the queue of the one that it sends to
+-- who sends is in the queue of the one that it sends to
 pub in_queue : {to : List ℕ} {order callers : List (List ℕ)} {count : ℕ} (s : ℕ) → AreCallers to order callers count → 1 ≤ times s (list_at order 0) → 1 ≤ times s (list_at callers (slice_index to s))
 in_queue {to = to} {order = order} s h m = omega (arith, ap (times s) (h.each (slice_index to s) (sends_below s h m).1), times-senders_same to s (slice_index to s) (list_at order 0) refl)
 

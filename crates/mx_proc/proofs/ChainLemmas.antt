@@ -73,7 +73,7 @@ more-once lists level s xs b no-s count once t l = elim (list_at-cases lists lev
   | inr e ↦ subst (λ ys. times t ys ≤ 1) (sym e.1) (once t l)
 ]
 
--- where a slot stood before
+-- where a slot was before
 was : (lists : List (List ℕ)) (level s : ℕ) (xs : List ℕ) → level < length lists → ((t : ℕ) → times t xs ≡ tally (s == t) + times t (list_at lists level))
     → (t l : ℕ) → 1 ≤ times t (list_at (slice_set lists level xs) l) → ((s ≡ t) × (l ≡ level)) ⊎ (1 ≤ times t (list_at lists l))
 was lists level s xs b count t l h = elim (list_at-cases lists level l xs b) [
@@ -183,7 +183,7 @@ without-absent s (x ∷ xs) z = elim (cases_eq x s) [
   | inr n ↦ rw (ne_eqb x s n) (ap (λ ys. x ∷ ys) (without-absent s xs (omega arith)))
 ]
 
--- A list round a slot that stands once.
+-- A list round a slot that is in it once.
 pub record Round (s : ℕ) (xs : List ℕ) : Type 0 where
   pub front : List ℕ
   pub rest : List ℕ

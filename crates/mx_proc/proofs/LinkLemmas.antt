@@ -232,7 +232,7 @@ removed {size = size} {nexts = nexts} {prevs = prevs} {firsts = firsts} {lasts =
     long2 : (xs : List ℕ) (p n : ℕ) → length (firsts_with xs level p n) ≡ length xs
     long2 xs p n = elim (cases_eq p 255) [ inl e ↦ rw (eq-eqb p 255 e) (length-set _ _ _) | inr d ↦ rw (ne_eqb p 255 d) refl ]
 
--- the links of a slot that stands in a list are slots or none
+-- the links of a slot that is in a list are slots or none
 pub prev_low : {size : ℕ} {nexts prevs firsts lasts : List ℕ} {lists : List (List ℕ)} (level s : ℕ) → Linked size nexts prevs firsts lasts lists → 1 ≤ times s (list_at lists level) → slice_index prevs s ≢ 255 → slice_index prevs s < 32
 prev_low {size = size} {nexts = nexts} {prevs = prevs} {firsts = firsts} {lasts = lasts} {lists = lists} level s h m n = go (outs level s h (omega (arith, h.once s level))).forward
   where
@@ -262,7 +262,7 @@ none_linked size = shows (record {
   apart = λ s l k h g. absurd (omega (arith, ap (times s) (all_same (List ℕ) size l [])));
 })
 
--- who stands in a list is a slot
+-- who is in a list is a slot
 pub slot_low : {size : ℕ} {nexts prevs firsts lasts : List ℕ} {lists : List (List ℕ)} (level s : ℕ) → Linked size nexts prevs firsts lasts lists → 1 ≤ times s (list_at lists level) → s < 32
 slot_low {nexts = nexts} {firsts = firsts} {lists = lists} level s h m = elim (cases_lt s 32) [
   | inl y ↦ y

@@ -93,7 +93,7 @@ get_or-any [] i d e h = absurd (omega arith)
 get_or-any (x ∷ xs) zero d e h = refl
 get_or-any (x ∷ xs) (suc i) d e h = get_or-any xs i d e (omega arith)
 
--- of equal items each is the item, and so is what stands after them
+-- of equal items each is the item, and so is what comes after them
 pub all_same : (X : Type 0) (n i : ℕ) (x : X) → get_or (replicate n x) i x ≡ x
 all_same X n i x = elim (cases_lt i n) [
   | inl lt ↦ get_or-replicate n i x x lt

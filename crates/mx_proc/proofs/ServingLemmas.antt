@@ -111,7 +111,7 @@ map_same : {X Y : Type 0} (f : X → Y) (g : X → X) → ((x : X) → f (g x) �
 map_same f g e [] = refl
 map_same f g e (x ∷ xs) = ap (λ y. y ∷ map f (map g xs)) (e x) ∙ ap (λ l. f x ∷ l) (map_same f g e xs)
 
--- one of the later ones is changed, by what is told of an earlier one
+-- one of the later ones is changed, by what is known of an earlier one
 pub changed_later : (f : Process → Process → Process) (ps low high : List Process) (from to : ℕ) (p q : Process) → ps ≡ low ++ high → length low ≡ to → from < to → to < length ps
     → low ++ slice_set high 0 (f (get_or low from p) (get_or high 0 q)) ≡ slice_set ps to (f (get_or ps from nobody) (get_or ps to nobody))
 changed_later f ps low high from to p q e n lt b =

@@ -63,7 +63,7 @@ changed w w' s p h c = record {
   ];
 }
 
--- a change of a process that stays where it stands
+-- a change of a process that stays where it is
 pub stays : (w : TableState) (s : ℕ) (p : Process) → Sound w → s < length w.slots → p.state ≡ (process_at w s).state → p.schedule.level ≡ (process_at w s).schedule.level → IsProcess w.uptime p → Sound (with_process w s p)
 stays w s p h b st lv k = changed w (with_process w s p) s p h (record {
   same = process-same w (with_process w s p) s p b refl;
@@ -83,7 +83,7 @@ stays w s p h b st lv k = changed w (with_process w s p) s p h (record {
   uptime = refl;
 })
 
--- a process that is in no queue stands in none
+-- a process that is in no queue is in no list
 pub alone_listed : (w : TableState) (s : ℕ) → Sound w → is_ready (process_at w s).state ≡ false → InNoList w.ready s
 alone_listed w s h r l = (h.each s).listed l ∙ ap (λ b. cond b (tally ((process_at w s).schedule.level == l)) 0) r
 
@@ -170,7 +170,7 @@ grown w w' level p h b low at st k e r v d u =
       | inr ge ↦ get_or-eq_default w'.slots nobody (omega (arith, ap length e, length-append w.slots (p ∷ []))) ∙ sym (get_or-eq_default w.slots nobody ge)
     ]
 
--- a new slot stands in no list yet
+-- a new slot is in no list yet
 pub nobody_listed : (w : TableState) → Sound w → InNoList w.ready (length w.slots)
 nobody_listed w h = alone_listed w (length w.slots) h (nobody_alone w (length w.slots) (omega arith)).0
 
@@ -289,7 +289,7 @@ tally-le : (b : Bool) → tally b ≤ 1
 tally-le true = omega arith
 tally-le false = omega arith
 
--- no slot stands twice among the blocked sends
+-- no slot is twice among the blocked sends
 pub sends_once : (w : TableState) → Sound w → (t : ℕ) → sends_of t w.waits ≤ 1
 sends_once w h t = omega (arith, (h.each t).waiting, tally-le (is_sending (process_at w t).state))
 
@@ -297,7 +297,7 @@ tally_true : (b : Bool) → 1 ≤ tally b → b ≡ true
 tally_true true h = refl
 tally_true false h = absurd (omega arith)
 
--- who stands among the blocked sends is sending, and used
+-- who is among the blocked sends is sending, and used
 pub sender_known : (w : TableState) (p : ℕ) → Sound w → 1 ≤ sends_of p w.waits → (p < length w.slots) × (is_sending (process_at w p).state ≡ true)
 sender_known w p h m =
     let sending : is_sending (process_at w p).state ≡ true = tally_true (is_sending (process_at w p).state) (omega (arith, (h.each p).waiting)) in (
@@ -308,7 +308,7 @@ sender_known w p h m =
       sending,
     )
 
--- who is picked stands in a list
+-- who is picked is in a list
 picked_listed : (lists : List (List ℕ)) (s : ℕ) → first_ready lists ≡ Some s → (level : ℕ) × (1 ≤ times s (list_at lists level))
 picked_listed [] s e = cc
 picked_listed ([] ∷ lists) s e = let k = picked_listed lists s e in (suc k.0, k.1)

@@ -69,7 +69,7 @@ alarm_set w n s q due v h b e bound =
     renamed w n s (record q { alarm = due }) v (stays n s (record q { alarm = due }) (subst Sound v h) b (ap (λ (p : Process). p.state) is) (ap (λ (p : Process). p.schedule.level) is)
     (record { generation = k.generation; pending = k.pending; windows = k.windows; alarm = bound; buffer = k.buffer }))
 
--- who is ready stands in the list of its level
+-- who is ready is in the list of its level
 pub ready_listed : (w n : TableState) (s : ℕ) (q : Process) → w ≡ n → Sound w → s < length n.slots → q ≡ get_or w.slots s q → is_ready (process_at n s).state ≡ true → 1 ≤ times s (list_at w.ready q.schedule.level)
 ready_listed w n s q v h b e y =
     let same : q ≡ process_at w s = the_process w n s q v b e ∙ ap (λ x. process_at x s) (sym v) in
@@ -77,7 +77,7 @@ ready_listed w n s q v h b e y =
     let once : belongs q q.schedule.level ≡ 1 = ap (λ r. cond r (tally (q.schedule.level == q.schedule.level)) 0) ready ∙ tally-same q.schedule.level q.schedule.level refl in
     omega (arith, (h.each s).listed q.schedule.level, once, ap (λ p. belongs p q.schedule.level) same)
 
--- who is sending stands among the blocked sends
+-- who is sending is among the blocked sends
 pub sending_waits : (w n : TableState) (s : ℕ) → w ≡ n → Sound w → is_sending (process_at n s).state ≡ true → 1 ≤ sends_of s w.waits
 sending_waits w n s v h y =
     let sends : is_sending (process_at w s).state ≡ true = subst (λ x. is_sending (process_at x s).state ≡ true) (sym v) y in

@@ -27,6 +27,6 @@ respawned_is w t n s p v f h e = h ∙ ap (λ x. table_after_revival x s p) f �
 pub reframed_twice : (f : Frame) (s : ℕ) (x p : Process) → frame_with_process (frame_with_process f s x) s p ≡ frame_with_process f s p
 reframed_twice f s x p = ap (λ l. let g : Frame = record (frame_with_process (frame_with_process f s x) s p) { fixed = l } in g) (set-set f.fixed s _ _) ∙ ap (λ l. let g : Frame = record (frame_with_process f s p) { loans = l } in g) (set-set f.loans s _ _)
 
--- what is put into a slot stands there
+-- what is put into a slot is there
 pub stands : (w t n : TableState) (s : ℕ) (p : Process) → s < length w.slots → t ≡ with_image w s blank → n ≡ table_after_revival t s p → process_at n s ≡ p
 stands w t n s p b f e = ap (λ x. process_at x s) e ∙ get_or-set_same t.slots s p nobody (subst (λ k. s < k) (sym (ap (λ (x : TableState). length x.slots) f ∙ length-set w.slots s _)) b)

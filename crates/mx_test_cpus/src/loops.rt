@@ -340,7 +340,7 @@ fn loops_call_their_gate(rt: HostRuntime) -> Result<(), Fail> {
 const SLOTS: u8 = 32;
 
 /// Kills the process of each slot in turn, and lets the respawner make one round after each kill.
-/// Then kills each once more, and lets it make one round. Answers whether the history is the wanted
+/// Then kills each again, and lets it make one round. Answers whether the history is the wanted
 /// one: each slot's respawn follows its kill, and the sweep over all goes up from slot 0.
 fn sweeps_all<M: Naming>(rt: &impl Wait, blank: Blank, mut seats: Vec<ActorSeat>) -> bool
     requires table { blank.table ≡ M.table }

@@ -131,7 +131,7 @@ struct Row {
 }
 
 static ROWS: &[Row] = &[
-    // Each process is taken once more, and dies then.
+    // Each process is taken again, and dies then.
     Row {
         name: "two processors hold a process at the same time, and a tick has room",
         cpus: 2,

@@ -56,7 +56,7 @@ fn all_printed<R: Threads + Wait + Clock + Sync + Abort>(
     }
 }
 
-/// Positions in the history of a sum and a fault, and what is told there.
+/// Positions in the history of a sum and a fault, and what is printed there.
 static MOVES: &[Session] = &[
     Session {
         name: "nothing is typed",

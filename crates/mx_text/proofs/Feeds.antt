@@ -6,7 +6,7 @@ use Rattle.std.proofs.lemmas.List.{take_all, length-drop, drop_all}
 use Rattle.std.proofs.Math.Seq.{take-nil}
 use Rattle.mx_text.specs.Lines.{lines, begun_by}
 
--- no line feed stands before a place
+-- no line feed is before a place
 abbrev pub NoneBefore : List ℕ → ℕ → Type 0
 NoneBefore t at = (k : ℕ) → k < at → get_or t k 0 ≢ 10
 

@@ -32,7 +32,7 @@ pub fn is_up_to(at: Position, to: Position) -> bool
     }
 }
 
-/// How many steps a record stands for.
+/// How many steps a record represents.
 pub fn steps_in(event: Recorded) -> u32
     ensures { result ≡ steps_in event }
 {
@@ -46,7 +46,7 @@ pub fn steps_in(event: Recorded) -> u32
     }
 }
 
-/// The event of a record, after the steps that it stands for.
+/// The event of a record, after the steps that it represents.
 pub fn own_event(event: Recorded) -> Event
     ensures { result ≡ own_event event }
 {

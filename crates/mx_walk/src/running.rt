@@ -52,7 +52,7 @@ fn unmarked_ahead<M: Mark>(
 }
 
 /// Lets a process make at most that many steps, up to the first that is marked. Steps that leave memory as it
-/// is are made with the one after them, if the mark looks at memory alone.
+/// is are made with the one after them, if the mark looks at memory only.
 fn run_watched<M: Mark>(mark: &mut M, slot: u8, out: &mut Out, steps: u32) -> Searched
     ensures ran { (held_run (steps_to_mark (M.marks_step mark.old) steps
         (record { slot = slot; out = out.old })) out.old).1 ≡ out.new }

@@ -1,4 +1,4 @@
-//! Words of which nothing comes for what stands in the files, or doesn't.
+//! Words that are refused for what is in the files, or isn't.
 
 use crate::commands::{Failed, all_fail};
 

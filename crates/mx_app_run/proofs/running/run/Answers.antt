@@ -1,11 +1,13 @@
-use Rattle.std.proofs.Common.{◌≡◌, ◌∙◌, ℕ, List, [], Option, ap, inl, refl, sym, true, false}
+use Rattle.std.proofs.Common.{◌≡◌, ◌∙◌, ℕ, List, [], Option, ap, inl, inr, refl, sym, true, false}
 use Rattle.std.specs.Prelude.{option_map}
 use Rattle.std.specs.Io.KnownBytes.{Appends}
 use Rattle.std.proofs.lemmas.List.{append-nil}
 use Rattle.mx_app_turns.specs.Turned.{writes_over}
 use Rattle.mx_app_start.proofs.Appended.{appends_nothing}
 use Rattle.mx_app_step.specs.Programs.{names_program}
-use Rattle.mx_app_run.proofs.RunLemmas.{not_called, run_told, some_called, spared}
+use Rattle.mx_app_step.specs.Written.{Written}
+use Rattle.mx_app_run.proofs.RunLemmas.{given_on, some_called}
+use Rattle.mx_app_run.specs.Run.{IsNotRun}
 use Rattle.mx_app_run.proofs.running.run.Goals as goal
 
 pub returns-then-writes_over-clause-done : goal.returns-then-writes_over-clause-done
@@ -20,7 +22,7 @@ returns-in_err-begun-clause-done g c =
     let log = c.args.wanted.log.now in
     let apart : writes_over config file log ≡ false = sym c.writes_over.ensures ∙ c.if-writes_over.false in
     let h = c.in_err-begun.ensures.fault in
-    (h.0, [], h.1, sym (append-nil _), not_called config file log c.args.wanted.ticks h.0 (λ (text : List ℕ). Appends (g.W.Write.contents c.args.channels.now.out) (g.W.Write.contents c.args.channels.now.out) text) apart c.in_err-begun.field-0.0 c.from_residual.result h.2 c.from_residual.ensures.1)
+    (h.0, [], h.1, sym (append-nil _), inl (given_on (λ f. (([] : List Written) ≡ []) × IsNotRun config file log h.0 f) c.in_err-begun.field-0.0 c.from_residual.result (refl, inr (apart, h.2)) c.from_residual.ensures.1))
 
 pub returns-then-names_program-clause-done : goal.returns-then-names_program-clause-done
 returns-then-names_program-clause-done g c =
@@ -31,7 +33,7 @@ returns-then-names_program-clause-done g c =
     let b = c.in_ok-begun.begun in
     let s = c.in_ok-begun.ensures.begun in
     let named : names_program b.config log ≡ true = sym c.names_program.ensures ∙ c.if-names_program.true in
-    (s.0, [], s.1, sym (append-nil _), spared config file log c.args.wanted.ticks s.0 (λ (text : List ℕ). Appends (g.W.Write.contents c.args.channels.now.out) (g.W.Write.contents c.args.channels.now.out) text) apart b.config b.services.items b.calls.items _ s.2 (named, refl, appends_nothing _, refl))
+    (s.0, [], s.1, sym (append-nil _), inr (b.config, b.services.items, b.calls.items, apart, s.2, inl (named, refl, appends_nothing _, refl)))
 
 pub run_begun-requires-clause-some : goal.run_begun-requires-clause-some
 run_begun-requires-clause-some g c κs within =
@@ -54,5 +56,5 @@ returns-clause-done g c =
     let b = c.in_ok-begun.begun in
     let s = c.in_ok-begun.ensures.begun in
     let unnamed : names_program b.config log ≡ false = sym c.names_program.ensures ∙ c.if-names_program.false in
-    let h = c.run_begun.ensures.told in
-    (s.0, h.0, ap g.R.Reader.asked c.run_begun.ensures.reader ∙ s.1, h.1, run_told config file log c.args.wanted.ticks s.0 (λ (text : List ℕ). Appends (g.W.Write.contents c.args.channels.now.out) (g.W.Write.contents c.run_begun.new.channels.out) text) apart b.config b.services.items b.calls.items s.2 unnamed h.0 c.run_begun.result h.2)
+    let h = c.run_begun.ensures.reported in
+    (s.0, h.0, ap g.R.Reader.asked c.run_begun.ensures.reader ∙ s.1, h.1, inr (b.config, b.services.items, b.calls.items, apart, s.2, inr (unnamed, h.2)))

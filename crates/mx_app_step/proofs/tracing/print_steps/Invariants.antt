@@ -5,7 +5,7 @@ use Rattle.mx_machine.specs.History.{AreAccepted, world_after_events, events_of_
 use Rattle.mx_app_step.specs.Traces.{trace_text}
 use Rattle.mx_app_step.proofs.tracing.print_steps.Given as goal
 
--- the records so far were accepted, and are told
+-- the records so far were accepted, and are printed
 abbrev pub invariant-loop-index : goal.invariant-loop-index
 invariant-loop-index g l = record {
   accepted : AreAccepted (world_of l.initial.machine) (events_of_history (take l.index l.records));

@@ -5,7 +5,7 @@ use Rattle.mx_asm_statement.specs.declared.item.Item.{Item}
 use Rattle.mx_asm_statement.specs.LineStatements.{is_short_word, takes_short, statement_by, after_mnemonic}
 use Rattle.mx_asm_statement.proofs.statements.after_mnemonic.Goals as goal
 
--- what stands after a mnemonic, by whether the mark stands first
+-- what is after a mnemonic, by whether the mark comes first
 parted : (m : Mnemonic) (ts us xs : List Item) (t : Item) (b : Bool) → ts ≡ t ∷ us → xs ≡ cond b us ts → (takes_short m && is_short_word t) ≡ b → statement_by (cond b Short Long) m xs ≡ after_mnemonic m ts
 parted m ts us xs t b e f h =
     ap (statement_by (cond b Short Long) m) (f ∙ ap (cond b us) e)

@@ -2,7 +2,7 @@ use Rattle.std.proofs.Common.{◌≡◌, ℕ, ◌+◌, ◌++◌, List, length, s
 use Rattle.mx_dis.specs.Listing.{IsListing}
 use Rattle.mx_dis.proofs.listing.list.Given as goal
 
--- the rest stands where the lines end, and whatever lists it completes them
+-- the rest is where the lines end, and whatever lists it completes them
 abbrev pub invariant-loop-rest : goal.invariant-loop-rest
 invariant-loop-rest l = record {
   place : l.at + length l.rest ≡ length l.program.text;
