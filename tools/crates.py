@@ -13,7 +13,7 @@ LINKING = 40
 
 
 def crates_below():
-    """Each crate of crates.txt, with the crates of this repository that it stands on."""
+    """Each crate of crates.txt, with the crates of this repository that it uses."""
     below = {}
     with open(os.path.join(TOP, "crates.txt"), encoding="utf-8") as lines:
         for line in lines:

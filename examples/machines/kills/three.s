@@ -1,5 +1,5 @@
 ; A client that asks its driver three times, each time with the answer before, and writes each answer as a digit.
-; If the driver is gone, it asks the kernel who stands in slot 0 now, and asks again.
+; If the driver is gone, it asks the kernel who is in slot 0 now, and asks again.
 .sep
 .data
 buf:    .space 36

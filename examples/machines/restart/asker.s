@@ -1,5 +1,5 @@
 ; A client that asks the counter again and again, and writes each answer as a digit on the console.
-; Where the counter is gone, it asks the kernel who stands in slot 0 now.
+; Where the counter is gone, it asks the kernel who is in slot 0 now.
 .sep
 .data
 buf:    .space 36
