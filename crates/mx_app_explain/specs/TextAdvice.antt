@@ -153,7 +153,7 @@ token_wanted w =
     if list_any is_equals w then codes "the number itself in each place, since there are no constants" else
     codes "a word, a number, a text in \" or one of [ ] + - * , :"
 
--- a text may have any bytes, so nothing is said of a word next to one
+-- a text may have any bytes, so nothing is said of a word in a line with one
 abbrev pub byte_advice : List (List ℕ) → Advised
 byte_advice ws =
     if is_some (find_word sought.Quoted ws) then plain problems.BadByte

@@ -8,7 +8,7 @@
 //! fault.
 //!
 //! The sums of a machine are SHA-256 of what its configuration says, and of each service's program. They are
-//! written with a history, a line each, as `sha256sum` prints it.
+//! written to a file of their own, a line each, as `sha256sum` prints it.
 #![tactic(auto)]
 
 mod allowed;

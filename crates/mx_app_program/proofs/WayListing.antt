@@ -32,7 +32,7 @@ total_append : (x y : List Part) → total_size (x ++ y) ≡ total_size x + tota
 total_append [] y = omega arith
 total_append (p ∷ x) y = omega (arith, total_append x y)
 
--- after some more bytes of a text come parts, of which the first are those that are named, and the others part the rest
+-- after some more bytes of a text come parts, of which the first have that many bytes, and the others part the rest
 abbrev GoesOn : List Part → ℕ → List ℕ → Type 0
 GoesOn parts at rest = (front back : List Part) × (parts ≡ front ++ back) × (total_size front ≡ at) × IsParting rest back
 

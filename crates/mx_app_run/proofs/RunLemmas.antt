@@ -1,5 +1,5 @@
 -- From loops to a run, and from its text to its replay.
-use Rattle.std.proofs.Common.{◌≡◌, ◌∙◌, ◌+◌, ◌<◌, ◌≤◌, ℕ, suc, false, List, [], ◌∷◌, ◌++◌, length, take, get_or, Option, Some, None, Result, Ok, Err, All, refl, sym, ap, subst, arith, inl, inr, append_assoc}
+use Rattle.std.proofs.Common.{◌≡◌, ◌∙◌, ◌+◌, ◌<◌, ◌≤◌, ℕ, suc, List, [], ◌∷◌, ◌++◌, length, take, get_or, Option, Some, None, Result, Ok, Err, All, refl, sym, ap, subst, arith, inl, inr, append_assoc}
 use Rattle.std.specs.Prelude.{IsErrAnd}
 use Rattle.std.specs.Io.KnownBytes.{Appends}
 use Rattle.std.proofs.lemmas.List.{length-replicate, take_more}
@@ -36,9 +36,9 @@ use Rattle.mx_app_run.specs.Calls.{AreCallsGiven, IsCallsFault, call_line, tick_
 use Rattle.mx_text.specs.Lines.{lines}
 use Rattle.mx_text.specs.declared.error.BootError.{BootError}
 use Rattle.mx_boot.specs.Reading.{AreLinesRead, TellsUnread}
-use Rattle.mx_app_run.specs.Run.{ComesTo, EndsDriven, IsCalled, IsNotCalled, IsReported, IsRun, run_ending}
+use Rattle.mx_app_run.specs.Run.{ComesTo, EndsDriven, IsCalled, IsNotCalled, IsRun, ReportsRun, run_ending}
 
--- a kernel whose loops have ended is what a run comes to
+-- a run ends at a kernel whose loops have ended
 pub run_of : (c : Config) (vs : List Service) (ticks : ℕ) (xs : List OutsideCall) (k : BootAndHistory) (boot : World) (z : TableId) (seats : List SeatView)
     → boot ≡ world_at_boot c vs → seats ≡ all_seats c z → k.boot ≡ boot → EndsDriven (length boot.cpus) ticks xs seats k.history
     → AreAccepted k.boot (events_of_history k.history) → All (IsWritable (actors (replay k))) k.history → IsRun c vs ticks xs k
@@ -108,15 +108,15 @@ some_called config o qs c vs xs h =
 
 -- ---- what `mx run` does, by how far it comes
 
--- an answer that is given on
-pub given_on : (P : Kind → Type 0) (f : Kind) (r : Result Ending Kind) → P f → IsErrAnd r (λ y. y ≡ f) → IsErrAnd r P
-given_on P f (Ok u) why h = absurd h
-given_on P f (Err y) why h = subst P (sym h) why
+-- a failure that is passed on
+pub passed_on : (P : Kind → Type 0) (f : Kind) (r : Result Ending Kind) → P f → IsErrAnd r (λ y. y ≡ f) → IsErrAnd r P
+passed_on P f (Ok u) why h = absurd h
+passed_on P f (Err y) why h = subst P (sym h) why
 
--- a run that isn't reported
-pub unreported : (log text : List ℕ) (ws : List Written) (Printed : Type 0) (ending : Ending) (f : Kind) (r : Result Ending Kind) → IsReported log text ws Printed ending (Err f) → IsErrAnd r (λ y. y ≡ f) → IsReported log text ws Printed ending r
-unreported log text ws Printed ending f (Ok answered) why h = absurd h
-unreported log text ws Printed ending f (Err y) why h = subst (λ z. IsReported log text ws Printed ending (Err z)) (sym h) why
+-- a failure of what reports a run, passed on
+pub passed_report : (log text : List ℕ) (ws : List Written) (Printed : Type 0) (ending : Ending) (f : Kind) (r : Result Ending Kind) → ReportsRun log text ws Printed ending (Err f) → IsErrAnd r (λ y. y ≡ f) → ReportsRun log text ws Printed ending r
+passed_report log text ws Printed ending f (Ok answered) why h = absurd h
+passed_report log text ws Printed ending f (Err y) why h = subst (λ z. ReportsRun log text ws Printed ending (Err z)) (sym h) why
 
 -- the text of a run's history is by the rules of its configuration
 by_rules : (c : Config) (vs : List Service) (ticks : ℕ) (xs : List OutsideCall) (k : BootAndHistory) → IsRun c vs ticks xs k → text_kept k ≡ saved_text c.rules k.history
@@ -124,11 +124,11 @@ by_rules c vs ticks xs k run = ap (λ (r : Rules). saved_text r k.history) (ap (
 
 -- a run whose kernel is reported
 pub run_reported : (c : Config) (vs : List Service) (ticks : ℕ) (xs : List OutsideCall) (k : BootAndHistory) → IsRun c vs ticks xs k → (log : List ℕ) (ws : List Written) (Prints : List ℕ → Type 0) (ending : Ending) (r : Result Ending Kind)
-    → ending ≡ run_ending c.log ticks xs k → IsReported log (text_kept k) ws (Prints (report_text (replay k).table (replay k).services)) ending r → ComesTo c vs xs log ticks ws Prints r
+    → ending ≡ run_ending c.log ticks xs k → ReportsRun log (text_kept k) ws (Prints (report_text (replay k).table (replay k).services)) ending r → ComesTo c vs xs log ticks ws Prints r
 run_reported c vs ticks xs k run log ws Prints ending r is h =
     let Printed = Prints (report_text (replay k).table (replay k).services) in
-    inr (k, run, subst (λ e. IsReported log (saved_text c.rules k.history) ws Printed e r) is
-    (subst (λ t. IsReported log t ws Printed ending r) (by_rules c vs ticks xs k run) h))
+    inr (k, run, subst (λ e. ReportsRun log (saved_text c.rules k.history) ws Printed e r) is
+    (subst (λ t. ReportsRun log t ws Printed ending r) (by_rules c vs ticks xs k run) h))
 
 -- ---- its replay
 

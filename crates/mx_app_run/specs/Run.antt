@@ -75,28 +75,28 @@ IsNotCalled config (Some name) qs f =
     ⊎ ((before : List Asked) × (q : Asked) × (c : Config) × (vs : List Service) × (qs ≡ before ++ q ∷ []) × IsSetup config before c vs
     × IsCallsFault name q c.others f)
 
--- nothing is run: a file that is read would be written over; or the first fault of these files
+-- why no run is begun: CONFIG or EVENTS would be written over, and nothing is read; or the first fault of these files
 abbrev pub IsNotRun : List ℕ → Option (List ℕ) → List ℕ → List Asked → Kind → Type 0
 IsNotRun config events log qs f =
     ((writes_over config events log ≡ true) × (qs ≡ []) × (f ≡ File))
     ⊎ ((writes_over config events log ≡ false) × IsNotCalled config events qs f)
 
--- a run is reported: its history's text was written, whole, the report was printed, and the answer is how it ended; or not
--- all of this, and the answer says why
-abbrev pub IsReported : List ℕ → List ℕ → List Written → Type 0 → Ending → Result Ending Kind → Type 0
-IsReported log text ws Printed ending (Ok answered) = (ws ≡ kept log text ∷ []) × Printed × (answered ≡ ending)
-IsReported log text ws Printed ending (Err f) = IsUnwritten log text ws f ⊎ ((ws ≡ kept log text ∷ []) × IsWanting f)
+-- WHAT REPORTING A RUN DOES: it writes the history's text, whole, prints the report, and answers how the run ended; or it
+-- answers why not all of this was done
+abbrev pub ReportsRun : List ℕ → List ℕ → List Written → Type 0 → Ending → Result Ending Kind → Type 0
+ReportsRun log text ws Printed ending (Ok answered) = (ws ≡ kept log text ∷ []) × Printed × (answered ≡ ending)
+ReportsRun log text ws Printed ending (Err f) = IsUnwritten log text ws f ⊎ ((ws ≡ kept log text ∷ []) × IsWanting f)
 
--- WHAT A RUN OF WHAT WAS READ COMES TO: there is no memory for it; or it is reported, with the report on the replay of
--- its history
+-- WHAT A RUN OF WHAT WAS READ COMES TO: it answers that there is no memory for it; or the run is reported, with the report
+-- on the replay of its history
 abbrev pub ComesTo : Config → List Service → List OutsideCall → List ℕ → ℕ → List Written → (List ℕ → Type 0) → Result Ending Kind → Type 0
 ComesTo c vs xs log ticks ws Prints r =
     ((ws ≡ []) × IsErrAnd r (λ f. f ≡ NoMemory))
     ⊎ ((k : BootAndHistory) × IsRun c vs ticks xs k
-    × IsReported log (saved_text c.rules k.history) ws (Prints (report_text (replay k).table (replay k).services)) (run_ending c.log ticks xs k) r)
+    × ReportsRun log (saved_text c.rules k.history) ws (Prints (report_text (replay k).table (replay k).services)) (run_ending c.log ticks xs k) r)
 
--- WHAT `mx run` DOES: it reports why nothing is run; or, after its files were read, it spares a service's program that the
--- history would be written over; or else it does what a run of what was read comes to
+-- WHAT `mx run` DOES: it answers why no run is begun; or, after its files were read, it spares a service's program that the
+-- history would be written over; or it runs what was read, and this comes of it
 abbrev pub Runs : List ℕ → Option (List ℕ) → List ℕ → ℕ → List Asked → List Written → (List ℕ → Type 0) → Result Ending Kind → Type 0
 Runs config events log ticks qs ws Prints r =
     IsErrAnd r (λ f. (ws ≡ []) × IsNotRun config events log qs f)

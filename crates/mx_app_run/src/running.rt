@@ -9,7 +9,7 @@ ghost use Rattle.mx_app_step.specs.Report.{report_text};
 ghost use Rattle.mx_app_step.specs.Written.{Written};
 ghost use Rattle.mx_cpus.specs.Outsiders.{AreDrivenWith};
 ghost use Rattle.mx_app_run.specs.Calls.{AreCallsGiven, IsCallsFault};
-ghost use Rattle.mx_app_run.specs.Run.{ComesTo, EndsDriven, IsCalled, IsNotCalled, IsReported, IsRun, Runs, run_ending};
+ghost use Rattle.mx_app_run.specs.Run.{ComesTo, EndsDriven, IsCalled, IsNotCalled, IsRun, ReportsRun, Runs, run_ending};
 
 use crate::calls::{outside_calls, ticks_of};
 use crate::gate::{RunGate, RunPlan};
@@ -205,7 +205,7 @@ fn report_run<R: Drop, F: FileWriter + Drop, W: Write + Drop>(
     ensures reader { channels.new.reader ≡ channels.old.reader }
     ensures reported { (ws : List Written)
         × (F.written channels.new.files ≡ F.written channels.old.files ++ ws)
-        × IsReported log.now (text_kept kernel.now) ws (Appends (W.contents channels.old.out)
+        × ReportsRun log.now (text_kept kernel.now) ws (Appends (W.contents channels.old.out)
         (W.contents channels.new.out) (report_text (replay kernel.now).table
         (replay kernel.now).services)) ending result }
 {

@@ -16,7 +16,7 @@ use mx_machine::{Held, Refusal};
 use std::sync::Wait;
 
 /// A take, and if it isn't refused, a run of the loan until its budget is spent or it stops, and its return. The gate
-/// hears of a loan before it runs, and after it came back. Answers whether the take was refused, and why.
+/// is called with a loan before it runs, and after it came back. Answers whether the take was refused, and why.
 fn make_turn<M: Naming, G: WatchingGate, R: Wait>(
     context: &LoopContext<'_, M, G, R>,
     seat: ActorSeat,

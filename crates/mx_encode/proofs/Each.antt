@@ -1,4 +1,4 @@
--- What holds of the choice for each instruction, by cases: whether there is one, and what a number that is put in changes.
+-- What holds of the choice for each instruction, by cases: whether it has a place, and what a number that is put in changes.
 use Rattle.std.proofs.Common.{◌≡◌, ℕ, Bool, true, false, cond, eqb, Option, Some, None, refl, ap, ◌∙◌}
 use Rattle.std.proofs.lemmas.Bool.{cond_both}
 use Rattle.mx_word.specs.declared.size.Size.TheVariants.{Byte, Word, Dword}
@@ -25,7 +25,7 @@ use Rattle.mx_encode.specs.Choice.{Choice, choice, bare}
 use Rattle.mx_encode.specs.Filled.{operand_with_displacement, with_displacement, with_immediate}
 use Rattle.mx_encode.specs.Held.{dword_in, in_place_of, is_jump}
 
--- ---- whether there is one
+-- ---- whether it has a place
 
 abbrev pub stands : Option Choice → Bool
 stands None = false
@@ -77,7 +77,7 @@ none_of_two false x y n e f = f ∙ ap (λ o. in_place_of o n) (none_same (dword
 -- ---- every instruction
 
 pub record Each (i : Insn) : Type 0 where
-  -- there is a choice just where there is a form
+  -- a choice has a place just where there is a form
   pub form : (wide : Wide) → stands (choice i wide) ≡ has_form i
   -- it stays but for the displacement, which is marked wide
   pub stays : (short : Bool) (n : ℕ) → choice (with_displacement i n) (record { immediate = short; displacement = true }) ≡ given_at (choice i (record { immediate = short; displacement = true })) n

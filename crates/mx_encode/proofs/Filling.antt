@@ -1,4 +1,4 @@
--- A number that is put in is in what is chosen.
+-- A number that is put in is part of what is chosen.
 use Rattle.std.proofs.Common.{◌≡◌, ℕ, Bool, true, false, Option, Some, None, refl, ap, ◌∙◌, IsTrue}
 use Rattle.mx_insn.specs.declared.insn.Operand.TheVariants as operand
 use Rattle.mx_insn.specs.declared.insn.Insn.{Insn}

@@ -67,7 +67,7 @@ rm_below : (base : Option Register) (sib : Option Sib) → rm_number base sib < 
 rm_below base None = base_below base
 rm_below base (Some s) = lit< tt
 
--- rm 100 is just where a SIB byte is
+-- rm is 100 just where there is a SIB byte
 rm_has_sib : (base : Option Register) (index : Option Index) → is_some (sib_of base index) ≡ eqb (rm_number base (sib_of base index)) 4
 rm_has_sib base (Some i) = refl
 rm_has_sib base None = go (eqb (base_number base) 4) refl

@@ -45,7 +45,7 @@ pub enum Outcome {
 }
 
 impl Image {
-    /// What is where an image was moved out: no memory, and zeros. Takes no memory.
+    /// What is left where an image was moved out: no memory, and zeros. Takes no memory.
     pub fn blank(alloc: Global) -> Image
         ensures { result ≡ blank }
     {

@@ -55,7 +55,7 @@ put_new w n s p r v =
     same (map fixed_of (slice_set w.slots s p)) (slice_set (map fixed_of w.slots) s (fixed_of p)) (map loan_of (slice_set w.slots s p)) (slice_set (map loan_of w.slots) s (loan_of p)) w.uptime w.devices
     (map-put fixed_of w.slots s p) (map-put loan_of w.slots s p) ∙ ap (λ x. frame_with_process (frame x) s p) v
 
--- and the table has it
+-- and the frame has that process
 pub put : (w n : TableState) (s : ℕ) (p : Process) (r : List (List ℕ)) → w ≡ n → s < length n.slots
     → frame (record w { slots = slice_set w.slots s p; ready = r }) ≡ frame_with_process (frame n) s (process_at (with_process w s p) s)
 put w n s p r v b = put_new w n s p r v ∙ ap (frame_with_process (frame n) s) (sym (process-same w (with_process w s p) s p (subst (λ (x : TableState). s < length x.slots) (sym v) b) refl))

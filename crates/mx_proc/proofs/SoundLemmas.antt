@@ -83,7 +83,7 @@ stays w s p h b st lv k = changed w (with_process w s p) s p h (record {
   uptime = refl;
 })
 
--- a process that is in no queue is in no list
+-- a process that isn't ready is in no list
 pub alone_listed : (w : TableState) (s : ℕ) → Sound w → is_ready (process_at w s).state ≡ false → InNoList w.ready s
 alone_listed w s h r l = (h.each s).listed l ∙ ap (λ b. cond b (tally ((process_at w s).schedule.level == l)) 0) r
 

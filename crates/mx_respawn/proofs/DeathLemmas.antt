@@ -154,7 +154,7 @@ receivers_next : (s t : ℕ) (ps : List Process) → t < length ps
 receivers_next s t ps h = let k : suc t ≡ t + 1 = omega arith in ap (receivers s t) (drop-cons ps t nobody h)
     ∙ ap (λ i. cond (not (t == s) && receives_from_alone (get_or ps t nobody).state s) (t ∷ receivers s (t + 1) (drop i ps)) (receivers s (t + 1) (drop i ps))) k
 
--- a process goes on where it receives from one slot only
+-- a process in no queue goes on as it is freed
 pub woken_is : (w : TableState) (s t : ℕ) → IsAlone (process_at w t).state → goes_on w t (errno_bits Dead) ≡ table_after_freeing w t
 woken_is w s t h = ap (λ x. goes_on x t (errno_bits Dead)) (sym (taken_out-alone w t h))
 
@@ -182,7 +182,7 @@ woken_next w u s t ps h same e =
     both w t rest true = refl
     both w t rest false = refl
 
--- who receives from that slot only goes on
+-- who receives only from that slot goes on
 pub woken_goes : (w u : TableState) (s t v : ℕ) → t ≢ s → receives_from_alone (process_at w t).state s ≡ true → IsAlone (process_at w t).state → u ≡ goes_on w t v → v ≡ errno_bits Dead → u ≡ table_after_waking w s t
 woken_goes w u s t v n y a e is = rw (ne_eqb t s n) (rw y (e ∙ ap (goes_on w t) is ∙ woken_is w s t a))
 

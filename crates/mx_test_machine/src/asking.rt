@@ -91,7 +91,7 @@ fn ends_of_texts(rt: HostRuntime) {
     }
 }
 
-/// What was printed, up to which byte, and the line that a reader at a terminal gets besides.
+/// What was printed, up to which byte, and the line that a reader at a terminal also gets.
 const NOTES: &[(PrintedText, Option<u8>, &str)] = &[
     (PrintedText::Symbols, None, "mx: no symbols\n"),
     (PrintedText::Symbols, Some(b'\n'), ""),

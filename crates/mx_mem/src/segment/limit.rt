@@ -6,7 +6,7 @@ ghost use Rattle.mx_word.specs.Word.{bytes_in};
 use mx_word::Size;
 use std::marker::Model;
 
-/// The number of bytes of a segment. With it goes at how many addresses a dword may begin, so that
+/// The number of bytes of a segment. It also has the number of addresses where a dword may begin, so that
 /// the commonest access takes one comparison.
 #[derive(Drop)]
 pub struct Limit {

@@ -136,7 +136,7 @@ fn masks(rt: HostRuntime) {
     all_done(&rt, rt.alloc(), MASKS);
 }
 
-/// Scripts, with what is saved besides the answers.
+/// Scripts, and what is saved.
 static SCRIPTS: &[Done] = &[
     Done {
         name: "step: killed and refused",

@@ -1,4 +1,4 @@
-//! Words that are refused for what is in the files, or isn't.
+//! Words that fail for what is in the files, or isn't.
 
 use crate::commands::{Failed, all_fail};
 

@@ -30,7 +30,7 @@ firsts : {X A B : Type 0} (f : X → A) (g : X → B) (o : Option X) → option_
 firsts f g None = refl
 firsts f g (Some x) = refl
 
--- the name of the subcommand is with its rows
+-- the name of the subcommand comes with its rows
 name_of_rows : (m : ArgMatches) (p : Text × List Row) → subcommand_rows_of m ≡ Some p → subcommand_name_of m ≡ Some p.0
 name_of_rows m p e = firsts _ _ (out-ArgMatches m).subcommand ∙ ap (option_map (λ (q : Text × List Row). q.0)) e
 

@@ -6,7 +6,7 @@ use Rattle.mx_asm.proofs.Emitting.{Completes}
 use Rattle.mx_asm.proofs.Kept.{line_in}
 use Rattle.mx_asm.proofs.emit.parts_of.Given as goal
 
--- whatever is put out for the lines that are left completes what is put out
+-- any bytes of the lines that are left complete what is put out
 abbrev pub invariant-loop-kept : goal.invariant-loop-kept
 invariant-loop-kept l = record {
   clean : first_problem_kept (above_of l.layout) l.sizes (drop l.kept-index l.lines) ≡ None;
