@@ -2,7 +2,7 @@
 -- the names that the manual has for one condition we take one. `.text`, `.data`, `.bss`, `.data1`, `.data2`,
 -- `.data4`, `.ascii` and `.space` are those of MINIX's assembler; `.sep`, `.entry`, `.stack` and `short` are
 -- our own).
-use Rattle.std.specs.Prelude.{ℕ, Bool, true, false, List, ◌++◌, codes}
+use Rattle.std.specs.Prelude.{◌&&◌, ℕ, Bool, true, false, nat_lt, List, [], ◌∷◌, ◌++◌, codes}
 use Rattle.mx_word.specs.declared.size.Size.{Size}
 use Rattle.mx_word.specs.declared.size.Size.TheVariants.{Byte, Word, Dword}
 use Rattle.mx_word.specs.declared.names.Arithmetic.{Arithmetic}
@@ -200,3 +200,12 @@ is_operation (starts.Mnemonic (mnemonics.Compare x s)) = false
 is_operation (starts.Mnemonic m) = true
 is_operation (starts.Repeat x) = false
 is_operation (starts.Directive x) = false
+
+-- a word's first letter comes before l
+abbrev pub begins_early : List ℕ → Bool
+begins_early [] = false
+begins_early (c ∷ cs) = nat_lt c 108
+
+-- AN EARLY OPERATION: its word begins with such a letter (our own)
+abbrev pub is_early : Mnemonic → Bool
+is_early m = is_operation (starts.Mnemonic m) && begins_early (word_of m)

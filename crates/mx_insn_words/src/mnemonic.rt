@@ -1,8 +1,8 @@
 //! Mnemonics of instructions, as the assembler and the listing have them, and the words of those that hold neither a
-//! condition nor a size. A row of `operations` is read and printed by.
+//! condition nor a size. Their rows are read and printed by.
 
-ghost use Rattle.std.specs.Prelude.{◌≡◌};
-ghost use Rattle.mx_insn_words.specs.Words.{word_of};
+ghost use Rattle.std.specs.Prelude.{◌≡◌, false, MatchOption};
+ghost use Rattle.mx_insn_words.specs.Words.{is_early, word_of};
 
 use crate::named::Named;
 use crate::start::{WordStart, other_word};
@@ -51,11 +51,12 @@ pub enum Mnemonic {
     Compare(Comparison, Size),
 }
 
-/// The operations, byte for byte in order.
-macro_rules! operations {
-    ($use:ident $($mnemonic:ident)?) => {
-        $use! {
-            $($mnemonic)?
+/// The operations whose words begin with a letter before l, byte for byte in order. Two matches of half the rows take half
+/// the time to prove.
+macro_rules! early_operations {
+    ($then:ident $($more:tt)*) => {
+        $then! {
+            $($more)*
             "adc" => Arithmetic(Arithmetic::Adc),
             "add" => Arithmetic(Arithmetic::Add),
             "and" => Arithmetic(Arithmetic::And),
@@ -87,6 +88,15 @@ macro_rules! operations {
             "into" => Plain(Plain::Into),
             "jecxz" => Loop(Loop::Jecxz),
             "jmp" => Single(Single::Jmp),
+        }
+    };
+}
+
+/// The others.
+macro_rules! late_operations {
+    ($then:ident $($more:tt)*) => {
+        $then! {
+            $($more)*
             "lahf" => Plain(Plain::Lahf),
             "lea" => Single(Single::Lea),
             "leave" => Plain(Plain::Leave),
@@ -144,7 +154,16 @@ macro_rules! table {
     };
 }
 
-macro_rules! word_in {
+macro_rules! early_word_in {
+    ($mnemonic:ident $($word:literal => $kind:ident $operation:tt,)*) => {
+        match $mnemonic {
+            $(Mnemonic::$kind $operation => Some($word),)*
+            _ => None,
+        }
+    };
+}
+
+macro_rules! late_word_in {
     ($mnemonic:ident $($word:literal => $kind:ident $operation:tt,)*) => {
         match $mnemonic {
             $(Mnemonic::$kind $operation => $word,)*
@@ -152,21 +171,41 @@ macro_rules! word_in {
             | Mnemonic::SetCondition(_)
             | Mnemonic::Transfer(_, _)
             | Mnemonic::Compare(_, _) => other_word(WordStart::Mnemonic($mnemonic)),
+            _ => unreachable!(),
         }
     };
 }
 
 /// The operations: mnemonics whose words hold neither a condition nor a size.
-const OPERATION_STARTS: &[WordStart] = &operations!(starts);
+const OPERATION_STARTS: &[WordStart] = &early_operations!(late_operations starts);
 
 const OPERATION_COUNT: usize = OPERATION_STARTS.len();
 
 /// The operations, each with its word.
-pub static OPERATIONS: [Named<WordStart>; OPERATION_COUNT] = operations!(table);
+pub static OPERATIONS: [Named<WordStart>; OPERATION_COUNT] = early_operations!(late_operations table);
+
+/// The word of an early operation, if it is one.
+fn early_word(mnemonic: Mnemonic) -> Option<&'static str>
+    ensures { MatchOption result (is_early mnemonic ≡ false)
+        (λ word. word.now ≡ word_of mnemonic) }
+{
+    early_operations!(early_word_in mnemonic)
+}
+
+/// The word of any other mnemonic.
+fn late_word(mnemonic: Mnemonic) -> &'static str
+    requires { is_early mnemonic ≡ false }
+    ensures { result.now ≡ word_of mnemonic }
+{
+    late_operations!(late_word_in mnemonic)
+}
 
 /// The word of a mnemonic.
 pub fn word(mnemonic: Mnemonic) -> &'static str
     ensures { result.now ≡ word_of mnemonic }
 {
-    operations!(word_in mnemonic)
+    match early_word(mnemonic) {
+        Some(word) => word,
+        None => late_word(mnemonic),
+    }
 }

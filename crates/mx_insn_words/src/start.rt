@@ -3,7 +3,7 @@
 ghost use Rattle.std.specs.Prelude.{◌≡◌, ◌≢◌, true, false, MatchOption};
 ghost use Rattle.mx_insn_words.specs.declared.mnemonic.Mnemonic.{Mnemonic};
 ghost use Rattle.mx_insn_words.specs.declared.start.WordStart.{WordStart};
-ghost use Rattle.mx_insn_words.specs.Words.{is_operation, start_word, word_of};
+ghost use Rattle.mx_insn_words.specs.Words.{begins_early, is_operation, start_word, word_of};
 
 use crate::mnemonic::{Mnemonic, OPERATIONS};
 use crate::named::{Named, find_word};
@@ -42,11 +42,11 @@ pub enum WordStart {
     Directive(Directive),
 }
 
-/// All else that begins a statement, byte for byte in order.
-macro_rules! other_starts {
-    ($use:ident $($start:ident)?) => {
-        $use! {
-            $($start)?
+/// All else that begins a statement with a dot or a letter before l, byte for byte in order.
+macro_rules! early_starts {
+    ($then:ident $($more:tt)*) => {
+        $then! {
+            $($more)*
             ".ascii" => Directive(Directive::Ascii),
             ".bss" => Directive(Directive::Bss),
             ".data" => Directive(Directive::Data),
@@ -77,6 +77,15 @@ macro_rules! other_starts {
             "jp" => Mnemonic(Mnemonic::JumpIf(Condition::Parity)),
             "js" => Mnemonic(Mnemonic::JumpIf(Condition::Sign)),
             "jz" => Mnemonic(Mnemonic::JumpIf(Condition::Zero)),
+        }
+    };
+}
+
+/// The others.
+macro_rules! late_starts {
+    ($then:ident $($more:tt)*) => {
+        $then! {
+            $($more)*
             "lodsb" => Mnemonic(Mnemonic::Transfer(Transfer::Lods, Size::Byte)),
             "lodsd" => Mnemonic(Mnemonic::Transfer(Transfer::Lods, Size::Dword)),
             "lodsw" => Mnemonic(Mnemonic::Transfer(Transfer::Lods, Size::Word)),
@@ -127,7 +136,16 @@ macro_rules! table {
     };
 }
 
-macro_rules! word_in {
+macro_rules! early_word_in {
+    ($start:ident $($word:literal => $kind:ident $value:tt,)*) => {
+        match $start {
+            $(WordStart::$kind $value => Some($word),)*
+            _ => None,
+        }
+    };
+}
+
+macro_rules! late_word_in {
     ($start:ident $($word:literal => $kind:ident $value:tt,)*) => {
         match $start {
             $(WordStart::$kind $value => $word,)*
@@ -136,19 +154,40 @@ macro_rules! word_in {
     };
 }
 
-const OTHER_STARTS: &[WordStart] = &other_starts!(starts);
+const OTHER_STARTS: &[WordStart] = &early_starts!(late_starts starts);
 
 const OTHER_COUNT: usize = OTHER_STARTS.len();
 
 /// What else begins a statement, each with its word.
-static OTHERS: [Named<WordStart>; OTHER_COUNT] = other_starts!(table);
+static OTHERS: [Named<WordStart>; OTHER_COUNT] = early_starts!(late_starts table);
+
+/// The word of what begins a statement and is no operation, if it begins with a dot or a letter before l.
+fn early_other(start: WordStart) -> Option<&'static str>
+    requires { is_operation start ≡ false }
+    ensures { MatchOption result (begins_early (start_word start) ≡ false)
+        (λ word. word.now ≡ start_word start) }
+{
+    early_starts!(early_word_in start)
+}
+
+/// The word of any other such start.
+fn late_other(start: WordStart) -> &'static str
+    requires other { is_operation start ≡ false }
+    requires late { begins_early (start_word start) ≡ false }
+    ensures { result.now ≡ start_word start }
+{
+    late_starts!(late_word_in start)
+}
 
 /// The word of what begins a statement and is no operation.
 pub fn other_word(start: WordStart) -> &'static str
     requires { is_operation start ≡ false }
     ensures { result.now ≡ start_word start }
 {
-    other_starts!(word_in start)
+    match early_other(start) {
+        Some(word) => word,
+        None => late_other(start),
+    }
 }
 
 /// The operation that a word is.
