@@ -127,8 +127,12 @@ pub run_reported : (c : Config) (vs : List Service) (ticks : ℕ) (xs : List Out
     → ending ≡ run_ending c.log ticks xs k → ReportsRun log (text_kept k) ws (Prints (report_text (replay k).table (replay k).services)) ending r → ComesTo c vs xs log ticks ws Prints r
 run_reported c vs ticks xs k run log ws Prints ending r is h =
     let Printed = Prints (report_text (replay k).table (replay k).services) in
-    inr (k, run, subst (λ e. ReportsRun log (saved_text c.rules k.history) ws Printed e r) is
-    (subst (λ t. ReportsRun log t ws Printed ending r) (by_rules c vs ticks xs k run) h))
+    inr (
+      k,
+      run,
+      subst (λ e. ReportsRun log (saved_text c.rules k.history) ws Printed e r) is
+          (subst (λ t. ReportsRun log t ws Printed ending r) (by_rules c vs ticks xs k run) h),
+    )
 
 -- ---- its replay
 

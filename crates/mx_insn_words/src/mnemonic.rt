@@ -182,7 +182,8 @@ const OPERATION_STARTS: &[WordStart] = &early_operations!(late_operations starts
 const OPERATION_COUNT: usize = OPERATION_STARTS.len();
 
 /// The operations, each with its word.
-pub static OPERATIONS: [Named<WordStart>; OPERATION_COUNT] = early_operations!(late_operations table);
+pub static OPERATIONS: [Named<WordStart>; OPERATION_COUNT] =
+    early_operations!(late_operations table);
 
 /// The word of an early operation, if it is one.
 fn early_word(mnemonic: Mnemonic) -> Option<&'static str>
