@@ -355,10 +355,8 @@ impl Walker {
             ⊎ (P.shown progress.new ≡ P.shown progress.old ++ walk_shown self.records self.here)) }
     {
         let (walker, found) = self.look_back(alloc, mark, progress)?;
-        match found {
-            Some(marked) => Ok((walker.go_to(alloc, marked, progress)?, true)),
-            None => Ok((walker.go_to(alloc, FIRST, progress)?, false)),
-        }
+        let walker = walker.go_to(alloc, found.unwrap_or(FIRST), progress)?;
+        Ok((walker, found.is_some()))
     }
 
     /// Goes on up to right above the first event that is marked; to the last position if there is none. Shows each
