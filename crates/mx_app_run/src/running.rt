@@ -214,6 +214,33 @@ fn report_run<R: Drop, F: FileWriter + Drop, W: Write + Drop>(
     Ok(ending)
 }
 
+/// Boots the machine of what was read, and drives it. The kernel after that, and how the run ended.
+fn drive_begun<T: Threads + Wait + Clock + Sync, P: SharedProgress + Sync>(
+    place: &RunPlace<'_, T, P>,
+    begun: Begun,
+    ticks: u32,
+) -> Result<(Kernel, Ending), NoMemory>
+    requires some { 0 < length begun.services.items }
+    requires few { length begun.services.items ≤ 32 }
+    ensures run { IfOk result (λ r. IsRun begun.config begun.services.items ticks
+        begun.calls.items r.0) }
+    ensures ending { IfOk result (λ r. r.1
+        ≡ run_ending begun.config.log ticks begun.calls.items r.0) }
+{
+    let Begun {
+        config,
+        services,
+        calls,
+    } = begun;
+    let outside = Outside {
+        ticks,
+        calls: calls.as_slice(),
+    };
+    let kernel = run_machine(place, &config, services, outside)?;
+    let ending = ending_of(&kernel, config.log, outside);
+    Ok((kernel, ending))
+}
+
 /// Runs the machine of what was read, writes its history, prints the report, and answers how the run ended.
 fn run_begun<
     T: Threads + Wait + Clock + Sync,
@@ -239,23 +266,13 @@ fn run_begun<
         (W.contents channels.new.out) text) result }
     ensures shown { P.shown progress.new ≡ P.shown progress.old }
 {
-    let Begun {
-        config,
-        services,
-        calls,
-    } = begun;
-    let outside = Outside {
-        ticks: wanted.ticks,
-        calls: calls.as_slice(),
-    };
     let place = RunPlace {
         rt,
         alloc,
         progress: &*progress,
     };
-    let kernel = run_machine(&place, &config, services, outside)?;
+    let (kernel, ending) = drive_begun(&place, begun, wanted.ticks)?;
     progress.clear();
-    let ending = ending_of(&kernel, config.log, outside);
     report_run(alloc, channels, wanted.log, &kernel, ending)
 }
 

@@ -1,8 +1,6 @@
-use Rattle.std.proofs.Common.{ℕ, ◌∙◌, List, [], ap, subst, sym, inl, refl}
+use Rattle.std.proofs.Common.{ℕ, List, [], inl, refl, sym}
 use Rattle.std.specs.Io.KnownBytes.{Appends}
 use Rattle.std.proofs.lemmas.List.{append-nil}
-use Rattle.mx_cpus.specs.declared.outside.OutsideCall.{OutsideCall}
-use Rattle.mx_app_run.specs.Run.{IsRun, run_ending}
 use Rattle.mx_app_run.proofs.RunLemmas.{run_reported}
 use Rattle.mx_app_run.proofs.running.run_begun.Goals as goal
 
@@ -13,9 +11,5 @@ returns-in_err-kernel-clause-reported g c =
 pub returns-clause-reported : goal.returns-clause-reported
 returns-clause-reported g c =
     let b = c.args.begun in
-    let k = c.in_ok-kernel.kernel in
-    let listed = c.as_slice.ensures.value in
-    let made = subst (λ (l : List OutsideCall). IsRun b.config b.services.items c.args.wanted.ticks l k) listed c.in_ok-kernel.ensures in
-    let ends = c.ending_of-ending.ensures ∙ ap (λ (l : List OutsideCall). run_ending b.config.log c.args.wanted.ticks l k) listed in
     let h = c.report_run.ensures.reported in
-    (h.0, h.1, run_reported b.config b.services.items c.args.wanted.ticks b.calls.items k made c.args.wanted.log.now h.0 (λ (text : List ℕ). Appends (g.W.Write.contents c.args.channels.now.out) (g.W.Write.contents c.report_run.new.channels.out) text) c.ending_of-ending.result c.report_run.result ends h.2)
+    (h.0, h.1, run_reported b.config b.services.items c.args.wanted.ticks b.calls.items c.in_ok-kernel.kernel c.in_ok-kernel.ensures.run c.args.wanted.log.now h.0 (λ (text : List ℕ). Appends (g.W.Write.contents c.args.channels.now.out) (g.W.Write.contents c.report_run.new.channels.out) text) c.in_ok-kernel.ending c.report_run.result c.in_ok-kernel.ensures.ending h.2)
