@@ -466,7 +466,7 @@ fn with_all<'a>(
 
 /// What the help of all subcommands ends with.
 const MORE_HELP: &str =
-    "mx help SUBCOMMAND, or mx SUBCOMMAND --help, tells the words, examples and statuses of one.
+    "mx help SUBCOMMAND, or mx SUBCOMMAND --help, prints the words, examples and statuses of one.
 If one fails, a second line says what was wanted: at a terminal, or with --explain.
 --no-explain leaves it out.";
 

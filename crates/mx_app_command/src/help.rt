@@ -285,8 +285,8 @@ steps, with a tick by the actor after the processors, here number 1:
 With --sums SUMS a machine is refused that has another configuration or another program
 than the one whose sums step, run or turns wrote: mx: 64 OtherMachine NAME.
 
-Status: 0 done; 1 a text or a program's file is refused, or an event, which is told
-by its line, or the machine; 2 a mistake in the words; 3 a file can't be read; 4 no
+Status: 0 done; 1 a text or a program's file is refused, or an event, whose line is
+printed, or the machine; 2 a mistake in the words; 3 a file can't be read; 4 no
 memory. Formats: docs/use/REFERENCE.md.";
 
 /// A session over a history.
@@ -340,8 +340,8 @@ regs of 1 and mem of 1 0 16 look at the process of slot 1, also while it waits.
 messages 3 prints the last three messages, with their words as far as the receivers
 still have them. In mem's lines an address may be a symbol, as buf or buf+4.
 
-All lines of mx step's scripts may stand here too. In place of a symbol an address
-may stand. Addresses are decimal here, and hexadecimal in listings.
+All lines of mx step's scripts may be here too, and an address in place of a symbol.
+Addresses are decimal here, and hexadecimal in listings.
 
 Status: 0 done, also if lines were refused; 1 a text or a program's file is refused;
 2 a mistake in the words; 3 a file can't be read; 4 no memory. Formats:
@@ -372,7 +372,7 @@ $ mx trace pair.config pair.log
 10   cli 1: out -> down exit
 
 Each line begins with the number of its record in the history, counted from 1. Of a
-long history a part is told, here one record:
+long history --from and --to print a part, here one record:
 
 $ mx trace pair.config pair.log --from 6 --to 6
 6 0 back 3: drv 0 trap SEND cli 1
@@ -380,8 +380,8 @@ $ mx trace pair.config pair.log --from 6 --to 6
 6   drv 0: out -> ready, result 0 OK
 6   cli 1: awaiting 0 -> ready, result 0 OK
 
-Status: 0 done; 1 a text or a program's file is refused, or an event, which is told
-by its line; 2 a mistake in the words; 3 a file can't be read; 4 no memory. Formats:
+Status: 0 done; 1 a text or a program's file is refused, or an event, whose line is
+printed; 2 a mistake in the words; 3 a file can't be read; 4 no memory. Formats:
 docs/use/REFERENCE.md.";
 
 /// A picture of a history.
@@ -393,9 +393,9 @@ $ mx draw restart.config restart.log --from 19 --to 30 >/tmp/killed.svg
 The picture is SVG 1.1, which a browser shows. It has a column for each record and a
 row for each service. Bars show what a service does, arrows are messages and
 notifications, and the lowest row has what was written to the console. Under the
-pointer stands the line that mx trace has of the same. A picture has at most 1,000
+pointer is the line that mx trace has of the same. A picture has at most 1,000
 records: of a longer history it has those from A on, and its title says which.
 
 Status: 0 done; 1 a text or a program's file is refused, or an event, which the picture
-tells at its top right; 2 a mistake in the words; 3 a file can't be read; 4 no memory.
+names at its top right; 2 a mistake in the words; 3 a file can't be read; 4 no memory.
 Formats: docs/use/REFERENCE.md.";

@@ -120,6 +120,34 @@ pub struct SessionWanted<'a> {
     pub asks: bool,
 }
 
+/// Starts the machine of a saved history, walks the history once, and is then at its first position.
+fn start_walker<R: Reader, P: Progress>(
+    alloc: Global,
+    reader: &mut R,
+    progress: &mut P,
+    wanted: SessionWanted<'_>,
+) -> Result<Walker, Failure>
+    ensures begun { IfOk result (λ k. (qs : List Asked) × (c : Configured) × (vs : List Service)
+        × (records : List Noted) × (R.asked reader.new ≡ R.asked reader.old ++ qs)
+        × (P.shown progress.new ≡ P.shown progress.old ++ walk_shown k.records k.last)
+        × IsStart IsSaved wanted.entry.config.now wanted.entry.log.now qs c vs records
+        × IsBegun (world_at_boot c vs) records k) }
+    ensures fault { IfErr result (λ f. (qs : List Asked) × (ps : List Parts)
+        × (R.asked reader.new ≡ R.asked reader.old ++ qs)
+        × (P.shown progress.new ≡ P.shown progress.old ++ ps)
+        × HasFailed wanted.entry.config.now wanted.entry.log.now qs ps f) }
+{
+    let Started {
+        machine,
+        config,
+        other: _,
+        lines: records,
+    } = start::<History, R>(alloc, reader, wanted.config, wanted.log)?;
+    let walker = Walker::new(alloc, machine, config, records, progress)?;
+    progress.clear();
+    Ok(walker)
+}
+
 /// Starts the machine of a saved history, and answers the lines that are typed: requests to go forward and
 /// back in the history, and to show what is there. It takes lines up to `quit` or to the end of the input, and
 /// none after that, and writes no file. A session's text is a function of the configuration, the programs, the
@@ -151,14 +179,7 @@ pub fn look<R: Reader + Drop, F: Drop, W: Write + Drop, L: LineReader, P: Progre
         × (P.shown progress.new ≡ P.shown progress.old ++ ps)
         × HasFailed wanted.entry.config.now wanted.entry.log.now qs ps f) }
 {
-    let Started {
-        machine,
-        config,
-        other: _,
-        lines: records,
-    } = start::<History, R>(alloc, &mut channels.reader, wanted.config, wanted.log)?;
-    let mut walker = Walker::new(alloc, machine, config, records, progress)?;
-    progress.clear();
+    let mut walker = start_walker(alloc, &mut channels.reader, progress, wanted)?;
     let asks = wanted.asks;
     let begun = begin(alloc, &mut walker, asks, &mut channels.out);
     let sight = Sight {

@@ -108,16 +108,6 @@ some_called config o qs c vs xs h =
 
 -- ---- what `mx run` does, by how far it comes
 
--- a failure that is passed on
-pub passed_on : (P : Kind → Type 0) (f : Kind) (r : Result Ending Kind) → P f → IsErrAnd r (λ y. y ≡ f) → IsErrAnd r P
-passed_on P f (Ok u) why h = absurd h
-passed_on P f (Err y) why h = subst P (sym h) why
-
--- a failure of what reports a run, passed on
-pub passed_report : (log text : List ℕ) (ws : List Written) (Printed : Type 0) (ending : Ending) (f : Kind) (r : Result Ending Kind) → ReportsRun log text ws Printed ending (Err f) → IsErrAnd r (λ y. y ≡ f) → ReportsRun log text ws Printed ending r
-passed_report log text ws Printed ending f (Ok answered) why h = absurd h
-passed_report log text ws Printed ending f (Err y) why h = subst (λ z. ReportsRun log text ws Printed ending (Err z)) (sym h) why
-
 -- the text of a run's history is by the rules of its configuration
 by_rules : (c : Config) (vs : List Service) (ticks : ℕ) (xs : List OutsideCall) (k : BootAndHistory) → IsRun c vs ticks xs k → text_kept k ≡ saved_text c.rules k.history
 by_rules c vs ticks xs k run = ap (λ (r : Rules). saved_text r k.history) (ap (λ (w : World). w.table.rules) run.boot ∙ rules_at_boot c vs)

@@ -1,8 +1,9 @@
 -- Kernel and desk agree at boot.
-use Rattle.std.proofs.Common.{◌≡◌, ◌∙◌, ℕ, zero, suc, ◌+◌, List, [], ◌∷◌, map, replicate, None, refl, sym, ap, arith}
+use Rattle.std.proofs.Common.{◌≡◌, ◌∙◌, ℕ, zero, suc, ◌+◌, List, [], ◌∷◌, map, replicate, None, refl, sym, subst, ap, arith}
 use Rattle.std.specs.Prelude.{All}
 use Rattle.std.proofs.lemmas.List.{length-replicate}
 use Rattle.std.proofs.lemmas.List.Elements.{All-push}
+use Rattle.mx_machine.specs.declared.config.Config.{Config}
 use Rattle.mx_machine.specs.Service.{Service}
 use Rattle.mx_machine.specs.Rules.{Rules}
 use Rattle.mx_machine.specs.Boot.{world_at_boot_with}
@@ -11,7 +12,7 @@ use Rattle.mx_machine.specs.World.{actors}
 use Rattle.atomic_table.specs.Seated.{TableId}
 use Rattle.mx_cpus.specs.Seats.{DeskView, SeatView, empty_desk, new_seat, new_seats}
 use Rattle.mx_cpus.specs.Calls.{desk_beside, out_of_lent, outs_of, world_after}
-use Rattle.mx_cpus.specs.Boots.{IsBlank}
+use Rattle.mx_cpus.specs.Boots.{IsBlank, all_seats}
 
 no_outs : (n : ℕ) → map out_of_lent (replicate n None) ≡ replicate n None
 no_outs zero = refl
@@ -37,17 +38,10 @@ blank_at_boot d k rules v n o c desk words kernel = (
   ),
 )
 
--- new seats are the table's
-pub new_seats_at : (z : TableId) (n : ℕ) → All (λ s. s.table ≡ z) (new_seats z n)
-new_seats_at z zero = λ k d below. absurd (omega arith)
-new_seats_at z (suc n) = All-push (λ (s : SeatView). s.table ≡ z) (new_seats z n) (new_seat z n) (new_seats_at z n) refl
+-- what holds of each new seat holds of all of them
+all_new : (P : SeatView → Type 0) (z : TableId) (n : ℕ) → ((m : ℕ) → P (new_seat z m)) → All P (new_seats z n)
+all_new P z zero h = λ k d below. absurd (omega arith)
+all_new P z (suc n) h = All-push P (new_seats z n) (new_seat z n) (all_new P z n h) (h n)
 
--- they hold nothing
-pub new_seats_empty : (z : TableId) (n : ℕ) → All (λ s. s.held ≡ None) (new_seats z n)
-new_seats_empty z zero = λ k d below. absurd (omega arith)
-new_seats_empty z (suc n) = All-push (λ (s : SeatView). s.held ≡ None) (new_seats z n) (new_seat z n) (new_seats_empty z n) refl
-
--- they have recorded and seen nothing
-pub new_seats_fresh : (z : TableId) (n : ℕ) → All (λ s. (s.mine ≡ []) × (s.seen ≡ [])) (new_seats z n)
-new_seats_fresh z zero = λ k d below. absurd (omega arith)
-new_seats_fresh z (suc n) = All-push (λ (s : SeatView). (s.mine ≡ []) × (s.seen ≡ [])) (new_seats z n) (new_seat z n) (new_seats_fresh z n) (refl, refl)
+pub all_at_boot : (P : SeatView → Type 0) (seats : List SeatView) (c : Config) (z : TableId) → seats ≡ all_seats c z → ((m : ℕ) → P (new_seat z m)) → All P seats
+all_at_boot P seats c z same h = subst (All P) (sym same) (all_new P z (c.cpus + c.others) h)

@@ -1,9 +1,11 @@
 //! One step: what one instruction, by its operation and operands (a `Source` is read, a `Place` written too), does
-//! to an `Image`, which is a process's registers, flags, memory and segment, up to a `TurnEnd`, and the next EIP.
+//! to an `Image`, which is a process's registers, flags, memory and segment, up to a `TurnEnd`, and the next EIP; and
+//! copies of images, each for a purpose (`CopyFor`).
 #![tactic(auto)]
 
 pub mod arithmetic;
 mod bits;
+mod copying;
 mod ending;
 mod image;
 pub mod jumps;
@@ -16,9 +18,10 @@ mod steps;
 pub mod strings;
 mod text;
 
+pub use copying::{CopyFor, copy_image};
 pub use ending::{TurnEnd, settle};
 pub use image::{Code, Image, Outcome};
 pub use laws::step_lasts;
 pub use operands::{Place, Source};
 pub use steps::{act, outcome, perform, step};
-pub use text::{TextSegment, decode_at};
+pub use text::{TextSegment, decode_at, empty_cache};

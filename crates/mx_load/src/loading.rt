@@ -10,7 +10,7 @@ ghost use Rattle.mx_load.specs.Room.{IsRoomForText};
 
 use mx_aout::Program;
 use mx_entries::CodeCache;
-use mx_exec::{Code, Image, TextSegment};
+use mx_exec::{Code, Image, TextSegment, empty_cache};
 use mx_flags::Flags;
 use mx_mem::Segment;
 use mx_regs::Regs;
@@ -49,16 +49,6 @@ struct TextRoom {
 struct Room {
     memory: Segment,
     text: Option<TextRoom>,
-}
-
-/// An empty cache of decoded instructions, for code of this many bytes. Takes memory.
-pub(crate) fn empty_cache(alloc: Global, size: usize) -> Result<Box<CodeCache>, NoMemory>
-    ensures { (code : List ℕ) → IfOk result (λ cache. IsCacheOf code cache.value) }
-{
-    match Box::new(alloc, CodeCache::new(alloc, size)?) {
-        Ok(cache) => Ok(cache),
-        Err(_) => Err(NoMemory),
-    }
 }
 
 /// Takes all memory that a text of this many bytes needs in a segment of its own.

@@ -4,7 +4,7 @@ ghost use Rattle.std.specs.Prelude.{◌≡◌, IfOk};
 
 use crate::stored::StoredKernel;
 use crate::{Decoded, Kernel, Machine, Out, Record, Service};
-use mx_load::{CopyFor, copy_image};
+use mx_exec::{CopyFor, copy_image};
 use mx_word::NoMemory;
 use std::alloc::Global;
 use std::marker::Model;

@@ -20,8 +20,8 @@ use crate::stored::StoredState;
 use crate::{
     Answer, Decoded, Event, Lease, Out, Refusal, Service, Stop, is_worn, raise, respawn, tick,
 };
+use mx_exec::CopyFor;
 use mx_ipc::pick;
-use mx_load::CopyFor;
 use mx_proc::{Endpoint, Slot, Table, endpoint_from};
 use mx_word::NoMemory;
 use std::alloc::Global;

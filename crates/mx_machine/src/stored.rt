@@ -6,7 +6,7 @@ ghost use Rattle.std.specs.Prelude.{◌≡◌, ◌≤◌, IfOk, length, vec_capa
 use crate::caches::Caches;
 use crate::current::CurrentState;
 use crate::{Kernel, Lease, Record, Service};
-use mx_load::CopyFor;
+use mx_exec::CopyFor;
 use mx_proc::{Rules, Table};
 use mx_word::NoMemory;
 use std::alloc::Global;

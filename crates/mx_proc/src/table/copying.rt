@@ -4,7 +4,7 @@ ghost use Rattle.std.specs.Prelude.{◌≡◌, IfOk};
 
 use super::Table;
 use crate::process::Process;
-use mx_load::{CopyFor, copy_image};
+use mx_exec::{CopyFor, copy_image};
 use mx_word::NoMemory;
 use std::alloc::Global;
 

@@ -38,7 +38,7 @@ static OF_PROGRAMS: &[Help] = &[
         words: &["mx", "--help"],
         ending: "  -V, --version  Print version
 
-mx help SUBCOMMAND, or mx SUBCOMMAND --help, tells the words, examples and statuses of one.
+mx help SUBCOMMAND, or mx SUBCOMMAND --help, prints the words, examples and statuses of one.
 If one fails, a second line says what was wanted: at a terminal, or with --explain.
 --no-explain leaves it out.
 ",
@@ -145,8 +145,8 @@ static OF_HISTORIES: &[Help] = &[
         words: &["mx", "trace", "--help"],
         ending: "6   cli 1: awaiting 0 -> ready, result 0 OK
 
-Status: 0 done; 1 a text or a program's file is refused, or an event, which is told
-by its line; 2 a mistake in the words; 3 a file can't be read; 4 no memory. Formats:
+Status: 0 done; 1 a text or a program's file is refused, or an event, whose line is
+printed; 2 a mistake in the words; 3 a file can't be read; 4 no memory. Formats:
 docs/use/REFERENCE.md.
 ",
     },
@@ -154,15 +154,15 @@ docs/use/REFERENCE.md.
         name: "draw",
         words: &["mx", "draw", "--help"],
         ending: "Status: 0 done; 1 a text or a program's file is refused, or an event, which the picture
-tells at its top right; 2 a mistake in the words; 3 a file can't be read; 4 no memory.
+names at its top right; 2 a mistake in the words; 3 a file can't be read; 4 no memory.
 Formats: docs/use/REFERENCE.md.
 ",
     },
     Help {
         name: "replay",
         words: &["mx", "replay", "--help"],
-        ending: "Status: 0 done; 1 a text or a program's file is refused, or an event, which is told
-by its line, or the machine; 2 a mistake in the words; 3 a file can't be read; 4 no
+        ending: "Status: 0 done; 1 a text or a program's file is refused, or an event, whose line is
+printed, or the machine; 2 a mistake in the words; 3 a file can't be read; 4 no
 memory. Formats: docs/use/REFERENCE.md.
 ",
     },

@@ -1,12 +1,11 @@
 use Rattle.std.proofs.Common.{◌≡◌, ◌∙◌, ℕ, List, [], Option, ap, inl, inr, refl, sym, true, false}
 use Rattle.std.specs.Prelude.{option_map}
 use Rattle.std.proofs.lemmas.List.{append-nil}
+use Rattle.std.proofs.lemmas.Result.{err_from_is_err_and}
 use Rattle.mx_app_turns.specs.Turned.{writes_over}
 use Rattle.mx_app_start.proofs.Appended.{appends_nothing}
 use Rattle.mx_app_step.specs.Programs.{names_program}
-use Rattle.mx_app_step.specs.Written.{Written}
-use Rattle.mx_app_run.proofs.RunLemmas.{passed_on, some_called}
-use Rattle.mx_app_run.specs.Run.{IsNotRun}
+use Rattle.mx_app_run.proofs.RunLemmas.{some_called}
 use Rattle.mx_app_run.proofs.running.run.Goals as goal
 
 pub returns-then-writes_over-clause-done : goal.returns-then-writes_over-clause-done
@@ -21,8 +20,8 @@ returns-in_err-begun-clause-done g c =
     let log = c.args.wanted.log.now in
     let apart : writes_over config file log ≡ false = sym c.writes_over.ensures ∙ c.if-writes_over.false in
     let h = c.in_err-begun.ensures.fault in
-    let none : List Written = [] in
-    (h.0, [], h.1, sym (append-nil _), inl (passed_on (λ f. (none ≡ []) × IsNotRun config file log h.0 f) c.in_err-begun.field-0.0 c.from_residual.result (refl, inr (apart, h.2)) c.from_residual.ensures.1))
+    let p = err_from_is_err_and c.from_residual.result c.from_residual.ensures.1 in
+    rw (p.1, p.2) (h.0, [], h.1, sym (append-nil _), inl (refl, inr (apart, h.2)))
 
 pub returns-then-names_program-clause-done : goal.returns-then-names_program-clause-done
 returns-then-names_program-clause-done g c =

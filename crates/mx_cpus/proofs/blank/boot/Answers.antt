@@ -1,7 +1,6 @@
-use Rattle.std.proofs.Common.{◌≡◌, ◌+◌, [], List, None, subst, sym}
-use Rattle.std.specs.Prelude.{All}
+use Rattle.std.proofs.Common.{◌≡◌, [], None, refl}
 use Rattle.mx_cpus.specs.Seats.{SeatView}
-use Rattle.mx_cpus.proofs.BootLemmas.{blank_at_boot, new_seats_at, new_seats_empty, new_seats_fresh}
+use Rattle.mx_cpus.proofs.BootLemmas.{all_at_boot, blank_at_boot}
 use Rattle.mx_cpus.proofs.blank.boot.Goals as goal
 
 pub invariant_of-result : goal.invariant_of-result
@@ -10,19 +9,10 @@ invariant_of-result c =
     blank_at_boot _ _ config.rules c.args.services.now.items config.cpus config.others config.log c.in_ok-desk.ensures.desk c.in_ok-desk.ensures.words c.in_ok-kernel.ensures.booted
 
 pub returns-clause-tables : goal.returns-clause-tables
-returns-clause-tables c =
-    let z = c.in_ok-desk.desk.table in
-    let n = c.args.config.now.cpus + c.args.config.now.others in
-    subst (λ (l : List SeatView). All (λ s. s.table ≡ z) l) (sym c.in_ok-desk.ensures.seats) (new_seats_at z n)
+returns-clause-tables c = all_at_boot (λ (s : SeatView). s.table ≡ c.in_ok-desk.desk.table) _ c.args.config.now c.in_ok-desk.desk.table c.in_ok-desk.ensures.seats (λ m. refl)
 
 pub returns-clause-empties : goal.returns-clause-empties
-returns-clause-empties c =
-    let z = c.in_ok-desk.desk.table in
-    let n = c.args.config.now.cpus + c.args.config.now.others in
-    subst (λ (l : List SeatView). All (λ s. s.held ≡ None) l) (sym c.in_ok-desk.ensures.seats) (new_seats_empty z n)
+returns-clause-empties c = all_at_boot (λ (s : SeatView). s.held ≡ None) _ c.args.config.now c.in_ok-desk.desk.table c.in_ok-desk.ensures.seats (λ m. refl)
 
 pub returns-clause-fresh : goal.returns-clause-fresh
-returns-clause-fresh c =
-    let z = c.in_ok-desk.desk.table in
-    let n = c.args.config.now.cpus + c.args.config.now.others in
-    subst (λ (l : List SeatView). All (λ s. (s.mine ≡ []) × (s.seen ≡ [])) l) (sym c.in_ok-desk.ensures.seats) (new_seats_fresh z n)
+returns-clause-fresh c = all_at_boot (λ (s : SeatView). (s.mine ≡ []) × (s.seen ≡ [])) _ c.args.config.now c.in_ok-desk.desk.table c.in_ok-desk.ensures.seats (λ m. (refl, refl))

@@ -3,8 +3,8 @@
 ghost use Rattle.std.specs.Prelude.{◌≡◌, IfOk};
 ghost use Rattle.mx_regs.specs.Regs.{with_word, word_of_register};
 
-use crate::loading::empty_cache;
-use mx_exec::{Code, Image, TextSegment};
+use crate::image::{Code, Image};
+use crate::text::{TextSegment, empty_cache};
 use mx_mem::Segment;
 use mx_regs::Regs;
 use mx_word::{NoMemory, Register, Size};
