@@ -29,8 +29,8 @@ fn visible(byte: u8) -> u8
     if byte.is_ascii_graphic() { byte } else { b'.' }
 }
 
-/// A name up to its first zero byte.
-fn push_name(out: &mut String, name: &[u8]) -> Result<(), AllocError>
+/// Appends a symbol's name up to its first zero byte, with a dot for each byte that is no visible character.
+pub fn push_name(out: &mut String, name: &[u8]) -> Result<(), AllocError>
     ensures { OnOk result (string_bytes out.new ≡ string_bytes out.old ++ name_text name.now) }
 {
     for byte in name {

@@ -1,37 +1,16 @@
 //! Lines of code.
 
 ghost use Rattle.std.specs.Prelude.{◌≡◌, ◌++◌, OnOk, codes, string_bytes, option_copied};
-ghost use Rattle.mx_dis.specs.Names.{name_text, visible_byte};
 ghost use Rattle.mx_look_code.specs.Code.{code_line, code_part, code_text, part_text_if, place_text};
 
 use crate::nearest::nearest_symbol;
 use mx_aout::Symbol;
 use mx_decode::decode;
-use mx_dis::Part;
+use mx_dis::{Part, push_name};
 use mx_exec::Image;
 use mx_insn_words::{push_eight_digits, push_number, push_statement};
 use std::alloc::AllocError;
 use std::fmt::Write;
-
-/// A byte of a name, or a dot where it is no visible character of ASCII.
-fn visible(byte: u8) -> u8
-    ensures { result ≡ visible_byte byte }
-{
-    if byte.is_ascii_graphic() { byte } else { b'.' }
-}
-
-/// Appends a symbol's name up to its first zero byte.
-pub(crate) fn push_name(out: &mut String, name: &[u8]) -> Result<(), AllocError>
-    ensures { OnOk result (string_bytes out.new ≡ string_bytes out.old ++ name_text name.now) }
-{
-    for byte in name {
-        if *byte == 0 {
-            return Ok(());
-        }
-        out.push(char::from(visible(*byte)))?;
-    }
-    Ok(())
-}
 
 /// Appends where an address lies by a symbol: `top ` or `top+1f `.
 #[tactic(auto, unfolding(crate::specs::Code::place_text))]

@@ -3,9 +3,8 @@
 ghost use Rattle.std.specs.Prelude.{◌≡◌, ◌++◌, OnOk, find, option_copied, string_bytes};
 ghost use Rattle.mx_look_code.specs.Variables.{is_variable, is_variable_named, variable_line, variable_named, variable_value};
 
-use crate::code::push_name;
 use mx_aout::Symbol;
-use mx_dis::before_zero;
+use mx_dis::{before_zero, push_name};
 use mx_exec::Image;
 use mx_insn_words::push_eight_digits;
 use mx_word::Size;

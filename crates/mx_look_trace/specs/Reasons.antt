@@ -1,8 +1,12 @@
 -- WHY a trap or a kernel call is refused, in brackets after its result (our own): the check that has this error. Where several
 -- have it, that is the first which says so.
-use Rattle.std.specs.Prelude.{ℕ, ◌+◌, ◌==◌, ◌&&◌, ◌||◌, not, nat_lt, nat_le, Bool, false, if◌then◌else◌, List, [], ◌++◌, codes, Option, Some, None, is_some, slice_index}
+use Rattle.std.specs.Prelude.{ℕ, ◌+◌, ◌==◌, ◌&&◌, ◌||◌, not, nat_lt, nat_le, Bool, true, false, if◌then◌else◌, List, [], ◌++◌, codes, Option, Some, None, is_some, slice_index}
 use Rattle.std.specs.Fmt.{decimal}
 use Rattle.mx_word.specs.Bits.{has_bit}
+use Rattle.mx_kcall.specs.Rows.{row_of}
+use Rattle.mx_kcall.specs.declared.rows.CallName.{CallName}
+use Rattle.mx_kcall.specs.declared.rows.CallName.TheVariants as calls
+use Rattle.mx_kcall.specs.declared.rows.CallRow.{CallRow}
 use Rattle.mx_proc.specs.EndpointNumbers.{slot_of, any_endpoint, hardware_endpoint, system_endpoint, clock_endpoint}
 use Rattle.mx_proc.specs.declared.errors.Errno.{Errno}
 use Rattle.mx_proc.specs.declared.errors.Errno.TheVariants.{BadAddress, Invalid, BadEndpoint, Denied}
@@ -58,19 +62,29 @@ refusal_part x s r = if is_acted x s then refusal_part_by x (held_before x) (slo
 
 -- ---- of a kernel call: the word of the request that is at fault, p0 at place 2, and what it is
 
+-- the call that a request is for, by its type
+abbrev pub call_by : Option CallRow → Option CallName
+call_by None = None
+call_by (Some row) = Some row.call
+
+abbrev pub call_of : List ℕ → Option CallName
+call_of request = call_by (row_of (slice_index request 1))
+
+abbrev pub is_copy : Option CallName → Bool
+is_copy (Some calls.Vircopy) = true
+is_copy _ = false
+
 -- EINVAL
+abbrev pub invalid_by : Option CallName → List ℕ → List ℕ
+invalid_by (Some calls.Irqctl) request = if nat_lt 1 (slice_index request 2) then codes " (p0, action)" else codes " (p1, line)"
+invalid_by (Some calls.Devio) request = if nat_lt 1 (slice_index request 2) then codes " (p0, action)" else codes " (p1, register)"
+invalid_by (Some calls.Vircopy) request = codes " (p4, count)"
+invalid_by (Some calls.Whois) request = codes " (p0, slot)"
+invalid_by (Some calls.Grant) request = if nat_lt 3 (slice_index request 5) then codes " (p3, access)" else codes " (p0, oneself)"
+invalid_by _ request = []
+
 unfoldable pub invalid_text : List ℕ → List ℕ
-invalid_text request =
-    let kind = slice_index request 1 in
-    let action = slice_index request 2 in
-    if ((kind == 0x603) || (kind == 0x604)) && nat_lt 1 action then codes " (p0, action)" else
-    if kind == 0x603 then codes " (p1, line)" else
-    if kind == 0x604 then codes " (p1, register)" else
-    if kind == 0x605 then codes " (p4, count)" else
-    if kind == 0x607 then codes " (p0, slot)" else
-    if (kind == 0x608) && nat_lt 3 (slice_index request 5) then codes " (p3, access)" else
-    if kind == 0x608 then codes " (p0, oneself)" else
-    []
+invalid_text request = invalid_by (call_of request) request
 
 -- an endpoint names the slot of a service
 abbrev pub names_service : Glance → ℕ → Bool
@@ -79,7 +93,7 @@ names_service g e = nat_lt e 2147483648 && is_some (slot_in g (slot_of e))
 -- EBADSRCDST: of VIRCOPY the endpoint that is copied from, or else the other
 unfoldable pub absent_text : Glance → List ℕ → List ℕ
 absent_text g request =
-    if (slice_index request 1 == 0x605) && names_service g (slice_index request 2) then codes " (p2, endpoint)"
+    if is_copy (call_of request) && names_service g (slice_index request 2) then codes " (p2, endpoint)"
     else codes " (p0, endpoint)"
 
 -- so many bytes from an address on lie inside the memory of a slot's process
@@ -90,7 +104,7 @@ holds_in (Some u) at count = nat_le (at + count) u.image.limit
 -- EFAULT: of VIRCOPY the range that is copied from, or else the other
 unfoldable pub outside_text : Glance → List ℕ → List ℕ
 outside_text g request =
-    if (slice_index request 1 == 0x605) && holds_in (slot_in g (slot_of (slice_index request 2))) (slice_index request 3) (slice_index request 6)
+    if is_copy (call_of request) && holds_in (slot_in g (slot_of (slice_index request 2))) (slice_index request 3) (slice_index request 6)
     then codes " (p3, address)" else codes " (p1, address)"
 
 abbrev pub request_reason_by : Glance → List ℕ → Option Errno → List ℕ

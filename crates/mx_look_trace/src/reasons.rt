@@ -3,10 +3,11 @@
 
 ghost use Rattle.std.specs.Prelude.{◌≡◌, ◌++◌, OnOk, option_map};
 ghost use Rattle.mx_look_facts.specs.Step.{slot_in};
-ghost use Rattle.mx_look_trace.specs.Reasons.{is_pseudo, partner_text, denied_text, misnamed_text, trap_reason, refusal_part, invalid_text, names_service, absent_text, holds_in, outside_text, request_reason};
+ghost use Rattle.mx_look_trace.specs.Reasons.{is_pseudo, partner_text, denied_text, misnamed_text, trap_reason, refusal_part, call_of, is_copy, invalid_text, names_service, absent_text, holds_in, outside_text, request_reason};
 
 use crate::numbers::errno_of;
 use crate::words::push_party;
+use mx_kcall::{CallName, call_row};
 use mx_look_facts::{CpuGlance, Glance, SlotGlance, Step, held_before, is_acted, slot_in};
 use mx_print_report::push_counted;
 use mx_proc::{ANY, CLOCK, Errno, HARDWARE, SYSTEM, slot_of};
@@ -107,19 +108,33 @@ pub(crate) fn push_refusal(
     }
 }
 
+/// The kernel call that a request is for, if its type has one.
+fn call_of(request: &[u32; 9]) -> Option<CallName>
+    ensures { result ≡ call_of request.now }
+{
+    Some(call_row(request[1])?.call)
+}
+
+/// Whether a request is for VIRCOPY.
+fn is_copy(request: &[u32; 9]) -> bool
+    ensures { result ≡ is_copy (call_of request.now) }
+{
+    matches!(call_of(request), Some(CallName::Vircopy))
+}
+
 /// Which word of a request is out of its range.
 #[tactic(auto, unfolding(crate::specs::Reasons::invalid_text))]
 fn invalid_text(request: &[u32; 9]) -> &'static [u8]
     ensures { result.now ≡ invalid_text request.now }
 {
-    match request[1] {
-        0x603 | 0x604 if request[2] > 1 => b" (p0, action)",
-        0x603 => b" (p1, line)",
-        0x604 => b" (p1, register)",
-        0x605 => b" (p4, count)",
-        0x607 => b" (p0, slot)",
-        0x608 if request[5] > 3 => b" (p3, access)",
-        0x608 => b" (p0, oneself)",
+    match call_of(request) {
+        Some(CallName::Irqctl | CallName::Devio) if request[2] > 1 => b" (p0, action)",
+        Some(CallName::Irqctl) => b" (p1, line)",
+        Some(CallName::Devio) => b" (p1, register)",
+        Some(CallName::Vircopy) => b" (p4, count)",
+        Some(CallName::Whois) => b" (p0, slot)",
+        Some(CallName::Grant) if request[5] > 3 => b" (p3, access)",
+        Some(CallName::Grant) => b" (p0, oneself)",
         _ => b"",
     }
 }
@@ -136,7 +151,7 @@ fn names_service(glance: &Glance, endpoint: u32) -> bool
 fn absent_text(glance: &Glance, request: &[u32; 9]) -> &'static [u8]
     ensures { result.now ≡ absent_text glance.now request.now }
 {
-    if request[1] == 0x605 && names_service(glance, request[2]) {
+    if is_copy(request) && names_service(glance, request[2]) {
         b" (p2, endpoint)"
     } else {
         b" (p0, endpoint)"
@@ -159,7 +174,7 @@ fn outside_text(glance: &Glance, request: &[u32; 9]) -> &'static [u8]
     ensures { result.now ≡ outside_text glance.now request.now }
 {
     let source = slot_in(glance, slot_of(request[2]));
-    if request[1] == 0x605 && holds_in(source, request[3], request[6]) {
+    if is_copy(request) && holds_in(source, request[3], request[6]) {
         b" (p3, address)"
     } else {
         b" (p1, address)"
