@@ -286,7 +286,7 @@ With --sums SUMS a machine is refused that has another configuration or another 
 than the one whose sums step, run or turns wrote: mx: 64 OtherMachine NAME.
 
 Status: 0 done; 1 a text or a program's file is refused, or an event, whose line is
-printed, or the machine; 2 a mistake in the words; 3 a file can't be read; 4 no
+named, or the machine; 2 a mistake in the words; 3 a file can't be read; 4 no
 memory. Formats: docs/use/REFERENCE.md.";
 
 /// A session over a history.
@@ -340,8 +340,8 @@ regs of 1 and mem of 1 0 16 look at the process of slot 1, also while it waits.
 messages 3 prints the last three messages, with their words as far as the receivers
 still have them. In mem's lines an address may be a symbol, as buf or buf+4.
 
-All lines of mx step's scripts may be here too, and an address in place of a symbol.
-Addresses are decimal here, and hexadecimal in listings.
+A script may also have the lines of mx step's scripts, and an address in place of a
+symbol. Addresses are decimal here, and hexadecimal in listings.
 
 Status: 0 done, also if lines were refused; 1 a text or a program's file is refused;
 2 a mistake in the words; 3 a file can't be read; 4 no memory. Formats:
@@ -381,7 +381,7 @@ $ mx trace pair.config pair.log --from 6 --to 6
 6   cli 1: awaiting 0 -> ready, result 0 OK
 
 Status: 0 done; 1 a text or a program's file is refused, or an event, whose line is
-printed; 2 a mistake in the words; 3 a file can't be read; 4 no memory. Formats:
+named; 2 a mistake in the words; 3 a file can't be read; 4 no memory. Formats:
 docs/use/REFERENCE.md.";
 
 /// A picture of a history.

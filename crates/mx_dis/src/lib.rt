@@ -12,4 +12,4 @@ pub use laws::{one_parting, parted_there};
 pub use listing::list;
 pub use name::before_zero;
 pub use part::{Part, first_part};
-pub use symbols::{names, push_name};
+pub use symbols::{names, push_symbol_name};

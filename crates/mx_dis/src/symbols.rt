@@ -30,7 +30,7 @@ fn visible(byte: u8) -> u8
 }
 
 /// Appends a symbol's name up to its first zero byte, with a dot for each byte that is no visible character.
-pub fn push_name(out: &mut String, name: &[u8]) -> Result<(), AllocError>
+pub fn push_symbol_name(out: &mut String, name: &[u8]) -> Result<(), AllocError>
     ensures { OnOk result (string_bytes out.new ≡ string_bytes out.old ++ name_text name.now) }
 {
     for byte in name {
@@ -49,7 +49,7 @@ fn push_symbol(out: &mut String, symbol: &Symbol) -> Result<(), AllocError>
     out.push_str(" ")?;
     out.push_str(letter(symbol.class))?;
     out.push_str(" ")?;
-    push_name(out, &symbol.name)?;
+    push_symbol_name(out, &symbol.name)?;
     out.push_str("\n")
 }
 

@@ -1,5 +1,5 @@
 //! From a program to the image that a process begins with, with room for its text, data and segment; and an old image
-//! made one again.
+//! made into that one again.
 #![tactic(auto)]
 
 mod loading;

@@ -6,7 +6,7 @@ ghost use Rattle.mx_look_code.specs.Code.{code_line, code_part, code_text, part_
 use crate::nearest::nearest_symbol;
 use mx_aout::Symbol;
 use mx_decode::decode;
-use mx_dis::{Part, push_name};
+use mx_dis::{Part, push_symbol_name};
 use mx_exec::Image;
 use mx_insn_words::{push_eight_digits, push_number, push_statement};
 use std::alloc::AllocError;
@@ -18,7 +18,7 @@ fn push_place(out: &mut String, symbol: &Symbol, at: u32) -> Result<(), AllocErr
     ensures { OnOk result (string_bytes out.new ≡ string_bytes out.old
         ++ place_text at symbol.now) }
 {
-    push_name(out, &symbol.name)?;
+    push_symbol_name(out, &symbol.name)?;
     if symbol.value < at {
         let far = at - symbol.value;
         write!(out, "+{far:x}")?;

@@ -4,7 +4,7 @@ ghost use Rattle.std.specs.Prelude.{◌≡◌, ◌++◌, OnOk, find, option_copi
 ghost use Rattle.mx_look_code.specs.Variables.{is_variable, is_variable_named, variable_line, variable_named, variable_value};
 
 use mx_aout::Symbol;
-use mx_dis::{before_zero, push_name};
+use mx_dis::{before_zero, push_symbol_name};
 use mx_exec::Image;
 use mx_insn_words::push_eight_digits;
 use mx_word::Size;
@@ -54,7 +54,7 @@ pub fn push_variable(out: &mut String, symbol: &Symbol, value: u32) -> Result<()
 {
     push_eight_digits(out, symbol.value)?;
     out.push_str(" ")?;
-    push_name(out, &symbol.name)?;
+    push_symbol_name(out, &symbol.name)?;
     out.push_str(" ")?;
     push_eight_digits(out, value)?;
     let signed = value.cast_signed();

@@ -62,13 +62,13 @@ refusal_part x s r = if is_acted x s then refusal_part_by x (held_before x) (slo
 
 -- ---- of a kernel call: the word of the request that is at fault, p0 at place 2, and what it is
 
--- the call that a request is for, by its type
-abbrev pub call_by : Option CallRow → Option CallName
-call_by None = None
-call_by (Some row) = Some row.call
+abbrev pub call_in : Option CallRow → Option CallName
+call_in None = None
+call_in (Some row) = Some row.call
 
-abbrev pub call_of : List ℕ → Option CallName
-call_of request = call_by (row_of (slice_index request 1))
+-- the call that a request asks for, by its type
+abbrev pub asked_call : List ℕ → Option CallName
+asked_call request = call_in (row_of (slice_index request 1))
 
 abbrev pub is_copy : Option CallName → Bool
 is_copy (Some calls.Vircopy) = true
@@ -84,7 +84,7 @@ invalid_by (Some calls.Grant) request = if nat_lt 3 (slice_index request 5) then
 invalid_by _ request = []
 
 unfoldable pub invalid_text : List ℕ → List ℕ
-invalid_text request = invalid_by (call_of request) request
+invalid_text request = invalid_by (asked_call request) request
 
 -- an endpoint names the slot of a service
 abbrev pub names_service : Glance → ℕ → Bool
@@ -93,7 +93,7 @@ names_service g e = nat_lt e 2147483648 && is_some (slot_in g (slot_of e))
 -- EBADSRCDST: of VIRCOPY the endpoint that is copied from, or else the other
 unfoldable pub absent_text : Glance → List ℕ → List ℕ
 absent_text g request =
-    if is_copy (call_of request) && names_service g (slice_index request 2) then codes " (p2, endpoint)"
+    if is_copy (asked_call request) && names_service g (slice_index request 2) then codes " (p2, endpoint)"
     else codes " (p0, endpoint)"
 
 -- so many bytes from an address on lie inside the memory of a slot's process
@@ -104,7 +104,7 @@ holds_in (Some u) at count = nat_le (at + count) u.image.limit
 -- EFAULT: of VIRCOPY the range that is copied from, or else the other
 unfoldable pub outside_text : Glance → List ℕ → List ℕ
 outside_text g request =
-    if is_copy (call_of request) && holds_in (slot_in g (slot_of (slice_index request 2))) (slice_index request 3) (slice_index request 6)
+    if is_copy (asked_call request) && holds_in (slot_in g (slot_of (slice_index request 2))) (slice_index request 3) (slice_index request 6)
     then codes " (p3, address)" else codes " (p1, address)"
 
 abbrev pub request_reason_by : Glance → List ℕ → Option Errno → List ℕ

@@ -3,7 +3,7 @@
 
 ghost use Rattle.std.specs.Prelude.{◌≡◌, ◌++◌, OnOk, option_map};
 ghost use Rattle.mx_look_facts.specs.Step.{slot_in};
-ghost use Rattle.mx_look_trace.specs.Reasons.{is_pseudo, partner_text, denied_text, misnamed_text, trap_reason, refusal_part, call_of, is_copy, invalid_text, names_service, absent_text, holds_in, outside_text, request_reason};
+ghost use Rattle.mx_look_trace.specs.Reasons.{is_pseudo, partner_text, denied_text, misnamed_text, trap_reason, refusal_part, asked_call, is_copy, invalid_text, names_service, absent_text, holds_in, outside_text, request_reason};
 
 use crate::numbers::errno_of;
 use crate::words::push_party;
@@ -108,18 +108,18 @@ pub(crate) fn push_refusal(
     }
 }
 
-/// The kernel call that a request is for, if its type has one.
-fn call_of(request: &[u32; 9]) -> Option<CallName>
-    ensures { result ≡ call_of request.now }
+/// The kernel call that a request asks for, if its type has one.
+fn asked_call(request: &[u32; 9]) -> Option<CallName>
+    ensures { result ≡ asked_call request.now }
 {
     Some(call_row(request[1])?.call)
 }
 
-/// Whether a request is for VIRCOPY.
+/// Whether a request asks for VIRCOPY.
 fn is_copy(request: &[u32; 9]) -> bool
-    ensures { result ≡ is_copy (call_of request.now) }
+    ensures { result ≡ is_copy (asked_call request.now) }
 {
-    matches!(call_of(request), Some(CallName::Vircopy))
+    matches!(asked_call(request), Some(CallName::Vircopy))
 }
 
 /// Which word of a request is out of its range.
@@ -127,7 +127,7 @@ fn is_copy(request: &[u32; 9]) -> bool
 fn invalid_text(request: &[u32; 9]) -> &'static [u8]
     ensures { result.now ≡ invalid_text request.now }
 {
-    match call_of(request) {
+    match asked_call(request) {
         Some(CallName::Irqctl | CallName::Devio) if request[2] > 1 => b" (p0, action)",
         Some(CallName::Irqctl) => b" (p1, line)",
         Some(CallName::Devio) => b" (p1, register)",

@@ -146,7 +146,7 @@ static OF_HISTORIES: &[Help] = &[
         ending: "6   cli 1: awaiting 0 -> ready, result 0 OK
 
 Status: 0 done; 1 a text or a program's file is refused, or an event, whose line is
-printed; 2 a mistake in the words; 3 a file can't be read; 4 no memory. Formats:
+named; 2 a mistake in the words; 3 a file can't be read; 4 no memory. Formats:
 docs/use/REFERENCE.md.
 ",
     },
@@ -162,7 +162,7 @@ Formats: docs/use/REFERENCE.md.
         name: "replay",
         words: &["mx", "replay", "--help"],
         ending: "Status: 0 done; 1 a text or a program's file is refused, or an event, whose line is
-printed, or the machine; 2 a mistake in the words; 3 a file can't be read; 4 no
+named, or the machine; 2 a mistake in the words; 3 a file can't be read; 4 no
 memory. Formats: docs/use/REFERENCE.md.
 ",
     },

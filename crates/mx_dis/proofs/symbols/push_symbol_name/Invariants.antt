@@ -1,6 +1,6 @@
 use Rattle.std.proofs.Common.{◌≡◌, ◌++◌, drop, string_bytes}
 use Rattle.mx_dis.specs.Names.{name_text}
-use Rattle.mx_dis.proofs.symbols.push_name.Given as goal
+use Rattle.mx_dis.proofs.symbols.push_symbol_name.Given as goal
 
 -- what is written and what is still to be written
 abbrev pub invariant-loop-byte : goal.invariant-loop-byte
