@@ -43,8 +43,9 @@ def make_toolchain(folder, module):
     os.chmod(keeper, 0o755)
 
 
-def run_trial(tree, tools):
-    """Runs a tree's trial with other tools than the kit's. Returns what it printed: it ends where these end it."""
+def run_trial(crate, tools):
+    """Tries the program of a crate's folder with other tools than the kit's. Returns what the trial printed: it ends
+    where these end it."""
     started = subprocess.Popen
 
     def start(words, **how):
@@ -53,7 +54,7 @@ def run_trial(tree, tools):
             words[words.index("--toolchain") + 1] = tools
         return started(words, **how)
 
-    os.chdir(os.path.join(tree, "crates", "mx"))
+    os.chdir(crate)
     said = io.TextIOWrapper(io.BytesIO())
     with mock.patch.object(subprocess, "Popen", start), contextlib.redirect_stderr(said):
         try:
@@ -73,10 +74,10 @@ def run_trial(tree, tools):
     return said.buffer.getvalue().decode(errors="replace")
 
 
-def keep_module(tree, folder):
-    """Runs a tree's trial up to the module of the whole program. Returns the module's file, or None, and what the trial
-    printed."""
+def keep_module(crate, folder):
+    """Tries the program of a crate's folder up to the module of all of it. Returns the module's file, or None, and
+    what the trial printed."""
     module, tools = os.path.join(folder, "module.bc"), os.path.join(folder, "toolchain")
     make_toolchain(tools, module)
-    said = run_trial(tree, tools)
+    said = run_trial(crate, tools)
     return (module if os.path.exists(module) else None), said

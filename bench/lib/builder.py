@@ -1,4 +1,5 @@
-"""Proves and builds a program that isn't one of the repository's crates, over copies of the crates below it.
+"""Proves and builds a program that isn't one of the repository's crates, over copies of the crates below it; or only
+lays it over them, for who compiles it without proof.
 
 The folder of such a program has `crates.txt.in`, its line as in the repository's, and sources and proofs as a crate has
 them. Their names end in `.in`, since the kit wants each source and proof of the repository to belong to a crate.
@@ -39,6 +40,11 @@ def needed_by(names, below):
     return needed
 
 
+def copy_code(crate, own):
+    """Copies what a program without proof is made of."""
+    shutil.copytree(os.path.join(crate, "src"), os.path.join(own, "src"))
+
+
 def copy_crate(crate, own):
     """Copies a crate's sources, with the library that was built of them: that by links if the folder allows them."""
     os.makedirs(os.path.join(own, "out"))
@@ -59,15 +65,15 @@ def copy_source(source, own):
                 os.rename(os.path.join(folder, name), os.path.join(folder, name.removesuffix(".in")))
 
 
-def lay(source, folder, top=TOP):
-    """Lays a program and the crates below it into an empty folder. Returns the program's folder and name."""
+def lay(source, folder, top=TOP, copy=copy_crate):
+    """Lays a program and copies of the crates below it into an empty folder. Returns the program's folder and name."""
     lines, below = read_lines(os.path.join(top, "crates.txt"))
     own_lines, own_below = read_lines(os.path.join(source, "crates.txt.in"))
     (name, own_line), = own_lines.items()
     needed = needed_by(own_below[name], below)
     os.mkdir(os.path.join(folder, "crates"))
     for it in needed:
-        copy_crate(os.path.join(top, "crates", it), os.path.join(folder, "crates", it))
+        copy(os.path.join(top, "crates", it), os.path.join(folder, "crates", it))
     own = os.path.join(folder, "crates", name)
     copy_source(source, own)
     os.remove(os.path.join(own, "crates.txt"))
