@@ -1,16 +1,11 @@
-//! From the words of a command line to the status, to what is printed on both outputs, and to the
-//! files.
+//! Commands over files in memory: what is written and flushed, how turns end, and what is reported if a writer fails.
+//! `checks/model/rows` has what each command prints.
 
-mod done;
-mod endings;
-mod explained;
-mod helps;
-mod pictures;
-mod refused;
-mod words;
-
-use crate::files::reader;
-use mx_app::{CommandIo, NoProgress, NotingFiles, NotingReader, perform_words};
+use crate::files::{SUM, reader};
+use mx_app::{
+    CommandIo, Complaint, Ending, Failure, LineFailure, NoProgress, NotingFiles, NotingReader,
+    perform_words,
+};
 use mx_app_db::{Channels, InputLines, KeptFile, MemoryWriter, NamedFiles};
 use std::alloc::Global;
 use std::fmt::Write as _;
@@ -18,6 +13,7 @@ use std::io;
 use std::io::Write;
 use std::process::Abort;
 use std::sync::Wait;
+use std::test::Fail;
 use std::thread::Threads;
 use std::time::Clock;
 
@@ -73,19 +69,6 @@ fn memory_io(alloc: Global, refusal: Option<io::ErrorKind>) -> MemoryIo {
     }
 }
 
-/// What is printed of the lines of the script `kills`.
-const KILLED: &str = "done\ndone\nrefused 54 NoProcess\nrefused 41 Worn\nrefused 53 NoLine\n\
-    refused 42 NoService\n";
-
-/// Words of which nothing comes: the status, and what standard error gets.
-#[derive(Clone, Copy)]
-struct Failed {
-    name: &'static str,
-    words: &'static [&'static str],
-    status: u8,
-    answer: &'static str,
-}
-
 /// Performs words, and answers the status and the lines of a failure.
 fn perform<R: Threads + Wait + Clock + Sync>(
     rt: &R,
@@ -119,86 +102,208 @@ fn is_kept(files: &[KeptFile], wanted: Option<(&str, &[u8])>) -> bool {
     }
 }
 
-/// Whether words fail so, with nothing printed or written, if what takes bytes is broken in this
-/// way; most mistakes in the words have lines of clap's own.
-fn has_failed<R: Threads + Wait + Clock + Sync>(
+/// What comes of words.
+struct Done {
+    name: &'static str,
+    words: &'static [&'static str],
+    status: u8,
+    printed: &'static str,
+    /// Its name and its bytes.
+    file: Option<(&'static str, &'static [u8])>,
+}
+
+fn is_done<R: Threads + Wait + Clock + Sync>(rt: &R, alloc: Global, row: &Done) -> bool {
+    let mut work = memory_io(alloc, None);
+    let (status, answer) = perform(rt, alloc, &mut work, row.words, false);
+    status == row.status
+        && answer.is_empty()
+        && is_printed(&work.channels.out, row.printed)
+        && is_kept(work.channels.files.writer().files(), row.file)
+}
+
+/// Whether words fail with nothing printed or written if what takes bytes refuses each write in this way.
+fn is_refused<R: Threads + Wait + Clock + Sync>(
     rt: &R,
     alloc: Global,
-    refusal: Option<io::ErrorKind>,
-    row: &Failed,
+    row: &Done,
+    refusal: io::ErrorKind,
+    wanted: (u8, &str),
 ) -> bool {
-    let mut work = memory_io(alloc, refusal);
-    let (ended, answer) = perform(rt, alloc, &mut work, row.words, false);
-    let is_wanted = if row.status == 2 && row.answer.is_empty() {
-        answer.as_str().starts_with("error: ")
-    } else {
-        answer.as_str() == row.answer
-    };
-    ended == row.status
-        && is_wanted
+    let mut work = memory_io(alloc, Some(refusal));
+    let (status, answer) = perform(rt, alloc, &mut work, row.words, false);
+    (status, answer.as_str()) == wanted
         && is_printed(&work.channels.out, "")
         && is_kept(work.channels.files.writer().files(), None)
 }
 
-fn all_fail<R: Threads + Wait + Clock + Sync + Abort>(rt: &R, alloc: Global, rows: &[Failed]) {
-    for row in rows {
-        let name = row.name;
-        assert!(rt; has_failed(rt, alloc, None, row), "{name}");
-    }
-}
+const SUMMED: &str = "EAX 00000080 ECX 00000000 EDX 00000000 EBX 00000000\n\
+    ESP 00001000 EBP 00000000 ESI 00000000 EDI 00000000\n\
+    EIP 0000000a CF 0 PF 0 AF 1 ZF 0 SF 0 DF 0 OF 0\n\
+    stop trap after 3\n";
 
-/// A history that can't be written: the lines of a script were done and printed, and no report follows.
-#[test]
-fn history_unwritten(rt: HostRuntime) {
-    for row in UNWRITTEN {
-        let name = row.name;
-        assert!(rt; is_unwritten(&rt, rt.alloc(), row), "{name}");
-    }
-}
-
-/// Words that write a history, and what is printed before it.
-struct Unwritten {
-    name: &'static str,
-    words: &'static [&'static str],
-    printed: &'static str,
-}
-
-static UNWRITTEN: &[Unwritten] = &[
-    Unwritten {
-        name: "step: the lines are printed",
-        words: &["mx", "step", "one", "kills", "--save", "new.log"],
-        printed: KILLED,
+/// Single programs: run, assembled, and printed.
+static PROGRAMS: &[Done] = &[
+    Done {
+        name: "one: a sum",
+        words: &["mx", "one", "a.out", "9"],
+        status: 0,
+        printed: SUMMED,
+        file: None,
     },
-    Unwritten {
-        name: "run: nothing is printed",
-        words: &["mx", "run", "one", "new.log"],
+    Done {
+        name: "as: a sum",
+        words: &["mx", "as", "sum.s", "new.out"],
+        status: 0,
         printed: "",
+        file: Some(("new.out", SUM)),
+    },
+    Done {
+        name: "dis: a sum",
+        words: &["mx", "dis", "a.out"],
+        status: 0,
+        printed: "00000000 mov eax, 0x5\n00000005 add eax, 0x7b\n00000008 int 0x21\n",
+        file: None,
+    },
+    Done {
+        name: "nm: a driver",
+        words: &["mx", "nm", "drv.out"],
+        status: 0,
+        printed: "00000000 D buf\n00000000 T top\n",
+        file: None,
     },
 ];
 
-/// Whether words fail, and print just this, if no file may be written.
-fn is_unwritten<R: Threads + Wait + Clock + Sync>(rt: &R, alloc: Global, row: &Unwritten) -> bool {
-    let CommandIo {
-        channels,
-        lines,
-        progress,
-        asks,
-    } = memory_io(alloc, None);
-    let Channels { reader, out, .. } = channels;
-    let writer = MemoryWriter::refusing(alloc, io::ErrorKind::PermissionDenied);
-    let files = NotingFiles::new(writer);
-    let channels = Channels { reader, files, out };
-    let mut work = CommandIo {
-        channels,
-        lines,
-        progress,
-        asks,
-    };
-    let (status, answer) = perform(rt, alloc, &mut work, row.words, false);
-    status == 3
-        && answer.as_str() == "mx: 80 File\n"
-        && is_printed(&work.channels.out, row.printed)
-        && is_kept(work.channels.files.writer().files(), None)
+/// Words do what their rows say, and fail where nothing can be written.
+#[test]
+fn programs(rt: HostRuntime) {
+    let alloc = rt.alloc();
+    for row in PROGRAMS {
+        let name = row.name;
+        assert!(rt; is_done(&rt, alloc, row), "{name}");
+        let broken = (3, "mx: 80 File\n");
+        let is_reported = is_refused(&rt, alloc, row, io::ErrorKind::BrokenPipe, broken);
+        assert!(rt; is_reported, "{name}, where writing is refused");
+        let no_memory = (4, "mx: 90 NoMemory\n");
+        let is_reported = is_refused(&rt, alloc, row, io::ErrorKind::OutOfMemory, no_memory);
+        assert!(rt; is_reported, "{name}, where writing has no memory");
+    }
+}
+
+/// Words that make turns, or run a machine, and how these end.
+struct Turned {
+    name: &'static str,
+    words: &'static [&'static str],
+    ending: Ending,
+}
+
+/// Whether the turns or the run that words ask for end so.
+fn is_ended<R: Threads + Wait + Clock + Sync>(rt: &R, alloc: Global, row: &Turned) -> bool {
+    let mut work = memory_io(alloc, None);
+    match perform_words(rt, alloc, row.words, &mut work, false) {
+        Ok(done) => done.ending == Some(row.ending),
+        Err(_) => false,
+    }
+}
+
+/// Turns and runs: up to rest, so many, and up to a full history.
+static ENDS: &[Turned] = &[
+    Turned {
+        name: "up to rest",
+        words: &["mx", "turns", "pair", "new.log"],
+        ending: Ending::Rest,
+    },
+    Turned {
+        name: "none",
+        words: &["mx", "turns", "pair", "new.log", "--turns", "0"],
+        ending: Ending::Turns,
+    },
+    Turned {
+        name: "as many as up to rest",
+        words: &["mx", "turns", "pair", "new.log", "--turns", "5"],
+        ending: Ending::Rest,
+    },
+    Turned {
+        name: "so many",
+        words: &["mx", "turns", "restart", "new.log", "--turns", "20"],
+        ending: Ending::Turns,
+    },
+    Turned {
+        name: "as many as the history has room for",
+        words: &["mx", "turns", "restart", "new.log", "--turns", "32"],
+        ending: Ending::Turns,
+    },
+    Turned {
+        name: "up to a full history",
+        words: &["mx", "turns", "restart", "new.log", "--turns", "40"],
+        ending: Ending::Full,
+    },
+    Turned {
+        name: "a history too full for a take, and so for a tick",
+        words: &["mx", "turns", "two_full", "new.log", "--ticks", "1"],
+        ending: Ending::Full,
+    },
+    Turned {
+        name: "a run up to a full history",
+        words: &["mx", "run", "full", "new.log"],
+        ending: Ending::Full,
+    },
+    Turned {
+        name: "a run up to rest",
+        words: &["mx", "run", "one", "new.log"],
+        ending: Ending::Rest,
+    },
+    Turned {
+        name: "a run up to rest after ticks",
+        words: &["mx", "run", "one", "new.log", "--ticks", "2"],
+        ending: Ending::Rest,
+    },
+];
+
+#[test]
+fn endings(rt: HostRuntime) {
+    for row in ENDS {
+        let name = row.name;
+        assert!(rt; is_ended(&rt, rt.alloc(), row), "{name}");
+    }
+}
+
+/// Words that fail, with standard error as a terminal or not, and whether the failure is explained.
+static TERMINALS: &[(&[&str], bool, bool)] = &[
+    (&["mx", "nm", "nothing"], false, false),
+    (&["mx", "nm", "nothing"], true, true),
+    (&["mx", "nm", "nothing", "--explain"], false, true),
+    (&["mx", "nm", "nothing", "--explain"], true, true),
+    (&["mx", "nm", "nothing", "--no-explain"], false, false),
+    (&["mx", "nm", "--no-explain", "nothing"], true, false),
+    (
+        &["mx", "nm", "nothing", "--explain", "--no-explain"],
+        true,
+        false,
+    ),
+];
+
+#[test]
+fn terminals_explained(rt: HostRuntime) {
+    for (words, shows, is_explained) in TERMINALS {
+        let mut work = memory_io(rt.alloc(), None);
+        let (status, answer) = perform(&rt, rt.alloc(), &mut work, words, *shows);
+        let wanted = if *is_explained {
+            "mx: 80 File\nmx: FILE nothing: wanted a file that can be read\n"
+        } else {
+            "mx: 80 File\n"
+        };
+        assert!(rt; status == 3 && answer.as_str() == wanted, "{answer}");
+    }
+}
+
+/// A failure for whose line there is no memory reports this, and has the status that it had.
+#[test]
+fn nothing_explained(rt: HostRuntime) -> Result<(), Fail> {
+    let complaint = Complaint::Unexplained(LineFailure::Request(Failure::File));
+    let answer = complaint.to_string(rt.alloc())?;
+    assert!(rt; answer.as_str() == "mx: 80 File\nmx: memory: wanted more of it\n");
+    assert!(rt; complaint.status() == 3);
+    Ok(())
 }
 
 /// How many line feeds there are.

@@ -1,8 +1,6 @@
 //! Files in memory: programs, configurations, and the texts that drive their machines.
 
 use mx_app_db::{NamedFile, NamedFiles};
-use std::alloc::Global;
-use std::test::Fail;
 
 /// Waits at `top` for anybody, answers who it was, and jumps to `top`; its buffer is `buf`, at 0.
 pub(crate) const DRIVER: &[u8] = &[
@@ -60,15 +58,6 @@ pub(crate) const SUM: &[u8] = &[
     // The text.
     0xB8, 5, 0, 0, 0, // mov eax, 0x5
     0x83, 0xC0, 0x7B, // add eax, 0x7b
-    0xCD, 0x21, // int 0x21
-];
-
-/// A file with a separate text of two bytes, INT 33, and a total of 4096.
-pub(crate) const TRAP: &[u8] = &[
-    // The header: text 0x2, data 0x0, bss 0x0, entry 0x0, total 0x1000, symbols 0x0.
-    0x01, 0x03, 0x30, 0x10, 0x20, 0, 0, 0, 2, 0, 0, 0, 0, 0, 0, 0, 0, 0, 0, 0, 0, 0, 0, 0, 0, 0x10,
-    0, 0, 0, 0, 0, 0,
-    // The text.
     0xCD, 0x21, // int 0x21
 ];
 
@@ -336,134 +325,32 @@ const GRANTS: &[u8] = &[
     0xCD, 0x21, // int 0x21
 ];
 
-/// A call, after a push of -2.
-const CALLS: &[u8] = &[
-    // The header: text 0x10, data 0x0, bss 0x80, entry 0x0, total 0x1000, symbols 0x20.
-    1, 3, 0x30, 0x10, 0x20, 0, 0, 0, 0x10, 0, 0, 0, 0, 0, 0, 0, 0x80, 0, 0, 0, 0, 0, 0, 0, 0, 0x10,
-    0, 0, 0x20, 0, 0, 0,
-    // The text.
-    0x6A, 0xFE, // push 0xfffffffe
-    0xE8, 2, 0, 0, 0, // call 0x9
-    0xCD, 0x21, // int 0x21
-    0xB8, 0xFF, 0xFF, 0xFF, 0xFF, // mov eax, 0xffffffff
-    0xCD, 0x21, // int 0x21
-    // The symbols.
-    0x74, 0x6F, 0x70, 0, 0, 0, 0, 0, 0, 0, 0, 0, 2, 0, 0, 0, // top: 0x0 of the text
-    0x65, 0x6E, 0x64, 0, 0, 0, 0, 0, 9, 0, 0, 0, 2, 0, 0, 0, // end: 0x9 of the text
-];
-
-// The files of several lists.
-
-pub(crate) const PAIR_FILE: NamedFile<'static> = NamedFile {
-    name: "pair",
-    bytes: PAIR,
-};
-
-pub(crate) const ONE: NamedFile<'static> = NamedFile {
-    name: "one",
-    bytes: b"cpus 1\nlog 8\n\
-        service a a.out traps 1e send 0 calls 0 level 7 best 5 quantum 5 restarts 0\n",
-};
-
-pub(crate) const AGAIN: NamedFile<'static> = NamedFile {
-    name: "again",
-    bytes: b"log 8\n\
-        service a a.out traps 1e send 0 calls 0 level 7 best 5 quantum 5 restarts 1\n",
-};
-
-pub(crate) const CUT_FIRST: NamedFile<'static> = NamedFile {
-    name: "cut_first",
-    bytes: b"service a cut traps 1e send 0 calls 0 level 7 best 5 quantum 5 restarts 0\n\
-        service b none traps 1e send 0 calls 0 level 7 best 5 quantum 5 restarts 0\n",
-};
-
-pub(crate) const NONE_FIRST: NamedFile<'static> = NamedFile {
-    name: "none_first",
-    bytes: b"service a none traps 1e send 0 calls 0 level 7 best 5 quantum 5 restarts 0\n\
-        service b cut traps 1e send 0 calls 0 level 7 best 5 quantum 5 restarts 0\n",
-};
-
-pub(crate) const BAD: NamedFile<'static> = NamedFile {
-    name: "bad",
-    bytes: b"cpus 1\ncpus 9\nservice",
-};
-
-pub(crate) const NO_TEXT: NamedFile<'static> = NamedFile {
-    name: "no_text",
-    bytes: b"cpus 9 \xFF",
-};
-
-pub(crate) const DRIVER_FILE: NamedFile<'static> = NamedFile {
-    name: "drv.out",
-    bytes: DRIVER,
-};
-
-pub(crate) const CLIENT_FILE: NamedFile<'static> = NamedFile {
-    name: "cli.out",
-    bytes: CLIENT,
-};
-
-pub(crate) const SUM_FILE: NamedFile<'static> = NamedFile {
-    name: "a.out",
-    bytes: SUM,
-};
-
-pub(crate) const TRAP_FILE: NamedFile<'static> = NamedFile {
-    name: "good",
-    bytes: TRAP,
-};
-
-pub(crate) const CUT: NamedFile<'static> = NamedFile {
-    name: "cut",
-    bytes: &[1, 3],
-};
-
-pub(crate) const KILLS: NamedFile<'static> = NamedFile {
-    name: "kills",
-    bytes: b"tick\nkill 0\nkill 0\nrespawn 0\nline 3\nrespawn 5",
-};
-
-pub(crate) const TOCK: NamedFile<'static> = NamedFile {
-    name: "tock",
-    bytes: b"tick\ntock",
-};
-
-pub(crate) const WHOLE: NamedFile<'static> = NamedFile {
-    name: "whole",
-    bytes: b"0 take\n0 back 3\n0 take\n0 back 1\n",
-};
-
-pub(crate) const EARLY: NamedFile<'static> = NamedFile {
-    name: "early",
-    bytes: b"0 back 1\n",
-};
-
-pub(crate) const STRICT_EARLY: NamedFile<'static> = NamedFile {
-    name: "strict_early",
-    bytes: b"rules 2\n0 back 1\n",
-};
-
-pub(crate) const LONG: NamedFile<'static> = NamedFile {
-    name: "long",
-    bytes: b"0 take\n0 back 4\n",
-};
-
 /// The files of commands and of the machines that they drive.
 static FILES: &[NamedFile<'static>] = &[
-    PAIR_FILE,
-    ONE,
     NamedFile {
-        name: "calls",
+        name: "pair",
+        bytes: PAIR,
+    },
+    NamedFile {
+        name: "drv.out",
+        bytes: DRIVER,
+    },
+    NamedFile {
+        name: "cli.out",
+        bytes: CLIENT,
+    },
+    NamedFile {
+        name: "one",
         bytes: b"cpus 1\nlog 8\n\
-            service a calls.out traps 1e send 0 calls 0 level 7 best 5 quantum 5 restarts 0\n",
+            service a a.out traps 1e send 0 calls 0 level 7 best 5 quantum 5 restarts 0\n",
     },
     NamedFile {
-        name: "called",
-        bytes: b"0 take\n0 back 3\n",
+        name: "a.out",
+        bytes: SUM,
     },
     NamedFile {
-        name: "calls.out",
-        bytes: CALLS,
+        name: "sum.s",
+        bytes: b".sep\nmov eax, 5\nadd eax, 0x7b\nint 33\n",
     },
     NamedFile {
         name: "full",
@@ -472,41 +359,10 @@ static FILES: &[NamedFile<'static>] = &[
             service cli cli.out traps 1e send 1 calls 1 level 7 best 7 quantum 20 restarts 0\n",
     },
     NamedFile {
-        name: "two",
-        bytes: b"cpus 2\nlog 64\n\
-            service drv drv.out traps 1e send 2 calls 0 level 4 best 4 quantum 20 restarts 0\n\
-            service cli cli.out traps 1e send 1 calls 1 level 7 best 7 quantum 20 restarts 0\n",
-    },
-    NamedFile {
         name: "two_full",
         bytes: b"cpus 2\nlog 3\n\
             service drv drv.out traps 1e send 2 calls 0 level 4 best 4 quantum 20 restarts 0\n\
             service cli cli.out traps 1e send 1 calls 1 level 7 best 7 quantum 20 restarts 0\n",
-    },
-    NamedFile {
-        name: "outside",
-        bytes: b"line 3\nkill 1\ntick\ntick\ntick\n",
-    },
-    NamedFile {
-        name: "not_outside",
-        bytes: b"tick\nrespawn 0\n",
-    },
-    NamedFile {
-        name: "pair_log",
-        bytes: b"rules 2\n0 take\n0 back 4\n0 take\n0 back 4\n0 take\n0 back 3\n\
-            0 take\n0 back 5\n0 take\n0 back 4\n",
-    },
-    NamedFile {
-        name: "kill_driver",
-        bytes: b"kill 0\n",
-    },
-    NamedFile {
-        name: "kill_client",
-        bytes: b"kill slot 1\n",
-    },
-    NamedFile {
-        name: "no_fault",
-        bytes: b"tick\nreport\n",
     },
     NamedFile {
         name: "restart",
@@ -523,90 +379,16 @@ static FILES: &[NamedFile<'static>] = &[
         bytes: ASKER,
     },
     NamedFile {
-        name: "pressed",
-        bytes: b"cpus 1\nlog 64\n\
-            service button button.out traps c send 0 calls 18 level 4 best 4 quantum 99 restarts 0\n",
+        name: "kills",
+        bytes: b"tick\nkill 0\nkill 0\nrespawn 0\nline 3\nrespawn 5",
     },
     NamedFile {
-        name: "presses",
-        bytes: b"tick\nline 5\ntick\nline 5\nline 5\nline 5\n",
+        name: "whole",
+        bytes: b"0 take\n0 back 3\n0 take\n0 back 1\n",
     },
-    NamedFile {
-        name: "pressed_apart",
-        bytes: b"cpus 1\nothers 2\nlog 64\n\
-            service button button.out traps c send 0 calls 18 level 4 best 4 quantum 99 restarts 0\n",
-    },
-    NamedFile {
-        name: "apart",
-        bytes: b"wait 64\nline 5\nwait 64\ntick\nkill 0\n",
-    },
-    NamedFile {
-        name: "button.out",
-        bytes: BUTTON,
-    },
-    AGAIN,
-    CUT_FIRST,
-    NONE_FIRST,
-    BAD,
-    NO_TEXT,
-    DRIVER_FILE,
-    CLIENT_FILE,
-    SUM_FILE,
-    CUT,
-    KILLS,
-    // By sha256sum: of the text cpus 1, others 1, log 8, rules 2, service a traps 30 send 0 calls 0 level 7 best 5
-    // quantum 5 restarts 0, an item a line, and of SUM; in `calls_sums` of CALLS.
-    NamedFile {
-        name: "one_sums",
-        bytes: b"3b5a26d3364ad53fd6848f37200b677c89c9cc77ad11c907da526511a2eaa372  configuration\n\
-            b790507903336d3b86dd9d0d3c958c9b7a781de1b927490283fc9c3cf64dd013  a\n",
-    },
-    NamedFile {
-        name: "calls_sums",
-        bytes: b"3b5a26d3364ad53fd6848f37200b677c89c9cc77ad11c907da526511a2eaa372  configuration\n\
-            08053e8f496da70e6a88edf08289b40f4693ce17afb430f13f9566bfa2bcf40a  a\n",
-    },
-    NamedFile {
-        name: "short_sums",
-        bytes: b"3b5a26d3364ad53fd6848f37200b677c89c9cc77ad11c907da526511a2eaa372  configuration\n",
-    },
-    NamedFile {
-        name: "long_sums",
-        bytes: b"3b5a26d3364ad53fd6848f37200b677c89c9cc77ad11c907da526511a2eaa372  configuration\n\
-            b790507903336d3b86dd9d0d3c958c9b7a781de1b927490283fc9c3cf64dd013  a\n\n",
-    },
-    TOCK,
-    WHOLE,
-    EARLY,
-    NamedFile {
-        name: "masks",
-        bytes: b"service a none traps 1f send 7 calls 1ff level 7 best 5 quantum 5 restarts 1048575\n\
-            service bee none traps 0 send 0 calls 0 level 0 best 0 quantum 1 restarts 0\n\
-            service c_345678 none traps ffffffe1 send fffffffa calls fffffe01 \
-            level 14 best 0 quantum 65535 restarts 3\n",
-    },
-    NamedFile {
-        name: "lenient_masks",
-        bytes: b"rules 1\n\
-            service a none traps a send 1 calls 3ff level 7 best 5 quantum 5 restarts 0\n",
-    },
-    STRICT_EARLY,
-    LONG,
     NamedFile {
         name: "look",
         bytes: b"break 0 top\nmessages\n",
-    },
-    NamedFile {
-        name: "sum.s",
-        bytes: b".sep\nmov eax, 5\nadd eax, 0x7b\nint 33\n",
-    },
-    NamedFile {
-        name: "wrong.s",
-        bytes: b".sep\nmov eax, bl\n",
-    },
-    NamedFile {
-        name: "no_text.s",
-        bytes: b"int 33 ; \xFF",
     },
     NamedFile {
         name: "empty",
@@ -742,15 +524,4 @@ static SMALL: &[NamedFile<'static>] = &[
 /// What reads the files of machines that are worked by hand; the text that drives them is "empty".
 pub(crate) fn small_reader() -> NamedFiles<'static> {
     NamedFiles::new(SMALL)
-}
-
-/// A file with a separate text and an entry, 128 bytes of bss and a total of 4096.
-pub(crate) fn separate_file(alloc: Global, text: &[u8], entry: u32) -> Result<Vec<u8>, Fail> {
-    let size = u32::try_from(text.len()).map_err(|_| "size")?;
-    let mut file = Vec::from_slice(alloc, &[1, 3, 0x30, 0x10, 0x20, 0, 0, 0])?;
-    for number in [size, 0, 0x80, entry, 0x1000, 0] {
-        file.extend_from_slice(&number.to_le_bytes())?;
-    }
-    file.extend_from_slice(text)?;
-    Ok(file)
 }

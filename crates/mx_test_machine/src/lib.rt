@@ -1,4 +1,4 @@
-//! Only tests: worked rows of the process layer, the machine, and the texts that drive it.
+//! Only tests: worked rows of the process layer and of the machine, and writers that fail.
 #![tactic(auto)]
 
 #[cfg(test)]
@@ -14,35 +14,19 @@ mod cuts;
 #[cfg(test)]
 mod debugging;
 #[cfg(test)]
-mod driven_files;
-#[cfg(test)]
-mod driving;
-#[cfg(test)]
 mod events;
-#[cfg(test)]
-mod faults;
 #[cfg(test)]
 mod files;
 #[cfg(test)]
 mod limits;
 #[cfg(test)]
-mod looks;
-#[cfg(test)]
 mod narrow;
-#[cfg(test)]
-mod no_texts;
 #[cfg(test)]
 mod numbers;
 #[cfg(test)]
 mod pages;
 #[cfg(test)]
-mod patterns;
-#[cfg(test)]
-mod printing;
-#[cfg(test)]
 mod queues;
-#[cfg(test)]
-mod starting;
 #[cfg(test)]
 mod tables;
 #[cfg(test)]

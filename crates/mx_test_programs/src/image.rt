@@ -1073,17 +1073,21 @@ fn work_all(rt: &impl Abort, alloc: Global, cache: &mut Cache, rows: &[Row]) -> 
     Ok(())
 }
 
+/// All rows with one cache, which is left with what earlier rows ran.
+fn work_tables(rt: &impl Abort, alloc: Global, cache: &mut Cache) -> Result<(), Fail> {
+    work_all(rt, alloc, cache, ARITHMETIC)?;
+    work_all(rt, alloc, cache, BITS)?;
+    work_all(rt, alloc, cache, PLACES)?;
+    work_all(rt, alloc, cache, STRINGS)?;
+    work_all(rt, alloc, cache, FAULTS)?;
+    work_all(rt, alloc, cache, PATCHES)?;
+    work_all(rt, alloc, cache, BOUNDARIES)
+}
+
 #[test]
 fn worked_rows(rt: HostRuntime) -> Result<(), Fail> {
     let mut cache = Cache::new(rt.alloc(), 0)?;
-    work_all(&rt, rt.alloc(), &mut cache, ARITHMETIC)?;
-    work_all(&rt, rt.alloc(), &mut cache, BITS)?;
-    work_all(&rt, rt.alloc(), &mut cache, PLACES)?;
-    work_all(&rt, rt.alloc(), &mut cache, STRINGS)?;
-    work_all(&rt, rt.alloc(), &mut cache, FAULTS)?;
-    work_all(&rt, rt.alloc(), &mut cache, PATCHES)?;
-    work_all(&rt, rt.alloc(), &mut cache, BOUNDARIES)?;
-    Ok(())
+    work_tables(&rt, rt.alloc(), &mut cache)
 }
 
 const LOOP: Row = Row {
@@ -1128,13 +1132,18 @@ fn words_around_a_write(image: &mut Image, cache: &mut Cache) -> (u32, u32) {
     (image.reg(Register::Eax), image.reg(Register::Edx))
 }
 
+/// EAX and EDX after a write that the run of a row meets.
+fn words_of(alloc: Global, row: &WriteRow) -> Result<(u32, u32), Fail> {
+    let mut image = image_of(alloc, &row.begin)?;
+    let mut cache = Cache::new(alloc, 0)?;
+    Ok(words_around_a_write(&mut image, &mut cache))
+}
+
 #[test]
 fn writes_from_outside(rt: HostRuntime) -> Result<(), Fail> {
     for row in LOOPS {
         let name = row.name;
-        let mut cache = Cache::new(rt.alloc(), 0)?;
-        let mut image = image_of(rt.alloc(), &row.begin)?;
-        let words = words_around_a_write(&mut image, &mut cache);
+        let words = words_of(rt.alloc(), row)?;
         assert!(rt; words == (row.eax, row.edx), "{name}");
     }
     Ok(())
@@ -1156,17 +1165,21 @@ fn long_loop(alloc: Global) -> Result<Image, Fail> {
     })
 }
 
+/// What a run of the long loop makes, and EAX and EIP after it, with a cache for code of so many bytes.
+fn run_long_loop(alloc: Global, code: usize) -> Result<((u32, Stop), u32, u32), Fail> {
+    let mut image = long_loop(alloc)?;
+    let mut cache = Cache::new(alloc, code)?;
+    let made = run_with(&mut image, &mut cache, 3 * 1_501 + 7);
+    Ok((made, image.reg(Register::Eax), image.eip()))
+}
+
 /// A cache has 1,024 entries at least, so the loop's instructions take each other's entries in one cache, and
 /// not in the other.
 #[test]
 fn loops_longer_than_a_cache(rt: HostRuntime) -> Result<(), Fail> {
     for code in [0, 1_505] {
-        let mut image = long_loop(rt.alloc())?;
-        let mut cache = Cache::new(rt.alloc(), code)?;
-        let made = run_with(&mut image, &mut cache, 3 * 1_501 + 7);
-        assert!(rt; made == (4_510, Stop::Spent), "{code}");
-        assert!(rt; image.reg(Register::Eax) == 4_507, "{code}");
-        assert!(rt; image.eip() == 7, "{code}");
+        let ran = run_long_loop(rt.alloc(), code)?;
+        assert!(rt; ran == ((4_510, Stop::Spent), 4_507, 7), "{code}");
     }
     Ok(())
 }

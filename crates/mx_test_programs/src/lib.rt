@@ -8,8 +8,6 @@ mod around;
 #[cfg(test)]
 mod asm;
 #[cfg(test)]
-mod bits;
-#[cfg(test)]
 mod bytes;
 #[cfg(test)]
 mod compare;

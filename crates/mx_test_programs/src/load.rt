@@ -10,7 +10,7 @@ use std::alloc::Global;
 
 /// Two bytes of text, CD 21 (`int 0x21`), in the data segment, four of data, eight of bss, entry 1 and
 /// a total of 256.
-pub(crate) const FILE: [u8; 38] = [
+const FILE: [u8; 38] = [
     0x01, 0x03, 0x10, 0x10, 0x20, 0, 0, 0, 2, 0, 0, 0, 4, 0, 0, 0, 8, 0, 0, 0, 1, 0, 0, 0, 0, 1, 0,
     0, 0, 0, 0, 0, 0xCD, 0x21, 1, 2, 3, 4,
 ];
