@@ -1,4 +1,0 @@
-use Rattle.mx_test_cpus.proofs.threads.hold_at_once.Given as goal
-
-abbrev pub ghosts-drive_to_end : goal.ghosts-drive_to_end
-ghosts-drive_to_end g a = record { table = a.booted.0.table; boot = a.booted.0.boot }

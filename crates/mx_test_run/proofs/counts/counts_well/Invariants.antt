@@ -1,4 +1,0 @@
-use Rattle.mx_test_run.proofs.counts.counts_well.Given as goal
-
-abbrev pub ghosts-drive_and_count : goal.ghosts-drive_and_count
-ghosts-drive_and_count g a = record { table = a.blank.table; boot = a.blank.boot }

@@ -1,5 +1,0 @@
-use Rattle.std.proofs.Common.{◌≡◌}
-use Rattle.mx_test_run.proofs.killed.debug_turns.Given as goal
-
-abbrev pub invariant-loop-turn : goal.invariant-loop-turn
-invariant-loop-turn g l = l.seat.table ≡ g.M.Naming.table
