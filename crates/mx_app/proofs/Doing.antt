@@ -40,7 +40,7 @@ use Rattle.mx_app_turns.specs.declared.sweeping.Swept.{Swept}
 use Rattle.mx_app_turns.specs.Turned.{MakesTurns}
 use Rattle.mx_turns.specs.declared.turns.Ending.{Ending}
 use Rattle.mx_walk.specs.Parts.{walk_shown}
-use Rattle.mx_walk.specs.Walks.{Walk}
+use Rattle.mx_walker.specs.Walks.{Walk}
 use Rattle.mx_app.specs.Deeds.{Deeds}
 use Rattle.mx_app.specs.Explained.{ExplainsConfig}
 use Rattle.mx_app.specs.Named.{Assembles, ShowsFile}

@@ -9,10 +9,10 @@ use Rattle.mx_machine.specs.Move.{world_after_event}
 use Rattle.mx_machine.specs.World.{World}
 use Rattle.mx_walk.specs.declared.positions.Position.{Position}
 use Rattle.mx_walk.specs.declared.progress.Part.{Part}
-use Rattle.mx_walk.specs.Parts.{HasGrown, part_after, parts_between, shown_to, shown_way, walk_between, walk_shown}
-use Rattle.mx_walk.specs.Positions.{IsPosition, IsUpTo, event_below, first_steps, is_up_to, next_position, position_before, steps_in, world_at}
+use Rattle.mx_walk.specs.Parts.{HasGrown, part_after, parts_between, walk_between, walk_shown}
+use Rattle.mx_walker.specs.Walks.{Walk, mark_above, shown_to, shown_way, start_to, world_here}
+use Rattle.mx_walk.specs.Positions.{IsPosition, IsUpTo, event_below, first, first_steps, is_up_to, next_position, position_before, steps_in, world_at}
 use Rattle.mx_walk.specs.Seeking.{IsFirstMarked, IsLastMarked, IsPassed, is_marked}
-use Rattle.mx_walk.specs.Walks.{Walk, first, mark_above, start_to, world_here}
 use Rattle.mx_walk.proofs.Next.{world_next}
 use Rattle.mx_walk.proofs.PartsShown.{joined}
 use Rattle.mx_app_look.specs.declared.points.Points.{Points}

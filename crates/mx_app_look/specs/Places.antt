@@ -15,7 +15,7 @@ use Rattle.mx_machine.specs.World.{World, HeldProcess, held_by}
 use Rattle.mx_print_answers.specs.Slots.{symbols_by}
 use Rattle.mx_walk.specs.declared.positions.Position.{Position}
 use Rattle.mx_walk.specs.Positions.{event_below}
-use Rattle.mx_walk.specs.Walks.{Walk, refusal_here, world_here}
+use Rattle.mx_walker.specs.Walks.{Walk, refusal_here, world_here}
 
 -- ---- a position: K, or K.J inside the record below
 

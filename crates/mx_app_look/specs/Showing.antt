@@ -14,7 +14,7 @@ use Rattle.mx_print_answers.specs.Processes.{not_here}
 use Rattle.mx_print_answers.specs.Slots.{address_asked, image_in, memory_of, refused_text, registers_of, symbols_by}
 use Rattle.mx_print_answers.specs.declared.refused.Refused.{Refused as Kind}
 use Rattle.mx_print_answers.specs.declared.refused.Refused.TheVariants.{ByDebugger}
-use Rattle.mx_walk.specs.Walks.{Walk, world_here}
+use Rattle.mx_walker.specs.Walks.{Walk, world_here}
 use Rattle.mx_app_look.specs.Slots.{slot_asked}
 
 abbrev pub symbols_in : World → ℕ → List Symbol

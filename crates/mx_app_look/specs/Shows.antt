@@ -4,10 +4,10 @@ use Rattle.mx_machine.specs.declared.events.Event.{Event}
 use Rattle.mx_machine.specs.declared.history.Record.{Record}
 use Rattle.mx_walk.specs.declared.positions.Position.{Position}
 use Rattle.mx_walk.specs.declared.progress.Part.{Part}
-use Rattle.mx_walk.specs.Parts.{shown_to, shown_way, walk_between, walk_shown}
-use Rattle.mx_walk.specs.Positions.{IsPosition, IsUpTo, event_below, next_position, position_before, steps_in}
+use Rattle.mx_walker.specs.Walks.{Walk, shown_to, shown_way, world_here}
+use Rattle.mx_walk.specs.Parts.{walk_between, walk_shown}
+use Rattle.mx_walk.specs.Positions.{IsPosition, IsUpTo, event_below, first, next_position, position_before, steps_in}
 use Rattle.mx_walk.specs.Seeking.{IsFirstMarked, IsLastMarked, IsPassed, is_marked}
-use Rattle.mx_walk.specs.Walks.{Walk, first, world_here}
 use Rattle.mx_app_look.specs.declared.points.Points.{Points}
 use Rattle.mx_app_look.specs.declared.request.Request.{Request}
 use Rattle.mx_app_look.specs.declared.request.Request.TheVariants.{Continue, Reverse, Why}

@@ -2,7 +2,7 @@
 use Rattle.std.specs.Prelude.{ℕ, zero, suc, ◌+◌, ◌%◌, ◌^◌, ◌&&◌, nat_le, nat_lt, if◌then◌else◌, List, [], ◌∷◌, ◌++◌, length, Option, Some, None, Result, Ok, Err}
 use Rattle.mx_debug.specs.declared.error.DebugError.{DebugError}
 use Rattle.mx_debug.specs.declared.error.DebugError.TheVariants.{NotHere, TooMany}
-use Rattle.mx_walk.specs.declared.watching.BytePlace.{BytePlace}
+use Rattle.mx_walker.specs.declared.watching.BytePlace.{BytePlace}
 use Rattle.mx_app_look.specs.declared.watches.Watch.{Watch}
 
 -- n bytes of a slot's process from an address on. An address of 32 bits is 0 after the last one

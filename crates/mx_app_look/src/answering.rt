@@ -4,14 +4,14 @@ ghost use Rattle.std.specs.Prelude.{◌≡◌, ◌++◌, IfErr, IfOk, List, Matc
 ghost use Rattle.mx_app_step.specs.Failure.{IsWanting};
 ghost use Rattle.mx_app_look.specs.declared.request.Request.TheVariants as requests;
 ghost use Rattle.mx_walk.specs.declared.progress.Part.{Part as Parts};
-ghost use Rattle.mx_walk.specs.Parts.{HasGrown, shown_to};
+ghost use Rattle.mx_walk.specs.Parts.{HasGrown};
+ghost use Rattle.mx_walker.specs.Walks.{shown_to, world_here};
 ghost use Rattle.mx_walk.specs.Positions.{IsPosition, IsUpTo};
 ghost use Rattle.mx_app_look.specs.declared.sight.Sight.{Sight as Seen};
 ghost use Rattle.mx_app_look.specs.Above.{why_text};
 ghost use Rattle.mx_app_look.specs.Answers.{IsMade, after, help_text, processes_text, request_text, to_of, walks};
 ghost use Rattle.mx_app_look.specs.Showing.{shown_text};
 ghost use Rattle.mx_print_answers.specs.Messages.{delivery_lines};
-ghost use Rattle.mx_walk.specs.Walks.{world_here};
 ghost use Rattle.mx_app_look.specs.Places.{place_text};
 ghost use Rattle.mx_app_look.specs.Sessions.{IsAnswered, IsAnsweredBy, ends, is_quit, prompt_text};
 ghost use Rattle.mx_app_look.specs.Shows.{IsRequestShown, IsShown, IsShownBy, why_shown};
@@ -29,7 +29,8 @@ use crate::verb::push_unknown;
 use crate::world_texts::{push_deliveries, push_processes, push_why};
 use mx_app_failure::Failure;
 use mx_look_moves::{PositionWord, back_from, forward_from, steps_back, steps_on};
-use mx_walk::{Position, Progress, Walker};
+use mx_walk::{Position, Progress};
+use mx_walker::Walker;
 use std::alloc::{AllocError, Global};
 
 /// What `help` prints.

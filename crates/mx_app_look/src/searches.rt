@@ -2,11 +2,11 @@
 
 ghost use Rattle.std.specs.Prelude.{◌≡◌, ◌++◌, IfErr, IfOk, List, OnOk, Some, false, string_bytes, true};
 ghost use Rattle.mx_machine.specs.World.{World};
-ghost use Rattle.mx_walk.specs.Positions.{IsAbove, IsPosition, IsUpTo, event_below, next_position, position_before};
+ghost use Rattle.mx_walk.specs.Positions.{IsAbove, IsPosition, IsUpTo, event_below, first, next_position, position_before};
 ghost use Rattle.mx_walk.specs.declared.progress.Part.{Part as Parts};
-ghost use Rattle.mx_walk.specs.Parts.{HasGrown, shown_to, walk_shown};
+ghost use Rattle.mx_walk.specs.Parts.{HasGrown, walk_shown};
+ghost use Rattle.mx_walker.specs.Walks.{Walk, shown_to, world_here};
 ghost use Rattle.mx_walk.specs.Seeking.{IsLastMarked, IsPassed, is_marked};
-ghost use Rattle.mx_walk.specs.Walks.{Walk, first, world_here};
 ghost use Rattle.mx_app_look.specs.Marks.{changes_watched, is_looked_for};
 ghost use Rattle.mx_app_look.specs.Searches.{IsHalt, IsHaltAfter, IsLastHalt, IsNextHalt, changes_from, halt_by, is_break, not_met};
 ghost use Rattle.mx_app_look.specs.Shows.{IsLastShown, IsNextShown, IsSearchShown, IsShownAfter, halt_shown, return_shown};
@@ -15,7 +15,8 @@ use crate::changes::{all_bytes, push_changes};
 use crate::ending::ended;
 use crate::marks::{breaks_mark, bytes_mark, points_mark};
 use crate::points::Points;
-use mx_walk::{Mark, NextEvent, Position, Progress, Walker, is_up_to, next_event, position_before};
+use mx_walk::{Mark, NextEvent, Position, Progress, is_up_to, next_event, position_before};
+use mx_walker::Walker;
 use mx_word::NoMemory;
 use std::alloc::{AllocError, Global};
 

@@ -12,7 +12,7 @@ ghost use Rattle.mx_machine.specs.Boot.{world_at_boot};
 ghost use Rattle.mx_machine.specs.declared.history.Record.{Record as Noted};
 ghost use Rattle.mx_walk.specs.declared.progress.Part.{Part as Parts};
 ghost use Rattle.mx_walk.specs.Parts.{HasGrown, walk_shown};
-ghost use Rattle.mx_walk.specs.Walks.{Walk};
+ghost use Rattle.mx_walker.specs.Walks.{Walk};
 ghost use Rattle.mx_app_look.specs.Sessions.{HasFailed, IsBegun, IsSession, IsWhole, begun_text, end_text, sight_at};
 
 use crate::answering::{answer_line, push_prompt};
@@ -23,7 +23,8 @@ use crate::sight::Sight;
 use mx_app_failure::{Failure, print_text};
 use mx_app_start::Channels;
 use mx_app_step::{History, LineReader, Reader, Started, start};
-use mx_walk::{Progress, Walker};
+use mx_walk::Progress;
+use mx_walker::Walker;
 use std::alloc::Global;
 use std::io::Write;
 

@@ -6,7 +6,7 @@ ghost use Rattle.mx_app_step.specs.Failure.{IsWanting};
 use crate::ending::ended;
 use crate::points::Points;
 use mx_app_failure::Failure;
-use mx_walk::Walker;
+use mx_walker::Walker;
 use std::alloc::Global;
 
 /// A walker, and what its searches halt at.

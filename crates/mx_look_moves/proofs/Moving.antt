@@ -4,11 +4,10 @@ use Rattle.std.proofs.lemmas.Bool.{cases_lt, le-ltb, ne_eqb}
 use Rattle.mx_machine.specs.declared.events.Event.{Event}
 use Rattle.mx_machine.specs.declared.history.Record.{Record}
 use Rattle.mx_walk.specs.declared.positions.Position.{Position}
-use Rattle.mx_walk.specs.Positions.{IsAbove, IsPosition, IsUpTo, event_below, is_up_to, next_position, position_before, steps_in}
-use Rattle.mx_walk.specs.Walks.{Walk, first}
-use Rattle.mx_walk.proofs.Arriving.{has_event, not_itself}
+use Rattle.mx_walk.specs.Positions.{IsAbove, IsPosition, IsUpTo, event_below, first, is_up_to, next_position, position_before, steps_in}
+use Rattle.mx_walker.specs.Walks.{Walk}
+use Rattle.mx_walk.proofs.Next.{above_trans, back_inside, back_over, has_event, next_up_to, not_itself, up_to_of}
 use Rattle.mx_walk.proofs.Along.{any_record, at, is_few, is_inside, is_position}
-use Rattle.mx_walk.proofs.Next.{above_trans, back_inside, back_over, next_up_to, up_to_of}
 use Rattle.mx_look_moves.specs.Moves.{steps_back, steps_on, up_to_last}
 
 pub up_to_itself : (p : Position) → IsUpTo p p

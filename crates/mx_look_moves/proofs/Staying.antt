@@ -5,9 +5,9 @@ use Rattle.std.proofs.lemmas.Bool.{eq-eqb, le-leb, lt-ltb, ne_eqb}
 use Rattle.std.proofs.lemmas.List.{append-nil}
 use Rattle.mx_walk.specs.declared.positions.Position.{Position}
 use Rattle.mx_walk.specs.declared.progress.Part.{Part}
-use Rattle.mx_walk.specs.Parts.{part_after, parts_between, shown_to, walk_between}
+use Rattle.mx_walk.specs.Parts.{part_after, parts_between, walk_between}
+use Rattle.mx_walker.specs.Walks.{Walk, mark_above, shown_to}
 use Rattle.mx_walk.specs.Positions.{IsUpTo, is_up_to}
-use Rattle.mx_walk.specs.Walks.{Walk, mark_above}
 
 pub is_up : (p q : Position) → IsUpTo p q → is_up_to p q ≡ true
 is_up p q (inl lt) =

@@ -4,7 +4,7 @@ use Rattle.mx_look_moves.specs.declared.moves.PositionWord.{PositionWord}
 use Rattle.mx_look_moves.specs.declared.moves.PositionWord.TheVariants.{Below, End}
 use Rattle.mx_walk.specs.declared.positions.Position.{Position}
 use Rattle.mx_walk.specs.Positions.{is_position, is_up_to, next_position, position_before}
-use Rattle.mx_walk.specs.Walks.{Walk}
+use Rattle.mx_walker.specs.Walks.{Walk}
 
 -- ---- by records
 

@@ -1,11 +1,12 @@
 //! Where requests lead.
 
 ghost use Rattle.std.specs.Prelude.{◌≡◌, ◌++◌, IfErr, IfOk, OnOk, true};
-ghost use Rattle.mx_walk.specs.Parts.{shown_to};
+ghost use Rattle.mx_walker.specs.Walks.{shown_to};
 ghost use Rattle.mx_walk.specs.Positions.{IsPosition, IsUpTo};
 ghost use Rattle.mx_look_moves.specs.Moves.{back_from, can_go, forward_from, gone_to, position_asked, steps_back, steps_on, up_to_last};
 
-use mx_walk::{Position, Progress, Walker, is_position, is_up_to, next_event, position_before};
+use mx_walk::{Position, Progress, is_position, is_up_to, next_event, position_before};
+use mx_walker::Walker;
 use mx_word::NoMemory;
 use std::alloc::Global;
 

@@ -12,8 +12,7 @@ use Rattle.mx_walk.specs.Positions.{HasMade, IsAbove, IsAt, IsBlocked, IsPositio
 use Rattle.mx_walk.specs.Seeking.{HasCome, NoneMarked, is_marked}
 use Rattle.mx_walk.proofs.Along.{any_record, at, halted_in, more_above, steps_on}
 use Rattle.mx_walk.proofs.Made.{replicate_both}
-use Rattle.mx_walk.proofs.Arriving.{not_itself}
-use Rattle.mx_walk.proofs.Next.{left_steps, next_up_to, up_to_of}
+use Rattle.mx_walk.proofs.Next.{left_steps, next_up_to, not_itself, up_to_of}
 use Rattle.mx_walk.proofs.Passing.{come_by}
 
 module _ (f : World → ℕ × Event → World → Bool) (boot : World) (records : List Record) (k : ℕ) (b : k < length records) (j : ℕ) (m n : MachineState) (there : IsAt boot records (at k j) m) (same : n.kernel.boot ≡ m.kernel.boot) where

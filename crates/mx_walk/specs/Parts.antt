@@ -4,7 +4,6 @@ use Rattle.std.specs.List.{range_with_len}
 use Rattle.mx_machine.specs.declared.history.Record.{Record}
 use Rattle.mx_walk.specs.declared.positions.Position.{Position}
 use Rattle.mx_walk.specs.declared.progress.Part.{Part}
-use Rattle.mx_walk.specs.Walks.{Walk, start_to}
 
 -- one part more than i is done
 abbrev pub part_after : ℕ → ℕ → Part
@@ -25,14 +24,6 @@ walk_between records p q = parts_between (length records) p.records q.records
 -- and from the first position
 abbrev pub walk_shown : List Record → Position → List Part
 walk_shown records p = parts_shown (length records) p.records
-
--- WHAT A WALKER SHOWS on its way to a position: each record between where the walk begins and that position, once
-abbrev pub shown_to : Walk → Position → List Part
-shown_to k to = walk_between k.records (start_to k to) to
-
--- and on its way from one position to another
-abbrev pub shown_way : Walk → Position → Position → List Part
-shown_way k p q = shown_to (record k { here = p }) q
 
 -- what was shown, and perhaps more after it
 abbrev pub HasGrown : List Part → List Part → Type 0

@@ -64,6 +64,10 @@ pub record IsPosition (records : List Record) (p : Position) : Type 0 where
   pub above : p.records ≤ length records
   pub inside : p.steps ≤ first_steps (drop p.records records)
 
+-- above all records
+abbrev pub first : Position
+first = record { records = 0; steps = 0 }
+
 -- below all records
 abbrev pub end_of : List Record → Position
 end_of records = record { records = length records; steps = 0 }

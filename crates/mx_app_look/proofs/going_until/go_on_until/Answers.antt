@@ -5,11 +5,11 @@ use Rattle.mx_look_trace.specs.Trace.{record_text}
 use Rattle.mx_machine.specs.declared.history.Record.{Record}
 use Rattle.mx_walk.specs.declared.positions.Position.{Position}
 use Rattle.mx_walk.specs.Positions.{IsPosition, IsUpTo}
-use Rattle.mx_walk.specs.Walks.{Walk}
+use Rattle.mx_walker.specs.Walks.{Walk, shown_to}
 use Rattle.mx_walk.proofs.Along.{any_record}
 use Rattle.mx_walk.proofs.PartsShown.{none_between}
 use Rattle.mx_app_look.proofs.Meeting.{goes_by, goes_on, halts_here, appends_it}
-use Rattle.mx_walk.specs.Parts.{parts_between, shown_to}
+use Rattle.mx_walk.specs.Parts.{parts_between}
 use Rattle.mx_app_look.specs.declared.happening.Happening.{Happening}
 use Rattle.mx_app_look.specs.Searches.{not_met}
 use Rattle.mx_app_look.specs.Until.{halt_below, has, met, until_halt}

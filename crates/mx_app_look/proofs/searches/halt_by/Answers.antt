@@ -1,6 +1,6 @@
 use Rattle.std.proofs.Common.{◌≡◌, ◌∙◌, ◌++◌, ap, sym}
 use Rattle.mx_walk.specs.declared.positions.Position.{Position}
-use Rattle.mx_walk.specs.Parts.{shown_to}
+use Rattle.mx_walker.specs.Walks.{shown_to}
 use Rattle.mx_app_look.proofs.ShownMore.{err_always, err_weaker, grown_by, grown_more, grown_same, halt_below_shown, halt_is_shown, ok_weaker}
 use Rattle.mx_app_look.proofs.searches.halt_by.Goals as goal
 

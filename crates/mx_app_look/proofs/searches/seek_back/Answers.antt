@@ -1,7 +1,7 @@
 use Rattle.std.proofs.Common.{subst}
 use Rattle.std.proofs.lemmas.Result.{IfOk-weaker}
 use Rattle.mx_walk.specs.Seeking.{IsLastMarked, IsPassed}
-use Rattle.mx_walk.specs.Walks.{first}
+use Rattle.mx_walk.specs.Positions.{first}
 use Rattle.mx_app_look.proofs.Marked.{Marks, both_are}
 use Rattle.mx_app_look.proofs.ShownMore.{err_always, err_weaker, grown_either, grown_none}
 use Rattle.mx_app_look.proofs.searches.seek_back.Goals as goal

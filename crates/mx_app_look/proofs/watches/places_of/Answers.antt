@@ -1,5 +1,5 @@
 use Rattle.std.proofs.Common.{◌≡◌, ◌∙◌, ◌<◌, ◌≤◌, ℕ, suc, ◌+◌, ◌-◌, ◌%◌, ◌^◌, List, [], ◌∷◌, ◌++◌, append-nil, append_assoc, refl, ap, sym, arith}
-use Rattle.mx_walk.specs.declared.watching.BytePlace.{BytePlace}
+use Rattle.mx_walker.specs.declared.watching.BytePlace.{BytePlace}
 use Rattle.mx_app_look.specs.Watches.{places_from}
 use Rattle.mx_app_look.proofs.watches.places_of.Goals as goal
 

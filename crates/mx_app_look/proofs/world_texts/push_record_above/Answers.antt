@@ -1,11 +1,10 @@
 use Rattle.std.proofs.Common.{◌≡◌, ◌∙◌, ◌++◌, List, ap, subst, sym, arith}
 use Rattle.mx_machine.specs.declared.history.Record.{Record}
 use Rattle.mx_walk.specs.Positions.{IsPosition}
-use Rattle.mx_walk.specs.Walks.{Walk}
+use Rattle.mx_walker.specs.Walks.{Walk, shown_to}
 use Rattle.mx_app_look.proofs.Moving.{records_up_to}
 use Rattle.mx_walk.specs.declared.positions.Position.{Position}
 use Rattle.mx_app_look.specs.Shows.{record_shown}
-use Rattle.mx_walk.specs.Parts.{shown_to}
 use Rattle.mx_app_look.proofs.ShownMore.{err_always, grown_by, grown_more, grown_same, then_none}
 use Rattle.mx_app_look.proofs.world_texts.push_record_above.Goals as goal
 

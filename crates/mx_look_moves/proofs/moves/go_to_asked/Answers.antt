@@ -1,5 +1,5 @@
 use Rattle.std.proofs.Common.{◌∙◌, ◌++◌, cond, ap, sym}
-use Rattle.mx_walk.specs.Parts.{shown_to}
+use Rattle.mx_walker.specs.Walks.{shown_to}
 use Rattle.mx_look_moves.specs.Moves.{can_go, position_asked}
 use Rattle.mx_look_moves.proofs.Staying.{stays_shown}
 use Rattle.mx_look_moves.proofs.moves.go_to_asked.Goals as goal

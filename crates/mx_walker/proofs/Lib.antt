@@ -1,0 +1,11 @@
+pub mod Arriving
+pub mod Shown
+pub mod Walking
+pub mod AtBoot
+pub mod Fronts
+pub mod Naming
+pub mod Bytes
+pub mod Changed
+pub mod Many
+pub mod SameRecords
+pub mod Backward

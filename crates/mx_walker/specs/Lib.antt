@@ -1,0 +1,5 @@
+pub mod Walks
+pub mod Checkpoints
+pub mod Watching
+pub mod Several
+pub mod Stopping
