@@ -8,7 +8,7 @@ use Rattle.std.specs.List.{flat_map}
 use Rattle.std.specs.Str.{bytes_eq}
 use Rattle.mx_machine.specs.History.{BootAndHistory}
 use Rattle.mx_app_turns.specs.declared.blocks.Total.{Total}
-use Rattle.mx_app_turns.specs.Sweep.{Positions, block_text, blocks, blocks_from, count_of}
+use Rattle.mx_app_turns.specs.Blocks.{Positions, block_text, blocks, blocks_from, count_of}
 use Rattle.mx_app_turns.specs.Sweeping.{SweepOf, is_alike_at, run_at, text_at}
 
 -- Positions from `from` to the one above p are swept, and the blocks above the current one are printed.

@@ -22,8 +22,9 @@ use Rattle.mx_app_step.specs.Records.{IsReplayPrinted}
 use Rattle.mx_app_step.specs.Setup.{IsNoTextGiven, IsNotStarted, IsStart, IsTextFaulty, IsTextGiven}
 use Rattle.mx_app_step.specs.Written.{Written, kept}
 use Rattle.mx_app_step.specs.declared.records.Replayed.TheVariants as replayed
-use Rattle.mx_app_turns.specs.declared.faults.FaultLine.{FaultLine}
-use Rattle.mx_app_turns.specs.Sweep.{Run, are_alike, count_of, outcome_text, run_of, swept_text}
+use Rattle.mx_sweep.specs.declared.faults.FaultLine.{FaultLine}
+use Rattle.mx_sweep.specs.Sweep.{Run, are_alike, outcome_text, run_of}
+use Rattle.mx_app_turns.specs.Blocks.{count_of, swept_text}
 use Rattle.mx_app_turns.specs.declared.sweeping.Swept.{Swept}
 use Rattle.mx_app_turns.specs.declared.sweeping.Swept.TheVariants.{Alike, Differs, Refused}
 use Rattle.mx_app_turns.specs.FaultLines.{fault_line}

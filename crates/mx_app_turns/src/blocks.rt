@@ -1,7 +1,7 @@
 //! Blocks: positions in a row whose outcomes are printed alike.
 
 ghost use Rattle.std.specs.Prelude.{◌≡◌, ◌++◌, IfOk, OnOk, string_bytes};
-ghost use Rattle.mx_app_turns.specs.Sweep.{block_text, head_text, positions_of, total_text};
+ghost use Rattle.mx_app_turns.specs.Blocks.{block_text, head_text, positions_of, total_text};
 
 use std::alloc::{AllocError, Global};
 

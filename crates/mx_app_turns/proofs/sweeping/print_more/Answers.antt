@@ -9,9 +9,9 @@ use Rattle.mx_app_step.specs.Machine.{MachineState}
 use Rattle.mx_machine.specs.World.{World}
 use Rattle.mx_app_turns.specs.declared.blocks.Total.{Total}
 use Rattle.mx_app_turns.specs.declared.sweeping.Done.{Done}
-use Rattle.mx_app_turns.specs.Sweep.{Positions, blocks, count_of, positions_of}
+use Rattle.mx_app_turns.specs.Blocks.{Positions, blocks, count_of, positions_of}
 use Rattle.mx_app_turns.specs.Begun.{sweep_of}
-use Rattle.mx_app_turns.specs.Swept.{IsSwept}
+use Rattle.mx_sweep.specs.Swept.{IsSwept}
 use Rattle.mx_app_turns.specs.Sweeping.{IsShown, is_alike_at, run_at, text_at}
 use Rattle.mx_walk.specs.declared.progress.Part.{Part}
 use Rattle.mx_walk.specs.Parts.{parts_shown}

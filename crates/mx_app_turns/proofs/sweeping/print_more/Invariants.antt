@@ -1,5 +1,5 @@
 use Rattle.std.proofs.Common.{◌≡◌, ◌++◌, ◌-◌}
-use Rattle.mx_app_turns.specs.Sweep.{positions_of}
+use Rattle.mx_app_turns.specs.Blocks.{positions_of}
 use Rattle.mx_app_turns.specs.Begun.{sweep_of}
 use Rattle.mx_walk.specs.Parts.{parts_shown}
 use Rattle.mx_app_turns.proofs.BlockLemmas.{SweptSoFar}

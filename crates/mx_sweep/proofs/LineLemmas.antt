@@ -1,0 +1,16 @@
+-- One line of an outcome more.
+use Rattle.std.proofs.Common.{◌≡◌, ◌∙◌, ◌<◌, ◌+◌, ℕ, suc, ◌++◌, List, length, drop, get_or, sym, ap, arith}
+use Rattle.std.proofs.Math.Seq.{drop-cons}
+use Rattle.mx_machine.specs.Proc.TableState.{TableState}
+use Rattle.mx_machine.specs.Service.{Service}
+use Rattle.mx_print_report.specs.declared.doing.Naming.{Naming}
+use Rattle.mx_print_report.specs.Report.{process_words}
+use Rattle.mx_sweep.specs.Sweep.{indented, process_lines}
+
+pub process_lines_more : (by : Naming) (t : TableState) (services : List Service) (i : ℕ) (v : Service) → i < length services → v ≡ get_or services i v
+    → process_lines by t i (drop i services) ≡ indented (process_words by t i v.name.bytes) ++ process_lines by t (i + 1) (drop (i + 1) services)
+process_lines_more by t services i v h is =
+    let next : suc i ≡ i + 1 = omega arith in
+    ap (process_lines by t i) (drop-cons services i v h)
+    ∙ ap (λ (u : Service). indented (process_words by t i u.name.bytes) ++ process_lines by t (i + 1) (drop (suc i) services)) (sym is)
+    ∙ ap (λ (n : ℕ). indented (process_words by t i v.name.bytes) ++ process_lines by t (i + 1) (drop n services)) next
