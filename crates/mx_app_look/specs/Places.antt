@@ -3,7 +3,7 @@ use Rattle.std.specs.Prelude.{ℕ, zero, suc, ◌+◌, List, [], ◌∷◌, ◌+
 use Rattle.std.specs.Fmt.{decimal}
 use Rattle.mx_app_step.specs.Log.{lines_above}
 use Rattle.mx_app_step.specs.Records.{refused_record_line}
-use Rattle.mx_look_code.specs.Code.{code_line}
+use Rattle.mx_look_facts.specs.Code.{code_line}
 use Rattle.mx_look_trace.specs.Glances.{glance_of}
 use Rattle.mx_look_trace.specs.Trace.{event_text}
 use Rattle.mx_look_trace.specs.Words.{who}

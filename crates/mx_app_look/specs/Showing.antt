@@ -2,9 +2,9 @@
 use Rattle.std.specs.Prelude.{ℕ, List, Option, Some, None, Result, Ok, Err, slice_get}
 use Rattle.mx_aout.specs.declared.program.Symbol.{Symbol}
 use Rattle.mx_exec.specs.declared.image.Image.{Image}
-use Rattle.mx_look_code.specs.Lines.{code_lines}
-use Rattle.mx_look_code.specs.Stack.{stack_text}
-use Rattle.mx_look_code.specs.Variables.{variable_line, variable_named, variable_value}
+use Rattle.mx_look_facts.specs.Lines.{code_lines}
+use Rattle.mx_look_facts.specs.Stack.{stack_text}
+use Rattle.mx_look_facts.specs.Variables.{variable_line, variable_named, variable_value}
 use Rattle.mx_boot.specs.declared.address_word.AddressWord.{AddressWord}
 use Rattle.mx_app_look.specs.declared.shown.Shown.{Shown}
 use Rattle.mx_app_look.specs.declared.shown.Shown.TheVariants.{Code, Memory, Registers, Stack, Variable}

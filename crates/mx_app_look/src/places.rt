@@ -2,7 +2,7 @@
 
 ghost use Rattle.std.specs.Prelude.{◌≡◌, ◌++◌, ◌+◌, OnOk, slice_get};
 ghost use Rattle.mx_app_step.specs.Log.{lines_above};
-ghost use Rattle.mx_look_code.specs.Code.{code_line};
+ghost use Rattle.mx_look_facts.specs.Code.{code_line};
 ghost use Rattle.mx_machine.specs.World.{held_by};
 ghost use Rattle.mx_machine.specs.Machine.{world_of};
 ghost use Rattle.mx_walk.specs.Positions.{event_below};
@@ -13,8 +13,7 @@ use mx_aout::Symbol;
 use mx_app_step::refusal_line;
 use mx_boot::lines_above;
 use mx_exec::Image;
-use mx_look_code::push_code_line;
-use mx_look_facts::Glance;
+use mx_look_facts::{Glance, push_code_line};
 use mx_look_trace::{push_event, push_who};
 use mx_machine::{Event, Machine, Record, Refusal};
 use mx_print_answers::symbols_of;

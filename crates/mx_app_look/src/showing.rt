@@ -12,7 +12,7 @@ use mx_aout::Symbol;
 use mx_boot::{AddressWord, SymbolName};
 use mx_debug::DebugError;
 use mx_exec::Image;
-use mx_look_code::{push_code_lines, push_stack, push_variable, variable_named, variable_value};
+use mx_look_facts::{push_code_lines, push_stack, push_variable, variable_named, variable_value};
 use mx_print_answers::{
     Refused, image_in, push_memory_of, push_process, push_registers_of, symbols_of,
 };

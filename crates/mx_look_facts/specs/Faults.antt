@@ -6,9 +6,9 @@ use Rattle.mx_exec.specs.declared.image.Image.{Image}
 use Rattle.mx_exec.specs.Image.{code_bytes}
 use Rattle.mx_image.specs.declared.runs.Stop.{Stop}
 use Rattle.mx_image.specs.declared.runs.Stop.TheVariants as stop
-use Rattle.mx_look_code.specs.Code.{code_part}
-use Rattle.mx_look_code.specs.Nearest.{nearest_symbol}
-use Rattle.mx_look_code.specs.Reasons.{fault_reason}
+use Rattle.mx_look_facts.specs.Code.{code_part}
+use Rattle.mx_look_facts.specs.Nearest.{nearest_symbol}
+use Rattle.mx_look_facts.specs.Reasons.{fault_reason}
 use Rattle.mx_machine.specs.Service.{Service}
 use Rattle.mx_machine.specs.World.{World, HeldProcess, held_by}
 use Rattle.mx_look_facts.specs.declared.faults.FaultGlance.{FaultGlance}

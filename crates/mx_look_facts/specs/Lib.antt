@@ -1,3 +1,12 @@
+pub mod Nearest
+pub mod Code
+pub mod Lines
+pub mod Stack
+pub mod Variables
+pub mod Operands
+pub mod Accesses
+pub mod Reasons
+pub use Rattle.mx_dis.specs.declared.part.Part
 pub mod Images
 pub mod Kept
 pub mod Faults

@@ -5,10 +5,13 @@ ghost use Rattle.mx_machine.specs.Machine.{world_of};
 ghost use Rattle.mx_machine.specs.World.{held_by};
 ghost use Rattle.mx_look_facts.specs.Faults.{fault_by_stop, fault_glance, fault_glances, fault_seen, symbols_by};
 
+use crate::code::code_part;
+use crate::nearest::nearest_symbol;
+use crate::reasons::{FaultReason, fault_reason};
 use mx_aout::Symbol;
+use mx_dis::Part;
 use mx_exec::Image;
 use mx_image::Stop;
-use mx_look_code::{FaultReason, Part, code_part, fault_reason, nearest_symbol};
 use mx_machine::Machine;
 use mx_proc::Slot;
 

@@ -5,10 +5,10 @@ use Rattle.mx_word.specs.Word.{bytes_in}
 use Rattle.mx_machine.specs.declared.history.Recorded.{Recorded}
 use Rattle.mx_machine.specs.declared.history.Recorded.TheVariants.{Back}
 use Rattle.mx_insn_words.specs.Numbers.{eight_digits}
-use Rattle.mx_look_code.specs.Code.{code_text}
-use Rattle.mx_look_code.specs.Part.{Part}
-use Rattle.mx_look_code.specs.declared.reasons.FaultReason.{FaultReason}
-use Rattle.mx_look_code.specs.declared.reasons.FaultReason.TheVariants.{Outside, CodeEnd, Target, Forbidden, Other}
+use Rattle.mx_look_facts.specs.Code.{code_text}
+use Rattle.mx_look_facts.specs.Part.{Part}
+use Rattle.mx_look_facts.specs.declared.reasons.FaultReason.{FaultReason}
+use Rattle.mx_look_facts.specs.declared.reasons.FaultReason.TheVariants.{Outside, CodeEnd, Target, Forbidden, Other}
 use Rattle.mx_look_facts.specs.declared.faults.FaultGlance.{FaultGlance}
 use Rattle.mx_look_facts.specs.declared.step.Step.{Step}
 use Rattle.mx_look_facts.specs.Step.{fault_in}

@@ -6,8 +6,7 @@ ghost use Rattle.mx_look_trace.specs.Faults.{access_text, fault_line, fault_text
 
 use crate::lines::push_margin;
 use mx_insn_words::push_eight_digits;
-use mx_look_code::{Access, FaultReason, Part, push_code};
-use mx_look_facts::{FaultGlance, Step, fault_in};
+use mx_look_facts::{Access, FaultGlance, FaultReason, Part, Step, fault_in, push_code};
 use mx_machine::Recorded;
 use std::alloc::AllocError;
 use std::fmt::Write;

@@ -3,7 +3,7 @@ use Rattle.std.specs.Prelude.{option_map}
 use Rattle.mx_aout.specs.declared.program.Symbol.{Symbol}
 use Rattle.mx_app_step.specs.Service.{Service}
 use Rattle.mx_exec.specs.declared.image.Image.{Image}
-use Rattle.mx_look_code.specs.Code.{code_line}
+use Rattle.mx_look_facts.specs.Code.{code_line}
 use Rattle.mx_look_trace.specs.Glance.{Glance}
 use Rattle.mx_look_trace.specs.Glances.{glance_of}
 use Rattle.mx_look_trace.specs.Words.{who}
