@@ -24,3 +24,10 @@ def kit_file(name):
 def load():
     """The module of these functions."""
     return load_script(kit_file("rtlib.py"), "rtlib")
+
+
+def check_of(name, top, tests=False):
+    """The folder of a crate of the repository at `top`, and the words that check it from nothing, with one job."""
+    made = load()
+    crate = made.Crate(os.path.join(top, "crates", name), top, {})
+    return crate.folder, [made.RATTLE, "check", *crate.words(["--jobs", "1"], tests=tests, keeps=False)]
