@@ -123,7 +123,6 @@ impl Symbols {
 
 /// A program. Its sizes, in bytes, are within the limits that `read` tests: so neither `write` nor a loader
 /// has a condition for them.
-#[derive(Drop)]
 pub struct Program {
     /// Whether the text has a segment of its own (A_SEP).
     pub sep: bool,
@@ -138,4 +137,18 @@ pub struct Program {
     pub bss: u32,
     pub symbols: Symbols,
     ghost within: { IsWithin sep total (length text) (length init) bss (length symbols) },
+}
+
+impl Drop for Program {
+    fn drop(self) {
+        let Program {
+            sep: _,
+            entry: _,
+            total: _,
+            text: _,
+            init: _,
+            bss: _,
+            symbols: _,
+        } = self;
+    }
 }

@@ -18,13 +18,24 @@ use mx_word::Size;
 use std::alloc::Global;
 
 /// The sizes of the sections, the labels in order, and the values of `.sep`, `.entry` and `.stack`.
-#[derive(Drop)]
 pub struct Layout {
     pub sizes: SectionSizes,
     pub labels: IndexMap<Name, SectionOffset, HashedByText>,
     pub sep: bool,
     pub entry: Option<Name>,
     pub stack: Option<u32>,
+}
+
+impl Drop for Layout {
+    fn drop(self) {
+        let Layout {
+            sizes: _,
+            labels: _,
+            sep: _,
+            entry: _,
+            stack: _,
+        } = self;
+    }
 }
 
 /// The low 32 bits.

@@ -24,13 +24,24 @@ pub enum Code {
 }
 
 /// A process's registers, memory and code.
-#[derive(Drop)]
 pub struct Image {
     pub regs: Regs,
     pub eip: u32,
     pub flags: Flags,
     pub memory: Segment,
     pub code: Code,
+}
+
+impl Drop for Image {
+    fn drop(self) {
+        let Image {
+            regs: _,
+            eip: _,
+            flags: _,
+            memory: _,
+            code: _,
+        } = self;
+    }
 }
 
 /// How a step ends.

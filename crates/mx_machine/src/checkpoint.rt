@@ -11,10 +11,15 @@ use std::marker::Model;
 
 /// A copy of a machine, for which the services and the records aren't copied: who makes the machine again has them.
 /// A contract sees it as the whole machine. It has no cache of decoded instructions.
-#[derive(Drop)]
 pub struct Checkpoint {
     kernel: StoredKernel,
     outs: [Option<Out>; 8],
+}
+
+impl Drop for Checkpoint {
+    fn drop(self) {
+        let Checkpoint { kernel: _, outs: _ } = self;
+    }
 }
 
 impl Model for Checkpoint {

@@ -79,7 +79,6 @@ impl ServiceLines {
 }
 
 /// What a machine is booted from, except the programs of its services.
-#[derive(Drop)]
 pub struct Config {
     /// How many processors there are, 1 to 8.
     pub cpus: u8,
@@ -99,4 +98,16 @@ pub struct Config {
     ghost log_fits: { log ≤ 1048576 },
     ghost some_lines: { 0 < length lines },
     ghost lines_fit: { length lines ≤ 32 },
+}
+
+impl Drop for Config {
+    fn drop(self) {
+        let Config {
+            cpus: _,
+            others: _,
+            log: _,
+            rules: _,
+            lines: _,
+        } = self;
+    }
 }

@@ -10,7 +10,6 @@ use mx_image::Stop;
 use mx_proc::Slot;
 
 /// A process that is on a processor.
-#[derive(Drop)]
 pub struct Out {
     /// Its registers, flags and memory.
     pub image: Image,
@@ -22,6 +21,34 @@ pub struct Out {
     pub stop: Stop,
     /// The cache of its slot. The model leaves it out: there any two caches are equal.
     pub decoded: Decoded,
+}
+
+impl Drop for Out {
+    fn drop(self) {
+        let Out {
+            image: _,
+            budget: _,
+            count: _,
+            stop: _,
+            decoded: _,
+        } = self;
+    }
+}
+
+impl Out {
+    /// Its image, which goes home. The rest is dropped.
+    pub(crate) fn into_image(self) -> Image
+        ensures { result ≡ self.image }
+    {
+        let Out {
+            image,
+            budget: _,
+            count: _,
+            stop: _,
+            decoded: _,
+        } = self;
+        image
+    }
 }
 
 /// What the kernel remembers of a process while a processor has it: its slot and its budget. The budget

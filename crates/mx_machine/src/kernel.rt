@@ -29,13 +29,24 @@ use std::snapshot::Snapshot;
 /// A kernel: its current state, and the history that led there. It took all its memory when it was made. A
 /// contract sees it as the machine at boot and the history. It has no ghost snapshot, so that a lock may send
 /// it to another thread.
-#[derive(Drop)]
 pub struct Kernel {
     pub(crate) present: CurrentState,
     pub(crate) records: Vec<Record>,
     pub(crate) processors: u8,
     pub(crate) rules: Rules,
     pub(crate) caches: Caches,
+}
+
+impl Drop for Kernel {
+    fn drop(self) {
+        let Kernel {
+            present: _,
+            records: _,
+            processors: _,
+            rules: _,
+            caches: _,
+        } = self;
+    }
 }
 
 impl Model for Kernel {

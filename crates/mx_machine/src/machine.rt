@@ -20,10 +20,15 @@ use std::marker::Model;
 use std::mem;
 
 /// The machine of one thread: a kernel, and what each of its processors holds.
-#[derive(Drop)]
 pub struct Machine {
     pub(crate) kernel: Kernel,
     pub(crate) outs: [Option<Out>; 8],
+}
+
+impl Drop for Machine {
+    fn drop(self) {
+        let Machine { kernel: _, outs: _ } = self;
+    }
 }
 
 impl Model for Machine {

@@ -79,14 +79,8 @@ pub(crate) fn come_home(table: &mut Table, slot: Slot, out: Out)
     ensures returned { IsReturned table.old table.new slot out }
 {
     let doomed = matches!(table.process(slot).state, State::Doomed);
-    let Out {
-        image,
-        budget: _,
-        count,
-        stop,
-        decoded: _,
-    } = out;
-    table.take_home(slot, image);
+    let (count, stop) = (out.count, out.stop);
+    table.take_home(slot, out.into_image());
     table.spend(slot, count);
     resume(table, slot, doomed, stop);
 }

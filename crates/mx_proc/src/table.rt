@@ -31,7 +31,6 @@ mod serving;
 pub struct Stale;
 
 /// The processes with their queues, the devices, and the last deliveries. Only `new` and `add` take memory.
-#[derive(Drop)]
 pub struct Table {
     slots: Vec<Process>,
     ready: Ready,
@@ -41,6 +40,21 @@ pub struct Table {
     devices: Devices,
     deliveries: Deliveries,
     rules: Rules,
+}
+
+impl Drop for Table {
+    fn drop(self) {
+        let Table {
+            slots: _,
+            ready: _,
+            waits: _,
+            renewed: _,
+            uptime: _,
+            devices: _,
+            deliveries: _,
+            rules: _,
+        } = self;
+    }
 }
 
 impl Model for Table {

@@ -29,7 +29,6 @@ use std::alloc::Global;
 use std::marker::Model;
 
 /// A machine at a position of a history.
-#[derive(Drop)]
 pub struct Walker {
     machine: Machine,
     config: Config,
@@ -38,6 +37,19 @@ pub struct Walker {
     last: Position,
     /// In the order of their positions; none of them is below `last`.
     checkpoints: Vec<Stored>,
+}
+
+impl Drop for Walker {
+    fn drop(self) {
+        let Walker {
+            machine: _,
+            config: _,
+            records: _,
+            here: _,
+            last: _,
+            checkpoints: _,
+        } = self;
+    }
 }
 
 impl Model for Walker {
