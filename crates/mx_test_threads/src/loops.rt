@@ -3,9 +3,9 @@
 ghost use Rattle.std.specs.Prelude.{◌≡◌, ◌≤◌, All, None};
 
 use crate::gates::{GateCall, NotingGate};
-use crate::machine::{config, is_history, last_idle_seat, services};
+use crate::machine::{Wanted, booted, is_history, last_idle_seat};
 use mx_cpus::{
-    ActorSeat, Blank, Naming, Outside, OutsideCall, Shared, boot, drive_with, outsider, processor,
+    ActorSeat, Blank, Naming, Outside, OutsideCall, Shared, drive_with, outsider, processor,
     respawner,
 };
 use mx_machine::{Kernel, Record, Recorded};
@@ -320,17 +320,14 @@ fn goes_as_wanted<M: Naming>(
 fn loops_call_their_gate(rt: HostRuntime) -> Result<(), Fail> {
     for row in ROWS {
         let name = row.name;
-        assert!(rt;
-            0 < row.services
-                && row.services <= 32
-                && 0 < row.log
-                && row.log <= 64
-                && row.restarts <= 1,
-            "{name}"
-        );
-        let mut services = services(rt.alloc(), row.services, row.restarts)?;
-        let config = config(rt.alloc(), 1, 1, row.log, row.restarts)?;
-        let (blank, seats) = boot(rt.alloc(), &config, &mut services).map_err(|_| "memory")?;
+        let wanted = Wanted {
+            services: row.services,
+            cpus: 1,
+            others: 1,
+            log: row.log,
+            restarts: row.restarts,
+        };
+        let (blank, seats) = booted(rt.alloc(), wanted)?;
         assert!(rt; goes_as_wanted::<Brand>(&rt, blank, seats, row), "{name}");
     }
     Ok(())
@@ -402,9 +399,14 @@ fn is_swept(history: &[Record]) -> bool {
 
 #[test]
 fn each_slot_is_respawned_in_turn(rt: HostRuntime) -> Result<(), Fail> {
-    let mut services = services(rt.alloc(), SLOTS, 2)?;
-    let config = config(rt.alloc(), 1, 1, 256, 2)?;
-    let (blank, seats) = boot(rt.alloc(), &config, &mut services).map_err(|_| "memory")?;
+    let wanted = Wanted {
+        services: SLOTS,
+        cpus: 1,
+        others: 1,
+        log: 256,
+        restarts: 2,
+    };
+    let (blank, seats) = booted(rt.alloc(), wanted)?;
     assert!(rt; sweeps_all::<Brand>(&rt, blank, seats));
     Ok(())
 }
@@ -462,28 +464,38 @@ fn has_calls(history: &[Record], is_called: bool) -> bool {
     wanted.is_empty()
 }
 
+/// Whether the end of each actor that has a loop was reported once, and that of no other.
+fn has_ends(gate: &NotingGate, is_called: bool) -> bool {
+    for actor in 0..6 {
+        let has_loop = actor <= 2 || (actor == 3 && is_called);
+        if gate.count(GateCall::Ended(actor)) != u32::from(has_loop) {
+            return false;
+        }
+    }
+    true
+}
+
 /// The end of each loop is reported once, and that of no actor that has no loop. The second other actor has one if there
 /// are calls for it to make, and then it makes them.
 #[test]
 fn ends_are_told(rt: HostRuntime) -> Result<(), Fail> {
     for (others, calls) in [(1, CALLS), (2, &[]), (2, CALLS), (4, &[]), (4, CALLS)] {
-        let mut services = services(rt.alloc(), 2, 0)?;
-        let config = config(rt.alloc(), 2, others, 64, 0)?;
-        let (blank, seats) = boot(rt.alloc(), &config, &mut services).map_err(|_| "memory")?;
-        let gate = NotingGate::new(20);
-        let Some(kernel) = drive_to_end::<Brand, _>(&rt, blank, seats, &gate, calls) else {
-            return Err(Fail::new("no threads"));
+        let wanted = Wanted {
+            services: 2,
+            cpus: 2,
+            others,
+            log: 64,
+            restarts: 0,
         };
+        let (blank, seats) = booted(rt.alloc(), wanted)?;
+        let gate = NotingGate::new(20);
         let is_called = others >= 2 && !calls.is_empty();
-        assert!(rt; has_calls(kernel.history(), is_called), "{others} others");
-        for actor in 0..6 {
-            let times = gate.count(GateCall::Ended(actor));
-            let has_loop = actor <= 2 || (actor == 3 && is_called);
-            assert!(rt;
-                times == u32::from(has_loop),
-                "{others} others: actor {actor} is reported as ended {times} times"
-            );
-        }
+        let kernel = drive_to_end::<Brand, _>(&rt, blank, seats, &gate, calls);
+        assert!(rt;
+            kernel.is_some_and(|it| has_calls(it.history(), is_called)),
+            "{others} others"
+        );
+        assert!(rt; has_ends(&gate, is_called), "{others} others");
     }
     Ok(())
 }

@@ -3,7 +3,7 @@
 ghost use Rattle.std.specs.Prelude.{◌≡◌, ◌<◌, ◌≤◌, All, IfOk, IfSome, None, length};
 
 use mx_aout::read;
-use mx_cpus::{ActorSeat, Naming};
+use mx_cpus::{ActorSeat, Blank, Naming, boot};
 use mx_machine::{Config, FileName, Record, Recorded, ServiceLine, ServiceLines};
 use mx_proc::{Masks, Rules, Terms};
 use mx_respawn::Service;
@@ -46,7 +46,7 @@ fn service(alloc: Global, restarts: u32) -> Result<Service, Fail>
 }
 
 /// What slots are booted from.
-pub fn services(alloc: Global, count: u8, restarts: u32) -> Result<Vec<Service>, Fail>
+fn services(alloc: Global, count: u8, restarts: u32) -> Result<Vec<Service>, Fail>
     requires restarts { restarts ≤ 1048575 }
     ensures { IfOk result (λ v. length v.items ≡ count) }
 {
@@ -69,7 +69,7 @@ fn line(alloc: Global, restarts: u32) -> Result<ServiceLine, Fail>
 }
 
 /// A configuration with some processors and some other actors.
-pub fn config(alloc: Global, cpus: u8, others: u8, log: u32, restarts: u32) -> Result<Config, Fail>
+fn config(alloc: Global, cpus: u8, others: u8, log: u32, restarts: u32) -> Result<Config, Fail>
     requires some { 0 < cpus }
     requires few { cpus ≤ 8 }
     requires some_others { 0 < others }
@@ -87,6 +87,43 @@ pub fn config(alloc: Global, cpus: u8, others: u8, log: u32, restarts: u32) -> R
         rules: Rules::Strict,
         lines: ServiceLines::from_vec(lines),
     })
+}
+
+/// A machine: how many services, processors and other actors it has, how many records its history has room for,
+/// and how often each service may be respawned.
+#[derive(Clone, Copy)]
+pub struct Wanted {
+    pub services: u8,
+    pub cpus: u8,
+    pub others: u8,
+    pub log: u32,
+    pub restarts: u32,
+}
+
+/// Boots a machine of equal services.
+pub fn booted(alloc: Global, wanted: Wanted) -> Result<(Blank, Vec<ActorSeat>), Fail>
+    ensures tables { IfOk result (λ r. All (λ s. s.table ≡ r.0.table) r.1.items) }
+    ensures empties { IfOk result (λ r. All (λ s. s.held ≡ None) r.1.items) }
+{
+    let Wanted {
+        services: count,
+        cpus,
+        others,
+        log,
+        restarts,
+    } = wanted;
+    if count == 0 || count > 32 || cpus == 0 || cpus > 8 || others == 0 || others > 4 {
+        return Err(Fail::new("no machine has so many"));
+    }
+    if log == 0 || log > 1_048_576 || restarts > 1_048_575 {
+        return Err(Fail::new("no history or service has so many"));
+    }
+    let mut services = services(alloc, count, restarts)?;
+    let config = config(alloc, cpus, others, log, restarts)?;
+    match boot(alloc, &config, &mut services) {
+        Ok(made) => Ok(made),
+        Err(_) => Err(Fail::new("no memory")),
+    }
 }
 
 /// The seat of the last actor.

@@ -2,8 +2,8 @@
 
 ghost use Rattle.std.specs.Prelude.{◌≡◌, All, None};
 
-use crate::machine::{config, last_seat, services};
-use mx_cpus::{ActorSeat, Blank, Gate, Naming, Shared, boot, drive};
+use crate::machine::{Wanted, booted, last_seat};
+use mx_cpus::{ActorSeat, Blank, Gate, Naming, Shared, drive};
 use mx_machine::Refusal;
 use std::alloc::Global;
 use std::marker::Brand;
@@ -173,12 +173,14 @@ static ROWS: &[Row] = &[
 fn hold_at_once(rt: HostRuntime) -> Result<(), Fail> {
     for row in ROWS {
         let name = row.name;
-        assert!(rt; 0 < row.cpus && row.cpus <= 8 && 0 < row.log && row.log <= 64);
-        let mut services = services(rt.alloc(), row.cpus, 0)?;
-        let config = config(rt.alloc(), row.cpus, 1, row.log, 0)?;
-        let Ok(booted) = boot(rt.alloc(), &config, &mut services) else {
-            return Err(Fail::new("no memory"));
+        let wanted = Wanted {
+            services: row.cpus,
+            cpus: row.cpus,
+            others: 1,
+            log: row.log,
+            restarts: 0,
         };
+        let booted = booted(rt.alloc(), wanted)?;
         let gate = Meeting::new(row.holders);
         let ending = drive_to_end::<Brand, _, _>(&rt, rt.alloc(), booted, &gate, row.ticks);
         let (met, ended) = (
@@ -280,11 +282,14 @@ impl Gate for OneProcess {
 /// After a yes a processor takes again before it asks again.
 #[test]
 fn takes_after_a_yes(rt: HostRuntime) -> Result<(), Fail> {
-    let mut services = services(rt.alloc(), 1, 0)?;
-    let config = config(rt.alloc(), 2, 1, 64, 0)?;
-    let Ok(booted) = boot(rt.alloc(), &config, &mut services) else {
-        return Err(Fail::new("no memory"));
+    let wanted = Wanted {
+        services: 1,
+        cpus: 2,
+        others: 1,
+        log: 64,
+        restarts: 0,
     };
+    let booted = booted(rt.alloc(), wanted)?;
     let gate = OneProcess::new();
     let ending = drive_to_end::<Brand, _, _>(&rt, rt.alloc(), booted, &gate, 0);
     assert!(rt; ending.is_some());

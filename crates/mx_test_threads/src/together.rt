@@ -3,8 +3,8 @@
 
 ghost use Rattle.std.specs.Prelude.{◌≡◌, ◌<◌, All, length};
 
-use crate::machine::{config, is_history, last_seat, services};
-use mx_cpus::{ActorSeat, Blank, Naming, Shared, boot};
+use crate::machine::{Wanted, booted, is_history, last_seat};
+use mx_cpus::{ActorSeat, Blank, Naming, Shared};
 use mx_debug::{Debugger, Halt, HaltCause};
 use mx_machine::{Answer, Kernel, Recorded, Refusal};
 use mx_proc::{DeathCause, State};
@@ -128,10 +128,14 @@ fn are_out<M: Naming>(rt: &impl Wait, blank: Blank, mut seats: Vec<ActorSeat>, r
 fn all_at_once(rt: HostRuntime) -> Result<(), Fail> {
     for row in ROWS {
         let name = row.name;
-        assert!(rt; 0 < row.cpus && row.cpus <= 8 && 0 < row.log && row.log <= 64);
-        let mut services = services(rt.alloc(), row.cpus, 0)?;
-        let config = config(rt.alloc(), row.cpus, 1, row.log, 0)?;
-        let (blank, seats) = boot(rt.alloc(), &config, &mut services).map_err(|_| "memory")?;
+        let wanted = Wanted {
+            services: row.cpus,
+            cpus: row.cpus,
+            others: 1,
+            log: row.log,
+            restarts: 0,
+        };
+        let (blank, seats) = booted(rt.alloc(), wanted)?;
         assert!(rt; are_out::<Brand>(&rt, blank, seats, row), "{name}");
     }
     Ok(())
@@ -219,9 +223,14 @@ fn lent_and_given<M: Naming>(
 #[test]
 fn what_happens_meanwhile(rt: HostRuntime) -> Result<(), Fail> {
     for meanwhile in [Meanwhile::Kill, Meanwhile::Resume] {
-        let mut services = services(rt.alloc(), 1, 0)?;
-        let config = config(rt.alloc(), 1, 1, 8, 0)?;
-        let (blank, seats) = boot(rt.alloc(), &config, &mut services).map_err(|_| "memory")?;
+        let wanted = Wanted {
+            services: 1,
+            cpus: 1,
+            others: 1,
+            log: 8,
+            restarts: 0,
+        };
+        let (blank, seats) = booted(rt.alloc(), wanted)?;
         assert!(rt; lent_and_given::<Brand>(&rt, blank, seats, meanwhile));
     }
     Ok(())

@@ -3,8 +3,8 @@
 
 ghost use Rattle.std.specs.Prelude.{◌≡◌, All};
 
-use crate::machine::{config, is_history, last_seat, services};
-use mx_cpus::{ActorSeat, Blank, Naming, Shared, boot};
+use crate::machine::{Wanted, booted, is_history, last_seat};
+use mx_cpus::{ActorSeat, Blank, Naming, Shared};
 use mx_machine::{Answer, Held, Recorded, Refusal};
 use std::marker::Brand;
 use std::process::Abort;
@@ -322,10 +322,14 @@ fn first_other<M: Naming>(
 fn calls_in_turn(rt: HostRuntime) -> Result<(), Fail> {
     for row in ROWS {
         let name = row.name;
-        assert!(rt; 0 < row.log && row.log <= 64 && row.restarts <= 1, "{name}");
-        let mut services = services(rt.alloc(), 1, row.restarts)?;
-        let config = config(rt.alloc(), 1, 1, row.log, row.restarts)?;
-        let (blank, seats) = boot(rt.alloc(), &config, &mut services).map_err(|_| "memory")?;
+        let wanted = Wanted {
+            services: 1,
+            cpus: 1,
+            others: 1,
+            log: row.log,
+            restarts: row.restarts,
+        };
+        let (blank, seats) = booted(rt.alloc(), wanted)?;
         let fault = first_other::<Brand>(&rt, blank, seats, row);
         let turn = fault.unwrap_or(0);
         assert!(rt; fault.is_none(), "{name}: turn {turn}");
