@@ -1,7 +1,7 @@
 -- What requests show.
-use Rattle.std.proofs.Common.{◌≡◌, ◌∙◌, ◌⊎◌, ◌≤◌, ◌<◌, ℕ, suc, ◌+◌, ◌-◌, eqb, leb, ltb, cond, Bool, true, false, List, [], ◌∷◌, ◌++◌, append_assoc, Option, Some, None, Result, Ok, Err, IfErr, IfOk, OnOk, drop, find, get_or, length, map, slice_get, refl, ap, sym, subst, inl, inr, arith}
+use Rattle.std.proofs.Common.{◌≡◌, ◌∙◌, ◌⊎◌, ◌≤◌, ◌<◌, ℕ, suc, ◌+◌, ◌-◌, cond, Bool, true, false, List, [], ◌++◌, append_assoc, Option, Some, None, Result, Ok, Err, IfErr, OnOk, drop, find, get_or, length, slice_get, refl, ap, sym, subst, inl, inr, arith}
 use Rattle.std.specs.List.{range_with_len}
-use Rattle.std.proofs.lemmas.Bool.{cases_lt, eq-eqb, le-leb, lt-ltb, ne_eqb}
+use Rattle.std.proofs.lemmas.Bool.{cases_lt}
 use Rattle.std.proofs.lemmas.List.{append-nil}
 use Rattle.mx_machine.specs.declared.events.Event.{Event}
 use Rattle.mx_machine.specs.declared.history.Record.{Record}
@@ -9,8 +9,8 @@ use Rattle.mx_machine.specs.Move.{world_after_event}
 use Rattle.mx_machine.specs.World.{World}
 use Rattle.mx_walk.specs.declared.positions.Position.{Position}
 use Rattle.mx_walk.specs.declared.progress.Part.{Part}
-use Rattle.mx_walk.specs.Parts.{HasGrown, part_after, parts_between, walk_between, walk_shown}
-use Rattle.mx_walker.specs.Walks.{Walk, mark_above, shown_to, shown_way, start_to, world_here}
+use Rattle.mx_walk.specs.Parts.{HasGrown, parts_between, walk_between, walk_shown}
+use Rattle.mx_walker.specs.Walks.{Walk, shown_to, shown_way, world_here}
 use Rattle.mx_walk.specs.Positions.{IsPosition, IsUpTo, event_below, first, first_steps, is_up_to, next_position, position_before, steps_in, world_at}
 use Rattle.mx_walk.specs.Seeking.{IsFirstMarked, IsLastMarked, IsPassed, is_marked}
 use Rattle.mx_walk.proofs.Next.{world_next}

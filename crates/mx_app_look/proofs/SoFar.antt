@@ -1,6 +1,5 @@
 -- A session so far: the lines that were typed, what was printed and shown, and what is in hand.
-use Rattle.std.proofs.Common.{◌≡◌, ◌∙◌, ◌+◌, ◌-◌, ◌^◌, ℕ, Bool, true, false, cond, List, [], ◌∷◌, ◌++◌, append_assoc, length, Option, Some, None, MatchOption, Result, Ok, Err, IfErr, inl, inr, refl, ap, sym, subst, arith}
-use Rattle.std.specs.Prelude.{IfOk, OnErr, OnOk}
+use Rattle.std.proofs.Common.{◌≡◌, ◌∙◌, ◌+◌, ◌-◌, ◌^◌, ℕ, Bool, true, false, cond, List, [], ◌∷◌, ◌++◌, append_assoc, length, Option, Some, None, MatchOption, inl, inr, refl, ap, sym, subst, arith}
 use Rattle.std.proofs.KnownBytes.{Appends-nil, Appends-trans}
 use Rattle.std.proofs.lemmas.List.{append-nil}
 use Rattle.std.specs.Io.KnownBytes.{Appends}
@@ -19,22 +18,6 @@ none_case (Some x) P Q e h = absurd cc
 pub some_case : {A : Type 0} (o : Option A) (x : A) (P : Type 0) (Q : A → Type 0) → o ≡ Some x → MatchOption o P Q → Q x
 some_case None x P Q e h = absurd cc
 some_case (Some y) x P Q e h = let same : y ≡ x = cc in subst Q same h
-
-pub ok_given : {A E : Type 0} (r : Result A E) (a : A) (P : A → Type 0) → r ≡ Ok a → IfOk r P → P a
-ok_given (Ok b) a P e h = let same : b ≡ a = cc in subst P same h
-ok_given (Err f) a P e h = absurd cc
-
-pub err_given : {A E : Type 0} (r : Result A E) (f : E) (P : E → Type 0) → r ≡ Err f → IfErr r P → P f
-err_given (Ok a) f P e h = absurd cc
-err_given (Err x) f P e h = let same : x ≡ f = cc in subst P same h
-
-pub ok_case : {A E : Type 0} (r : Result A E) (a : A) (X : Type 0) → r ≡ Ok a → OnOk r X → X
-ok_case (Ok b) a X e h = h
-ok_case (Err f) a X e h = absurd cc
-
-pub err_case : {A E : Type 0} (r : Result A E) (f : E) (X : Type 0) → r ≡ Err f → OnErr r X → X
-err_case (Ok a) f X e h = absurd cc
-err_case (Err x) f X e h = h
 
 -- ---- the lines
 
@@ -146,18 +129,18 @@ module _ (asks : Bool) where
   shown_more s now n given g shown later last out o f more = (f.parts ++ more.0, more.1 ∙ ap (λ (ps : List Part). ps ++ more.0) f.walked ∙ append_assoc shown f.parts more.0)
 
   -- one line more that doesn't end it
-  pub one_more : (s now next : Sight) (n : ℕ) (given g h : List (Option (List ℕ))) (shown later last : List Part) (out o p : Option (List ℕ)) (l text : List ℕ) → SoFar s now n given g shown later out o
+  pub one_more : (s now next : Sight) (n : ℕ) (given g h : List (Option (List ℕ))) (shown later last : List Part) (out o p : Option (List ℕ)) (l : List ℕ) → SoFar s now n given g shown later out o
       → h ≡ g ++ Some l ∷ [] → ends l ≡ false
-      → ((answer : List ℕ) × (ps : List Part) × IsAnswered now l next answer × IsShown now l ps × (text ≡ answer ++ prompt_text asks next.walker) × (last ≡ later ++ ps))
-      → Appends o p text → SoFar s next (n + 1) given h shown last out p
-  one_more s now next n given g h shown later last out o p l text f more isnt a printed =
+      → ((answer : List ℕ) × (ps : List Part) × IsAnswered now l next answer × IsShown now l ps × (last ≡ later ++ ps) × Appends o p (answer ++ prompt_text asks next.walker))
+      → SoFar s next (n + 1) given h shown last out p
+  one_more s now next n given g h shown later last out o p l f more isnt a =
       let answer = a.0 ++ prompt_text asks next.walker in record {
         typed = f.typed ++ Some l ∷ [];
         text = f.text ++ answer;
         parts = f.parts ++ a.1;
         lines = more_lines given g h f.typed (Some l) f.lines more;
-        walked = a.5 ∙ ap (λ (ps : List Part). ps ++ a.1) f.walked ∙ append_assoc shown f.parts a.1;
-        printed = Appends-trans out o p f.text answer f.printed (subst (λ t. Appends o p t) a.4 printed);
+        walked = a.4 ∙ ap (λ (ps : List Part). ps ++ a.1) f.walked ∙ append_assoc shown f.parts a.1;
+        printed = Appends-trans out o p f.text answer f.printed a.5;
         leads = leads_more s now next f.typed f.text a.0 l f.parts a.1 f.leads isnt a.2 a.3;
         count = one_longer f.typed (Some l) ∙ ap (λ i. i + 1) f.count;
       }
@@ -168,9 +151,9 @@ module _ (asks : Bool) where
       × (shown_now ≡ shown ++ ps) × Appends out out_now text
 
   -- a line that ends it
-  pub ended : (s now : Sight) (n : ℕ) (given g h : List (Option (List ℕ))) (shown later last : List Part) (out o : Option (List ℕ)) (l : List ℕ) → SoFar s now n given g shown later out o
-      → h ≡ g ++ Some l ∷ [] → ends l ≡ true → last ≡ later → Whole s given h shown last out o
-  ended s now n given g h shown later last out o l f more is same =
+  pub ended : (s now : Sight) (n : ℕ) (given g h : List (Option (List ℕ))) (shown later last : List Part) (out o p : Option (List ℕ)) (l : List ℕ) → SoFar s now n given g shown later out o
+      → h ≡ g ++ Some l ∷ [] → ends l ≡ true → last ≡ later → p ≡ o → Whole s given h shown last out p
+  ended s now n given g h shown later last out o p l f more is same quiet =
       let over : is_over (Some l ∷ []) ≡ true = ap (λ b. cond b (is_nothing []) (is_over [])) is in (
         f.typed ++ Some l ∷ [],
         f.text ++ [],
@@ -179,7 +162,7 @@ module _ (asks : Bool) where
         inl (over_after s now f.typed (Some l ∷ []) f.text f.parts f.leads ∙ over),
         on s now f.typed (Some l ∷ []) f.text [] f.parts [] f.leads (inl (is, refl, refl)),
         same ∙ f.walked ∙ ap (λ (ps : List Part). shown ++ ps) (sym (append-nil f.parts)),
-        subst (λ t. Appends out o t) (sym (append-nil f.text)) f.printed,
+        subst (λ t. Appends out p t) (sym (append-nil f.text)) (subst (λ q. Appends out q f.text) (sym quiet) f.printed),
       )
 
   -- the end of the input

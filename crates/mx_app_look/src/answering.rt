@@ -17,7 +17,6 @@ ghost use Rattle.mx_app_look.specs.Sessions.{IsAnswered, IsAnsweredBy, ends, is_
 ghost use Rattle.mx_app_look.specs.Shows.{IsRequestShown, IsShown, IsShownBy, why_shown};
 ghost use Rattle.mx_app_look.specs.Verbs.{unknown_text};
 
-use crate::ending::ended;
 use crate::going_until::go_until;
 use crate::places::{push_place, push_position};
 use crate::request::{Request, request_of};
@@ -96,10 +95,8 @@ fn show_place(alloc: Global, sight: Sight) -> Result<(Sight, Vec<u8>), Failure>
     let Sight { walker, points } = sight;
     let mut walker = walker;
     let mut text = Vec::new(alloc);
-    match push_place(alloc, &mut text, &mut walker) {
-        Ok(()) => Ok((Sight { walker, points }, text)),
-        Err(_) => ended(Sight { walker, points }, Err(Failure::NoMemory)),
-    }
+    push_place(alloc, &mut text, &mut walker)?;
+    Ok((Sight { walker, points }, text))
 }
 
 /// Answers what the record above did.
@@ -230,10 +227,8 @@ fn say_unknown(alloc: Global, sight: Sight, line: &[u8]) -> Result<(Sight, Vec<u
     ensures text { IfOk result (λ r. r.1.items ≡ unknown_text line.now) }
 {
     let mut text = Vec::new(alloc);
-    match push_unknown(&mut text, line) {
-        Ok(()) => Ok((sight, text)),
-        Err(_) => ended(sight, Err(Failure::NoMemory)),
-    }
+    push_unknown(&mut text, line)?;
+    Ok((sight, text))
 }
 
 /// The answer to a line that doesn't end the session.
@@ -297,14 +292,10 @@ pub(crate) fn answer_line<P: Progress>(
 {
     let request = request_of(line);
     if is_quit(&request) {
-        return ended(sight, Ok(None));
+        return Ok(None);
     }
     let (sight, mut text) = answer(alloc, sight, line, request, progress)?;
-    match push_prompt(&mut text, asks, &sight.walker) {
-        Ok(()) => {
-            progress.clear();
-            Ok(Some((sight, text)))
-        }
-        Err(_) => ended(sight, Err(Failure::NoMemory)),
-    }
+    push_prompt(&mut text, asks, &sight.walker)?;
+    progress.clear();
+    Ok(Some((sight, text)))
 }

@@ -9,7 +9,6 @@ ghost use Rattle.mx_app_look.specs.Answers.{after, request_text, to_of};
 ghost use Rattle.mx_app_look.specs.Searches.{not_met};
 ghost use Rattle.mx_app_look.specs.Until.{has_service, has_slots, until_halt};
 
-use crate::ending::ended;
 use crate::happening::{Happening, happens};
 use crate::places::push_place;
 use crate::sight::{Sight, say};
@@ -59,10 +58,8 @@ fn go_on_unmet<P: Progress>(
     ensures unshown { IfErr result (λ _. P.shown progress.new ≡ P.shown progress.old) }
 {
     let last = walker.last();
-    match out.extend_from_slice(b"not met\n") {
-        Ok(()) => walker.go_to(alloc, last, progress),
-        Err(error) => ended(walker, Err(error.into())),
-    }
+    out.extend_from_slice(b"not met\n")?;
+    walker.go_to(alloc, last, progress)
 }
 
 /// Goes on to right below the first record in which it happens, and appends what that record did; to the
@@ -118,10 +115,8 @@ fn go_on_to<P: Progress>(
     let Sight { walker, points } = sight;
     let mut text = Vec::new(alloc);
     let mut walker = go_on_until(alloc, walker, happening, &mut text, progress)?;
-    match push_place(alloc, &mut text, &mut walker) {
-        Ok(()) => Ok((Sight { walker, points }, text)),
-        Err(_) => ended(Sight { walker, points }, Err(Failure::NoMemory)),
-    }
+    push_place(alloc, &mut text, &mut walker)?;
+    Ok((Sight { walker, points }, text))
 }
 
 /// Goes on to right below the first record in which it happens, if each slot that it is about has a service.

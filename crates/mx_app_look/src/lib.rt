@@ -4,7 +4,6 @@
 
 mod answering;
 mod changes;
-mod ending;
 mod going_until;
 mod halt_laws;
 mod happening;

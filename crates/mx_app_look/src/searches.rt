@@ -12,7 +12,6 @@ ghost use Rattle.mx_app_look.specs.Searches.{IsHalt, IsHaltAfter, IsLastHalt, Is
 ghost use Rattle.mx_app_look.specs.Shows.{IsLastShown, IsNextShown, IsSearchShown, IsShownAfter, halt_shown, return_shown};
 
 use crate::changes::{all_bytes, push_changes};
-use crate::ending::ended;
 use crate::marks::{breaks_mark, bytes_mark, points_mark};
 use crate::points::Points;
 use mx_walk::{Mark, NextEvent, Position, Progress, is_up_to, next_event, position_before};
@@ -33,10 +32,7 @@ fn not_met(alloc: Global) -> Result<String, AllocError>
 fn meet_nothing(alloc: Global, walker: Walker) -> Result<(Walker, String), NoMemory>
     ensures { IfOk result (λ r. (r.0 ≡ walker) × (string_bytes r.1 ≡ not_met)) }
 {
-    match not_met(alloc) {
-        Ok(line) => Ok((walker, line)),
-        Err(error) => ended(walker, Err(error.into())),
-    }
+    Ok((walker, not_met(alloc)?))
 }
 
 /// Whether the event below is the step at a breakpoint.
@@ -69,16 +65,11 @@ fn go_and_compare<P: Progress>(
         ≡ P.shown progress.old ++ shown_to walker to) }
     ensures grown { IfErr result (λ _. HasGrown (P.shown progress.old) (P.shown progress.new)) }
 {
-    let seen = match all_bytes(alloc, walker.machine(), points.watches.as_slice()) {
-        Ok(seen) => seen,
-        Err(error) => return ended(walker, Err(error.into())),
-    };
+    let seen = all_bytes(alloc, walker.machine(), points.watches.as_slice())?;
     let walker = walker.go_to(alloc, to, progress)?;
     let mut changes = String::new(alloc);
-    match push_changes(alloc, &mut changes, walker.machine(), seen.as_slice()) {
-        Ok(()) => Ok((walker, changes)),
-        Err(error) => ended(walker, Err(error.into())),
-    }
+    push_changes(alloc, &mut changes, walker.machine(), seen.as_slice())?;
+    Ok((walker, changes))
 }
 
 /// Goes back from right below an event that is looked for to right above it, and halts there if it is the
@@ -101,11 +92,10 @@ fn halt_by<P: Progress>(
 {
     let below = walker.here();
     let walker = walker.go_to(alloc, above, progress)?;
-    match is_at_break(alloc, &walker, points) {
-        Ok(true) => Ok((walker, String::new(alloc))),
-        Ok(false) => go_and_compare(alloc, walker, points, below, progress),
-        Err(error) => ended(walker, Err(error.into())),
+    if is_at_break(alloc, &walker, points)? {
+        return Ok((walker, String::new(alloc)));
     }
+    go_and_compare(alloc, walker, points, below, progress)
 }
 
 /// Goes on to the first event that is looked for, and halts there; at the last position if there is none.
@@ -124,10 +114,7 @@ fn go_on_from<P: Progress>(
     ensures grown { IfErr result (λ _. HasGrown (P.shown progress.old) (P.shown progress.new)) }
 {
     let mut walker = walker;
-    let mut mark = match points_mark(alloc, points) {
-        Ok(mark) => mark,
-        Err(error) => return ended(walker, Err(error.into())),
-    };
+    let mut mark = points_mark(alloc, points)?;
     if !walker.seek(&mut mark, progress) {
         return meet_nothing(alloc, walker);
     }
@@ -160,10 +147,7 @@ fn go_on_past<P: Progress>(
         (is_marked (changes_watched points.now) (world_here walker) (next.actor, next.event)) ps) }
     ensures grown { IfErr result (λ _. HasGrown (P.shown progress.old) (P.shown progress.new)) }
 {
-    let mut bytes = match bytes_mark(alloc, points) {
-        Ok(bytes) => bytes,
-        Err(error) => return ended(walker, Err(error.into())),
-    };
+    let mut bytes = bytes_mark(alloc, points)?;
     bytes.look(walker.machine(), next.actor, next.event);
     let (walker, changes) = go_and_compare(alloc, walker, points, next.position, progress)?;
     if bytes.is_met(walker.machine()) {
@@ -213,10 +197,8 @@ fn seek_back<P: Progress>(
         ++ (walk_shown walker.records walker.here ++ shown_to walker back.0.here)) }
     ensures grown { IfErr result (λ _. HasGrown (P.shown progress.old) (P.shown progress.new)) }
 {
-    match points_mark(alloc, points) {
-        Ok(mut mark) => walker.seek_back(alloc, &mut mark, progress),
-        Err(error) => ended(walker, Err(error.into())),
-    }
+    let mut mark = points_mark(alloc, points)?;
+    walker.seek_back(alloc, &mut mark, progress)
 }
 
 /// Goes on to a position, and back to where the walker was; answers how the watched bytes changed on the way.

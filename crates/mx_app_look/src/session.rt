@@ -1,6 +1,6 @@
 //! Sessions: from the files' names, through the lines that are typed, to the end.
 
-ghost use Rattle.std.specs.Prelude.{◌≡◌, ◌<◌, ◌++◌, ◌∷◌, [], All, IfErr, IfOk, List, None, OnErr, OnOk, Option, Some, true, false, ℕ};
+ghost use Rattle.std.specs.Prelude.{◌≡◌, ◌<◌, ◌++◌, ◌∷◌, [], All, IfErr, IfOk, List, MatchOption, None, OnErr, OnOk, Option, Some, true, false, ℕ};
 ghost use Rattle.std.specs.Io.KnownBytes.{Appends};
 ghost use Rattle.mx_app_step.specs.Asked.{Asked};
 ghost use Rattle.mx_app_step.specs.Config.{Config as Configured};
@@ -13,10 +13,10 @@ ghost use Rattle.mx_machine.specs.declared.history.Record.{Record as Noted};
 ghost use Rattle.mx_walk.specs.declared.progress.Part.{Part as Parts};
 ghost use Rattle.mx_walk.specs.Parts.{HasGrown, walk_shown};
 ghost use Rattle.mx_walker.specs.Walks.{Walk};
-ghost use Rattle.mx_app_look.specs.Sessions.{HasFailed, IsBegun, IsSession, IsWhole, begun_text, end_text, sight_at};
+ghost use Rattle.mx_app_look.specs.Sessions.{HasFailed, IsAnswered, IsBegun, IsSession, IsWhole, begun_text, end_text, ends, prompt_text, sight_at};
+ghost use Rattle.mx_app_look.specs.Shows.{IsShown};
 
 use crate::answering::{answer_line, push_prompt};
-use crate::ending::ended;
 use crate::places::push_place;
 use crate::points::Points;
 use crate::sight::Sight;
@@ -68,6 +68,36 @@ fn next_line<L: LineReader>(lines: &mut L, line: &mut Vec<u8>) -> Result<bool, F
     Ok(lines.next(line)?)
 }
 
+/// Prints the answer to a line, and what asks for the next; answers what is in hand then, or nothing if the
+/// line ends the session.
+fn reply<P: Progress, W: Write>(
+    alloc: Global,
+    sight: Sight,
+    line: &[u8],
+    asks: bool,
+    progress: &mut P,
+    out: &mut W,
+) -> Result<Option<Sight>, Failure>
+    ensures err { IfErr result IsWanting }
+    ensures answered { IfOk result (λ next. MatchOption next
+        ((ends line.now ≡ true) × (P.shown progress.new ≡ P.shown progress.old)
+        × (W.contents out.new ≡ W.contents out.old))
+        (λ s. (ends line.now ≡ false) × ((text : List ℕ) × (ps : List Parts)
+        × IsAnswered sight line.now s text × IsShown sight line.now ps
+        × (P.shown progress.new ≡ P.shown progress.old ++ ps)
+        × Appends (W.contents out.old) (W.contents out.new)
+        (text ++ prompt_text asks s.walker)))) }
+    ensures grown { IfErr result (λ _. HasGrown (P.shown progress.old) (P.shown progress.new)) }
+{
+    match answer_line(alloc, sight, line, asks, progress)? {
+        Some((next, text)) => {
+            print_text(text.as_slice(), out)?;
+            Ok(Some(next))
+        }
+        None => Ok(None),
+    }
+}
+
 /// A session: what it has in hand, and whether it asks for each line.
 #[derive(Drop)]
 struct Session {
@@ -96,20 +126,15 @@ fn converse<L: LineReader, P: Progress, W: Write>(
     let mut sight = sight;
     let mut line = Vec::new(alloc);
     for _ in 0..u64::MAX {
-        match next_line(lines, &mut line) {
-            Ok(true) => {}
-            Ok(false) => return ended(sight, print_end(asks, out)),
-            Err(error) => return ended(sight, Err(error)),
+        if !next_line(lines, &mut line)? {
+            return print_end(asks, out);
         }
-        match answer_line(alloc, sight, line.as_slice(), asks, progress)? {
-            Some((next, text)) => match print_text(text.as_slice(), out) {
-                Ok(()) => sight = next,
-                Err(error) => return ended(next, Err(error)),
-            },
+        match reply(alloc, sight, line.as_slice(), asks, progress, out)? {
+            Some(next) => sight = next,
             None => return Ok(()),
         }
     }
-    ended(sight, Ok(()))
+    Ok(())
 }
 
 /// A session: the names of the files of its configuration and of its saved history.
@@ -182,16 +207,11 @@ pub fn look<R: Reader + Drop, F: Drop, W: Write + Drop, L: LineReader, P: Progre
 {
     let mut walker = start_walker(alloc, &mut channels.reader, progress, wanted)?;
     let asks = wanted.asks;
-    let begun = begin(alloc, &mut walker, asks, &mut channels.out);
+    begin(alloc, &mut walker, asks, &mut channels.out)?;
     let sight = Sight {
         walker,
         points: Points::new(),
     };
-    match begun {
-        Ok(()) => {
-            let session = Session { sight, asks };
-            converse(alloc, session, lines, progress, &mut channels.out)
-        }
-        Err(error) => ended(sight, Err(error)),
-    }
+    let session = Session { sight, asks };
+    converse(alloc, session, lines, progress, &mut channels.out)
 }

@@ -3,7 +3,6 @@
 ghost use Rattle.std.specs.Prelude.{◌≡◌, IfErr, IfOk};
 ghost use Rattle.mx_app_step.specs.Failure.{IsWanting};
 
-use crate::ending::ended;
 use crate::points::Points;
 use mx_app_failure::Failure;
 use mx_walker::Walker;
@@ -23,8 +22,6 @@ pub(crate) fn say(alloc: Global, sight: Sight, text: &str) -> Result<(Sight, Vec
     ensures text { IfOk result (λ r. r.1.items ≡ text.now) }
 {
     let mut answer = Vec::new(alloc);
-    match answer.extend_from_slice(text.as_bytes()) {
-        Ok(()) => Ok((sight, answer)),
-        Err(_) => ended(sight, Err(Failure::NoMemory)),
-    }
+    answer.extend_from_slice(text.as_bytes())?;
+    Ok((sight, answer))
 }

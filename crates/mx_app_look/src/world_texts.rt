@@ -11,7 +11,6 @@ ghost use Rattle.mx_app_look.specs.Answers.{line_end, processes_text};
 ghost use Rattle.mx_app_look.specs.Shows.{record_shown, why_shown};
 ghost use Rattle.mx_app_look.specs.Until.{below};
 
-use crate::ending::ended;
 use mx_app_failure::Failure;
 use mx_app_step::resting_step;
 use mx_boot::report;
@@ -76,10 +75,8 @@ pub(crate) fn push_seen(out: &mut Vec<u8>, walker: Walker, step: &Step) -> Resul
     ensures same { IfOk result (λ w. w ≡ walker) }
     ensures text { OnOk result (out.new.items ≡ out.old.items ++ record_text step.now) }
 {
-    match push_record(out, step) {
-        Ok(()) => Ok(walker),
-        Err(error) => ended(walker, Err(error.into())),
-    }
+    push_record(out, step)?;
+    Ok(walker)
 }
 
 /// Appends what a record did, and goes back to where the walker was.
@@ -122,10 +119,8 @@ pub(crate) fn push_why<P: Progress>(
 {
     let here = walker.here();
     if here.records == 0 {
-        return match out.extend_from_slice(b"boot\n") {
-            Ok(()) => Ok(walker),
-            Err(_) => ended(walker, Err(Failure::NoMemory)),
-        };
+        out.extend_from_slice(b"boot\n")?;
+        return Ok(walker);
     }
     let above = here.records - 1;
     let entry = walker.records()[above];

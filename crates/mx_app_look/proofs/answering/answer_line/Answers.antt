@@ -2,11 +2,10 @@ use Rattle.std.proofs.Common.{◌∙◌, Option, ap, subst, sym}
 use Rattle.mx_app_look.specs.declared.request.Request.{Request}
 use Rattle.mx_app_look.specs.Sessions.{IsAnsweredBy, is_quit}
 use Rattle.mx_app_look.specs.Shows.{IsShownBy}
-use Rattle.mx_app_look.proofs.SoFar.{ok_case}
 use Rattle.mx_app_look.proofs.answering.answer_line.Goals as goal
 
-pub returns-in-Ok-clause-answered : goal.returns-in-Ok-clause-answered
-returns-in-Ok-clause-answered g c =
+pub returns-clause-answered : goal.returns-clause-answered
+returns-clause-answered g c =
     let line = c.args.line.now in
     let asked = c.request_of-request.ensures in
     let shown = c.in_ok-sight.ensures.shown in (
@@ -16,7 +15,7 @@ returns-in-Ok-clause-answered g c =
         shown.0,
         subst (λ (o : Option Request). IsAnsweredBy c.args.sight line o c.in_ok-sight.sight c.in_ok-sight.text.items) asked c.in_ok-sight.ensures.answered,
         subst (λ (o : Option Request). IsShownBy c.args.sight o shown.0) asked shown.2,
-        ok_case c.push_prompt.result _ _ c.in-Ok.is c.push_prompt.ensures,
+        c.in_ok-push_prompt.ensures,
         c.clear.ensures ∙ shown.1,
       ),
     )

@@ -1,4 +1,4 @@
-use Rattle.mx_app_look.proofs.ShownMore.{err_always, grown_by, grown_same}
+use Rattle.mx_app_look.proofs.ShownMore.{err_always, grown_same}
 use Rattle.mx_app_look.proofs.answering.go_to_asked.Goals as goal
 
 pub returns-in_err-walker-clause-grown : goal.returns-in_err-walker-clause-grown

@@ -14,16 +14,16 @@ go_to-requires-clause-early g c =
     let steps = ap (λ (p : Position). p.steps) last in
     inr (ap (λ (p : Position). p.records) last, omega (arith, steps))
 
-pub returns-in-Ok-clause-walker : goal.returns-in-Ok-clause-walker
-returns-in-Ok-clause-walker g c =
+pub returns-clause-walker : goal.returns-clause-walker
+returns-clause-walker g c =
     let k = c.args.walker in
     IfOk-weaker c.go_to.result _ _ (λ (u : Walk) gone. gone ∙ ap (λ (p : Position). let i : Walk = record k { here = p } in i) c.last-last.ensures.last) c.go_to.ensures.gone
 
-pub returns-in-Ok-clause-text : goal.returns-in-Ok-clause-text
-returns-in-Ok-clause-text g c = ok_always c.go_to.result _ c.in-Ok.ensures.items
+pub returns-clause-text : goal.returns-clause-text
+returns-clause-text g c = ok_always c.go_to.result _ c.in_ok-extend_from_slice.ensures.items
 
-pub returns-in-Ok-clause-shown : goal.returns-in-Ok-clause-shown
-returns-in-Ok-clause-shown g c =
+pub returns-clause-shown : goal.returns-clause-shown
+returns-clause-shown g c =
     let k = c.args.walker in
     let now = g.P.Progress.shown c.args.progress.now in
     ok_weaker c.go_to.result _ _ (λ (shown : g.P.Progress.shown c.go_to.new.progress ≡ now ++ shown_to k c.last-last.result).

@@ -17,8 +17,8 @@ pub returns-then-not-seek-clause-halt : goal.returns-then-not-seek-clause-halt
 returns-then-not-seek-clause-halt g c =
     let k = c.args.walker in
     let s = c.args.points.now in
-    let m = c.in-Ok.mark in
-    let same = both_are s m.one.marks.items m.other.marks.items c.in-Ok.ensures.bytes c.in-Ok.ensures.breaks in
+    let m = c.in_ok-mark.mark in
+    let same = both_are s m.one.marks.items m.other.marks.items c.in_ok-mark.ensures.bytes c.in_ok-mark.ensures.breaks in
     let n = c.seek.ensures.nowhere c.if-not-seek.true in
     IfOk-weaker c.meet_nothing.result _ _ (λ r e. halts_nowhere k s r.0.here _ (ap (λ (w : Walk). w.here) e.0 ∙ n.0) (subst (λ (f : Marks). IsPassed f k.boot k.records k.here k.last) same n.1) e.1) c.meet_nothing.ensures
 
@@ -26,9 +26,9 @@ pub halt_by-requires-clause-position : goal.halt_by-requires-clause-position
 halt_by-requires-clause-position g c =
     let k = c.args.walker in
     let j = c.seek.new.self in
-    let m = c.in-Ok.mark in
+    let m = c.in_ok-mark.mark in
     let q = c.here.result in
-    let same = both_are c.args.points.now m.one.marks.items m.other.marks.items c.in-Ok.ensures.bytes c.in-Ok.ensures.breaks in
+    let same = both_are c.args.points.now m.one.marks.items m.other.marks.items c.in_ok-mark.ensures.bytes c.in_ok-mark.ensures.breaks in
     let f = is_looked_for c.args.points.now in
     let found : IsFirstMarked f k.boot k.records k.here j.here = subst (λ (g : Marks). IsFirstMarked g k.boot k.records k.here j.here) same (c.seek.ensures.found c.if-not-seek.false) in
     let records : j.records ≡ k.records = ap (λ (w : Walk). w.records) c.seek.ensures.same in
@@ -41,8 +41,8 @@ pub unreachable-requires : goal.unreachable-requires
 unreachable-requires g c =
     let k = c.args.walker in
     let j = c.seek.new.self in
-    let m = c.in-Ok.mark in
-    let same = both_are c.args.points.now m.one.marks.items m.other.marks.items c.in-Ok.ensures.bytes c.in-Ok.ensures.breaks in
+    let m = c.in_ok-mark.mark in
+    let same = both_are c.args.points.now m.one.marks.items m.other.marks.items c.in_ok-mark.ensures.bytes c.in_ok-mark.ensures.breaks in
     let f = is_looked_for c.args.points.now in
     let found : IsFirstMarked f k.boot k.records k.here j.here = subst (λ (g : Marks). IsFirstMarked g k.boot k.records k.here j.here) same (c.seek.ensures.found c.if-not-seek.false) in
     not_first f k.boot k.records k.here j.here found (sym c.here.ensures.here ∙ c.in-None.ensures)
@@ -52,8 +52,8 @@ returns-clause-halt g c =
     let k = c.args.walker in
     let s = c.args.points.now in
     let j = c.seek.new.self in
-    let m = c.in-Ok.mark in
-    let same = both_are s m.one.marks.items m.other.marks.items c.in-Ok.ensures.bytes c.in-Ok.ensures.breaks in
+    let m = c.in_ok-mark.mark in
+    let same = both_are s m.one.marks.items m.other.marks.items c.in_ok-mark.ensures.bytes c.in_ok-mark.ensures.breaks in
     let found : IsFirstMarked (is_looked_for s) k.boot k.records k.here j.here = subst (λ (g : Marks). IsFirstMarked g k.boot k.records k.here j.here) same (c.seek.ensures.found c.if-not-seek.false) in
     let here = c.here.ensures.here in
     let position = subst (λ (p : Position). IsPosition j.records p) here c.here.ensures.position in
@@ -66,8 +66,8 @@ pub returns-then-not-seek-clause-shown : goal.returns-then-not-seek-clause-shown
 returns-then-not-seek-clause-shown g c =
     let k = c.args.walker in
     let s = c.args.points.now in
-    let m = c.in-Ok.mark in
-    let same = both_are s m.one.marks.items m.other.marks.items c.in-Ok.ensures.bytes c.in-Ok.ensures.breaks in
+    let m = c.in_ok-mark.mark in
+    let same = both_are s m.one.marks.items m.other.marks.items c.in_ok-mark.ensures.bytes c.in_ok-mark.ensures.breaks in
     let n = c.seek.ensures.nowhere c.if-not-seek.true in
     ok_always c.meet_nothing.result _ (search_passed k s c.seek.new.self.here (g.P.Progress.shown c.args.progress.now) (g.P.Progress.shown c.seek.new.progress) n.0 (subst (λ (f : Marks). IsPassed f k.boot k.records k.here k.last) same n.1) c.seek.ensures.shown)
 
@@ -76,8 +76,8 @@ returns-clause-shown g c =
     let k = c.args.walker in
     let s = c.args.points.now in
     let j = c.seek.new.self in
-    let m = c.in-Ok.mark in
-    let same = both_are s m.one.marks.items m.other.marks.items c.in-Ok.ensures.bytes c.in-Ok.ensures.breaks in
+    let m = c.in_ok-mark.mark in
+    let same = both_are s m.one.marks.items m.other.marks.items c.in_ok-mark.ensures.bytes c.in_ok-mark.ensures.breaks in
     let found : IsFirstMarked (is_looked_for s) k.boot k.records k.here j.here = subst (λ (g : Marks). IsFirstMarked g k.boot k.records k.here j.here) same (c.seek.ensures.found c.if-not-seek.false) in
     let here = c.here.ensures.here in
     let position = subst (λ (p : Position). IsPosition j.records p) here c.here.ensures.position in
@@ -88,8 +88,8 @@ returns-clause-shown g c =
     let after = g.P.Progress.shown c.halt_by.new.progress in
     ok_weaker c.halt_by.result _ _ (λ (shown : after ≡ now ++ halt_shown j s c.in-Some.above j.here). search_met k s j c.in-Some.above (g.P.Progress.shown c.args.progress.now) now after c.seek.ensures.same position early found up c.seek.ensures.shown shown) c.halt_by.ensures.shown
 
-pub returns-in-Err-clause-grown : goal.returns-in-Err-clause-grown
-returns-in-Err-clause-grown g c = err_always c.ended.result _ (grown_none _)
+pub returns-in_err-mark-clause-grown : goal.returns-in_err-mark-clause-grown
+returns-in_err-mark-clause-grown g c = err_always c.from_residual.result _ (grown_none _)
 
 pub returns-then-not-seek-clause-grown : goal.returns-then-not-seek-clause-grown
 returns-then-not-seek-clause-grown g c = err_always c.meet_nothing.result _ (grown_by _ _ _ c.seek.ensures.shown)

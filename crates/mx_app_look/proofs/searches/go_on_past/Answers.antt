@@ -36,7 +36,7 @@ returns-then-is_met-clause-halt g c =
     let u = world_of c.machine-2.result.now in
     let met : c.is_met.result ≡ changes_watched s (world_here k) x (world_here j) =
     c.is_met.ensures w x c.look.ensures.seen
-    ∙ ap (λ (f : Marks). f w x u) (c.look.ensures.same ∙ bytes_are s c.in-Ok.bytes.marks.items c.in-Ok.ensures)
+    ∙ ap (λ (f : Marks). f w x u) (c.look.ensures.same ∙ bytes_are s c.in_ok-bytes.bytes.marks.items c.in_ok-bytes.ensures)
     ∙ ap (λ (v : World). changes_watched s v x u) c.machine.ensures.world
     ∙ ap (λ (v : World). changes_watched s (world_here k) x v) c.machine-2.ensures.world in
     halts_after_one k s j x c.args.next.position _ c.requires.here c.requires.below c.requires.position c.in_ok-walker.ensures.walker (sym met ∙ c.if-is_met.true) c.in_ok-walker.ensures.changes
@@ -51,7 +51,7 @@ returns-clause-halt g c =
     let u = world_of c.machine-2.result.now in
     let met : c.is_met.result ≡ changes_watched s (world_here k) x (world_here j) =
     c.is_met.ensures w x c.look.ensures.seen
-    ∙ ap (λ (f : Marks). f w x u) (c.look.ensures.same ∙ bytes_are s c.in-Ok.bytes.marks.items c.in-Ok.ensures)
+    ∙ ap (λ (f : Marks). f w x u) (c.look.ensures.same ∙ bytes_are s c.in_ok-bytes.bytes.marks.items c.in_ok-bytes.ensures)
     ∙ ap (λ (v : World). changes_watched s v x u) c.machine.ensures.world
     ∙ ap (λ (v : World). changes_watched s (world_here k) x v) c.machine-2.ensures.world in
     IfOk-weaker c.go_on_from.result _ _
@@ -67,7 +67,7 @@ returns-then-is_met-clause-shown g c =
     let u = world_of c.machine-2.result.now in
     let met : c.is_met.result ≡ changes_watched s (world_here k) x (world_here j) =
     c.is_met.ensures w x c.look.ensures.seen
-    ∙ ap (λ (f : Marks). f w x u) (c.look.ensures.same ∙ bytes_are s c.in-Ok.bytes.marks.items c.in-Ok.ensures)
+    ∙ ap (λ (f : Marks). f w x u) (c.look.ensures.same ∙ bytes_are s c.in_ok-bytes.bytes.marks.items c.in_ok-bytes.ensures)
     ∙ ap (λ (v : World). changes_watched s v x u) c.machine.ensures.world
     ∙ ap (λ (v : World). changes_watched s (world_here k) x v) c.machine-2.ensures.world in
     let marked = is_marked_there k s j x c.args.next.position c.requires.here c.requires.below c.requires.position c.in_ok-walker.ensures.walker ∙ sym met in
@@ -83,7 +83,7 @@ returns-clause-shown g c =
     let u = world_of c.machine-2.result.now in
     let met : c.is_met.result ≡ changes_watched s (world_here k) x (world_here j) =
     c.is_met.ensures w x c.look.ensures.seen
-    ∙ ap (λ (f : Marks). f w x u) (c.look.ensures.same ∙ bytes_are s c.in-Ok.bytes.marks.items c.in-Ok.ensures)
+    ∙ ap (λ (f : Marks). f w x u) (c.look.ensures.same ∙ bytes_are s c.in_ok-bytes.bytes.marks.items c.in_ok-bytes.ensures)
     ∙ ap (λ (v : World). changes_watched s v x u) c.machine.ensures.world
     ∙ ap (λ (v : World). changes_watched s (world_here k) x v) c.machine-2.ensures.world in
     let marked = is_marked_there k s j x c.args.next.position c.requires.here c.requires.below c.requires.position c.in_ok-walker.ensures.walker ∙ sym met in
@@ -91,11 +91,11 @@ returns-clause-shown g c =
     let after = g.P.Progress.shown c.go_on_from.new.progress in
     ok_weaker c.go_on_from.result _ _ (λ (h : Shows now after (λ (ps : List Part). IsSearchShown j s j.here ps)). shown_further k s j c.args.next.position (g.P.Progress.shown c.args.progress.now) now after _ (marked ∙ c.if-is_met.false) c.in_ok-walker.ensures.walker c.in_ok-walker.ensures.shown h) c.go_on_from.ensures.shown
 
-pub returns-in-Err-clause-grown : goal.returns-in-Err-clause-grown
-returns-in-Err-clause-grown g c = err_always c.ended.result _ (grown_none _)
+pub returns-in_err-bytes-clause-grown : goal.returns-in_err-bytes-clause-grown
+returns-in_err-bytes-clause-grown g c = err_always c.from_residual.result _ (grown_none _)
 
 pub returns-in_err-walker-clause-grown : goal.returns-in_err-walker-clause-grown
-returns-in_err-walker-clause-grown g c = err_always c.from_residual.result _ c.in_err-walker.ensures.grown
+returns-in_err-walker-clause-grown g c = err_always c.from_residual-in_err-walker.result _ c.in_err-walker.ensures.grown
 
 pub returns-clause-grown : goal.returns-clause-grown
 returns-clause-grown g c = err_weaker c.go_on_from.result _ _ (λ more. grown_more _ _ _ (grown_by _ _ _ c.in_ok-walker.ensures.shown) more) c.go_on_from.ensures.grown

@@ -1,4 +1,4 @@
-use Rattle.std.proofs.Common.{◌++◌, IfErr, List, [], inr, ap, subst, sym}
+use Rattle.std.proofs.Common.{rules, ◌++◌, IfErr, List, [], inr, ap, sym}
 use Rattle.std.proofs.KnownBytes.{Appends-trans}
 use Rattle.std.proofs.lemmas.List.{append-nil}
 use Rattle.std.proofs.lemmas.Result.{IfErr-weaker, IfOk-weaker, err_from_is_err_and}
@@ -8,7 +8,6 @@ use Rattle.mx_walk.specs.Parts.{walk_shown}
 use Rattle.mx_app_look.specs.Sessions.{begun_text}
 use Rattle.mx_app_look.proofs.Starting.{held_by_walk}
 use Rattle.mx_app_look.proofs.ShownMore.{both_shown, grown_by, grown_same}
-use Rattle.mx_app_look.proofs.SoFar.{err_given, ok_case}
 use Rattle.mx_app_look.proofs.session.look.Goals as goal
 
 pub returns-in_err-walker-clause-fault : goal.returns-in_err-walker-clause-fault
@@ -17,16 +16,16 @@ returns-in_err-walker-clause-fault g c =
     let h = c.in_err-walker.ensures.fault in
     rw (p.1, p.2) (h.0, [], h.1, h.2, sym (append-nil (g.L.LineReader.given c.args.lines.now)), h.3, h.4)
 
-pub returns-in-Err-clause-fault : goal.returns-in-Err-clause-fault
-returns-in-Err-clause-fault g c =
+pub returns-in_err-begin-clause-fault : goal.returns-in_err-begin-clause-fault
+returns-in_err-begin-clause-fault g c =
     let s = c.in_ok-walker.ensures.begun in
     let k = c.in_ok-walker.walker in
-    let wanting : IfErr c.ended.result IsWanting = subst (λ r. IfErr r IsWanting) (sym c.ended.ensures) (err_given c.begin-begun.result c.in-Err.error IsWanting c.in-Err.is c.begin-begun.ensures.err) in
-    IfErr-weaker c.ended.result IsWanting _
+    let wanting : IfErr c.from_residual-in_err-begin.result IsWanting = search rules in
+    IfErr-weaker c.from_residual-in_err-begin.result IsWanting _
     (λ f e. (s.0, [], walk_shown k.records k.last, s.4, sym (append-nil (g.L.LineReader.given c.args.lines.now)), s.5, inr (s.1, s.2, s.3, k.last, s.6, s.7.last, grown_same _ _ (ap (λ (rs : List Record). walk_shown rs k.last) s.7.records), e))) wanting
 
-pub returns-in-Ok-clause-printed : goal.returns-in-Ok-clause-printed
-returns-in-Ok-clause-printed g c =
+pub returns-clause-printed : goal.returns-clause-printed
+returns-clause-printed g c =
     let s = c.in_ok-walker.ensures.begun in
     let k = c.in_ok-walker.walker in
     IfOk-weaker c.converse.result _ _ (λ r b. (
@@ -44,12 +43,12 @@ returns-in-Ok-clause-printed g c =
       both_shown _ _ _ _ _ s.5 b.6,
       s.6,
       s.7,
-      held_by_walk c.args.wanted.asks c.begin-begun.new.walker k c.new.result b.0 b.1 b.2 c.begin-begun.ensures.same c.new.ensures.breakpoints c.new.ensures.watches b.5,
-      Appends-trans (g.W.Write.contents c.args.channels.now.out) (g.W.Write.contents c.begin-begun.new.out) (g.W.Write.contents c.converse.new.out) (begun_text c.args.wanted.asks k) b.1 (ok_case c.begin-begun.result _ _ c.in-Ok.is c.begin-begun.ensures.printed) b.7,
+      held_by_walk c.args.wanted.asks c.begin.new.walker k c.new.result b.0 b.1 b.2 c.begin.ensures.same c.new.ensures.breakpoints c.new.ensures.watches b.5,
+      Appends-trans (g.W.Write.contents c.args.channels.now.out) (g.W.Write.contents c.begin.new.out) (g.W.Write.contents c.converse.new.out) (begun_text c.args.wanted.asks k) b.1 c.in_ok-begin.ensures.printed b.7,
     )) c.converse.ensures.printed
 
-pub returns-in-Ok-clause-fault : goal.returns-in-Ok-clause-fault
-returns-in-Ok-clause-fault g c =
+pub returns-clause-fault : goal.returns-clause-fault
+returns-clause-fault g c =
     let s = c.in_ok-walker.ensures.begun in
     let k = c.in_ok-walker.walker in
     IfErr-weaker c.converse.result _ _

@@ -1,0 +1,28 @@
+use Rattle.std.proofs.Common.{refl, subst}
+use Rattle.std.specs.Io.KnownBytes.{Appends}
+use Rattle.mx_app_look.proofs.ShownMore.{err_always, grown_by}
+use Rattle.mx_app_look.proofs.SoFar.{none_case, some_case}
+use Rattle.mx_app_look.proofs.session.reply.Goals as goal
+
+pub returns-in_ok-print_text-in-Some-clause-answered : goal.returns-in_ok-print_text-in-Some-clause-answered
+returns-in_ok-print_text-in-Some-clause-answered g c =
+    let h = some_case c.in_ok-next.field-0 (c.in-Some.next, c.in-Some.text) _ _ c.in-Some.is c.in_ok-next.ensures.answered in
+    let a = h.1 in
+    let before = g.W.Write.contents c.args.out.now in
+    let after = g.W.Write.contents c.print_text.new.out in
+    let printed = subst (λ t. Appends before after t) c.as_slice.ensures.value c.in_ok-print_text-in-Some.ensures.bytes in
+    (h.0, (a.0, a.1, a.2, a.3, a.5, subst (λ t. Appends before after t) a.4 printed))
+
+pub returns-in-None-clause-answered : goal.returns-in-None-clause-answered
+returns-in-None-clause-answered g c =
+    let h = none_case c.in_ok-next.field-0 _ _ c.in-None.is c.in_ok-next.ensures.answered in
+    (h.0, h.1, refl)
+
+pub returns-in_err-next-clause-grown : goal.returns-in_err-next-clause-grown
+returns-in_err-next-clause-grown g c = err_always c.from_residual.result _ c.in_err-next.ensures.grown
+
+pub returns-in_err-print_text-in-Some-clause-grown : goal.returns-in_err-print_text-in-Some-clause-grown
+returns-in_err-print_text-in-Some-clause-grown g c =
+    let h = some_case c.in_ok-next.field-0 (c.in-Some.next, c.in-Some.text) _ _ c.in-Some.is c.in_ok-next.ensures.answered in
+    let a = h.1 in
+    err_always c.from_residual-in_err-print_text-in-Some.result _ (grown_by _ _ _ a.5)
