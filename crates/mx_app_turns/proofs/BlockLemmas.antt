@@ -1,5 +1,5 @@
 -- Positions that are swept and printed.
-use Rattle.std.proofs.Common.{◌≡◌, ◌∙◌, ◌<◌, ◌≤◌, ◌+◌, ◌-◌, ℕ, suc, Bool, true, false, cond, List, [], ◌∷◌, ◌++◌, length, length-append, Option, append_assoc, refl, ap, sym, subst, arith}
+use Rattle.std.proofs.Common.{◌≡◌, ◌∙◌, ◌<◌, ◌≤◌, ◌+◌, ◌-◌, ℕ, suc, Bool, true, false, cond, List, [], ◌∷◌, ◌++◌, length, length-append, Option, Vec, Global, append_assoc, refl, ap, sym, subst, arith}
 use Rattle.std.proofs.KnownBytes.{Appends-nil, Appends-trans}
 use Rattle.std.proofs.lemmas.List.{append-nil}
 use Rattle.std.proofs.lemmas.Grind.{flat_map-append}
@@ -7,8 +7,8 @@ use Rattle.std.specs.Io.KnownBytes.{Appends}
 use Rattle.std.specs.List.{flat_map}
 use Rattle.std.specs.Str.{bytes_eq}
 use Rattle.mx_machine.specs.History.{BootAndHistory}
-use Rattle.mx_app_turns.specs.declared.blocks.Total.{Total}
-use Rattle.mx_app_turns.specs.Blocks.{Positions, block_text, blocks, blocks_from, count_of}
+use Rattle.mx_app_turns.specs.declared.sweeping.Tally.{Tally}
+use Rattle.mx_app_turns.specs.Blocks.{Positions, block_text, blocks, blocks_from, count_of, positions_of}
 use Rattle.mx_app_turns.specs.Sweeping.{SweepOf, is_alike_at, run_at, text_at}
 
 -- Positions from `from` to the one above p are swept, and the blocks above the current one are printed.
@@ -24,10 +24,10 @@ pub record SweptSoFar (s : SweepOf) (from end p : ℕ) (old now : Option (List �
   pub within : p ≤ end
   pub kernel : k ≡ (run_at s (p - 1)).kernel
 
-abbrev from_bool : Bool → ℕ
+abbrev pub from_bool : Bool → ℕ
 from_bool b = cond b 1 0
 
-small : (b : Bool) → from_bool b ≤ 1
+pub small : (b : Bool) → from_bool b ≤ 1
 small true = omega arith
 small false = omega arith
 
@@ -107,22 +107,24 @@ module _ (s : SweepOf) (from end : ℕ) where
       kernel = kept ∙ ap (λ i. (run_at s i).kernel) there;
     }
 
-    -- whichever it is
-    pub goes : (b : Bool) (t : List ℕ) (other : Positions) (then : Option (List ℕ)) (x y : Total) (l : BootAndHistory) → t ≡ f p → x.blocks ≡ count → x.alike ≡ more → bytes_eq t current.text ≡ b
-        → (bytes_eq t current.text ≡ true → (other ≡ record current { last = p }) × (y ≡ x) × (then ≡ now))
-        → (bytes_eq t current.text ≡ false → (other ≡ record { first = p; last = p; text = t }) × (y ≡ record x { blocks = x.blocks + 1 }) × Appends now then (block_text current))
-        → l ≡ (run_at s p).kernel → SweptSoFar s from end (p + 1) old then other y.blocks y.alike l
-    goes true t other then x y l told is same e on new kept =
-        let h = on e in
-        let wide = goes_on other l (ap (λ u. bytes_eq u current.text) (sym told) ∙ e) h.0 kept in
-        let here = subst (λ o. SweptSoFar s from end (p + 1) old o other count more l) (sym h.2) wide in
-        let counts = subst (λ n. SweptSoFar s from end (p + 1) old then other n more l) (sym (ap (λ (z : Total). z.blocks) h.1 ∙ is)) here in
-        subst (λ n. SweptSoFar s from end (p + 1) old then other y.blocks n l) (sym (ap (λ (z : Total). z.alike) h.1 ∙ same)) counts
-    goes false t other then x y l told is same e on new kept =
-        let h = new e in
-        let begun = begins current then other y.blocks l (ap (λ u. bytes_eq u current.text) (sym told) ∙ e) refl h.2 (h.0 ∙ ap (λ (u : List ℕ). let o : Positions = record { first = p; last = p; text = u } in o) told)
-        (ap (λ (z : Total). z.blocks) h.1 ∙ ap (λ n. n + 1) is) kept in
-        subst (λ n. SweptSoFar s from end (p + 1) old then other y.blocks n l) (sym (ap (λ (z : Total). z.alike) h.1 ∙ same)) begun
+  -- whichever it is
+  pub goes : (p : ℕ) (old now then : Option (List ℕ)) (k l : BootAndHistory) (x y next : Tally) (text : Vec ℕ Global) (is b : Bool) → SweptSoFar s from end p old now (positions_of x.block) x.blocks x.alike k → p < end
+      → is ≡ is_alike_at s p → next ≡ record { block = record { first = p; last = p; text = text }; blocks = 1; alike = from_bool is } → text.items ≡ f p → bytes_eq (f p) x.block.text.items ≡ b
+      → (bytes_eq next.block.text.items x.block.text.items ≡ true → (y ≡ record x { block = record x.block { last = next.block.last }; alike = x.alike + next.alike }) × (then ≡ now))
+      → (bytes_eq next.block.text.items x.block.text.items ≡ false → (y ≡ record { block = next.block; blocks = x.blocks + next.blocks; alike = x.alike + next.alike }) × Appends now then (block_text (positions_of x.block)))
+      → l ≡ (run_at s p).kernel → SweptSoFar s from end (p + 1) old then (positions_of y.block) y.blocks y.alike l
+  goes p old now then k l x y next text is true so_far h which one told e on new kept =
+      let same : bytes_eq text.items x.block.text.items ≡ true = ap (λ u. bytes_eq u x.block.text.items) told ∙ e in
+      let r = subst (λ (n : Tally). bytes_eq n.block.text.items x.block.text.items ≡ true → (y ≡ record x { block = record x.block { last = n.block.last }; alike = x.alike + n.alike }) × (then ≡ now)) one on same in
+      let wide = goes_on p old now (positions_of x.block) x.blocks x.alike (x.alike + from_bool is) k so_far h is which refl (record (positions_of x.block) { last = p }) l e refl kept in
+      subst (λ (z : Tally). SweptSoFar s from end (p + 1) old then (positions_of z.block) z.blocks z.alike l) (sym r.0)
+      (subst (λ o. SweptSoFar s from end (p + 1) old o (record (positions_of x.block) { last = p }) x.blocks (x.alike + from_bool is) l) (sym r.1) wide)
+  goes p old now then k l x y next text is false so_far h which one told e on new kept =
+      let other : bytes_eq text.items x.block.text.items ≡ false = ap (λ u. bytes_eq u x.block.text.items) told ∙ e in
+      let r = subst (λ (n : Tally). bytes_eq n.block.text.items x.block.text.items ≡ false → (y ≡ record { block = n.block; blocks = x.blocks + n.blocks; alike = x.alike + n.alike }) × Appends now then (block_text (positions_of x.block))) one new other in
+      let begun = begins p old now (positions_of x.block) x.blocks x.alike (x.alike + from_bool is) k so_far h is which refl (positions_of x.block) then (record { first = p; last = p; text = text.items }) (x.blocks + 1) l e refl r.1
+      (ap (λ (u : List ℕ). let o : Positions = record { first = p; last = p; text = u } in o) told) refl kept in
+      subst (λ (z : Tally). SweptSoFar s from end (p + 1) old then (positions_of z.block) z.blocks z.alike l) (sym r.0) begun
 
   module _ (p : ℕ) (old now then : Option (List ℕ)) (current shut : Positions) (count alike : ℕ) (k : BootAndHistory) (so_far : SweptSoFar s from end p old now current count alike k) (last : p ≡ end) where
     none_left : end - p ≡ 0

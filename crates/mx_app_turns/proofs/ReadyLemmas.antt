@@ -1,5 +1,5 @@
 -- Machines that are ready to be swept.
-use Rattle.std.proofs.Common.{◌≡◌, ◌∙◌, ◌<◌, ◌≤◌, ℕ, List, [], All, None, Option, ap, length, subst, sym}
+use Rattle.std.proofs.Common.{◌≡◌, ◌∙◌, ◌<◌, ◌≤◌, ℕ, List, [], All, None, ap, length, subst, sym}
 use Rattle.std.proofs.lemmas.List.{length-replicate}
 use Rattle.mx_app_start.proofs.BootLemmas.{other_booted}
 use Rattle.mx_app_step.specs.Config.{Config}

@@ -100,16 +100,6 @@ pub shown_failed : {X : Type 0} (before after : List Part) (all n : ℕ) (f : Ki
 shown_failed before after all n f (Ok x) h few shown = absurd h
 shown_failed before after all n f (Err y) h few shown = (n, few, shown)
 
--- nothing was shown: no position is swept, or the first one failed
-pub none_shown : (before : List Part) (from end : ℕ) → end ≤ from → before ≡ before ++ parts_shown (end - from) (end - from)
-none_shown before from end none =
-    let z : end - from ≡ 0 = omega (arith, none) in
-    sym (append-nil before) ∙ ap (λ n. before ++ parts_shown n n) (sym z)
-
-pub none_shown_failed : {X : Type 0} (before : List Part) (all : ℕ) (f : Kind) (r : Result X Kind) → IsErrAnd r (λ y. y ≡ f) → IsShown before before all r
-none_shown_failed before all f (Ok x) h = absurd h
-none_shown_failed before all f (Err y) h = (0, omega arith, sym (append-nil before))
-
 -- ---- what ends it
 
 module _ (s : SweepOf) (from to : ℕ) (save : Option (List ℕ)) (ps : List Part) (n : ℕ) (few : n ≤ positions_in s from to) (shown : ps ≡ parts_shown (positions_in s from to) n) (Prints : List ℕ → Type 0) where

@@ -1,22 +1,20 @@
 -- Machines that make turns.
-use Rattle.std.proofs.Common.{◌≡◌, ◌≢◌, ◌∙◌, ◌+◌, ◌^◌, ◌≤◌, ◌<◌, ℕ, zero, suc, ◌++◌, true, false, List, [], ◌∷◌, length, Option, Some, None, Result, Ok, Err, All, IfErr, OnOk, replicate, inl, inr, refl, ap, sym, subst, arith, append_assoc}
+use Rattle.std.proofs.Common.{◌≡◌, ◌≢◌, ◌∙◌, ◌+◌, ◌^◌, ◌≤◌, ◌<◌, ℕ, zero, suc, ◌++◌, false, List, [], ◌∷◌, length, Option, None, Result, Ok, Err, All, inl, inr, refl, ap, sym, subst, arith}
 use Rattle.std.specs.Io.KnownBytes.{Appends}
 use Rattle.std.specs.Prelude.{IsErrAnd}
 use Rattle.std.proofs.lemmas.List.{length-replicate}
 use Rattle.mx_machine.specs.declared.config.Config.{Config}
-use Rattle.mx_machine.specs.declared.events.Answer.{Answer}
 use Rattle.mx_machine.specs.declared.events.Event.{Event}
 use Rattle.mx_machine.specs.declared.events.Event.TheVariants.{Tick}
-use Rattle.mx_machine.specs.declared.events.Refusal.{Refusal}
 use Rattle.mx_machine.specs.declared.history.Record.{Record}
 use Rattle.mx_machine.specs.Boot.{first_table, world_at_boot}
-use Rattle.mx_machine.specs.History.{AreAccepted, BootAndHistory, IsWritable, events_of, events_of_history, replay, world_after_events}
-use Rattle.mx_machine.specs.Move.{moves, world_after_event}
+use Rattle.mx_machine.specs.History.{AreAccepted, BootAndHistory, IsWritable, events_of_history, replay, world_after_events}
+use Rattle.mx_machine.specs.Move.{moves}
 use Rattle.mx_machine.specs.Rules.{Rules}
 use Rattle.mx_machine.specs.Service.{Service}
 use Rattle.mx_machine.specs.Sound.{IsSound}
 use Rattle.mx_machine.specs.World.{World, actors}
-use Rattle.mx_machine.specs.Machine.{MachineState, kept_after, kept_along, record_of, with_records, world_of}
+use Rattle.mx_machine.specs.Machine.{MachineState, kept_along, world_of}
 use Rattle.mx_turns.specs.declared.turns.Ending.{Ending}
 use Rattle.mx_turns.specs.declared.turns.Ending.TheVariants.{Turns}
 use Rattle.mx_turns.specs.Made.{HasMade}
@@ -28,10 +26,9 @@ use Rattle.mx_turns.specs.Turns.{refusable, turns}
 use Rattle.mx_app_failure.specs.declared.failure.Failure.{Failure as Kind}
 use Rattle.mx_app_step.proofs.AcceptedLemmas.{not_refused}
 use Rattle.mx_app_step.specs.Asked.{Asked}
-use Rattle.mx_app_step.specs.Failure.{IsWanting}
 use Rattle.mx_app_step.specs.Kept.{IsUnwritten, text_kept}
 use Rattle.mx_app_step.specs.Programs.{SparesProgram, names_program}
-use Rattle.mx_app_step.specs.Records.{IsFirstRefusal, IsRefusedAt, IsReplayPrinted}
+use Rattle.mx_app_step.specs.Records.{IsReplayPrinted}
 use Rattle.mx_app_step.specs.Report.{report_text}
 use Rattle.mx_app_step.specs.Telling.{IsUnsaved}
 use Rattle.mx_app_step.specs.Text.{saved_text}
@@ -105,7 +102,7 @@ unfolding first_table
 rules_at_boot c vs = refl
 
 -- what isn't written isn't saved
-unsaved : (name text : List ℕ) (ws : List Written) (f : Kind) → IsUnwritten name text ws f → IsUnsaved name text ws f
+pub unsaved : (name text : List ℕ) (ws : List Written) (f : Kind) → IsUnwritten name text ws f → IsUnsaved name text ws f
 unsaved name text ws f h = elim h [
   | inl none ↦ inl (none.0, inr none.1)
   | inr file ↦ inr (inl file)
@@ -125,15 +122,10 @@ module _ (config : List ℕ) (file : Option (List ℕ)) (log : List ℕ) (ticks 
     by_rules : text_kept k ≡ saved_text c.rules k.history
     by_rules = ap (λ (r : Rules). saved_text r k.history) (ap (λ (w : World). w.table.rules) made.boot ∙ rules_at_boot c vs)
 
-    pub unwritten : (ws : List Written) (f : Kind) (r : Result Ending Kind) → IsUnwritten log (text_kept k) ws f → IsErrAnd r (λ y. y ≡ f) → MakesTurns config file log ticks bound qs ws ps Prints r
-    unwritten ws f (Ok u) why h = absurd h
-    unwritten ws f (Err y) why h =
-        inr (inr (inr (c, vs, events, k, ending, apart, begun, other, made, shown, subst (λ t. IsUnsaved log t ws y) by_rules (subst (λ z. IsUnsaved log (text_kept k) ws z) (sym h) (unsaved log (text_kept k) ws f why)))))
-
-    pub untold : (f : Kind) (r : Result Ending Kind) → IsWanting f → IsErrAnd r (λ y. y ≡ f) → MakesTurns config file log ticks bound qs (kept log (text_kept k) ∷ []) ps Prints r
-    untold f (Ok u) why h = absurd h
-    untold f (Err y) why h =
-        inr (inr (inr (c, vs, events, k, ending, apart, begun, other, made, shown, inr (inr (ap (λ t. kept log t ∷ []) by_rules, subst IsWanting (sym h) why)))))
+    pub untold : (ws : List Written) (f : Kind) (r : Result Ending Kind) → IsUnsaved log (text_kept k) ws f → IsErrAnd r (λ y. y ≡ f) → MakesTurns config file log ticks bound qs ws ps Prints r
+    untold ws f (Ok u) why h = absurd h
+    untold ws f (Err y) why h =
+        inr (inr (inr (c, vs, events, k, ending, apart, begun, other, made, shown, subst (λ t. IsUnsaved log t ws y) by_rules (subst (λ z. IsUnsaved log (text_kept k) ws z) (sym h) why))))
 
     pub written : Prints (report_text (replay k).table (replay k).services) → MakesTurns config file log ticks bound qs (kept log (text_kept k) ∷ []) ps Prints (Ok ending)
     written printed = (c, vs, events, k, apart, begun, other, made, shown, ap (λ t. kept log t ∷ []) by_rules, printed)

@@ -1,5 +1,5 @@
 -- The lines of a file of a fault (our own).
-use Rattle.std.specs.Prelude.{ℕ, if◌then◌else◌, List, [], ◌∷◌, Option, Some, None, codes}
+use Rattle.std.specs.Prelude.{ℕ, if◌then◌else◌, List, Option, Some, None, codes}
 use Rattle.std.specs.Str.{bytes_eq}
 use Rattle.mx_text.specs.Fields.{fields, pair, ◌>>=◌}
 use Rattle.mx_boot.specs.declared.scripts.ScriptLine.{ScriptLine}

@@ -13,6 +13,19 @@ pub(crate) struct Block {
     pub text: Vec<u8>,
 }
 
+impl Block {
+    /// The block of one position.
+    pub fn one(position: usize, text: Vec<u8>) -> Self
+        ensures { result ≡ record { first = position; last = position; text = text } }
+    {
+        Self {
+            first: position,
+            last: position,
+            text,
+        }
+    }
+}
+
 /// The head of a block.
 fn head(alloc: Global, first: usize, last: usize) -> Result<String, AllocError>
     ensures { IfOk result (λ head. string_bytes head ≡ head_text first last) }

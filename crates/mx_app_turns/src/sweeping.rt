@@ -1,17 +1,21 @@
 //! A history that is swept.
 
-ghost use Rattle.std.specs.Prelude.{◌≡◌, ◌<◌, ◌≤◌, ◌+◌, ◌-◌, ◌++◌, ◌∷◌, ◌⊎◌, [], ℕ, Err, List, IfErr, IfOk, Ok, OnOk, false, length, min, option_map, true};
+ghost use Rattle.std.specs.Prelude.{◌≡◌, ◌<◌, ◌≤◌, ◌+◌, ◌-◌, ◌^◌, ◌++◌, ◌∷◌, ◌⊎◌, if◌then◌else◌, [], ℕ, All, Err, List, IfErr, IfOk, Ok, OnOk, false, length, min, option_map, true};
 ghost use Rattle.std.specs.Io.KnownBytes.{Appends};
 ghost use Rattle.std.specs.List.{flat_map};
 ghost use Rattle.std.specs.Str.{bytes_eq};
 ghost use Rattle.mx_boot.specs.Reading.{AreLinesRead, TellsUnread};
+ghost use Rattle.mx_app_start.specs.Log.{lines_above};
 ghost use Rattle.mx_machine.specs.Boot.{world_at_boot};
+ghost use Rattle.mx_machine.specs.declared.history.Record.{Record as Recorded};
+ghost use Rattle.mx_machine.specs.History.{AreAccepted, events_of_history};
+ghost use Rattle.mx_machine.specs.World.{actors};
 ghost use Rattle.mx_app_failure.specs.Failure.{IsWanting};
 ghost use Rattle.mx_app_step.specs.Asked.{Asked};
 ghost use Rattle.mx_app_step.specs.Config.{Config as Configured};
 ghost use Rattle.mx_app_step.specs.Machine.{world_of};
 ghost use Rattle.mx_app_step.specs.Service.{Service};
-ghost use Rattle.mx_app_step.specs.Records.{refused_record_line};
+ghost use Rattle.mx_app_step.specs.Records.{IsRefusedAt, refused_record_line};
 ghost use Rattle.mx_app_step.specs.Setup.{IsNoTextGiven, IsTextFaulty, IsTextGiven};
 ghost use Rattle.mx_app_step.specs.Written.{Written};
 ghost use Rattle.mx_text.specs.Lines.{lines};
@@ -21,7 +25,7 @@ ghost use Rattle.mx_app_turns.specs.declared.sweeping.Swept.TheVariants as swept
 ghost use Rattle.mx_app_turns.specs.Blocks.{block_text, blocks, count_of, positions_of, total_text};
 ghost use Rattle.mx_sweep.specs.Swept.{IsSwept};
 ghost use Rattle.mx_app_turns.specs.Sweeping.{IsBegun, IsNotBegun, IsShown, IsUnsaved, Sweeps, ended, is_alike_at, run_at, saved_if, saves_program, text_at, writes_over};
-ghost use Rattle.mx_app_step.specs.Kept.{text_kept};
+ghost use Rattle.mx_app_step.specs.Kept.{kept_of, text_kept};
 ghost use Rattle.mx_app_turns.specs.Begun.{IsDone, IsReady, begun_of, is_ready, sweep_of};
 
 use crate::blocks::{Block, Total, push_block, push_total};
@@ -88,18 +92,6 @@ fn fault_of<R: Reader>(alloc: Global, reader: &mut R, name: &str) -> Result<Vec<
     Ok(fault)
 }
 
-/// A machine at boot with the fault that was read for it, or why none was.
-fn with_fault(
-    started: Started<Record>,
-    fault: Result<Vec<FaultLine>, Failure>,
-) -> Result<Begun, Failure>
-    ensures begun { IfOk result (λ b. (b.started ≡ started) × (fault ≡ Ok b.fault)) }
-    ensures fault { IfErr result (λ f. fault ≡ Err f) }
-{
-    let fault = fault?;
-    Ok(Begun { started, fault })
-}
-
 /// Boots the machine of a saved history, after the fault's file is read too.
 fn begin<R: Reader>(alloc: Global, reader: &mut R, names: SweepNames<'_>) -> Result<Begun, Failure>
     ensures begun { IfOk result (λ b. (qs : List Asked) × (c : Configured) × (vs : List Service)
@@ -114,8 +106,8 @@ fn begin<R: Reader>(alloc: Global, reader: &mut R, names: SweepNames<'_>) -> Res
         × IsNotBegun names.entry.config.now names.entry.log.now names.entry.fault.now qs f) }
 {
     let started = start::<History, R>(alloc, reader, names.config, names.log)?;
-    let fault = fault_of(alloc, reader, names.fault);
-    with_fault(started, fault)
+    let fault = fault_of(alloc, reader, names.fault)?;
+    Ok(Begun { started, fault })
 }
 
 /// Whether a file that is read would be written over.
@@ -157,6 +149,77 @@ fn print_block<P: Progress, W: Write>(
     print_text(text.as_slice(), out)
 }
 
+/// What was swept so far: the block that is not printed yet, how many blocks there are with it, and how many
+/// positions have the outcome that they have without the fault.
+#[derive(Drop)]
+struct Tally {
+    block: Block,
+    blocks: usize,
+    alike: usize,
+}
+
+impl Tally {
+    /// The tally of one position.
+    fn one(position: usize, text: Vec<u8>, is_alike: bool) -> Self
+        ensures { result ≡ record {
+          block = record { first = position; last = position; text = text };
+          blocks = 1;
+          alike = if is_alike then 1 else 0;
+        } }
+    {
+        Self {
+            block: Block::one(position, text),
+            blocks: 1,
+            alike: usize::from(is_alike),
+        }
+    }
+
+    /// Goes on with the tally of the next position. If both blocks have the same text, they become one; otherwise
+    /// the first is printed, and the next one stays.
+    fn push<P: Progress, W: Write>(
+        &mut self,
+        alloc: Global,
+        next: Self,
+        progress: &mut P,
+        out: &mut W,
+    ) -> Result<(), Failure>
+        requires blocks { self.old.blocks + next.blocks < 2 ^ 64 }
+        requires alike { self.old.alike + next.alike < 2 ^ 64 }
+        ensures err { IfErr result IsWanting }
+        ensures same { IfErr result (λ _. self.new ≡ self.old) }
+        ensures goes_on { OnOk result
+            (bytes_eq next.block.text.items self.old.block.text.items ≡ true
+            → (self.new ≡ record self.old {
+              block = record self.old.block { last = next.block.last };
+              alike = self.old.alike + next.alike;
+            }) × (W.contents out.new ≡ W.contents out.old)) }
+        ensures begins { OnOk result
+            (bytes_eq next.block.text.items self.old.block.text.items ≡ false
+            → (self.new ≡ record {
+              block = next.block;
+              blocks = self.old.blocks + next.blocks;
+              alike = self.old.alike + next.alike;
+            }) × Appends (W.contents out.old) (W.contents out.new)
+            (block_text (positions_of self.old.block))) }
+        ensures shown { P.shown progress.new ≡ P.shown progress.old }
+    {
+        let Self {
+            block,
+            blocks,
+            alike,
+        } = next;
+        if block.text.as_slice() == self.block.text.as_slice() {
+            self.block.last = block.last;
+        } else {
+            print_block(alloc, &self.block, progress, out)?;
+            self.blocks += blocks;
+            self.block = block;
+        }
+        self.alike += alike;
+        Ok(())
+    }
+}
+
 /// What was swept: the machine after the last position's run, and the counts.
 #[derive(Drop)]
 struct Done {
@@ -164,64 +227,34 @@ struct Done {
     total: Total,
 }
 
-/// Adds a position with this outcome to the block, or prints the block and begins another. Returns the machine.
-fn push_outcome<P: Progress, W: Write>(
+/// The outcome of a position of a sweep. It is shown then that the position is done.
+fn outcome_shown<P: Progress>(
     alloc: Global,
-    outcome: Outcome,
+    machine: Machine,
+    sweep: Sweep<'_>,
     position: usize,
-    block: &mut Block,
-    total: &mut Total,
     progress: &mut P,
-    out: &mut W,
-) -> Result<Machine, Failure>
-    requires few { total.old.blocks < total.old.positions }
+) -> Result<Outcome, Failure>
+    requires swept { IsSwept sweep machine.kernel.boot }
+    requires from { sweep.range.from ≤ position }
+    requires end { position < sweep.range.end }
+    requires within { sweep.range.end ≤ length sweep.records.now + 1 }
     ensures err { IfErr result IsWanting }
-    ensures machine { IfOk result (λ machine. machine ≡ outcome.machine) }
-    ensures positions { OnOk result (total.new.positions ≡ total.old.positions) }
-    ensures goes_on { OnOk result
-        (bytes_eq outcome.text.items (positions_of block.old).text ≡ true
-        → (positions_of block.new ≡ record (positions_of block.old) { last = position })
-        × (total.new ≡ total.old) × (W.contents out.new ≡ W.contents out.old)) }
-    ensures begins { OnOk result
-        (bytes_eq outcome.text.items (positions_of block.old).text ≡ false
-        → (positions_of block.new
-        ≡ record { first = position; last = position; text = outcome.text.items })
-        × (total.new ≡ record total.old { blocks = total.old.blocks + 1 })
-        × Appends (W.contents out.old) (W.contents out.new)
-        (block_text (positions_of block.old))) }
-    ensures shown { P.shown progress.new ≡ P.shown progress.old }
+    ensures outcome { IfOk result (λ o. let s = sweep_of sweep.entry machine.kernel.boot in
+        (o.text.items ≡ text_at s position) × (o.is_alike ≡ is_alike_at s position)
+        × (o.machine.kernel ≡ (run_at s position).kernel)) }
+    ensures boot { IfOk result (λ o. o.machine.kernel.boot ≡ machine.kernel.boot) }
+    ensures shown { OnOk result (let range = sweep.entry.range in P.shown progress.new
+        ≡ P.shown progress.old
+        ++ record { done = position - range.from + 1; all = range.end - range.from } ∷ []) }
+    ensures same { IfErr result (λ _. P.shown progress.new ≡ P.shown progress.old) }
 {
-    let Outcome { machine, text, .. } = outcome;
-    if text.as_slice() == block.text.as_slice() {
-        block.last = position;
-    } else {
-        print_block(alloc, block, progress, out)?;
-        total.blocks += 1;
-        *block = Block {
-            first: position,
-            last: position,
-            text,
-        };
-    }
-    Ok(machine)
-}
-
-/// Prints the last block, after which the machine and the counts are those of the sweep.
-fn print_last<P: Progress, W: Write>(
-    alloc: Global,
-    done: Done,
-    block: &Block,
-    progress: &mut P,
-    out: &mut W,
-) -> Result<Done, Failure>
-    ensures err { IfErr result IsWanting }
-    ensures done { IfOk result (λ same. same ≡ done) }
-    ensures bytes { OnOk result (Appends (W.contents out.old) (W.contents out.new)
-        (block_text (positions_of block.now))) }
-    ensures shown { P.shown progress.new ≡ P.shown progress.old }
-{
-    print_block(alloc, block, progress, out)?;
-    Ok(done)
+    let outcome = outcome_at(alloc, machine, sweep, position)?;
+    progress.show(Part {
+        done: position - sweep.range.from + 1,
+        all: sweep.range.end - sweep.range.from,
+    });
+    Ok(outcome)
 }
 
 /// Sweeps positions, of which the first has this outcome, and prints their blocks.
@@ -261,39 +294,24 @@ fn print_more<P: Progress, W: Write>(
     let range = sweep.range;
     let all = range.end - range.from;
     let mut machine = first.machine;
-    let mut total = Total {
-        positions: all,
-        blocks: 1,
-        alike: usize::from(first.is_alike),
-    };
-    let mut current = Block {
-        first: range.from,
-        last: range.from,
-        text: first.text,
-    };
+    let mut tally = Tally::one(range.from, first.text, first.is_alike);
     progress.show(Part { done: 1, all });
     for position in range.from + 1..range.end {
-        let outcome = outcome_at(alloc, machine, sweep, position)?;
-        progress.show(Part {
-            done: position - range.from + 1,
-            all,
-        });
-        total.alike += usize::from(outcome.is_alike);
-        machine = push_outcome(
-            alloc,
-            outcome,
-            position,
-            &mut current,
-            &mut total,
-            progress,
-            out,
-        )?;
+        let outcome = outcome_shown(alloc, machine, sweep, position, progress)?;
+        machine = outcome.machine;
+        let next = Tally::one(position, outcome.text, outcome.is_alike);
+        tally.push(alloc, next, progress, out)?;
     }
-    print_last(alloc, Done { machine, total }, &current, progress, out)
+    print_block(alloc, &tally.block, progress, out)?;
+    let total = Total {
+        positions: all,
+        blocks: tally.blocks,
+        alike: tally.alike,
+    };
+    Ok(Done { machine, total })
 }
 
 /// Sweeps positions, and prints their blocks.
-#[tactic(auto, using(crate::proofs::SweptLemmas::none_shown, crate::proofs::SweptLemmas::none_shown_failed))]
 fn print_positions<P: Progress, W: Write>(
     alloc: Global,
     machine: Machine,
@@ -425,6 +443,13 @@ fn end_sweep<F: FileWriter, W: Write>(
     Ok(how_ended(done.total))
 }
 
+/// A sweep, and what is wanted, by which its positions were chosen.
+#[derive(Clone, Copy)]
+struct Plan<'a> {
+    sweep: Sweep<'a>,
+    wanted: SweepWanted<'a>,
+}
+
 /// Sweeps a history that was replayed, prints its blocks and the counts, and then writes a history if that is
 /// wanted.
 fn sweep_replayed<R: Drop, F: FileWriter + Drop, W: Write + Drop, P: Progress>(
@@ -432,28 +457,45 @@ fn sweep_replayed<R: Drop, F: FileWriter + Drop, W: Write + Drop, P: Progress>(
     channels: &mut Channels<R, F, W>,
     progress: &mut P,
     machine: Machine,
-    sweep: Sweep<'_>,
-    wanted: SweepWanted<'_>,
+    plan: Plan<'_>,
 ) -> Result<Swept, Failure>
-    requires swept { IsSwept sweep machine.kernel.boot }
-    requires from { sweep.range.from ≡ wanted.from }
-    requires end { sweep.range.end ≡ min wanted.to (length sweep.records.now) + 1 }
+    requires swept { IsSwept plan.sweep machine.kernel.boot }
+    requires from { plan.sweep.range.from ≡ plan.wanted.from }
+    requires end { plan.sweep.range.end ≡ min plan.wanted.to (length plan.sweep.records.now) + 1 }
     ensures reader { channels.new.reader ≡ channels.old.reader }
     ensures done { (ws : List Written) × (ps : List Parts)
         × (F.written channels.new.files ≡ F.written channels.old.files ++ ws)
         × (P.shown progress.new ≡ P.shown progress.old ++ ps)
-        × IsDone (sweep_of sweep.entry machine.kernel.boot) wanted.entry.from wanted.entry.to
-        (option_map (λ s. s.now) wanted.entry.save) ws ps
+        × IsDone (sweep_of plan.entry.sweep machine.kernel.boot) plan.entry.wanted.from plan.entry.wanted.to
+        (option_map (λ s. s.now) plan.entry.wanted.save) ws ps
         (λ text. Appends (W.contents channels.old.out) (W.contents channels.new.out) text) result }
 {
-    let done = print_positions(alloc, machine, sweep, progress, &mut channels.out)?;
+    let done = print_positions(alloc, machine, plan.sweep, progress, &mut channels.out)?;
     end_sweep(
         alloc,
         &done,
         &mut channels.files,
         &mut channels.out,
-        wanted.save,
+        plan.wanted.save,
     )
+}
+
+/// Replays a history. If an event of it is refused, answers in which line of the saved text, and why.
+fn replay_history(machine: &mut Machine, records: &[Record]) -> Result<(), (usize, Refusal)>
+    requires { All (λ (x : Recorded). x.actor < actors (world_of machine.old)) records.now }
+    ensures accepted { OnOk result
+        (AreAccepted (world_of machine.old) (events_of_history records.now)) }
+    ensures kept { OnOk result (machine.new.kernel
+        ≡ kept_of machine.old.kernel (world_of machine.old) (events_of_history records.now)) }
+    ensures refused { IfErr result (λ p. (n : ℕ)
+        × IsRefusedAt (world_of machine.old) records.now n p.1
+        × (p.0 ≡ lines_above (world_of machine.old).table.rules + n)) }
+{
+    let above = lines_above(machine.rules());
+    match perform_records(machine, records) {
+        Ok(()) => Ok(()),
+        Err((number, refusal)) => Err((above + number, refusal)),
+    }
 }
 
 /// Replays a history, and sweeps it; or prints the event that is refused.
@@ -462,26 +504,24 @@ fn sweep_started<R: Drop, F: FileWriter + Drop, W: Write + Drop, P: Progress>(
     channels: &mut Channels<R, F, W>,
     progress: &mut P,
     machine: Machine,
-    sweep: Sweep<'_>,
-    wanted: SweepWanted<'_>,
+    plan: Plan<'_>,
 ) -> Result<Swept, Failure>
-    requires ready { IsReady machine sweep.config.now sweep.other sweep.records.now }
-    requires from { sweep.range.from ≡ wanted.from }
-    requires end { sweep.range.end ≡ min wanted.to (length sweep.records.now) + 1 }
+    requires ready { IsReady machine plan.sweep.config.now plan.sweep.other plan.sweep.records.now }
+    requires from { plan.sweep.range.from ≡ plan.wanted.from }
+    requires end { plan.sweep.range.end ≡ min plan.wanted.to (length plan.sweep.records.now) + 1 }
     ensures reader { channels.new.reader ≡ channels.old.reader }
     ensures done { (ws : List Written) × (ps : List Parts)
         × (F.written channels.new.files ≡ F.written channels.old.files ++ ws)
         × (P.shown progress.new ≡ P.shown progress.old ++ ps)
-        × IsDone (sweep_of sweep.entry (world_of machine)) wanted.entry.from wanted.entry.to
-        (option_map (λ s. s.now) wanted.entry.save) ws ps
+        × IsDone (sweep_of plan.entry.sweep (world_of machine)) plan.entry.wanted.from plan.entry.wanted.to
+        (option_map (λ s. s.now) plan.entry.wanted.save) ws ps
         (λ text. Appends (W.contents channels.old.out) (W.contents channels.new.out) text) result }
 {
     let mut machine = machine;
-    let above = lines_above(machine.rules());
-    if let Err((number, refusal)) = perform_records(&mut machine, sweep.records) {
-        return print_refused(alloc, above + number, refusal, &mut channels.out);
+    if let Err((line, refusal)) = replay_history(&mut machine, plan.sweep.records) {
+        return print_refused(alloc, line, refusal, &mut channels.out);
     }
-    sweep_replayed(alloc, channels, progress, machine, sweep, wanted)
+    sweep_replayed(alloc, channels, progress, machine, plan)
 }
 
 /// Sweeps a history that is read, prints its blocks and the counts, and then writes a history if that is
@@ -517,7 +557,7 @@ fn sweep_begun<R: Drop, F: FileWriter + Drop, W: Write + Drop, P: Progress>(
         range: range_of(wanted, records.len()),
         bound: wanted.bound,
     };
-    sweep_started(alloc, channels, progress, machine, sweep, wanted)
+    sweep_started(alloc, channels, progress, machine, Plan { sweep, wanted })
 }
 
 /// How a sweep ended, by its counts.

@@ -1,6 +1,6 @@
 //! A machine that one thread drives in turns.
 
-ghost use Rattle.std.specs.Prelude.{◌≡◌, ◌<◌, ◌++◌, [], List, None, IfErr, IfOk, false, length, option_map};
+ghost use Rattle.std.specs.Prelude.{◌≡◌, ◌<◌, ◌++◌, ◌∷◌, [], List, None, IfErr, IfOk, OnOk, length, option_map};
 ghost use Rattle.std.specs.Io.KnownBytes.{Appends};
 ghost use Rattle.mx_machine.specs.Machine.{world_of};
 ghost use Rattle.mx_machine.specs.Boot.{world_at_boot};
@@ -9,8 +9,12 @@ ghost use Rattle.mx_machine.specs.World.{actors};
 ghost use Rattle.mx_walk.specs.declared.progress.Part.{Part as Parts};
 ghost use Rattle.mx_machine.specs.declared.config.Config.{Config as Configured};
 ghost use Rattle.mx_app_step.specs.Asked.{Asked};
-ghost use Rattle.mx_app_step.specs.Written.{Written};
-ghost use Rattle.mx_app_turns.specs.Turned.{IsBegun, IsNotBegun, MakesTurns, writes_over};
+ghost use Rattle.mx_machine.specs.History.{replay};
+ghost use Rattle.mx_app_step.specs.Kept.{text_kept};
+ghost use Rattle.mx_app_step.specs.Report.{report_text};
+ghost use Rattle.mx_app_step.specs.Telling.{IsUnsaved};
+ghost use Rattle.mx_app_step.specs.Written.{Written, kept};
+ghost use Rattle.mx_app_turns.specs.Turned.{IsBegun, IsNotBegun, IsTurned, MakesTurns, ShowsTurns, coming, writes_over};
 
 use crate::events::OutsideEvents;
 use mx_app_failure::Failure;
@@ -112,38 +116,23 @@ pub fn writes_over(config: &str, events: Option<&str>, log: &str) -> bool
     }
 }
 
-/// On a machine that was begun: makes its turns, writes its history to a file, and prints the report, as `turns`
-/// says of a machine whose configuration and events were read. If LOG has the name of a service's program, none of
-/// this is done.
-fn turn_begun<R: Drop, F: FileWriter + Drop, W: Write + Drop, P: Progress>(
-    alloc: Global,
-    channels: &mut Channels<R, F, W>,
-    begun: &mut Begun,
-    names: TurnsNames<'_>,
-    wanted: TurnsWanted,
-    progress: &mut P,
-) -> Result<Ending, Failure>
-    requires apart { writes_over names.config.now (option_map (λ s. s.now) names.events)
-        names.log.now ≡ false }
+/// Makes the turns of a machine that was begun, with its outside events and then ticks to come. Answers how they
+/// ended.
+fn drive<P: Progress>(begun: &mut Begun, wanted: TurnsWanted, progress: &mut P) -> Ending
     requires kernel { begun.old.machine.kernel
         ≡ record { boot = world_of begun.old.machine; history = [] } }
     requires other { length (world_of begun.old.machine).cpus
         < actors (world_of begun.old.machine) }
-    ensures reader { channels.new.reader ≡ channels.old.reader }
-    ensures made { (qs : List Asked) (vs : List Service)
-        → IsBegun names.entry.config.now (option_map (λ s. s.now) names.entry.events) qs
-        begun.old.config vs begun.old.events.items
+    ensures turned { (vs : List Service)
         → world_of begun.old.machine ≡ world_at_boot begun.old.config vs
-        → (ws : List Written) × (ps : List Parts)
-        × (F.written channels.new.files ≡ F.written channels.old.files ++ ws)
-        × (P.shown progress.new ≡ P.shown progress.old ++ ps)
-        × MakesTurns names.entry.config.now (option_map (λ s. s.now) names.entry.events)
-        names.entry.log.now wanted.ticks wanted.bound qs ws ps
-        (λ text. Appends (W.contents channels.old.out) (W.contents channels.new.out) text) result }
+        → IsTurned begun.old.config vs wanted.bound
+        (coming begun.old.events.items wanted.ticks) begun.new.machine.kernel result }
+    ensures shown { (vs : List Service)
+        → world_of begun.old.machine ≡ world_at_boot begun.old.config vs
+        → (ps : List Parts) × (P.shown progress.new ≡ P.shown progress.old ++ ps)
+        × ShowsTurns begun.old.config vs wanted.bound
+        (coming begun.old.events.items wanted.ticks) ps }
 {
-    if names_program(&begun.config, names.log) {
-        return Err(Failure::File);
-    }
     let outside = Outside {
         events: begun.events.as_slice(),
         ticks: wanted.ticks,
@@ -152,11 +141,28 @@ fn turn_begun<R: Drop, F: FileWriter + Drop, W: Write + Drop, P: Progress>(
     let bound = u64::from(wanted.bound);
     let ending = make_turns(&mut begun.machine, outside, bound, log, progress);
     progress.clear();
-    let kernel = begun.machine.kernel();
-    kernel.facts();
-    write_history(alloc, kernel, &mut channels.files, names.log)?;
-    print_kernel_report(alloc, kernel, &mut channels.out)?;
-    Ok(ending)
+    begun.machine.kernel().facts();
+    ending
+}
+
+/// Writes the history of a kernel to a file, and prints the report.
+fn save_and_report<R: Drop, F: FileWriter + Drop, W: Write + Drop>(
+    alloc: Global,
+    channels: &mut Channels<R, F, W>,
+    kernel: &Kernel,
+    log: &str,
+) -> Result<(), Failure>
+    ensures reader { channels.new.reader ≡ channels.old.reader }
+    ensures saved { OnOk result ((F.written channels.new.files ≡ F.written channels.old.files
+        ++ kept log.now (text_kept kernel.now) ∷ [])
+        × Appends (W.contents channels.old.out) (W.contents channels.new.out)
+        (report_text (replay kernel.now).table (replay kernel.now).services)) }
+    ensures unsaved { IfErr result (λ f. (ws : List Written)
+        × (F.written channels.new.files ≡ F.written channels.old.files ++ ws)
+        × IsUnsaved log.now (text_kept kernel.now) ws f) }
+{
+    write_history(alloc, kernel, &mut channels.files, log)?;
+    print_kernel_report(alloc, kernel, &mut channels.out)
 }
 
 /// Makes turns of the machine of a configuration, with the outside events of a file and then ticks to come,
@@ -184,5 +190,10 @@ pub fn turns<R: Reader + Drop, F: FileWriter + Drop, W: Write + Drop, P: Progres
         return Err(Failure::File);
     }
     let mut begun = begin(alloc, &mut channels.reader, names.config, names.events)?;
-    turn_begun(alloc, channels, &mut begun, names, wanted, progress)
+    if names_program(&begun.config, names.log) {
+        return Err(Failure::File);
+    }
+    let ending = drive(&mut begun, wanted, progress);
+    save_and_report(alloc, channels, begun.machine.kernel(), names.log)?;
+    Ok(ending)
 }

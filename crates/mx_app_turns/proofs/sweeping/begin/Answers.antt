@@ -1,5 +1,5 @@
 use Rattle.std.proofs.Common.{[], ◌∷◌, ◌++◌, inl, inr, refl}
-use Rattle.std.proofs.lemmas.Result.{IfErr-at_err, IfErr-weaker, IfOk-at_ok, IfOk-weaker, err_from_is_err_and}
+use Rattle.std.proofs.lemmas.Result.{err_from_is_err_and}
 use Rattle.mx_app_start.proofs.SetupLemmas.{asked_on}
 use Rattle.mx_app_step.proofs.ReplayLemmas.{saved_by_actors}
 use Rattle.mx_app_step.specs.Machine.{world_of}
@@ -12,42 +12,35 @@ returns-in_err-started-clause-fault g c =
     let h = c.in_err-started.ensures.fault in
     rw (p.1, p.2) (h.0, h.1, inl h.2)
 
+pub returns-in_err-fault-clause-fault : goal.returns-in_err-fault-clause-fault
+returns-in_err-fault-clause-fault g c =
+    let p = err_from_is_err_and c.from_residual-in_err-fault.result c.from_residual-in_err-fault.ensures.1 in
+    let s = c.in_ok-started.ensures.started in
+    let h = c.in_err-fault.ensures.fault in
+    rw (p.1, p.2) (
+      s.0 ++ h.0 ∷ [],
+      asked_on (g.R.Reader.asked c.args.reader.now) (g.R.Reader.asked c.start.new.reader) (g.R.Reader.asked c.fault_of.new.reader) s.0 (h.0 ∷ []) s.3 h.1,
+      inr (s.0, h.0, s.1, s.2, c.in_ok-started.started.lines.items, refl, s.4, h.2),
+    )
+
 pub returns-clause-begun : goal.returns-clause-begun
 returns-clause-begun g c =
     let s = c.in_ok-started.ensures.started in
-    IfOk-weaker c.with_fault.result _ _ (λ b h. (
-    let t = IfOk-at_ok _ h.1 c.fault_of-fault.ensures.read in
-    rw h.0 (
+    let t = c.in_ok-fault.ensures.read in (
       s.0 ++ t.0 ∷ [],
       s.1,
       s.2,
-      asked_on (g.R.Reader.asked c.args.reader.now) (g.R.Reader.asked c.start.new.reader) (g.R.Reader.asked c.fault_of-fault.new.reader) s.0 (t.0 ∷ []) s.3 t.2,
+      asked_on (g.R.Reader.asked c.args.reader.now) (g.R.Reader.asked c.start.new.reader) (g.R.Reader.asked c.fault_of.new.reader) s.0 (t.0 ∷ []) s.3 t.2,
       (s.0, t.0, t.1, refl, s.4, t.3, t.4),
       s.5,
       s.6,
       s.7,
     )
-    )) c.with_fault.ensures.begun
 
 pub returns-clause-ready : goal.returns-clause-ready
 returns-clause-ready g c =
     let s = c.in_ok-started.ensures.started in
     let m = c.in_ok-started.started.machine in
     let items = c.in_ok-started.started.lines.items in
-    IfOk-weaker c.with_fault.result _ _ (λ b h. (
-    rw h.0 (
     ready m c.in_ok-started.started.config s.1 c.in_ok-started.started.other items s.2 c.in_ok-started.ensures.kernel s.5 s.7 s.8 s.9 s.6
     (saved_by_actors c.args.names.config.now c.args.names.log.now s.0 s.1 s.2 items items (world_of m) refl s.5 s.4)
-    )
-    )) c.with_fault.ensures.begun
-
-pub returns-clause-fault : goal.returns-clause-fault
-returns-clause-fault g c =
-    let s = c.in_ok-started.ensures.started in
-    IfErr-weaker c.with_fault.result _ _ (λ f same. (
-    let h = IfErr-at_err _ same c.fault_of-fault.ensures.fault in (
-      s.0 ++ h.0 ∷ [],
-      asked_on (g.R.Reader.asked c.args.reader.now) (g.R.Reader.asked c.start.new.reader) (g.R.Reader.asked c.fault_of-fault.new.reader) s.0 (h.0 ∷ []) s.3 h.1,
-      inr (s.0, h.0, s.1, s.2, c.in_ok-started.started.lines.items, refl, s.4, h.2),
-    )
-    )) c.with_fault.ensures.fault
