@@ -68,13 +68,19 @@ fn next_line<L: LineReader>(lines: &mut L, line: &mut Vec<u8>) -> Result<bool, F
     Ok(lines.next(line)?)
 }
 
+/// A session: what it has in hand, and whether it asks for each line.
+#[derive(Drop)]
+struct Session {
+    sight: Sight,
+    asks: bool,
+}
+
 /// Prints the answer to a line, and what asks for the next; answers what is in hand then, or nothing if the
 /// line ends the session.
 fn reply<P: Progress, W: Write>(
     alloc: Global,
-    sight: Sight,
+    session: Session,
     line: &[u8],
-    asks: bool,
     progress: &mut P,
     out: &mut W,
 ) -> Result<Option<Sight>, Failure>
@@ -83,12 +89,13 @@ fn reply<P: Progress, W: Write>(
         ((ends line.now ≡ true) × (P.shown progress.new ≡ P.shown progress.old)
         × (W.contents out.new ≡ W.contents out.old))
         (λ s. (ends line.now ≡ false) × ((text : List ℕ) × (ps : List Parts)
-        × IsAnswered sight line.now s text × IsShown sight line.now ps
+        × IsAnswered session.sight line.now s text × IsShown session.sight line.now ps
         × (P.shown progress.new ≡ P.shown progress.old ++ ps)
         × Appends (W.contents out.old) (W.contents out.new)
-        (text ++ prompt_text asks s.walker)))) }
+        (text ++ prompt_text session.asks s.walker)))) }
     ensures grown { IfErr result (λ _. HasGrown (P.shown progress.old) (P.shown progress.new)) }
 {
+    let Session { sight, asks } = session;
     match answer_line(alloc, sight, line, asks, progress)? {
         Some((next, text)) => {
             print_text(text.as_slice(), out)?;
@@ -96,13 +103,6 @@ fn reply<P: Progress, W: Write>(
         }
         None => Ok(None),
     }
-}
-
-/// A session: what it has in hand, and whether it asks for each line.
-#[derive(Drop)]
-struct Session {
-    sight: Sight,
-    asks: bool,
 }
 
 /// Answers lines up to one that ends the session, or to the end of the input. No session reaches the count.
@@ -129,7 +129,8 @@ fn converse<L: LineReader, P: Progress, W: Write>(
         if !next_line(lines, &mut line)? {
             return print_end(asks, out);
         }
-        match reply(alloc, sight, line.as_slice(), asks, progress, out)? {
+        let session = Session { sight, asks };
+        match reply(alloc, session, line.as_slice(), progress, out)? {
             Some(next) => sight = next,
             None => return Ok(()),
         }
