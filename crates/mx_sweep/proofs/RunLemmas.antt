@@ -1,10 +1,9 @@
 -- Runs with a fault at a position.
 use Rattle.std.proofs.Common.{◌≡◌, ◌∙◌, ◌<◌, ◌+◌, ℕ, zero, suc, ◌++◌, List, [], ◌∷◌, length, drop, take, get_or, Option, Some, None, append_assoc, refl, ap, sym, subst, arith}
 use Rattle.std.proofs.Math.Seq.{drop-cons}
-use Rattle.std.proofs.lemmas.List.{take-append-drop}
 use Rattle.mx_app_step.specs.Kept.{event_of_line, kept_by, kept_of}
 use Rattle.mx_app_step.specs.Lines.{line_made, run_made, steps_made}
-use Rattle.mx_app_step.specs.Machine.{MachineState, kept_along, world_of}
+use Rattle.mx_app_step.specs.Machine.{MachineState, world_of}
 use Rattle.mx_boot.specs.declared.scripts.ScriptLine.{ScriptLine}
 use Rattle.mx_boot.specs.declared.scripts.ScriptLine.TheVariants.{Step, Take, Back, Line, Tick, Kill, Respawn}
 use Rattle.mx_machine.specs.declared.events.Event.{Event}
@@ -12,8 +11,8 @@ use Rattle.mx_machine.specs.declared.events.Event.TheVariants as events
 use Rattle.mx_machine.specs.declared.events.Refusal.{Refusal}
 use Rattle.mx_machine.specs.declared.history.Record.{Record}
 use Rattle.mx_machine.specs.Held.{held_run}
-use Rattle.mx_machine.specs.History.{AreAccepted, BootAndHistory, events_of, events_of_history, world_after_events}
-use Rattle.mx_machine.specs.Move.{event_refusal, move, move_by, moves, world_after_event}
+use Rattle.mx_machine.specs.History.{BootAndHistory, events_of_history, world_after_events}
+use Rattle.mx_machine.specs.Move.{event_refusal, move, move_by, moves}
 use Rattle.mx_machine.specs.Steps.{steps_of}
 use Rattle.mx_machine.specs.World.{HeldProcess, World, actors, held_by}
 use Rattle.mx_print_answers.specs.declared.said.Said.{Said}

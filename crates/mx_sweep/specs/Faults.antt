@@ -1,5 +1,5 @@
 -- The lines of a fault (our own).
-use Rattle.std.specs.Prelude.{ℕ, ◌<◌, nat_lt, if◌then◌else◌, List, [], ◌∷◌, length, Option, Some, None}
+use Rattle.std.specs.Prelude.{ℕ, nat_lt, if◌then◌else◌, List, [], ◌∷◌, length, Option, Some, None}
 use Rattle.mx_app_step.specs.Kept.{event_of_line, kept_by}
 use Rattle.mx_app_step.specs.Lines.{line_made}
 use Rattle.mx_boot.specs.declared.scripts.ScriptLine.{ScriptLine}

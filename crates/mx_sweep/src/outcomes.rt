@@ -170,46 +170,6 @@ fn compared_at(
     Ok((machine, ending, seen))
 }
 
-/// Appends the lines of a machine's outcome that follow those of the fault, and gives the machine back.
-fn with_outcome(
-    alloc: Global,
-    text: &mut Vec<u8>,
-    machine: Machine,
-    ending: Ending,
-) -> Result<Machine, AllocError>
-    ensures text { OnOk result (let w = world_of machine in text.new.items ≡ text.old.items
-        ++ end_text by.Endpoints w ending ++ kept_text w.table.devices.console.kept) }
-    ensures machine { IfOk result (λ same. same ≡ machine) }
-{
-    push_outcome(alloc, text, &machine, ending)?;
-    Ok(machine)
-}
-
-/// Makes the run of a position, and appends the lines of its outcome to a text. Answers the machine, and whether
-/// what is compared of the outcome is the same as `without`.
-fn told_at(
-    alloc: Global,
-    machine: Machine,
-    sweep: Sweep<'_>,
-    position: usize,
-    without: &[u8],
-    text: &mut Vec<u8>,
-) -> Result<(Machine, bool), NoMemory>
-    requires swept { IsSwept sweep machine.kernel.boot }
-    requires position { position ≤ length sweep.records.now }
-    ensures run { IfOk result (λ done. let run = run_of machine.kernel.boot sweep.entry.other
-        sweep.entry.records.now sweep.entry.bound sweep.entry.fault.now position in
-        (done.0.kernel ≡ run.kernel) × (world_of done.0 ≡ run.world)
-        × (text.new.items ≡ text.old.items ++ outcome_text run)
-        × (done.1 ≡ bytes_eq (seen_text run) without.entry.now)) }
-    ensures boot { IfOk result (λ done. done.0.kernel.boot ≡ machine.kernel.boot) }
-{
-    let (machine, ending, with) = compared_at(alloc, machine, sweep, position, text)?;
-    let is_alike = with.as_slice() == without;
-    let machine = with_outcome(alloc, text, machine, ending)?;
-    Ok((machine, is_alike))
-}
-
 /// The outcome of a position of a history: without the fault first, and then with it. Takes memory to boot the
 /// machine twice.
 pub fn outcome_at(
@@ -240,17 +200,11 @@ pub fn outcome_at(
         ..sweep
     };
     let (machine, _, without) = compared_at(alloc, machine, unharmed, position, &mut text)?;
-    let (machine, is_alike) = told_at(
-        alloc,
-        machine,
-        sweep,
-        position,
-        without.as_slice(),
-        &mut text,
-    )?;
+    let (machine, ending, with) = compared_at(alloc, machine, sweep, position, &mut text)?;
+    push_outcome(alloc, &mut text, &machine, ending)?;
     Ok(Outcome {
+        is_alike: with.as_slice() == without.as_slice(),
         machine,
         text,
-        is_alike,
     })
 }

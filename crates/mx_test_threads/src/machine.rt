@@ -113,10 +113,10 @@ pub fn booted(alloc: Global, wanted: Wanted) -> Result<(Blank, Vec<ActorSeat>), 
         restarts,
     } = wanted;
     if count == 0 || count > 32 || cpus == 0 || cpus > 8 || others == 0 || others > 4 {
-        return Err(Fail::new("no machine has so many"));
+        return Err(Fail::new("a machine of this size"));
     }
     if log == 0 || log > 1_048_576 || restarts > 1_048_575 {
-        return Err(Fail::new("no history or service has so many"));
+        return Err(Fail::new("a history or respawns of this size"));
     }
     let mut services = services(alloc, count, restarts)?;
     let config = config(alloc, cpus, others, log, restarts)?;

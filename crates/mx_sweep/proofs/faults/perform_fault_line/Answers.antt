@@ -1,6 +1,5 @@
-use Rattle.std.proofs.Common.{◌≡◌, ◌∙◌, Some, None, sym, refl}
+use Rattle.std.proofs.Common.{◌∙◌, sym}
 use Rattle.mx_app_step.specs.Machine.{world_of}
-use Rattle.mx_sweep.specs.Faults.{line_now}
 use Rattle.mx_sweep.proofs.RunLemmas.{fault_none, fault_some, kept_none, kept_some, now_cpus}
 use Rattle.mx_sweep.proofs.faults.perform_fault_line.Goals as goal
 

@@ -1,4 +1,4 @@
-use Rattle.std.proofs.Common.{◌≡◌, ◌∙◌, ◌++◌, ℕ, List, ap}
+use Rattle.std.proofs.Common.{◌∙◌, ◌++◌, ℕ, List, ap}
 use Rattle.mx_app_step.specs.Machine.{world_of}
 use Rattle.mx_sweep.proofs.RunLemmas.{next_kept, next_text, next_world}
 use Rattle.mx_sweep.proofs.running.perform_fault.Goals as goal
