@@ -13,9 +13,10 @@ use crate::happening::{Happening, happens};
 use crate::places::push_place;
 use crate::sight::{Sight, say};
 use crate::slots::slot_asked;
-use crate::world_texts::{Placed, push_seen, see_record};
+use crate::world_texts::{Placed, see_record};
 use mx_app_failure::Failure;
 use mx_app_step::resting_step;
+use mx_look_trace::push_record;
 use mx_walk::Progress;
 use mx_walker::Walker;
 use mx_word::NoMemory;
@@ -88,7 +89,8 @@ fn go_on_until<P: Progress>(
         let placed = Placed { above, entry };
         walker = see_record(alloc, walker, placed, &mut step, progress)?;
         if happens(happening, &step) {
-            return push_seen(out, walker, &step);
+            push_record(out, &step)?;
+            return Ok(walker);
         }
     }
     go_on_unmet(alloc, walker, out, progress)

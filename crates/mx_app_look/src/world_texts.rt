@@ -70,15 +70,6 @@ pub(crate) fn see_record<P: Progress>(
     Ok(walker)
 }
 
-/// Appends what a record did that was seen. The walker is where it was.
-pub(crate) fn push_seen(out: &mut Vec<u8>, walker: Walker, step: &Step) -> Result<Walker, NoMemory>
-    ensures same { IfOk result (λ w. w ≡ walker) }
-    ensures text { OnOk result (out.new.items ≡ out.old.items ++ record_text step.now) }
-{
-    push_record(out, step)?;
-    Ok(walker)
-}
-
 /// Appends what a record did, and goes back to where the walker was.
 fn push_record_above<P: Progress>(
     alloc: Global,
@@ -100,7 +91,7 @@ fn push_record_above<P: Progress>(
     let here = walker.here();
     let mut step = resting_step(walker.machine());
     let walker = see_record(alloc, walker, placed, &mut step, progress)?;
-    let walker = push_seen(out, walker, &step)?;
+    push_record(out, &step)?;
     Ok(walker.go_to(alloc, here, progress)?)
 }
 

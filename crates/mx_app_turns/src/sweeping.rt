@@ -466,8 +466,8 @@ fn sweep_replayed<R: Drop, F: FileWriter + Drop, W: Write + Drop, P: Progress>(
     ensures done { (ws : List Written) × (ps : List Parts)
         × (F.written channels.new.files ≡ F.written channels.old.files ++ ws)
         × (P.shown progress.new ≡ P.shown progress.old ++ ps)
-        × IsDone (sweep_of plan.entry.sweep machine.kernel.boot) plan.entry.wanted.from plan.entry.wanted.to
-        (option_map (λ s. s.now) plan.entry.wanted.save) ws ps
+        × IsDone (sweep_of plan.entry.sweep machine.kernel.boot) plan.entry.wanted.from
+        plan.entry.wanted.to (option_map (λ s. s.now) plan.entry.wanted.save) ws ps
         (λ text. Appends (W.contents channels.old.out) (W.contents channels.new.out) text) result }
 {
     let done = print_positions(alloc, machine, plan.sweep, progress, &mut channels.out)?;
@@ -513,8 +513,8 @@ fn sweep_started<R: Drop, F: FileWriter + Drop, W: Write + Drop, P: Progress>(
     ensures done { (ws : List Written) × (ps : List Parts)
         × (F.written channels.new.files ≡ F.written channels.old.files ++ ws)
         × (P.shown progress.new ≡ P.shown progress.old ++ ps)
-        × IsDone (sweep_of plan.entry.sweep (world_of machine)) plan.entry.wanted.from plan.entry.wanted.to
-        (option_map (λ s. s.now) plan.entry.wanted.save) ws ps
+        × IsDone (sweep_of plan.entry.sweep (world_of machine)) plan.entry.wanted.from
+        plan.entry.wanted.to (option_map (λ s. s.now) plan.entry.wanted.save) ws ps
         (λ text. Appends (W.contents channels.old.out) (W.contents channels.new.out) text) result }
 {
     let mut machine = machine;

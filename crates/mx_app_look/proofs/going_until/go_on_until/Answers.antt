@@ -1,7 +1,6 @@
 use Rattle.std.proofs.Common.{◌≡◌, ◌∙◌, ◌<◌, ◌≤◌, ◌++◌, ◌-◌, ℕ, List, length, get_or, Option, Some, None, find, refl, ap, subst, sym, arith}
 use Rattle.std.proofs.lemmas.Result.{IfOk-weaker}
 use Rattle.std.specs.List.{range_with_len}
-use Rattle.mx_look_trace.specs.Trace.{record_text}
 use Rattle.mx_machine.specs.declared.history.Record.{Record}
 use Rattle.mx_walk.specs.declared.positions.Position.{Position}
 use Rattle.mx_walk.specs.Positions.{IsPosition, IsUpTo}
@@ -15,7 +14,7 @@ use Rattle.mx_app_look.specs.Searches.{not_met}
 use Rattle.mx_app_look.specs.Until.{halt_below, has, met, until_halt}
 use Rattle.mx_app_look.proofs.Meeting.{met_from}
 use Rattle.mx_app_look.proofs.Moving.{read_is}
-use Rattle.mx_app_look.proofs.ShownMore.{err_always, err_weaker, grown_by, grown_more, grown_same, halts_last, ok_always, ok_weaker, on_here, on_one_more, passed_one, shown_until_here, shown_until_last}
+use Rattle.mx_app_look.proofs.ShownMore.{err_always, err_weaker, grown_by, grown_more, grown_same, halts_last, ok_weaker, on_here, on_one_more, passed_one, shown_until_here, shown_until_last}
 use Rattle.mx_app_look.proofs.going_until.go_on_until.Goals as goal
 
 -- it happens in none of the records
@@ -55,7 +54,7 @@ returns-then-happens-clause-walker g c =
     let few : k.last.records ≤ length k.records = subst (λ (p : Position). p.records ≤ length k.records) c.last-last.ensures.last c.last-last.ensures.is.position.above in
     let halts = halts_here k c.loop-above.walker c.args.happening c.records.result.now c.loop-above.above _ c.see_record.new.step inv.walker c.records.ensures lt few
     c.in_ok-walker.ensures.step inv.none (sym c.happens.ensures ∙ c.if-happens.true) c.in_ok-walker.walker c.in_ok-walker.ensures.walker in
-    IfOk-weaker c.push_seen.result _ _ (λ (w : Walk) same. same ∙ halts) c.push_seen.ensures.same
+    halts
 
 pub returns-then-happens-clause-text : goal.returns-then-happens-clause-text
 returns-then-happens-clause-text g c =
@@ -65,9 +64,8 @@ returns-then-happens-clause-text g c =
     let few : k.last.records ≤ length k.records = subst (λ (p : Position). p.records ≤ length k.records) c.last-last.ensures.last c.last-last.ensures.is.position.above in
     let out = c.loop-above.out.items in
     let step = c.see_record.new.step in
-    ok_weaker c.push_seen.result _ _ (λ (added : c.push_seen.new.out.items ≡ out ++ record_text step).
     appends_it k c.loop-above.walker c.args.happening c.records.result.now c.loop-above.above _ step inv.walker c.records.ensures lt few
-    c.in_ok-walker.ensures.step inv.none (sym c.happens.ensures ∙ c.if-happens.true) out c.args.out.now.items c.push_seen.new.out.items inv.nothing added) c.push_seen.ensures.text
+    c.in_ok-walker.ensures.step inv.none (sym c.happens.ensures ∙ c.if-happens.true) out c.args.out.now.items c.push_record.new.out.items inv.nothing c.in_ok-push_record.ensures
 
 pub loop-above-preserved : goal.loop-above-preserved
 loop-above-preserved g c =
@@ -113,7 +111,7 @@ returns-then-happens-clause-shown g c =
     let before = g.P.Progress.shown c.args.progress.now in
     let after = g.P.Progress.shown c.see_record.new.progress in
     let a = passed_one k w rs n _ inv.walker c.records.ensures lt few inv.on before (g.P.Progress.shown c.loop-above.progress) after inv.shown c.in_ok-walker.ensures.shown in
-    ok_always c.push_seen.result _ (shown_until_here k u w (until_halt k c.args.happening).0 n before after there halts (on_one_more k w rs n any_record inv.walker c.records.ensures lt few inv.on u there) a)
+    shown_until_here k u w (until_halt k c.args.happening).0 n before after there halts (on_one_more k w rs n any_record inv.walker c.records.ensures lt few inv.on u there) a
 
 pub returns-clause-walker : goal.returns-clause-walker
 returns-clause-walker g c =
@@ -152,9 +150,9 @@ returns-clause-shown g c =
 pub returns-in_err-walker-clause-grown : goal.returns-in_err-walker-clause-grown
 returns-in_err-walker-clause-grown g c = err_always c.from_residual.result _ (grown_more _ _ _ (grown_by _ _ _ c.loop-above.invariant.shown) c.in_err-walker.ensures.grown)
 
-pub returns-then-happens-clause-grown : goal.returns-then-happens-clause-grown
-returns-then-happens-clause-grown g c =
-    err_always c.push_seen.result _ (grown_more _ _ _ (grown_by _ _ _ c.loop-above.invariant.shown) (grown_by _ _ _ c.in_ok-walker.ensures.shown))
+pub returns-in_err-push_record-clause-grown : goal.returns-in_err-push_record-clause-grown
+returns-in_err-push_record-clause-grown g c =
+    err_always c.from_residual-in_err-push_record.result _ (grown_more _ _ _ (grown_by _ _ _ c.loop-above.invariant.shown) (grown_by _ _ _ c.in_ok-walker.ensures.shown))
 
 pub returns-clause-grown : goal.returns-clause-grown
 returns-clause-grown g c = err_weaker c.go_on_unmet.result _ _ (λ same. grown_more _ _ _ (grown_by _ _ _ c.loop-above.invariant.shown) (grown_same _ _ same)) c.go_on_unmet.ensures.unshown

@@ -1,7 +1,7 @@
-use Rattle.std.proofs.Common.{◌≡◌, ◌∙◌, ◌++◌, List, ap, subst, sym, arith}
+use Rattle.std.proofs.Common.{◌≡◌, ◌∙◌, List, ap, subst, sym, arith}
 use Rattle.mx_machine.specs.declared.history.Record.{Record}
 use Rattle.mx_walk.specs.Positions.{IsPosition}
-use Rattle.mx_walker.specs.Walks.{Walk, shown_to}
+use Rattle.mx_walker.specs.Walks.{Walk}
 use Rattle.mx_app_look.proofs.Moving.{records_up_to}
 use Rattle.mx_walk.specs.declared.positions.Position.{Position}
 use Rattle.mx_app_look.specs.Shows.{record_shown}
@@ -18,13 +18,11 @@ see_record-requires-clause-there g c =
 
 pub go_to-requires-clause-position : goal.go_to-requires-clause-position
 go_to-requires-clause-position g c =
-    let same = c.in_ok-walker-2.ensures.same ∙ c.in_ok-walker.ensures.walker in
-    subst (λ (rs : List Record). IsPosition rs c.here-here.result) (sym (ap (λ (w : Walk). w.records) same)) c.here-here.ensures.position
+    subst (λ (rs : List Record). IsPosition rs c.here-here.result) (sym (ap (λ (w : Walk). w.records) c.in_ok-walker.ensures.walker)) c.here-here.ensures.position
 
 pub returns-clause-same : goal.returns-clause-same
 returns-clause-same g c =
-    let same = c.in_ok-walker-2.ensures.same ∙ c.in_ok-walker.ensures.walker in
-    c.in_ok-go_to.ensures.gone ∙ ap (λ (w : Walk). let i : Walk = record w { here = c.here-here.result } in i) same
+    c.in_ok-go_to.ensures.gone ∙ ap (λ (w : Walk). let i : Walk = record w { here = c.here-here.result } in i) c.in_ok-walker.ensures.walker
     ∙ ap (λ (p : Position). let i : Walk = record c.args.walker { here = p } in i) c.here-here.ensures.here
 
 pub returns-clause-shown : goal.returns-clause-shown
@@ -32,14 +30,13 @@ returns-clause-shown g c =
     let k = c.args.walker in
     let n = c.args.placed.above in
     then_none k c.in_ok-walker.walker n c.here-here.result (g.P.Progress.shown c.args.progress.now) (g.P.Progress.shown c.see_record.new.progress) (g.P.Progress.shown c.go_to.new.progress) (record_shown k n c.args.placed.entry)
-    (c.requires.there ∙ ap (λ (p : Position). p.records) (sym c.here-here.ensures.here)) c.in_ok-walker.ensures.walker c.in_ok-walker.ensures.shown
-    (c.in_ok-go_to.ensures.shown ∙ ap (λ (w : Walk). g.P.Progress.shown c.see_record.new.progress ++ shown_to w c.here-here.result) c.in_ok-walker-2.ensures.same)
+    (c.requires.there ∙ ap (λ (p : Position). p.records) (sym c.here-here.ensures.here)) c.in_ok-walker.ensures.walker c.in_ok-walker.ensures.shown c.in_ok-go_to.ensures.shown
 
 pub returns-in_err-walker-clause-grown : goal.returns-in_err-walker-clause-grown
 returns-in_err-walker-clause-grown g c = err_always c.from_residual.result _ c.in_err-walker.ensures.grown
 
-pub returns-in_err-walker-2-clause-grown : goal.returns-in_err-walker-2-clause-grown
-returns-in_err-walker-2-clause-grown g c = err_always c.from_residual-in_err-walker-2.result _ (grown_by _ _ _ c.in_ok-walker.ensures.shown)
+pub returns-in_err-push_record-clause-grown : goal.returns-in_err-push_record-clause-grown
+returns-in_err-push_record-clause-grown g c = err_always c.from_residual-in_err-push_record.result _ (grown_by _ _ _ c.in_ok-walker.ensures.shown)
 
 pub returns-in_err-go_to-clause-grown : goal.returns-in_err-go_to-clause-grown
 returns-in_err-go_to-clause-grown g c =
