@@ -1,0 +1,87 @@
+"""Commands of the grader's own: each is bounded, and what it prints can be shown to anybody."""
+import os
+import resource
+import signal
+import subprocess
+import tempfile
+
+MOST_OUTPUT = 1 << 22  # of what a command prints
+SHOWN = 300  # characters of a text that is shown
+MEMORY = 1 << 30  # of a compiler
+# What would change what gcc reads.
+NOT_PASSED = ("CPATH", "C_INCLUDE_PATH", "COMPILER_PATH", "GCC_EXEC_PREFIX", "DEPENDENCIES_OUTPUT", "SUNPRO_DEPENDENCIES")
+
+
+class Lost(Exception):
+    """Why a check's points are lost: what was wanted, and what came."""
+
+    def __init__(self, why, wanted=None, came=None):
+        super().__init__(why)
+        self.why, self.wanted, self.came = why, wanted, came
+
+
+class Bounds:
+    """What a command may use at most: seconds, and bytes of a file and of memory."""
+
+    def __init__(self, seconds, file=64 << 20, memory=resource.RLIM_INFINITY):
+        self.seconds, self.file, self.memory = seconds, file, memory
+
+    def take(self):
+        """Bounds the process that calls it. A processor's second lasts longer than a second if others run too."""
+        resource.setrlimit(resource.RLIMIT_CPU, (self.seconds, self.seconds))
+        resource.setrlimit(resource.RLIMIT_FSIZE, (self.file, self.file))
+        resource.setrlimit(resource.RLIMIT_AS, (self.memory, self.memory))
+        resource.setrlimit(resource.RLIMIT_CORE, (0, 0))
+
+
+def printable(text):
+    """A text with an escape in place of what a terminal doesn't print; lines stay."""
+    return "".join(it if it.isprintable() or it == "\n" else repr(it)[1:-1] for it in str(text).replace("\t", " "))
+
+
+def shown(text):
+    """A text as it is shown: printable, and not long."""
+    text = printable(str(text)[:4 * SHOWN]).strip()
+    return text if len(text) <= SHOWN else text[:SHOWN] + " .."
+
+
+def surroundings():
+    """The environment of a command: its messages are in ASCII."""
+    return {name: it for name, it in os.environ.items() if name not in NOT_PASSED} | {"LC_ALL": "C"}
+
+
+def run(words, folder, bounds, status=(0,), given=None):
+    """Runs a command of the grader's own in a folder: what it prints. Any other status is a lost check."""
+    with tempfile.TemporaryFile() as out, tempfile.TemporaryFile() as errors, tempfile.TemporaryFile() as text:
+        text.write((given or "").encode())
+        text.seek(0)
+        try:
+            made = subprocess.Popen(words, cwd=folder, stdin=text, stdout=out, stderr=errors, env=surroundings(),
+                                    preexec_fn=bounds.take, start_new_session=True)
+        except OSError as it:
+            raise Lost(f"{words[0]} can't be run: {it.strerror}") from None
+        ended = wait(made, bounds)
+        printed, said = (read_back(it) for it in (out, errors))
+    if ended is None or -ended in (signal.SIGXCPU, signal.SIGKILL):
+        raise Lost(f"it didn't end within {bounds.seconds} seconds")
+    if ended not in status:
+        raise Lost(f"status {ended}", came=said or printed)
+    return printed
+
+
+def wait(made, bounds):
+    """The status of a command; None if it has to be stopped, with all that it started."""
+    try:
+        # Others may have the processors: its own seconds are bounded by the system.
+        return made.wait(timeout=3 * bounds.seconds)
+    except subprocess.TimeoutExpired:
+        return None
+    finally:
+        if made.poll() is None:
+            os.killpg(made.pid, signal.SIGKILL)
+            made.wait()
+
+
+def read_back(file):
+    file.seek(0)
+    return file.read(MOST_OUTPUT).decode("utf-8", "replace")
