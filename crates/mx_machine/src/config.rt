@@ -34,6 +34,14 @@ impl FileName {
     {
         self.name.as_str()
     }
+
+    /// The text itself. Takes no memory.
+    pub fn into_string(self) -> String
+        ensures { string_bytes result ≡ self }
+    {
+        let FileName { name } = self;
+        name
+    }
 }
 
 /// The line of a service in a configuration: all that its slot is booted from, except the program. It
@@ -76,6 +84,14 @@ impl ServiceLines {
     {
         self.lines.as_slice()
     }
+
+    /// The vector of the lines. Takes no memory.
+    pub fn into_vec(self) -> Vec<ServiceLine>
+        ensures { result.items ≡ self }
+    {
+        let ServiceLines { lines } = self;
+        lines
+    }
 }
 
 /// What a machine is booted from, except the programs of its services.
@@ -98,6 +114,22 @@ pub struct Config {
     ghost log_fits: { log ≤ 1048576 },
     ghost some_lines: { 0 < length lines },
     ghost lines_fit: { length lines ≤ 32 },
+}
+
+impl Config {
+    /// The lines of its services. Takes no memory.
+    pub fn into_lines(self) -> ServiceLines
+        ensures { result ≡ self.lines }
+    {
+        let Config {
+            cpus: _,
+            others: _,
+            log: _,
+            rules: _,
+            lines,
+        } = self;
+        lines
+    }
 }
 
 impl Drop for Config {
