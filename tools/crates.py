@@ -23,18 +23,30 @@ def crates_below():
     return {name: [it for it in found if it in below] for name, found in below.items()}
 
 
-def crates_of_program():
-    """The crates that the program is made of, each with those below it, lowest first."""
-    below, found = crates_below(), {}
+def lowest_first(top=None):
+    """A crate with all that it stands on, each after those below it; of all crates, if none is named."""
+    below, found = crates_below(), []
 
     def visit(name):
         if name not in found:
             for other in below[name]:
                 visit(other)
-            found[name] = below[name]
+            found.append(name)
 
-    visit(PROGRAM)
+    for name in below if top is None else [top]:
+        visit(name)
     return found
+
+
+def crates_of_program():
+    """The crates that the program is made of, each with those below it, lowest first."""
+    below = crates_below()
+    return {name: below[name] for name in lowest_first(PROGRAM)}
+
+
+def with_lower_crates():
+    """Each crate with all that it stands on, itself among them."""
+    return {name: set(lowest_first(name)) for name in crates_below()}
 
 
 def seconds_of_proofs(names):

@@ -49,7 +49,7 @@ class KeptEdits:
     def key(self, crate, edit):
         """The sum of all that a check of this edit reads."""
         own = [self.sum_of(crate, part) for part in PARTS]
-        libraries = [(it, self.sum_of(it, "out", "rlib", f"{it}.rlib")) for it in self.below[crate] if it != crate]
+        libraries = [(it, self.sum_of(it, "out", "rlib", f"{it}.rlib")) for it in sorted(self.below[crate]) if it != crate]
         with open(edit, "rb") as text:
             whole = (self.kit, self.judges, crate, own, libraries, text.read())
         return hashlib.sha256(repr(whole).encode()).hexdigest()

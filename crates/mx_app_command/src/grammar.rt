@@ -471,7 +471,7 @@ If one fails, a second line says what was wanted: at a terminal, or with --expla
 --no-explain leaves it out.";
 
 /// What `mx --version` prints after the name.
-const VERSION: &str = "0.1";
+const VERSION: &str = "0.2";
 
 /// The program without its subcommands.
 fn program<'a>(alloc: Global) -> Command<'a>
