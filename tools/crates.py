@@ -1,4 +1,5 @@
 """The crates of the program, as crates.txt lists them, and what their proofs cost."""
+import itertools
 import os
 import re
 
@@ -10,16 +11,50 @@ MEMORY = 2_500_000_000
 SECONDS = os.path.join(TOP, "tools", "proof_seconds.txt")
 # What compiling and linking the program adds, in seconds.
 LINKING = 40
+# A line of the text at the head of a crate.
+COMMENT = re.compile(r"//! ?(.*)")
 
 
-def crates_below():
-    """Each crate of crates.txt, with the crates of this repository that it uses."""
+def groups():
+    """The crates of crates.txt under its comments: pairs of a title and names. The first comment says what a line is, and
+    stands above the processor's crates."""
+    found = []
+    with open(os.path.join(TOP, "crates.txt"), encoding="utf-8") as lines:
+        for line in lines:
+            name, colon, _ = line.partition("#")[0].partition(":")
+            if line.startswith("#"):
+                found.append((line.strip("# \n").rstrip(".") if found else "The processor", []))
+            elif colon:
+                found[-1][1].append(name.split()[0])
+    return found
+
+
+def first_sentence(name):
+    """What a crate says of itself at the top of its code."""
+    for root in ("lib.rt", "main.rt"):
+        path = os.path.join(TOP, "crates", name, "src", root)
+        if os.path.isfile(path):
+            with open(path, encoding="utf-8") as file:
+                said = itertools.takewhile(None.__ne__, map(COMMENT.match, file))
+                text = " ".join(it[1] for it in said).strip()
+            return re.split(r"(?<=\.)(?=\s)", text)[0]
+    return ""
+
+
+def libraries_below():
+    """Each crate of crates.txt, with the libraries that it uses, the kit's among them."""
     below = {}
     with open(os.path.join(TOP, "crates.txt"), encoding="utf-8") as lines:
         for line in lines:
             name, colon, rest = line.partition("#")[0].partition(":")
             if colon:
                 below[name.split()[0]] = rest.split()
+    return below
+
+
+def crates_below():
+    """Each crate of crates.txt, with the crates of this repository that it uses."""
+    below = libraries_below()
     return {name: [it for it in found if it in below] for name, found in below.items()}
 
 
