@@ -3,6 +3,7 @@
 #include "text.h"
 
 #define NOBODY (-1000)          /* no endpoint */
+#define MOST_REQUEST 65535      /* after which requests are counted from 1 again */
 
 void *memcpy(void *to, const void *from, size_t count);
 
@@ -62,10 +63,32 @@ static int ask_about(int type, const char *path, message *m)
     return ask(m);
 }
 
-/* The result of a request that can't be made twice: what the second server found done isn't wrong. */
-static int unless_done(int result, int done)
+/* A request that makes a name. Its number tells the server that it was this one, if it is asked again. */
+static int ask_to_make(int type, const char *path, message *m)
 {
-    return was_asked_again && result == done ? OK : result;
+    static uint32_t requests;
+
+    requests = requests % MOST_REQUEST + 1;
+    m->p[2] = requests;
+    return ask_about(type, path, m);
+}
+
+static int is_there(const char *path)
+{
+    struct file file;
+
+    return file_lookup(path, &file) == OK;
+}
+
+/* A request that takes a name away. A successor of the server may find none, since it is done; so it is
+ * looked first whether there is one. */
+static int ask_to_remove(int type, const char *path)
+{
+    int was_there = is_there(path);
+    message m;
+    int result = ask_about(type, path, &m);
+
+    return result == ENOENT && was_there && was_asked_again ? OK : result;
 }
 
 int file_lookup(const char *path, struct file *file)
@@ -80,68 +103,69 @@ int file_lookup(const char *path, struct file *file)
 int file_create(const char *path, struct file *file)
 {
     message m;
-    int result = unless_done(ask_about(FS_CREATE, path, &m), EEXIST);
+    int result = ask_to_make(FS_CREATE, path, &m);
 
-    return result == OK ? file_lookup(path, file) : result;
+    *file = (struct file){m.p[0], m.p[1], m.p[2], m.p[3]};
+    return result;
 }
 
-static int transfer(int type, uint32_t inode, uint32_t offset, uint32_t count)
+static int transfer(int type, uint32_t number, uint32_t offset, uint32_t count)
 {
     message m = {.m_type = type};
 
-    m.p[0] = inode;
+    m.p[0] = number;
     m.p[1] = offset;
     m.p[2] = (uint32_t)shared.bytes;
     m.p[3] = count;
     return ask(&m);
 }
 
-int file_read(uint32_t inode, uint32_t offset, uint32_t count)
+int file_read(uint32_t number, uint32_t offset, uint32_t count)
 {
-    return transfer(FS_READ, inode, offset, count);
+    return transfer(FS_READ, number, offset, count);
 }
 
-int file_write(uint32_t inode, uint32_t offset, uint32_t count)
+int file_write(uint32_t number, uint32_t offset, uint32_t count)
 {
-    return transfer(FS_WRITE, inode, offset, count);
+    return transfer(FS_WRITE, number, offset, count);
 }
 
-int file_truncate(uint32_t inode)
+int file_truncate(uint32_t number)
 {
     message m = {.m_type = FS_TRUNCATE};
 
-    m.p[0] = inode;
+    m.p[0] = number;
     return ask(&m);
 }
 
 int file_unlink(const char *path)
 {
-    message m;
-
-    return unless_done(ask_about(FS_UNLINK, path, &m), ENOENT);
+    return ask_to_remove(FS_UNLINK, path);
 }
 
 int file_mkdir(const char *path)
 {
     message m;
 
-    return unless_done(ask_about(FS_MKDIR, path, &m), EEXIST);
+    return ask_to_make(FS_MKDIR, path, &m);
 }
 
 int file_rmdir(const char *path)
 {
-    message m;
-
-    return unless_done(ask_about(FS_RMDIR, path, &m), ENOENT);
+    return ask_to_remove(FS_RMDIR, path);
 }
 
+/* A name that was there and isn't any more was moved by a server that died. */
 int file_rename(const char *path, const char *new_path)
 {
+    int was_there = is_there(path);
     message m;
+    int result;
 
     m.p[2] = (uint32_t)shared.new_path;
     m.p[3] = put_path(shared.new_path, new_path);
-    return unless_done(ask_about(FS_RENAME, path, &m), ENOENT);
+    result = ask_about(FS_RENAME, path, &m);
+    return result == ENOENT && was_there && was_asked_again && !is_there(path) ? OK : result;
 }
 
 int file_room(struct room *room)

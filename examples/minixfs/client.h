@@ -2,7 +2,7 @@
  *
  * A client has one open window to the server: the place `shared`, through which paths and bytes go. If
  * the server dies over a request, its successor is asked again. It may then find what its predecessor
- * has done already, which is no error of the client's: a name that is there, or is no longer there.
+ * has done already. That is no error; but what others have made or removed is one, as without a death.
  */
 #ifndef CLIENT_H
 #define CLIENT_H
@@ -18,7 +18,7 @@ extern struct shared {
 } shared;
 
 struct file {
-    uint32_t inode;
+    uint32_t number;            /* as services.h says: no other file has it */
     uint32_t mode;
     uint32_t size;
     uint32_t links;
@@ -34,9 +34,9 @@ struct room {
 /* Each answers a result, or a count; paths end with a zero byte. */
 int file_lookup(const char *path, struct file *file);
 int file_create(const char *path, struct file *file);
-int file_read(uint32_t inode, uint32_t offset, uint32_t count);         /* to shared.bytes */
-int file_write(uint32_t inode, uint32_t offset, uint32_t count);        /* from shared.bytes */
-int file_truncate(uint32_t inode);
+int file_read(uint32_t number, uint32_t offset, uint32_t count);         /* to shared.bytes */
+int file_write(uint32_t number, uint32_t offset, uint32_t count);        /* from shared.bytes */
+int file_truncate(uint32_t number);
 int file_unlink(const char *path);
 int file_mkdir(const char *path);
 int file_rmdir(const char *path);

@@ -10,7 +10,7 @@ static void fill(const struct file *file)
     uint32_t offset;
 
     for (offset = 0; offset < BYTES; offset += SHARED_BYTES)
-        file_write(file->inode, offset, SHARED_BYTES);
+        file_write(file->number, offset, SHARED_BYTES);
 }
 
 /* The bytes that were copied. */
@@ -20,9 +20,9 @@ static uint32_t copy(const struct file *from, const struct file *to)
     int count;
 
     do {
-        count = file_read(from->inode, offset, SHARED_BYTES);
+        count = file_read(from->number, offset, SHARED_BYTES);
         if (count > 0)
-            count = file_write(to->inode, offset, count);
+            count = file_write(to->number, offset, count);
         if (count > 0)
             offset += count;
     } while (count > 0);

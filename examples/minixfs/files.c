@@ -179,49 +179,65 @@ int find_in(uint32_t directory, const char *name)
     return result == OK ? found.entry->inode : result;
 }
 
-int find_name(const struct place *place)
+int is_dot(const char *name)
 {
-    return place->name[0] == '\0' ? ROOT : find_in(place->directory, place->name);
+    return memcmp(name, ".", 2) == 0;
 }
 
-/* Takes the next part of a path: its length, 0 at the path's end, or ENAMETOOLONG. Slashes before it are
- * passed over. */
-static int next_part(const char **path, const char *end, char *name)
+int is_dots(const char *name)
 {
-    const char *start;
+    return memcmp(name, "..", 3) == 0;
+}
 
-    while (*path < end && **path == '/')
-        (*path)++;
-    start = *path;
+int is_root(const struct place *place)
+{
+    return place->name[0] == '\0';
+}
+
+int find_name(const struct place *place)
+{
+    if (is_root(place))
+        return ROOT;
+    return place->is_long ? ENAMETOOLONG : find_in(place->directory, place->name);
+}
+
+/* Takes the next part of a path, and passes over the slashes behind it. */
+static void take_part(const char **path, const char *end, struct place *place)
+{
+    const char *start = *path;
+    uint32_t length;
+
     while (*path < end && **path != '/')
         (*path)++;
-    if (*path - start > NAME_BYTES)
-        return ENAMETOOLONG;
-    memset(name, 0, NAME_BYTES);
-    memcpy(name, start, *path - start);
-    return *path - start;
+    length = *path - start;
+    place->is_long = length > NAME_BYTES;
+    memset(place->name, 0, NAME_BYTES);
+    memcpy(place->name, start, smaller(length, NAME_BYTES));
+    place->has_slash = *path < end;
+    while (*path < end && **path == '/')
+        (*path)++;
 }
 
 int find_place(const char *path, uint32_t length, struct place *place)
 {
     const char *end = path + length;
-    char name[NAME_BYTES];
-    int next;
+    struct inode inode;
+    int result = length > 0 ? read_directory(ROOT, &inode) : ENOENT;
 
-    place->directory = ROOT;
-    next = next_part(&path, end, place->name);
-    for (;;) {
-        if (next < 0)
-            return next;
-        next = next_part(&path, end, name);
-        if (next == 0)
-            return OK;
-        int inode = find_name(place);
-        if (inode < 0)
-            return inode;
-        place->directory = inode;
-        memcpy(place->name, name, NAME_BYTES);
+    *place = (struct place){.directory = ROOT};
+    while (path < end && *path == '/')
+        path++;
+    while (path < end && result == OK) {
+        take_part(&path, end, place);
+        if (path == end)
+            break;
+        result = find_name(place);
+        if (result > 0) {
+            place->directory = result;
+            result = read_directory(place->directory, &inode);
+        }
     }
+    return result;
 }
 
 /* Fills the entry and writes its block. */
@@ -311,8 +327,7 @@ int is_empty(uint32_t directory)
 
     for (index = 0; result == OK && index < inode.size / sizeof(struct entry); index++) {
         result = get_entry(&inode, index, &found);
-        if (result == OK && found.entry->inode != 0 && memcmp(found.entry->name, ".", 2) != 0
-            && memcmp(found.entry->name, "..", 3) != 0)
+        if (result == OK && found.entry->inode != 0 && !is_dot(found.entry->name) && !is_dots(found.entry->name))
             result = ENOTEMPTY;
     }
     return result;

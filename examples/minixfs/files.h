@@ -22,12 +22,19 @@ int write_first_zone(const void *bytes, uint32_t count);
 struct place {
     uint32_t directory;         /* the inode's number */
     char name[NAME_BYTES];      /* filled up with zero bytes; empty: the path names the root itself */
+    int is_long;                /* the name has more bytes: no file has it */
+    int has_slash;              /* behind the name: only a directory is meant */
 };
 
-/* Goes along a path to its last part. */
+/* Goes along a path to its last part, whose directory is there. */
 int find_place(const char *path, uint32_t length, struct place *place);
 
-/* The inode that the place's name has: its number, or ENOENT. */
+/* Whether a name is `.`, or `..`; and whether a path names the root. These aren't made, moved or removed. */
+int is_dot(const char *name);
+int is_dots(const char *name);
+int is_root(const struct place *place);
+
+/* The inode that the place's name has: its number, ENOENT or ENAMETOOLONG. */
 int find_name(const struct place *place);
 
 /* Writes a name into its directory, as another name of the inode or as the first one of this name. */

@@ -32,9 +32,9 @@ struct superblock {
 
 struct inode {
     uint16_t mode;
-    uint16_t owner;
+    uint16_t generation;        /* how many files this inode has been; MINIX has the owner here */
     uint32_t size;              /* bytes */
-    uint32_t time;
+    uint32_t maker;             /* the client and the request that made it; MINIX has a time here */
     uint8_t group;
     uint8_t links;              /* names of this file */
     uint16_t zone[ZONES];       /* 0: none, it reads as zeros */

@@ -17,28 +17,23 @@ static char path[FS_MOST_PATH];
 /* Copies a path from a client and goes along it. */
 static int take_path(int client, uint32_t address, uint32_t length, struct place *place)
 {
+    uint32_t before_zero = 0;
     int result;
 
     if (length > FS_MOST_PATH)
         return ENAMETOOLONG;
     result = sys_vircopy(client, address, self, (uint32_t)path, length);
-    return result == OK ? find_place(path, length, place) : result;
+    if (result != OK)
+        return result;
+    while (before_zero < length && path[before_zero] != '\0')
+        before_zero++;
+    return find_place(path, before_zero, place);
 }
 
-/* The inode that a request's path names. */
-static int take_file(const message *m, struct inode *inode)
+/* Whether a path ends in a name that a file may be given. */
+static int has_own_name(const struct place *place)
 {
-    struct place place;
-    int number = take_path(m->m_source, m->p[0], m->p[1], &place);
-
-    if (number == OK)
-        number = find_name(&place);
-    if (number > 0) {
-        int result = read_inode(number, inode);
-        if (result != OK)
-            return result;
-    }
-    return number;
+    return !is_root(place) && !is_dot(place->name) && !is_dots(place->name);
 }
 
 static int is_directory(const struct inode *inode)
@@ -46,70 +41,104 @@ static int is_directory(const struct inode *inode)
     return (inode->mode & MODE_KIND) == MODE_DIRECTORY;
 }
 
-static int lookup(message *m)
+/* The file that the place's name has: its inode's number. */
+static int find_file(const struct place *place, struct inode *inode)
 {
-    struct inode inode;
-    int number = take_file(m, &inode);
+    int number = find_name(place);
+    int result = number < 0 ? number : read_inode(number, inode);
 
-    if (number < 0)
-        return number;
-    m->p[0] = number;
-    m->p[1] = inode.mode;
-    m->p[2] = inode.size;
-    m->p[3] = inode.links;
+    return result == OK ? number : result;
+}
+
+/* The file that a request's path names, and where the name is. */
+static int take_file(const message *m, struct place *place, struct inode *inode)
+{
+    int number = take_path(m->m_source, m->p[0], m->p[1], place);
+
+    if (number == OK)
+        number = find_file(place, inode);
+    return number > 0 && place->has_slash && !is_directory(inode) ? ENOTDIR : number;
+}
+
+/* Answers with what a file is. Its number has its generation, which tells it from the inode's next file. */
+static int describe(message *m, int number, const struct inode *inode)
+{
+    m->p[0] = (uint32_t)inode->generation << 16 | number;
+    m->p[1] = inode->mode;
+    m->p[2] = inode->size;
+    m->p[3] = inode->links;
     return OK;
 }
 
-/* The file that a request names by number. A number that is no file's is EINVAL. */
+static int lookup(message *m)
+{
+    struct inode inode;
+    struct place place;
+    int number = take_file(m, &place, &inode);
+
+    return number < 0 ? number : describe(m, number, &inode);
+}
+
+/* The file that a request names by its number: its inode's number, or EINVAL or ESTALE. */
 static int named_file(const message *m, struct inode *inode)
 {
+    uint32_t number = m->p[0] & 0xffff;
     int result;
 
-    if ((uint32_t)m->p[0] < ROOT || (uint32_t)m->p[0] >= inode_limit())
+    if (number < ROOT || number >= inode_limit())
         return EINVAL;
-    result = read_inode(m->p[0], inode);
+    result = read_inode(number, inode);
     if (result != OK)
         return result;
-    return inode->links > 0 ? OK : EINVAL;
+    return inode->links > 0 && inode->generation == (uint32_t)m->p[0] >> 16 ? (int)number : ESTALE;
 }
 
 static int transfer(const message *m)
 {
     struct client client = {m->m_source, m->p[2]};
     struct inode inode;
-    int result = named_file(m, &inode);
+    int number = named_file(m, &inode);
 
-    if (result != OK)
-        return result;
+    if (number < 0)
+        return number;
     if ((uint32_t)m->p[3] > FS_MOST_BYTES)
         return EINVAL;
     if (m->m_type == FS_READ)
         return read_file(&inode, m->p[1], client, m->p[3]);
     if (is_directory(&inode))
         return EISDIR;
-    return write_file(m->p[0], &inode, m->p[1], client, m->p[3]);
+    return write_file(number, &inode, m->p[1], client, m->p[3]);
 }
 
 static int cut_file(const message *m)
 {
     struct inode inode;
-    int result = named_file(m, &inode);
+    int number = named_file(m, &inode);
 
-    if (result != OK)
-        return result;
-    return is_directory(&inode) ? EISDIR : empty_inode(m->p[0], &inode);
+    if (number < 0)
+        return number;
+    return is_directory(&inode) ? EISDIR : empty_inode(number, &inode);
 }
 
-/* The place of a name that isn't there yet. */
-static int take_new_place(const message *m, struct place *place)
+/* Which request makes a file: a client's, and the number that it has there. 0 is none. */
+static uint32_t maker_of(const message *m)
+{
+    return m->p[2] == 0 ? 0 : (uint32_t)m->m_source << 16 | (m->p[2] & 0xffff);
+}
+
+/* The place of a name that isn't there yet: OK. If it is there, EEXIST; or its inode's number if it was this
+ * request that made it, and the server died before it had answered. */
+static int take_new_place(const message *m, struct place *place, struct inode *there)
 {
     int result = take_path(m->m_source, m->p[0], m->p[1], place);
 
     if (result != OK)
         return result;
-    result = find_name(place);
+    if (m->m_type == FS_CREATE && place->has_slash && has_own_name(place))
+        return EISDIR;
+    result = find_file(place, there);
     if (result > 0)
-        return EEXIST;
+        return there->maker != 0 && there->maker == maker_of(m) ? result : EEXIST;
     return result == ENOENT ? OK : result;
 }
 
@@ -127,23 +156,29 @@ static int name_inode(const struct place *place, uint32_t number, struct inode *
     return result;
 }
 
+/* Makes an empty file: its inode's number. */
+static int make_file(const struct place *place, struct inode *inode)
+{
+    int number = take_inode(inode);
+    int result = number < 0 ? number : write_inode(number, inode);
+
+    if (result == OK)
+        result = name_inode(place, number, inode);
+    return result == OK ? number : result;
+}
+
 static int create(message *m)
 {
-    struct inode inode = {.mode = MODE_FILE | 0644, .links = 1};
+    struct inode inode = {.mode = MODE_FILE | 0644, .links = 1, .maker = maker_of(m)};
+    struct inode there;
     struct place place;
-    int number;
-    int result = take_new_place(m, &place);
+    int number = take_new_place(m, &place, &there);
 
-    if (result != OK)
-        return result;
-    number = take_inode();
-    if (number < 0)
-        return number;
-    result = write_inode(number, &inode);
-    if (result == OK)
-        result = name_inode(&place, number, &inode);
-    m->p[0] = number;
-    return result;
+    if (number > 0)
+        return describe(m, number, &there);
+    if (number == OK)
+        number = make_file(&place, &inode);
+    return number < 0 ? number : describe(m, number, &inode);
 }
 
 /* Adds to the links of a directory or file. */
@@ -156,6 +191,17 @@ static int change_links(uint32_t number, int by)
         return result;
     inode.links += by;
     return write_inode(number, &inode);
+}
+
+/* Whether a directory may have one more directory in it: OK, or EMLINK. */
+static int has_room(uint32_t directory)
+{
+    struct inode inode;
+    int result = read_inode(directory, &inode);
+
+    if (result != OK)
+        return result;
+    return inode.links < MOST_LINKS ? OK : EMLINK;
 }
 
 /* Writes a new directory with its two names, but without a name of its own. */
@@ -171,33 +217,35 @@ static int write_directory(uint32_t number, uint32_t parent, struct inode *inode
     return write_inode(number, inode);
 }
 
-static int make_directory(const message *m)
+/* Makes an empty directory in a parent that has room for one more. */
+static int make_below(const struct place *place, struct inode *inode)
 {
-    struct inode inode = {.mode = MODE_DIRECTORY | 0755, .links = 2};
-    struct inode parent;
-    struct place place;
-    int number;
-    int result = take_new_place(m, &place);
+    int number = take_inode(inode);
+    int result = number < 0 ? number : write_directory(number, place->directory, inode);
 
-    if (result == OK)
-        result = read_inode(place.directory, &parent);
-    if (result != OK)
-        return result;
-    if (parent.links >= MOST_LINKS)
-        return EMLINK;
-    number = take_inode();
-    if (number < 0)
-        return number;
-    result = write_directory(number, place.directory, &inode);
     if (result != OK) {
-        free_inode(number);
+        if (number > 0)
+            free_inode(number);
         return result;
     }
-    change_links(place.directory, 1);
-    result = name_inode(&place, number, &inode);
+    change_links(place->directory, 1);
+    result = name_inode(place, number, inode);
     if (result != OK)
-        change_links(place.directory, -1);
+        change_links(place->directory, -1);
     return result;
+}
+
+static int make_directory(const message *m)
+{
+    struct inode inode = {.mode = MODE_DIRECTORY | 0755, .links = 2, .maker = maker_of(m)};
+    struct inode there;
+    struct place place;
+    int result = take_new_place(m, &place, &there);
+
+    if (result != OK)
+        return result > 0 ? OK : result;
+    result = has_room(place.directory);
+    return result == OK ? make_below(&place, &inode) : result;
 }
 
 /* A file has a name less: without names it is emptied, and its inode is free. */
@@ -218,27 +266,11 @@ static int drop_link(uint32_t number, int names)
     return result == OK ? free_inode(number) : result;
 }
 
-/* The file whose name a request takes away, and where the name is. */
-static int take_named(const message *m, struct place *place, struct inode *inode)
-{
-    int number = take_path(m->m_source, m->p[0], m->p[1], place);
-    int result;
-
-    if (number == OK)
-        number = find_name(place);
-    if (number < 0)
-        return number;
-    if (place->name[0] == '\0')
-        return EINVAL;
-    result = read_inode(number, inode);
-    return result == OK ? number : result;
-}
-
 static int unlink(const message *m)
 {
     struct inode inode;
     struct place place;
-    int number = take_named(m, &place, &inode);
+    int number = take_file(m, &place, &inode);
     int result;
 
     if (number < 0)
@@ -249,24 +281,23 @@ static int unlink(const message *m)
     return result == OK ? drop_link(number, 1) : result;
 }
 
-static int is_dots(const char *name)
-{
-    return name[0] == '.' && (name[1] == '\0' || (name[1] == '.' && name[2] == '\0'));
-}
-
 static int remove_directory(const message *m)
 {
     struct inode inode;
     struct place place;
-    int number = take_named(m, &place, &inode);
+    int number = take_file(m, &place, &inode);
     int result;
 
     if (number < 0)
         return number;
+    if (is_root(&place))
+        return EBUSY;
+    if (is_dot(place.name))
+        return EINVAL;
+    if (is_dots(place.name))
+        return ENOTEMPTY;
     if (!is_directory(&inode))
         return ENOTDIR;
-    if (is_dots(place.name))
-        return EINVAL;
     result = is_empty(number);
     if (result == OK)
         result = remove_name(&place);
@@ -275,14 +306,14 @@ static int remove_directory(const message *m)
     return result == OK ? drop_link(number, 2) : result;
 }
 
-/* Whether a directory is another one or below it: then the other can't be moved there. */
+/* Whether a directory is another one or below it: 1 or 0, or what went wrong. */
 static int is_within(int directory, int other)
 {
     static const char up[NAME_BYTES] = "..";
 
     while (directory > ROOT && directory != other)
         directory = find_in(directory, up);
-    return directory == other;
+    return directory < 0 ? directory : directory == other;
 }
 
 /* A name of a file, and its inode. */
@@ -292,39 +323,41 @@ struct named {
     int is_directory;
 };
 
-/* Takes away the old one of the two names that a file has, and a directory's `..` follows. */
+/* Takes away the old one of the two names that a file has; before that a directory's `..` follows. */
 static int finish_move(const struct named *file, const struct place *new)
 {
     struct place dots = {.directory = file->number, .name = ".."};
-    int result = remove_name(&file->place);
+    int result = file->is_directory ? replace_name(&dots, new->directory) : OK;
 
+    if (result == OK)
+        result = remove_name(&file->place);
     if (result == OK && file->is_directory)
-        result = replace_name(&dots, new->directory);
-    if (result != OK)
-        return result;
-    return change_links(file->is_directory ? (int)file->place.directory : file->number, -1);
+        result = change_links(file->place.directory, -1);
+    return result == OK ? change_links(file->number, -1) : result;
 }
 
-/* Moves a name to another directory, in which there is no such name. */
+/* Moves a name to another directory, in which there is no such name. For a moment the file has two. */
 static int move_name(const struct named *file, const struct place *new)
 {
-    uint32_t linked = file->is_directory ? (int)new->directory : file->number;
-    int result;
+    int result = file->is_directory ? has_room(new->directory) : OK;
 
-    if (file->is_directory && is_within(new->directory, file->number))
-        return EINVAL;
-    result = change_links(linked, 1);
+    if (result == OK && file->is_directory)
+        result = change_links(new->directory, 1);
     if (result != OK)
         return result;
-    result = add_name(new, file->number);
-    if (result != OK) {
-        change_links(linked, -1);
-        return result;
-    }
-    return finish_move(file, new);
+    result = change_links(file->number, 1);
+    if (result == OK)
+        result = add_name(new, file->number);
+    if (result == OK)
+        return finish_move(file, new);
+    change_links(file->number, -1);
+    if (file->is_directory)
+        change_links(new->directory, -1);
+    return result;
 }
 
-/* Gives a name to another file; the file whose name it was loses it. */
+/* Gives the name of another file or of an empty directory to a file; the other one loses it. A directory
+ * takes the other's place in the count of the new directory's links. */
 static int replace_file(const struct named *file, const struct place *new, int replaced)
 {
     struct inode there;
@@ -332,16 +365,17 @@ static int replace_file(const struct named *file, const struct place *new, int r
 
     if (result != OK)
         return result;
-    if (is_directory(&there))
-        return file->is_directory ? EEXIST : EISDIR;
+    if (is_directory(&there) != file->is_directory)
+        return file->is_directory ? ENOTDIR : EISDIR;
     if (file->is_directory)
-        return ENOTDIR;
-    result = change_links(file->number, 1);
+        result = is_empty(replaced);
+    if (result == OK)
+        result = change_links(file->number, 1);
     if (result == OK)
         result = replace_name(new, file->number);
     if (result == OK)
         result = finish_move(file, new);
-    return result == OK ? drop_link(replaced, 1) : result;
+    return result == OK ? drop_link(replaced, file->is_directory ? 2 : 1) : result;
 }
 
 static int is_same(const struct place *one, const struct place *other)
@@ -349,33 +383,54 @@ static int is_same(const struct place *one, const struct place *other)
     return one->directory == other->directory && memcmp(one->name, other->name, NAME_BYTES) == 0;
 }
 
-/* Within a directory, to a name that isn't there, it is one write. A file that has both names is one
- * whose renaming was cut off by this server's death. */
+/* Whether a file can be moved to a place, at which there is an inode or ENOENT: not a directory into itself,
+ * nor anything to the name of a directory that it is in. */
+static int may_move(const struct named *file, const struct place *new, int there)
+{
+    int inside = file->is_directory ? is_within(new->directory, file->number) : 0;
+
+    if (inside != 0)
+        return inside < 0 ? inside : EINVAL;
+    inside = there > 0 ? is_within(file->place.directory, there) : 0;
+    return inside > 0 ? ENOTEMPTY : inside;
+}
+
+/* Within a directory, to a name that isn't there, it is one write. A file that has both names is one whose
+ * renaming was cut off by this server's death. */
+static int move(const struct named *file, const struct place *new, int there)
+{
+    if (there == ENOENT)
+        return file->place.directory == new->directory ? change_name(&file->place, new) : move_name(file, new);
+    if (there != file->number)
+        return replace_file(file, new, there);
+    return is_same(&file->place, new) ? OK : finish_move(file, new);
+}
+
 static int rename(const message *m)
 {
     struct inode inode;
     struct named file;
     struct place new;
     int there;
+    int result = take_path(m->m_source, m->p[0], m->p[1], &file.place);
 
-    file.number = take_named(m, &file.place, &inode);
+    if (result == OK)
+        result = take_path(m->m_source, m->p[2], m->p[3], &new);
+    if (result != OK)
+        return result;
+    if (!has_own_name(&file.place) || !has_own_name(&new))
+        return EBUSY;
+    file.number = find_file(&file.place, &inode);
     if (file.number < 0)
         return file.number;
-    file.is_directory = is_directory(&inode);
-    there = take_path(m->m_source, m->p[2], m->p[3], &new);
-    if (there == OK)
-        there = find_name(&new);
-    if (is_dots(file.place.name) || is_dots(new.name))
-        return EINVAL;
-    if (there == ENOENT && file.place.directory == new.directory)
-        return change_name(&file.place, &new);
-    if (there == ENOENT)
-        return move_name(&file, &new);
-    if (there < 0)
+    there = find_name(&new);
+    if (there < 0 && there != ENOENT)
         return there;
-    if (there != file.number)
-        return replace_file(&file, &new, there);
-    return is_same(&file.place, &new) ? OK : finish_move(&file, &new);
+    file.is_directory = is_directory(&inode);
+    if (!file.is_directory && (file.place.has_slash || new.has_slash))
+        return ENOTDIR;
+    result = may_move(&file, &new, there);
+    return result == OK ? move(&file, &new, there) : result;
 }
 
 static int count(message *m)

@@ -3,6 +3,7 @@
  */
 #include "client.h"
 #include "text.h"
+#include "typed.h"
 
 #define ROOM 80                 /* bytes of a line */
 #define WORDS 8                 /* of a line, at most */
@@ -28,6 +29,8 @@ static const char *meaning(int result)
         return "No such file or directory";
     case EIO:
         return "Input/output error";
+    case EBUSY:
+        return "Device or resource busy";
     case EEXIST:
         return "File exists";
     case ENODEV:
@@ -48,19 +51,26 @@ static const char *meaning(int result)
         return "File name too long";
     case ENOTEMPTY:
         return "Directory not empty";
+    case ESTALE:
+        return "Stale file handle";
     default:
         return "Unknown error";
     }
 }
 
+/* Prints texts, of which NULL is the last. */
+static void say_all(const char *const *texts)
+{
+    for (; *texts != NULL; texts++)
+        say(*texts);
+}
+
+#define SAY(...) say_all((const char *const[]){__VA_ARGS__, NULL})
+
 /* Prints `rm: cannot remove 'NAME': MEANING`, for the front `rm: cannot remove '`. */
 static void complain(const char *front, const char *name, int result)
 {
-    say(front);
-    say(name);
-    say(front[0] == 'c' && front[1] == 'a' ? ": " : "': ");
-    say(meaning(result));
-    say("\n");
+    SAY(front, name, front[0] == 'c' && front[1] == 'a' ? ": " : "': ", meaning(result), "\n");
 }
 
 static int is_directory(const struct file *file)
@@ -117,7 +127,7 @@ static int read_names(const struct file *file)
 
     for (offset = 0; offset < file->size && count < NAMES; offset += ENTRY_BYTES) {
         const char *entry = shared.bytes + offset % SHARED_BYTES;
-        if (offset % SHARED_BYTES == 0 && file_read(file->inode, offset, SHARED_BYTES) < 0)
+        if (offset % SHARED_BYTES == 0 && file_read(file->number, offset, SHARED_BYTES) < 0)
             break;
         if ((entry[0] != 0 || entry[1] != 0) && entry[2] != '.')
             insert(entry + 2, count++);
@@ -161,7 +171,7 @@ static void cat(const char *path)
     if (result == OK && is_directory(&file))
         result = EISDIR;
     while (result >= 0) {
-        result = file_read(file.inode, offset, SHARED_BYTES);
+        result = file_read(file.number, offset, SHARED_BYTES);
         if (result == 0)
             return;
         for (i = 0; i < result; i++)
@@ -169,6 +179,14 @@ static void cat(const char *path)
         offset += result;
     }
     complain("cat: ", path, result);
+}
+
+/* Whether a path names this file. */
+static int is_file(const char *path, const struct file *file)
+{
+    struct file found;
+
+    return file_lookup(path, &found) == OK && found.number == file->number;
 }
 
 /* An empty file of that name, new or not. */
@@ -179,7 +197,7 @@ static int make(const char *path, struct file *file)
     if (result == EEXIST)
         result = file_lookup(path, file);
     if (result == OK)
-        result = is_directory(file) ? EISDIR : file_truncate(file->inode);
+        result = is_directory(file) ? EISDIR : file_truncate(file->number);
     return result;
 }
 
@@ -195,15 +213,23 @@ static void copy(const char *from, const char *name)
         complain("cp: cannot stat '", from, result);
         return;
     }
+    if (is_directory(&source)) {
+        SAY("cp: -r not specified; omitting directory '", from, "'\n");
+        return;
+    }
+    if (is_file(to, &source)) {
+        SAY("cp: '", from, "' and '", to, "' are the same file\n");
+        return;
+    }
     result = make(to, &target);
     if (result != OK) {
         complain("cp: cannot create regular file '", to, result);
         return;
     }
     do {
-        result = file_read(source.inode, offset, SHARED_BYTES);
+        result = file_read(source.number, offset, SHARED_BYTES);
         if (result > 0)
-            result = file_write(target.inode, offset, result);
+            result = file_write(target.number, offset, result);
         offset += result;
     } while (result > 0);
     if (result < 0)
@@ -212,16 +238,21 @@ static void copy(const char *from, const char *name)
 
 static void move(const char *from, const char *name)
 {
+    const char *to = into(name, from);
     struct file file;
     int result = file_lookup(from, &file);
 
     if (result != OK) {
         complain("mv: cannot stat '", from, result);
-        return;
+    } else if (is_file(to, &file)) {
+        SAY("mv: '", from, "' and '", to, "' are the same file\n");
+    } else {
+        result = file_rename(from, to);
+        if (result == EINVAL)
+            SAY("mv: cannot move '", from, "' to a subdirectory of itself, '", to, "'\n");
+        else if (result != OK)
+            SAY("mv: cannot move '", from, "' to '", to, "': ", meaning(result), "\n");
     }
-    result = file_rename(from, into(name, from));
-    if (result != OK)
-        complain("mv: cannot move '", from, result);
 }
 
 static void report(const char *front, const char *path, int result)
@@ -243,7 +274,7 @@ static void write_words(const char *path, char **from)
     }
     *end++ = '\n';
     if (result == OK)
-        result = file_write(file.inode, 0, end - shared.bytes);
+        result = file_write(file.number, 0, end - shared.bytes);
     if (result < 0)
         complain("write: cannot write '", path, result);
 }
@@ -327,29 +358,9 @@ static int part_line(char *from)
     return count;
 }
 
-/* Takes a line into `line`: its length, or KEYS_END. */
-static int take_line(void)
-{
-    message m = {.m_type = KEYS_LINE};
-    int keys;
-    int result = sys_whois(KEYS_SLOT, &keys);
-
-    m.p[0] = (uint32_t)shared.bytes;
-    m.p[1] = ROOM - 1;
-    if (result == OK)
-        result = share_with(keys);
-    if (result == OK)
-        result = sendrec(keys, &m);
-    if (result != OK || m.m_type < 0)
-        return KEYS_END;
-    memcpy(line, shared.bytes, m.m_type);
-    line[m.m_type] = '\0';
-    return m.m_type;
-}
-
 int main(void)
 {
-    while (take_line() != KEYS_END) {
+    while (take_line(line, ROOM) != KEYS_END) {
         say("% ");
         say(line);
         say("\n");

@@ -83,7 +83,7 @@ static void grow(struct known *file)
     for (i = 0; i < count; i++)
         shared.bytes[i] = byte(file->seed, file->length + i);
     expect(file_lookup(path_of(file), &found) == OK && found.size == file->length);
-    expect(file_write(found.inode, file->length, count) == (int)count);
+    expect(file_write(found.number, file->length, count) == (int)count);
     file->length += count;
 }
 
@@ -96,7 +96,7 @@ static void check(const struct known *file)
 
     expect(file_lookup(path_of(file), &found) == OK && found.size == file->length);
     do {
-        count = file_read(found.inode, offset, SHARED_BYTES);
+        count = file_read(found.number, offset, SHARED_BYTES);
         for (i = 0; i < count; i++)
             expect(shared.bytes[i] == byte(file->seed, offset + i));
         offset += count;

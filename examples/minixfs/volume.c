@@ -155,9 +155,16 @@ int write_inode(uint32_t number, const struct inode *inode)
     return put_block(buffer);
 }
 
-int take_inode(void)
+int take_inode(struct inode *inode)
 {
-    return take_bit(INODE_MAP, inode_limit());
+    struct inode old;
+    int number = take_bit(INODE_MAP, inode_limit());
+    int result = number < 0 ? number : read_inode(number, &old);
+
+    if (result < 0)
+        return result;
+    inode->generation = old.generation + 1;
+    return number;
 }
 
 int free_inode(uint32_t number)

@@ -18,8 +18,9 @@ int mount(void);
 int read_inode(uint32_t number, struct inode *inode);
 int write_inode(uint32_t number, const struct inode *inode);
 
-/* Takes a free inode: its number, or ENOSPC. What is on the disk of it is old. */
-int take_inode(void);
+/* Takes a free inode for a new file: its number, or ENOSPC. The file has another generation than the one
+ * that had the inode before; nothing is written of it yet. */
+int take_inode(struct inode *inode);
 int free_inode(uint32_t number);
 
 /* The block of a file that has this index: its zone, 0 if it has none, or EFBIG. */

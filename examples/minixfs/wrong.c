@@ -61,7 +61,7 @@ static void try_directories(void)
     print_answer("a directory into itself", file_rename("d", "d/e/d"));
     print_answer("the root", file_rmdir("/"));
     file_lookup("d", &file);
-    print_answer("write to a directory", file_write(file.inode, 0, 16));
+    print_answer("write to a directory", file_write(file.number, 0, 16));
     print_answer("rmdir", file_rmdir("d/e"));
     print_answer("rmdir", file_rmdir("d"));
 }
@@ -71,16 +71,50 @@ static void try_numbers(void)
     struct file file;
 
     file_create("f", &file);
-    print_answer("inode 0", file_read(0, 0, 16));
-    print_answer("inode 9999", file_read(9999, 0, 16));
-    print_answer("an inode without a file", file_read(100, 0, 16));
-    print_answer("beyond the longest file", file_write(file.inode, 0x7fffffff, 16));
-    print_answer("over 65536 bytes", file_write(file.inode, 0, 65537));
-    print_answer("outside the window", ask(FS_SLOT, FS_WRITE, file.inode, 0, 0, 16));
-    print_answer("outside the memory", ask(FS_SLOT, FS_WRITE, file.inode, 0, 0x7fffffff, 16));
+    print_answer("number 0", file_read(0, 0, 16));
+    print_answer("number 9999", file_read(9999, 0, 16));
+    print_answer("a number that no file has had", file_read(100, 0, 16));
+    print_answer("beyond the longest file", file_write(file.number, 0x7fffffff, 16));
+    print_answer("over 65536 bytes", file_write(file.number, 0, 65537));
+    print_answer("outside the window", ask(FS_SLOT, FS_WRITE, file.number, 0, 0, 16));
+    print_answer("outside the memory", ask(FS_SLOT, FS_WRITE, file.number, 0, 0x7fffffff, 16));
     print_answer("no such request", ask(FS_SLOT, 99, 0, 0, 0, 0));
     print_answer("rmdir of a file", file_rmdir("f"));
     print_answer("unlink", file_unlink("f"));
+}
+
+/* The number of a file whose last name is gone never reaches the next file, though that has its inode. */
+static void try_old_numbers(void)
+{
+    struct file old;
+    struct file new;
+
+    file_create("old", &old);
+    print_answer("unlink", file_unlink("old"));
+    print_answer("read by an old number", file_read(old.number, 0, 16));
+    file_create("new", &new);
+    print_answer("new files with the same inode", (old.number & 0xffff) == (new.number & 0xffff));
+    print_answer("new files with the same number", old.number == new.number);
+    print_answer("write by an old number", file_write(old.number, 0, 16));
+    print_answer("truncate by an old number", file_truncate(old.number));
+    print_answer("write by the new number", file_write(new.number, 0, 16));
+    file_lookup("new", &new);
+    print_answer("bytes of the new file", new.size);
+    print_answer("unlink", file_unlink("new"));
+}
+
+/* A request that is asked again by its number is answered as before; any other finds the name there. */
+static void try_requests(void)
+{
+    uint32_t path = (uint32_t)shared.path;
+
+    put_text(shared.path, "again");
+    print_answer("request 1", ask(FS_SLOT, FS_CREATE, path, 5, 1, 0));
+    print_answer("request 1 again", ask(FS_SLOT, FS_CREATE, path, 5, 1, 0));
+    print_answer("request 2", ask(FS_SLOT, FS_CREATE, path, 5, 2, 0));
+    print_answer("a request without a number", ask(FS_SLOT, FS_CREATE, path, 5, 0, 0));
+    print_answer("a path with a zero byte", ask(FS_SLOT, FS_LOOKUP, path, 9, 0, 0));
+    print_answer("unlink", file_unlink("again"));
 }
 
 static void try_disk(void)
@@ -99,14 +133,14 @@ static void fill_disk(void)
     int result = file_create("big", &file);
 
     while (result >= 0) {
-        result = file_write(file.inode, offset, PART);
+        result = file_write(file.number, offset, PART);
         if (result > 0)
             offset += result;
         if (result < PART)
             break;
     }
     print_answer("bytes until the disk is full", offset);
-    print_answer("one more", file_write(file.inode, offset, 1));
+    print_answer("one more", file_write(file.number, offset, 1));
     print_answer("a directory on a full disk", file_mkdir("full"));
     print_answer("unlink", file_unlink("big"));
 }
@@ -120,6 +154,8 @@ int main(void)
     try_names();
     try_directories();
     try_numbers();
+    try_old_numbers();
+    try_requests();
     try_disk();
     fill_disk();
     file_room(&after);
