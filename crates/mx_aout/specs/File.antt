@@ -1,11 +1,14 @@
 -- Which bytes are a file of which program (a.out.h, struct exec and struct nlist).
-use Rattle.std.specs.Prelude.{◌≡◌, ℕ, zero, suc, ◌+◌, ◌/◌, ◌%◌, Bool, not, ◌&&◌, ◌||◌, ◌==◌, nat_lt, if◌then◌else◌, List, [], ◌∷◌, ◌++◌, length, take, drop, slice_index, Option, Some, None, Result, Ok, Err, bit_and}
+use Rattle.std.specs.Prelude.{◌≡◌, ℕ, zero, suc, ◌+◌, ◌/◌, ◌%◌, Bool, not, ◌&&◌, ◌||◌, ◌==◌, nat_lt, if◌then◌else◌}
+use Rattle.std.specs.Prelude.{List, [], ◌∷◌, ◌++◌, length, take, drop, slice_index, Option, Some, None, Result, Ok, Err}
+use Rattle.std.specs.Prelude.{bit_and}
 use Rattle.mx_word.specs.Word.{value_at}
 use Rattle.mx_aout.specs.Limits.{rounded_to_pages, used_of}
 use Rattle.mx_aout.specs.declared.program.Symbol.{Symbol}
 use Rattle.mx_aout.specs.declared.program.Program.{Program}
 use Rattle.mx_aout.specs.declared.program.FileError.{FileError}
-use Rattle.mx_aout.specs.declared.program.FileError.TheVariants.{Truncated, BadMagic, BadCpu, BadFlags, BadHeader, NoTotal, TooLarge, BadSymbols, NoMemory}
+use Rattle.mx_aout.specs.declared.program.FileError.TheVariants.{Truncated, BadMagic, BadCpu, BadFlags, BadHeader}
+use Rattle.mx_aout.specs.declared.program.FileError.TheVariants.{NoTotal, TooLarge, BadSymbols, NoMemory}
 use Rattle.mx_aout.specs.declared.file.Header.{Header}
 
 -- ---- the header: a byte each of magic (2), flags, CPU and header length at 0 to 4, then dwords from 8 on
@@ -92,7 +95,8 @@ asked_unless None n = n
 abbrev pub length_asked : List ℕ → ℕ
 length_asked front =
     asked_unless (first_file_error (form_reasons front))
-    (asked_unless (first_file_error (reasons_of_sizes (header_of front) (length_of_parts (header_of front)))) (length_of_parts (header_of front)))
+    (asked_unless (first_file_error (reasons_of_sizes (header_of front) (length_of_parts (header_of front))))
+    (length_of_parts (header_of front)))
 
 -- ---- the program
 

@@ -14,4 +14,5 @@ used_of sep text init bss = if sep then init + bss else text + init + bss
 -- within their limits
 abbrev pub IsWithin : Bool → ℕ → ℕ → ℕ → ℕ → ℕ → Type 0
 IsWithin sep total text init bss symbols =
-    (0 < total) × (text ≤ 1048576) × (symbols * 16 ≤ 262144) × (rounded_to_pages total ≤ 4194304) × (used_of sep text init bss ≤ rounded_to_pages total)
+    (0 < total) × (text ≤ 1048576) × (symbols * 16 ≤ 262144) × (rounded_to_pages total ≤ 4194304)
+    × (used_of sep text init bss ≤ rounded_to_pages total)

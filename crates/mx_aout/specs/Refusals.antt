@@ -1,7 +1,8 @@
 -- The numbers and names of the reasons to refuse a file. They are our own choice.
 use Rattle.std.specs.Prelude.{ℕ, List, codes}
 use Rattle.mx_aout.specs.declared.program.FileError.{FileError}
-use Rattle.mx_aout.specs.declared.program.FileError.TheVariants.{Truncated, BadMagic, BadCpu, BadFlags, BadHeader, NoTotal, TooLarge, BadSymbols, NoMemory}
+use Rattle.mx_aout.specs.declared.program.FileError.TheVariants.{Truncated, BadMagic, BadCpu, BadFlags, BadHeader}
+use Rattle.mx_aout.specs.declared.program.FileError.TheVariants.{NoTotal, TooLarge, BadSymbols, NoMemory}
 
 abbrev pub refusal_code : FileError → ℕ
 refusal_code Truncated = 20

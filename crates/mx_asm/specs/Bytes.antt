@@ -16,7 +16,8 @@ use Rattle.mx_asm_statement.specs.Instructions.{marks}
 use Rattle.mx_asm.specs.declared.sizes.SectionSizes.{SectionSizes}
 use Rattle.mx_asm.specs.Branches.{branch_by, branch_marks, branch_length, distance}
 use Rattle.mx_asm.specs.Lengths.{statement_length}
-use Rattle.mx_asm.specs.Layout.{LinesAbove, value_under, section_offset_of, sizes_after, address_of_offset, statement_said}
+use Rattle.mx_asm.specs.Layout.{LinesAbove, value_under, section_offset_of, sizes_after, address_of_offset}
+use Rattle.mx_asm.specs.Layout.{statement_said}
 
 abbrev pub put_in : (Insn → ℕ → Insn) → Insn → Option ℕ → Option Insn
 put_in put i None = None
@@ -38,12 +39,14 @@ named_under a i = then_put a with_displacement i.displacement (put_under a with_
 -- the bytes of a statement at an address
 abbrev pub BytesOf : LinesAbove → ℕ → Statement → List ℕ → Type 0
 BytesOf a at (says.Data size values) b =
-    (numbers : List ℕ) × (map (value_under a) values ≡ map Some numbers) × (b ≡ flat_map (bytes_of (bytes_in size)) numbers)
+    (numbers : List ℕ) × (map (value_under a) values ≡ map Some numbers)
+    × (b ≡ flat_map (bytes_of (bytes_in size)) numbers)
 BytesOf a at (says.Ascii bytes) b = b ≡ bytes
 BytesOf a at (says.Space n) b = b ≡ replicate n 0
 BytesOf a at (says.Instruction i) b = (insn : Insn) × (named_under a i ≡ Some insn) × Chosen insn (marks i) b
 BytesOf a at (says.Branch k target) b =
-    (x : ℕ) × (value_under a target ≡ Some x) × Chosen (branch_by k (distance (at + length b) x)) (branch_marks k) b × (length b ≡ branch_length k)
+    (x : ℕ) × (value_under a target ≡ Some x) × Chosen (branch_by k (distance (at + length b) x)) (branch_marks k) b
+    × (length b ≡ branch_length k)
 BytesOf a at _ b = b ≡ []
 
 -- the bytes of a statement in its section at its address; bss takes only labels and zeros
@@ -55,7 +58,9 @@ StandsIn Bss a at t b = b ≡ replicate (statement_length t) 0
 -- all at once: each statement has the right bytes at its address
 abbrev pub AllStand : LinesAbove → SectionSizes → List Line → List (List ℕ) → Type 0
 AllStand a s [] [] = ⊤
-AllStand a s (l ∷ ls) (b ∷ bs) = StandsIn s.section a (address_of_offset a (section_offset_of s)) (statement_said l) b × AllStand a (sizes_after s (statement_said l) (length b)) ls bs
+AllStand a s (l ∷ ls) (b ∷ bs) =
+    StandsIn s.section a (address_of_offset a (section_offset_of s)) (statement_said l) b
+    × AllStand a (sizes_after s (statement_said l) (length b)) ls bs
 AllStand a s [] (b ∷ bs) = ⊥
 AllStand a s (l ∷ ls) [] = ⊥
 
@@ -68,7 +73,8 @@ put_into _ _ b = []
 abbrev pub contents : Section → SectionSizes → List Line → List (List ℕ) → List ℕ
 contents section s [] bs = []
 contents section s (l ∷ ls) [] = []
-contents section s (l ∷ ls) (b ∷ bs) = put_into section s.section b ++ contents section (sizes_after s (statement_said l) (length b)) ls bs
+contents section s (l ∷ ls) (b ∷ bs) =
+    put_into section s.section b ++ contents section (sizes_after s (statement_said l) (length b)) ls bs
 
 -- the new bytes are the old and those of a statement
 abbrev pub Pushes : LinesAbove → ℕ → Statement → List ℕ → List ℕ → Type 0

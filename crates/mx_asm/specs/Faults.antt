@@ -1,5 +1,6 @@
 -- The faults of lines that make no program (the codes and their order are our own).
-use Rattle.std.specs.Prelude.{◌≡◌, ℕ, ◌+◌, ◌*◌, Bool, false, not, ◌||◌, nat_lt, if◌then◌else◌, List, [], ◌∷◌, length, Option, Some, None, is_some, unwrap_or, ⊤}
+use Rattle.std.specs.Prelude.{◌≡◌, ℕ, ◌+◌, ◌*◌, Bool, false, not, ◌||◌, nat_lt, if◌then◌else◌, List, [], ◌∷◌, length}
+use Rattle.std.specs.Prelude.{Option, Some, None, is_some, unwrap_or, ⊤}
 use Rattle.std.specs.List.{list_any}
 use Rattle.mx_aout.specs.Limits.{rounded_to_pages}
 use Rattle.mx_asm_statement.specs.declared.statement.Statement.{Statement}
@@ -9,14 +10,16 @@ use Rattle.mx_asm_statement.specs.declared.line.Line.{Line}
 use Rattle.mx_asm_statement.specs.declared.line.Reason.{Reason}
 use Rattle.mx_asm_statement.specs.declared.line.Reason.TheVariants as reasons
 use Rattle.mx_asm.specs.declared.fault.Problem.{Problem}
-use Rattle.mx_asm.specs.declared.fault.Problem.TheVariants.{BadByte, BadNumber, OpenText, UnknownWord, BadOperands, Twice, Undefined, TooFar, WrongSection, TooLarge, LongName}
+use Rattle.mx_asm.specs.declared.fault.Problem.TheVariants.{BadByte, BadNumber, OpenText, UnknownWord, BadOperands}
+use Rattle.mx_asm.specs.declared.fault.Problem.TheVariants.{Twice, Undefined, TooFar, WrongSection, TooLarge, LongName}
 use Rattle.mx_asm.specs.declared.fault.Fault.{Fault}
 use Rattle.mx_asm.specs.declared.fault.AsmError.{AsmError}
 use Rattle.mx_asm.specs.declared.fault.AsmError.TheVariants.{At, NoMemory}
 use Rattle.mx_asm.specs.declared.sizes.SectionSizes.{SectionSizes}
 use Rattle.mx_asm.specs.Branches.{branch_length, distance, is_too_far}
 use Rattle.mx_asm.specs.Lengths.{statement_length}
-use Rattle.mx_asm.specs.Layout.{LinesAbove, no_lines_above, laid_by, section_offset_of, sizes_after, address_of_offset, value_under, label_named, statement_said}
+use Rattle.mx_asm.specs.Layout.{LinesAbove, no_lines_above, laid_by, section_offset_of, sizes_after, address_of_offset}
+use Rattle.mx_asm.specs.Layout.{value_under, label_named, statement_said}
 
 abbrev pub problem_code : Problem → ℕ
 problem_code BadByte = 1
@@ -62,8 +65,10 @@ undefined_or (Some x) is_too_far = if is_too_far x then Some TooFar else None
 abbrev pub problem_at : LinesAbove → ℕ → Statement → Option Problem
 problem_at a at (says.Data size values) = undefined_where (list_any (is_undefined a) values)
 problem_at a at (says.Entry name) = undefined_where (not (is_some (label_named a.labels name)))
-problem_at a at (says.Instruction i) = undefined_where (is_undefined_if a i.immediate || is_undefined_if a i.displacement)
-problem_at a at (says.Branch k target) = undefined_or (value_under a target) (λ x. is_too_far k (distance (at + branch_length k) x))
+problem_at a at (says.Instruction i) =
+    undefined_where (is_undefined_if a i.immediate || is_undefined_if a i.displacement)
+problem_at a at (says.Branch k target) =
+    undefined_or (value_under a target) (λ x. is_too_far k (distance (at + branch_length k) x))
 problem_at a at _ = None
 
 abbrev pub fault_or : Option Problem → ℕ → Option Fault → Option Fault
@@ -74,7 +79,8 @@ fault_or (Some p) n rest = Some (record { problem = p; line = n })
 abbrev pub first_problem : LinesAbove → SectionSizes → ℕ → List Line → Option Fault
 first_problem a s n [] = None
 first_problem a s n (l ∷ ls) =
-    fault_or (problem_at a (address_of_offset a (section_offset_of s)) (statement_said l)) n (first_problem a (sizes_after s (statement_said l) (statement_length (statement_said l))) (n + 1) ls)
+    fault_or (problem_at a (address_of_offset a (section_offset_of s)) (statement_said l)) n
+    (first_problem a (sizes_after s (statement_said l) (statement_length (statement_said l))) (n + 1) ls)
 
 -- ---- sizes
 
@@ -91,14 +97,16 @@ total_of a = at_least 4096 (rounded_to_pages (bytes_used a + unwrap_or a.stack 2
 
 -- a file's limits; what is used can't pass the total, which holds it
 abbrev pub is_program_too_large : LinesAbove → Bool
-is_program_too_large a = nat_lt 1048576 a.sizes.text || nat_lt 262144 (length a.labels * 16) || nat_lt 4194304 (total_of a)
+is_program_too_large a =
+    nat_lt 1048576 a.sizes.text || nat_lt 262144 (length a.labels * 16) || nat_lt 4194304 (total_of a)
 
 abbrev pub number_of_last_line : List Line → ℕ
 number_of_last_line [] = 1
 number_of_last_line (l ∷ ls) = length (l ∷ ls)
 
 abbrev pub too_large_in : LinesAbove → List Line → Option Fault
-too_large_in a lines = if is_program_too_large a then Some (record { problem = TooLarge; line = number_of_last_line lines }) else None
+too_large_in a lines =
+    if is_program_too_large a then Some (record { problem = TooLarge; line = number_of_last_line lines }) else None
 
 abbrev pub first_of : Option Fault → Option Fault → Option Fault
 first_of None g = g
@@ -106,7 +114,9 @@ first_of (Some f) g = Some f
 
 -- the fault of lines none of which is refused for itself or for the lines above it
 abbrev pub fault_after : List Line → Option Fault
-fault_after lines = let a = laid_by no_lines_above lines in first_of (first_problem a no_lines_above.sizes 1 lines) (too_large_in a lines)
+fault_after lines =
+    let a = laid_by no_lines_above lines in
+    first_of (first_problem a no_lines_above.sizes 1 lines) (too_large_in a lines)
 
 -- unless memory runs out
 abbrev pub IsFaultOr : Option Fault → AsmError → Type 0

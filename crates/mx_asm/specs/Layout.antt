@@ -1,6 +1,7 @@
 -- The layout of a text: offsets and addresses of its statements and labels (our own; the sections are those
 -- of a.out.h).
-use Rattle.std.specs.Prelude.{ℕ, ◌+◌, ◌%◌, ◌^◌, ◌≤◌, Bool, true, false, ◌||◌, nat_eq, if◌then◌else◌, List, [], ◌∷◌, ◌++◌, Option, Some, None, is_some, unwrap_or, pos, ◌+ℤ◌}
+use Rattle.std.specs.Prelude.{ℕ, ◌+◌, ◌%◌, ◌^◌, ◌≤◌, Bool, true, false, ◌||◌, nat_eq, if◌then◌else◌, List, [], ◌∷◌}
+use Rattle.std.specs.Prelude.{◌++◌, Option, Some, None, is_some, unwrap_or, pos, ◌+ℤ◌}
 use Rattle.std.specs.List.{list_any}
 use Rattle.std.specs.Map.{lookup, keys_of}
 use Rattle.std.specs.Cmp.Lexicographic.{pointwise}
@@ -58,7 +59,14 @@ pub record LinesAbove : Type 0 where
   pub stack : Option ℕ
 
 abbrev pub no_lines_above : LinesAbove
-no_lines_above = record { sizes = record { section = Text; text = 0; init = 0; bss = 0 }; labels = []; sep = false; entry = None; stack = None }
+no_lines_above =
+    record {
+      sizes = record { section = Text; text = 0; init = 0; bss = 0 };
+      labels = [];
+      sep = false;
+      entry = None;
+      stack = None;
+    }
 
 abbrev pub is_same_label : Name → Name → Bool
 is_same_label a b = pointwise nat_eq a.bytes b.bytes
@@ -179,7 +187,14 @@ seen_with s l = record {
 
 -- what the reasons depend on, of the lines above
 abbrev pub seen_of : LinesAbove → Seen
-seen_of a = record { section = a.sizes.section; names = keys_of a.labels; sep = a.sep; entry = is_some a.entry; stack = is_some a.stack }
+seen_of a =
+    record {
+      section = a.sizes.section;
+      names = keys_of a.labels;
+      sep = a.sep;
+      entry = is_some a.entry;
+      stack = is_some a.stack;
+    }
 
 abbrev pub is_defined : List Name → Option Name → Bool
 is_defined names None = false

@@ -14,7 +14,8 @@ use Rattle.mx_asm.specs.declared.fault.Fault.{Fault}
 use Rattle.mx_asm.specs.declared.fault.AsmError.{AsmError}
 use Rattle.mx_asm.specs.declared.fault.AsmError.TheVariants.{At, NoMemory}
 use Rattle.mx_asm.specs.Lengths.{statement_length}
-use Rattle.mx_asm.specs.Layout.{LinesAbove, Seen, unseen, seen_with, seen_of, above_with, statement_said, refusal_of_line}
+use Rattle.mx_asm.specs.Layout.{LinesAbove, Seen, unseen, seen_with, seen_of, above_with, statement_said}
+use Rattle.mx_asm.specs.Layout.{refusal_of_line}
 use Rattle.mx_asm.specs.Faults.{problem_of, fault_after}
 use Rattle.mx_asm.specs.Assembled.{AreAssembled}
 use Rattle.mx_asm.specs.Kept.{line_kept}
@@ -79,7 +80,9 @@ IsAssembled t p = (ls : List Line) × AreLinesTaken unseen (lines t) ls × AreAs
 
 -- the first line with which something is wrong, else the fault of all lines
 abbrev pub HasTextFault : List ℕ → Fault → Type 0
-HasTextFault t f = IsFirstLineWrong unseen 1 (lines t) f ⊎ ((ls : List Line) × AreLinesTaken unseen (lines t) ls × (fault_after ls ≡ Some f))
+HasTextFault t f =
+    IsFirstLineWrong unseen 1 (lines t) f
+    ⊎ ((ls : List Line) × AreLinesTaken unseen (lines t) ls × (fault_after ls ≡ Some f))
 
 -- unless memory runs out
 abbrev pub TellsTextFault : List ℕ → AsmError → Type 0

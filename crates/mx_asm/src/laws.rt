@@ -1,4 +1,13 @@
 //! Laws of the assembler: programs and faults of a text.
+//!
+//! # The round trip
+//!
+//! What a text means is a relation between the text and a program (`IsAssembled`), which names no pass and no order of
+//! work: there is one address for each label such that each statement's bytes are right. That this is one program, and
+//! that a text without a program has a fault, are the laws here. They rest on those below: a text has one reading as
+//! tokens (`mx_lex`), a word one meaning (`mx_insn_words`), a line one statement (`mx_asm_statement`), and an
+//! instruction one encoding that is chosen (`mx_encode`). The chosen bytes spell their instruction, and no bytes spell
+//! two (`mx_decode`). So what is assembled and then listed is the same program again (`mx_dis`).
 
 ghost use Rattle.std.specs.Prelude.{◌≡◌, ℕ, List};
 ghost use Rattle.mx_aout.specs.declared.program.Program.{Program};

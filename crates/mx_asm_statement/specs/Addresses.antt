@@ -46,9 +46,13 @@ address_with_base base ts = do
 -- index*scale, base+index*scale, base+index (of scale 1), base, of registers of 32 bits, each with or without
 -- a value after it; or only a value
 abbrev pub address_in_brackets : List Item → Option Address
-address_in_brackets (items.Register Dword i ∷ items.Mark Star ∷ items.Number n ∷ ts) = address_with_index None i (scale_of_number n) ts
-address_in_brackets (items.Register Dword b ∷ items.Mark Plus ∷ items.Register Dword i ∷ items.Mark Star ∷ items.Number n ∷ ts) = address_with_index (Some b) i (scale_of_number n) ts
-address_in_brackets (items.Register Dword b ∷ items.Mark Plus ∷ items.Register Dword i ∷ ts) = address_with_index (Some b) i (Some scales.One) ts
+address_in_brackets (items.Register Dword i ∷ items.Mark Star ∷ items.Number n ∷ ts) =
+    address_with_index None i (scale_of_number n) ts
+address_in_brackets
+    (items.Register Dword b ∷ items.Mark Plus ∷ items.Register Dword i ∷ items.Mark Star ∷ items.Number n ∷ ts) =
+    address_with_index (Some b) i (scale_of_number n) ts
+address_in_brackets (items.Register Dword b ∷ items.Mark Plus ∷ items.Register Dword i ∷ ts) =
+    address_with_index (Some b) i (Some scales.One) ts
 address_in_brackets (items.Register Dword b ∷ ts) = address_with_base b ts
 address_in_brackets ts = do
   v ← value_in_items ts

@@ -8,8 +8,10 @@ use Rattle.mx_asm_statement.specs.declared.instruction.Instruction.{Instruction}
 
 -- these parts, if the instruction has a form; no line of a text lacks one, since ESP is refused as an index
 -- before, so that the instruction here can be encoded
-abbrev pub instruction_if_formed : (insn : Insn) → Option Value → Option Value → (b : Bool) → has_form insn ≡ b → Option Instruction
-instruction_if_formed insn immediate displacement true e = Some (record { insn = insn; immediate = immediate; displacement = displacement; spelled = e })
+abbrev pub instruction_if_formed : (insn : Insn) → Option Value → Option Value → (b : Bool) → has_form insn ≡ b
+    → Option Instruction
+instruction_if_formed insn immediate displacement true e =
+    Some (record { insn = insn; immediate = immediate; displacement = displacement; spelled = e })
 instruction_if_formed insn immediate displacement false e = None
 
 unfoldable pub instruction_of : Insn → Option Value → Option Value → Option Instruction

@@ -1,5 +1,6 @@
 -- Which statement comes of what follows its first word.
-use Rattle.std.specs.Prelude.{ℕ, ◌&&◌, ◌-◌, ◌+◌, if◌then◌else◌, Bool, true, false, nat_eq, Option, Some, None, List, [], ◌∷◌, slice_range}
+use Rattle.std.specs.Prelude.{ℕ, ◌&&◌, ◌-◌, ◌+◌, if◌then◌else◌, Bool, true, false, nat_eq, Option, Some, None, List, []}
+use Rattle.std.specs.Prelude.{◌∷◌, slice_range}
 use Rattle.std.specs.Cmp.Lexicographic.{pointwise}
 use Rattle.mx_word.specs.declared.size.Size.TheVariants as sizes
 use Rattle.mx_text.specs.Names.{padded_name}

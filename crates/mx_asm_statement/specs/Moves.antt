@@ -11,7 +11,8 @@ use Rattle.mx_asm_statement.specs.Items.{◌>>=◌}
 use Rattle.mx_asm_statement.specs.declared.statement.Statement.{Statement}
 use Rattle.mx_asm_statement.specs.declared.moves.ExtensionParts.{ExtensionParts}
 use Rattle.mx_asm_statement.specs.Numbers.{value_waiting}
-use Rattle.mx_asm_statement.specs.SizedOperands.{statement_of_insn, memory_named, sized_operand_of, operand_beside, not_byte}
+use Rattle.mx_asm_statement.specs.SizedOperands.{statement_of_insn, memory_named, sized_operand_of, operand_beside}
+use Rattle.mx_asm_statement.specs.SizedOperands.{not_byte}
 
 -- a register or memory, and a register
 abbrev pub exchange : List Argument → Option Statement

@@ -1,5 +1,6 @@
 -- Numbers of this many bits (that a number may be taken as signed or as unsigned is our own choice).
-use Rattle.std.specs.Prelude.{ℕ, ℤ, pos, neg_ℤ, int_lt, int_le, ◌^◌, ◌-◌, ◌||◌, if◌then◌else◌, Bool, true, false, Option, Some, None, is_some}
+use Rattle.std.specs.Prelude.{ℕ, ℤ, pos, neg_ℤ, int_lt, int_le, ◌^◌, ◌-◌, ◌||◌, if◌then◌else◌, Bool, true, false}
+use Rattle.std.specs.Prelude.{Option, Some, None, is_some}
 use Rattle.mx_word.specs.declared.size.Size.{Size}
 use Rattle.mx_word.specs.declared.size.Size.TheVariants.{Byte, Word, Dword}
 use Rattle.mx_word.specs.Word.{width, modulo}

@@ -1,5 +1,6 @@
 -- What a line opens with: its label, and what its statement begins with.
-use Rattle.std.specs.Prelude.{◌≡◌, ℕ, ◌==◌, not, ◌&&◌, if◌then◌else◌, Bool, true, false, List, [], ◌∷◌, slice_index, Option, Some, None}
+use Rattle.std.specs.Prelude.{◌≡◌, ℕ, ◌==◌, not, ◌&&◌, if◌then◌else◌, Bool, true, false, List, [], ◌∷◌, slice_index}
+use Rattle.std.specs.Prelude.{Option, Some, None}
 use Rattle.mx_lex.specs.declared.kinds.Mark.TheVariants.{Colon}
 use Rattle.mx_lex.specs.declared.kinds.TokenKind.{TokenKind}
 use Rattle.mx_lex.specs.declared.kinds.TokenKind.TheVariants as kinds

@@ -1,4 +1,5 @@
--- What works on registers and memory: INC, DEC, NOT, NEG, TEST, MUL, IMUL, DIV, IDIV, shifts, bit tests, bit scans, SETcc.
+-- What works on registers and memory: INC, DEC, NOT, NEG, TEST, MUL, IMUL, DIV, IDIV, shifts, bit tests, bit scans,
+-- SETcc.
 use Rattle.std.specs.Prelude.{ℕ, Option, Some, None, List, [], ◌∷◌}
 use Rattle.mx_word.specs.declared.size.Size.{Size}
 use Rattle.mx_word.specs.declared.size.Size.TheVariants.{Byte, Word, Dword}
@@ -22,7 +23,8 @@ use Rattle.mx_asm_statement.specs.Items.{◌>>=◌}
 use Rattle.mx_asm_statement.specs.declared.value.Value.{Value}
 use Rattle.mx_asm_statement.specs.declared.statement.Statement.{Statement}
 use Rattle.mx_asm_statement.specs.Numbers.{number_in, immediate_in, value_waiting}
-use Rattle.mx_asm_statement.specs.SizedOperands.{statement_of_insn, sized_operand_of, operand_of_size, operand_beside, not_byte}
+use Rattle.mx_asm_statement.specs.SizedOperands.{statement_of_insn, sized_operand_of, operand_of_size, operand_beside}
+use Rattle.mx_asm_statement.specs.SizedOperands.{not_byte}
 
 abbrev pub unary : Unary → List Argument → Option Statement
 unary o (x ∷ []) = do
@@ -91,7 +93,8 @@ double_shift o _ = None
 
 -- by a number of 8 bits; a register's bit by a register too. Memory with a register for the number has no form
 abbrev pub bit_test : BitTest → List Argument → Option Statement
-bit_test o (arguments.Register Dword r ∷ arguments.Register Dword n ∷ []) = statement_of_insn (insns.BitTestRegister o r n) None None
+bit_test o (arguments.Register Dword r ∷ arguments.Register Dword n ∷ []) =
+    statement_of_insn (insns.BitTestRegister o r n) None None
 bit_test o (x ∷ arguments.Value v ∷ []) = do
   spot ← operand_of_size Dword x
   word ← number_in Byte v

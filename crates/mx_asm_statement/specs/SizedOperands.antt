@@ -40,7 +40,8 @@ sized_memory s a = do
 
 -- if no register gives the size: a register itself, or a place in memory after its size word
 abbrev pub sized_operand_of : Argument → Option SizedOperand
-sized_operand_of (arguments.Register s r) = Some (record { size = s; operand = operands.Register r; displacement = None })
+sized_operand_of (arguments.Register s r) =
+    Some (record { size = s; operand = operands.Register r; displacement = None })
 sized_operand_of (arguments.Memory (Some s) a) = sized_memory s a
 sized_operand_of _ = None
 
@@ -53,7 +54,8 @@ operand_of_size s x = do
 -- in a form with a register, which gives the size: a register of that size, or a place in memory with no
 -- other size word
 abbrev pub operand_beside : Size → Argument → Option SizedOperand
-operand_beside s (arguments.Register t r) = if is_same t s then Some (record { size = s; operand = operands.Register r; displacement = None }) else None
+operand_beside s (arguments.Register t r) =
+    if is_same t s then Some (record { size = s; operand = operands.Register r; displacement = None }) else None
 operand_beside s (arguments.Memory named a) = if names_no_other named s then sized_memory s a else None
 operand_beside s (arguments.Value v) = None
 

@@ -7,7 +7,8 @@ use Rattle.mx_insn.specs.declared.insn.Insn.TheVariants as insns
 use Rattle.mx_insn_words.specs.declared.mnemonic.Mnemonic.{Mnemonic}
 use Rattle.mx_insn_words.specs.declared.mnemonic.Mnemonic.TheVariants as mnemonics
 use Rattle.mx_insn_words.specs.declared.mnemonic.Single.{Single}
-use Rattle.mx_insn_words.specs.declared.mnemonic.Single.TheVariants.{Mov, Test, Xchg, Lea, Movzx, Movsx, Push, Pop, Jmp, Call, Ret, Int, Cbw, Cwde, Cwd, Cdq, In, Out}
+use Rattle.mx_insn_words.specs.declared.mnemonic.Single.TheVariants.{Mov, Test, Xchg, Lea, Movzx, Movsx, Push, Pop, Jmp}
+use Rattle.mx_insn_words.specs.declared.mnemonic.Single.TheVariants.{Call, Ret, Int, Cbw, Cwde, Cwd, Cdq, In, Out}
 use Rattle.mx_insn_words.specs.declared.start.Prefix.{Prefix}
 use Rattle.mx_insn_words.specs.declared.start.Prefix.TheVariants.{Rep, Repe, Repne}
 use Rattle.mx_asm_statement.specs.declared.argument.Argument.{Argument}
@@ -17,9 +18,11 @@ use Rattle.mx_asm_statement.specs.declared.statement.Statement.{Statement}
 use Rattle.mx_asm_statement.specs.declared.statement.Statement.TheVariants as statements
 use Rattle.mx_asm_statement.specs.SizedOperands.{statement_of_insn}
 use Rattle.mx_asm_statement.specs.Pairs.{operands_of}
-use Rattle.mx_asm_statement.specs.Operations.{unary, test, product, shift, double_shift, bit_test, bit_scan, set_condition_statement}
+use Rattle.mx_asm_statement.specs.Operations.{unary, test, product, shift, double_shift, bit_test, bit_scan}
+use Rattle.mx_asm_statement.specs.Operations.{set_condition_statement}
 use Rattle.mx_asm_statement.specs.Moves.{exchange, load_address_statement, zero_extend, sign_extend}
-use Rattle.mx_asm_statement.specs.Stack.{statement_without_arguments, push, pop, return_of, interrupt, port_in, port_out}
+use Rattle.mx_asm_statement.specs.Stack.{statement_without_arguments, push, pop, return_of, interrupt, port_in}
+use Rattle.mx_asm_statement.specs.Stack.{port_out}
 use Rattle.mx_asm_statement.specs.Transfers.{jump, jump_if_statement, call, loop_statement}
 
 -- an instruction or a jump, and no directive
@@ -78,6 +81,8 @@ statement_for length (mnemonics.Compare o s) xs = statement_without_arguments (i
 -- after rep a string instruction that moves, after repe and repne one that compares
 abbrev pub statement_after_prefix : Prefix → Mnemonic → Option Statement
 statement_after_prefix Rep (mnemonics.Transfer o s) = statement_of_insn (insns.Transfer o s true) None None
-statement_after_prefix Repe (mnemonics.Compare o s) = statement_of_insn (insns.Compare o s (Some repeats.Repe)) None None
-statement_after_prefix Repne (mnemonics.Compare o s) = statement_of_insn (insns.Compare o s (Some repeats.Repne)) None None
+statement_after_prefix Repe (mnemonics.Compare o s) =
+    statement_of_insn (insns.Compare o s (Some repeats.Repe)) None None
+statement_after_prefix Repne (mnemonics.Compare o s) =
+    statement_of_insn (insns.Compare o s (Some repeats.Repne)) None None
 statement_after_prefix _ _ = None

@@ -2,6 +2,23 @@
 //! below 40, sixteen opcodes each up to 80, eight each from there on, and 64 each after 0F. Each part is
 //! proved to be the rows of the definition that have an opcode in it. So a new row is one line here and one
 //! in the definition.
+//!
+//! # How to read a row
+//!
+//! `opcode: 0x0F 0xA4, sizes: Dword, repeats: Neither, modrm: Any, immediate: Byte` is what the manual writes as
+//! `0F A4 /r ib`, here with the operands of SHLD. Beside each column stand the manual's letters, which the
+//! definition (`specs/Table` of `mx_insn`) has too.
+//!
+//! | column | values |
+//! |---|---|
+//! | `opcode` | The byte, after `0x0F` if it is of the second map. `opcodes: 8 from 0x40 by 1` are the eight from 40 to 47, and which of them it is says the register (`+r`), the operation or the condition (`cc`) |
+//! | `sizes` | `Byte` (b): operands of a byte. `Variable` (v): a word after the prefix 66, else a dword. `Dword` (d): a dword, or no size; 66 isn't allowed |
+//! | `repeats` | `Neither`: no prefix F2 or F3. `Rep`: F3. `Both`: F3 as REPE, F2 as REPNE |
+//! | `modrm` | `Absent`. `Any` (`/r`): a register in its reg field, and a register or memory in rm. `AnyMemory`, `AnyRegister`: rm is only that. `Only(4)` (`/4`): this number in the reg field |
+//! | `immediate` | `Nothing`. `Byte` (ib), `Word` (iw), `Dword` (id). `SignedByte` (is): a byte with its sign extended. `Variable` (iv): as wide as the operands |
+//!
+//! After `=>` comes the instruction, whose name has its operands in the manual's order: in `ArithmeticRmReg` a
+//! register or memory, then a register. `Acc` is AL, AX or EAX, and `At` memory at an address alone.
 
 ghost use Rattle.std.specs.Prelude.{◌≡◌, ◌≤◌, ◌<◌, true, false};
 ghost use Rattle.mx_insn.specs.Spelling.{is_escaped};
@@ -14,7 +31,21 @@ use mx_insn::{
 use mx_word::{BitScan, BitTest, DoubleShift, Shift, Unary};
 
 macro_rules! row {
-    ($escaped:literal $first:literal + $step:literal * $count:literal => $sizes:ident $repeats:ident $immediate:ident; $reg:expr; $pattern:expr) => {
+    (opcode: 0x0F $first:literal, $($columns:tt)*) => {
+        row!(@ true $first + 1 * 1; $($columns)*)
+    };
+    (opcodes: $count:literal from 0x0F $first:literal by $step:literal, $($columns:tt)*) => {
+        row!(@ true $first + $step * $count; $($columns)*)
+    };
+    (opcode: $first:literal, $($columns:tt)*) => {
+        row!(@ false $first + 1 * 1; $($columns)*)
+    };
+    (opcodes: $count:literal from $first:literal by $step:literal, $($columns:tt)*) => {
+        row!(@ false $first + $step * $count; $($columns)*)
+    };
+    (@ $escaped:literal $first:literal + $step:literal * $count:literal;
+     sizes: $sizes:ident, repeats: $repeats:ident, modrm: $modrm:ident $(($digit:literal))?,
+     immediate: $immediate:ident => $pattern:expr) => {
         Row {
             escaped: $escaped,
             first: $first,
@@ -22,7 +53,7 @@ macro_rules! row {
             count: $count,
             sizes: SizeMark::$sizes,
             repeats: Repeats::$repeats,
-            modrm: $reg,
+            modrm: ModRm::$modrm $(($digit))?,
             immediate: ImmediateColumn::$immediate,
             pattern: $pattern,
         }
@@ -38,22 +69,22 @@ fn column_rows(part: u8) -> &'static [Row]
 {
     match part {
         8 => &[
-            row!(false 0x00 + 8 * 8 => Byte Neither Nothing; ModRm::Any; Pattern::ArithmeticRmReg),
+            row!(opcodes: 8 from 0x00 by 8, sizes: Byte, repeats: Neither, modrm: Any, immediate: Nothing => Pattern::ArithmeticRmReg),
         ],
         9 => &[
-            row!(false 0x01 + 8 * 8 => Variable Neither Nothing; ModRm::Any; Pattern::ArithmeticRmReg),
+            row!(opcodes: 8 from 0x01 by 8, sizes: Variable, repeats: Neither, modrm: Any, immediate: Nothing => Pattern::ArithmeticRmReg),
         ],
         10 => &[
-            row!(false 0x02 + 8 * 8 => Byte Neither Nothing; ModRm::Any; Pattern::ArithmeticRegRm),
+            row!(opcodes: 8 from 0x02 by 8, sizes: Byte, repeats: Neither, modrm: Any, immediate: Nothing => Pattern::ArithmeticRegRm),
         ],
         11 => &[
-            row!(false 0x03 + 8 * 8 => Variable Neither Nothing; ModRm::Any; Pattern::ArithmeticRegRm),
+            row!(opcodes: 8 from 0x03 by 8, sizes: Variable, repeats: Neither, modrm: Any, immediate: Nothing => Pattern::ArithmeticRegRm),
         ],
         12 => &[
-            row!(false 0x04 + 8 * 8 => Byte Neither Byte; ModRm::Absent; Pattern::ArithmeticAccImmediate),
+            row!(opcodes: 8 from 0x04 by 8, sizes: Byte, repeats: Neither, modrm: Absent, immediate: Byte => Pattern::ArithmeticAccImmediate),
         ],
         13 => &[
-            row!(false 0x05 + 8 * 8 => Variable Neither Variable; ModRm::Absent; Pattern::ArithmeticAccImmediate),
+            row!(opcodes: 8 from 0x05 by 8, sizes: Variable, repeats: Neither, modrm: Absent, immediate: Variable => Pattern::ArithmeticAccImmediate),
         ],
         14 => &[],
         _ => &[],
@@ -69,23 +100,23 @@ fn low_rows(part: u8) -> &'static [Row]
 {
     match part {
         4 => &[
-            row!(false 0x40 + 1 * 8 => Variable Neither Nothing; ModRm::Absent; Pattern::UnaryReg(Unary::Inc)),
-            row!(false 0x48 + 1 * 8 => Variable Neither Nothing; ModRm::Absent; Pattern::UnaryReg(Unary::Dec)),
+            row!(opcodes: 8 from 0x40 by 1, sizes: Variable, repeats: Neither, modrm: Absent, immediate: Nothing => Pattern::UnaryReg(Unary::Inc)),
+            row!(opcodes: 8 from 0x48 by 1, sizes: Variable, repeats: Neither, modrm: Absent, immediate: Nothing => Pattern::UnaryReg(Unary::Dec)),
         ],
         5 => &[
-            row!(false 0x50 + 1 * 8 => Dword Neither Nothing; ModRm::Absent; Pattern::PushReg),
-            row!(false 0x58 + 1 * 8 => Dword Neither Nothing; ModRm::Absent; Pattern::PopReg),
+            row!(opcodes: 8 from 0x50 by 1, sizes: Dword, repeats: Neither, modrm: Absent, immediate: Nothing => Pattern::PushReg),
+            row!(opcodes: 8 from 0x58 by 1, sizes: Dword, repeats: Neither, modrm: Absent, immediate: Nothing => Pattern::PopReg),
         ],
         6 => &[
-            row!(false 0x60 + 1 * 1 => Dword Neither Nothing; ModRm::Absent; Pattern::Plain(Plain::Pushad)),
-            row!(false 0x61 + 1 * 1 => Dword Neither Nothing; ModRm::Absent; Pattern::Plain(Plain::Popad)),
-            row!(false 0x68 + 1 * 1 => Dword Neither Dword; ModRm::Absent; Pattern::PushImmediate),
-            row!(false 0x6A + 1 * 1 => Dword Neither SignedByte; ModRm::Absent; Pattern::PushImmediate),
-            row!(false 0x69 + 1 * 1 => Variable Neither Variable; ModRm::Any; Pattern::MultiplyRegRmImmediate),
-            row!(false 0x6B + 1 * 1 => Variable Neither SignedByte; ModRm::Any; Pattern::MultiplyRegRmImmediate),
+            row!(opcode: 0x60, sizes: Dword, repeats: Neither, modrm: Absent, immediate: Nothing => Pattern::Plain(Plain::Pushad)),
+            row!(opcode: 0x61, sizes: Dword, repeats: Neither, modrm: Absent, immediate: Nothing => Pattern::Plain(Plain::Popad)),
+            row!(opcode: 0x68, sizes: Dword, repeats: Neither, modrm: Absent, immediate: Dword => Pattern::PushImmediate),
+            row!(opcode: 0x6A, sizes: Dword, repeats: Neither, modrm: Absent, immediate: SignedByte => Pattern::PushImmediate),
+            row!(opcode: 0x69, sizes: Variable, repeats: Neither, modrm: Any, immediate: Variable => Pattern::MultiplyRegRmImmediate),
+            row!(opcode: 0x6B, sizes: Variable, repeats: Neither, modrm: Any, immediate: SignedByte => Pattern::MultiplyRegRmImmediate),
         ],
         _ => &[
-            row!(false 0x70 + 1 * 16 => Dword Neither SignedByte; ModRm::Absent; Pattern::JumpIf),
+            row!(opcodes: 16 from 0x70 by 1, sizes: Dword, repeats: Neither, modrm: Absent, immediate: SignedByte => Pattern::JumpIf),
         ],
     }
 }
@@ -99,58 +130,58 @@ fn middle_rows(part: u8) -> &'static [Row]
 {
     match part {
         16 => &[
-            row!(false 0x80 + 1 * 1 => Byte Neither Byte; ModRm::Any; Pattern::ArithmeticRmImmediate),
-            row!(false 0x81 + 1 * 1 => Variable Neither Variable; ModRm::Any; Pattern::ArithmeticRmImmediate),
-            row!(false 0x83 + 1 * 1 => Variable Neither SignedByte; ModRm::Any; Pattern::ArithmeticRmImmediate),
-            row!(false 0x84 + 1 * 1 => Byte Neither Nothing; ModRm::Any; Pattern::TestRmReg),
-            row!(false 0x85 + 1 * 1 => Variable Neither Nothing; ModRm::Any; Pattern::TestRmReg),
-            row!(false 0x86 + 1 * 1 => Byte Neither Nothing; ModRm::Any; Pattern::ExchangeRmReg),
-            row!(false 0x87 + 1 * 1 => Variable Neither Nothing; ModRm::Any; Pattern::ExchangeRmReg),
+            row!(opcode: 0x80, sizes: Byte, repeats: Neither, modrm: Any, immediate: Byte => Pattern::ArithmeticRmImmediate),
+            row!(opcode: 0x81, sizes: Variable, repeats: Neither, modrm: Any, immediate: Variable => Pattern::ArithmeticRmImmediate),
+            row!(opcode: 0x83, sizes: Variable, repeats: Neither, modrm: Any, immediate: SignedByte => Pattern::ArithmeticRmImmediate),
+            row!(opcode: 0x84, sizes: Byte, repeats: Neither, modrm: Any, immediate: Nothing => Pattern::TestRmReg),
+            row!(opcode: 0x85, sizes: Variable, repeats: Neither, modrm: Any, immediate: Nothing => Pattern::TestRmReg),
+            row!(opcode: 0x86, sizes: Byte, repeats: Neither, modrm: Any, immediate: Nothing => Pattern::ExchangeRmReg),
+            row!(opcode: 0x87, sizes: Variable, repeats: Neither, modrm: Any, immediate: Nothing => Pattern::ExchangeRmReg),
         ],
         17 => &[
-            row!(false 0x88 + 1 * 1 => Byte Neither Nothing; ModRm::Any; Pattern::MoveRmReg),
-            row!(false 0x89 + 1 * 1 => Variable Neither Nothing; ModRm::Any; Pattern::MoveRmReg),
-            row!(false 0x8A + 1 * 1 => Byte Neither Nothing; ModRm::Any; Pattern::MoveRegRm),
-            row!(false 0x8B + 1 * 1 => Variable Neither Nothing; ModRm::Any; Pattern::MoveRegRm),
-            row!(false 0x8D + 1 * 1 => Variable Neither Nothing; ModRm::AnyMemory; Pattern::LoadAddress),
+            row!(opcode: 0x88, sizes: Byte, repeats: Neither, modrm: Any, immediate: Nothing => Pattern::MoveRmReg),
+            row!(opcode: 0x89, sizes: Variable, repeats: Neither, modrm: Any, immediate: Nothing => Pattern::MoveRmReg),
+            row!(opcode: 0x8A, sizes: Byte, repeats: Neither, modrm: Any, immediate: Nothing => Pattern::MoveRegRm),
+            row!(opcode: 0x8B, sizes: Variable, repeats: Neither, modrm: Any, immediate: Nothing => Pattern::MoveRegRm),
+            row!(opcode: 0x8D, sizes: Variable, repeats: Neither, modrm: AnyMemory, immediate: Nothing => Pattern::LoadAddress),
         ],
         18 => &[
-            row!(false 0x91 + 1 * 7 => Variable Neither Nothing; ModRm::Absent; Pattern::ExchangeRegAcc),
-            row!(false 0x90 + 1 * 1 => Variable Neither Nothing; ModRm::Absent; Pattern::Plain(Plain::Nop)),
+            row!(opcodes: 7 from 0x91 by 1, sizes: Variable, repeats: Neither, modrm: Absent, immediate: Nothing => Pattern::ExchangeRegAcc),
+            row!(opcode: 0x90, sizes: Variable, repeats: Neither, modrm: Absent, immediate: Nothing => Pattern::Plain(Plain::Nop)),
         ],
         19 => &[
-            row!(false 0x98 + 1 * 1 => Variable Neither Nothing; ModRm::Absent; Pattern::ExtendAccumulator),
-            row!(false 0x99 + 1 * 1 => Variable Neither Nothing; ModRm::Absent; Pattern::SpreadSign),
-            row!(false 0x9C + 1 * 1 => Dword Neither Nothing; ModRm::Absent; Pattern::Plain(Plain::Pushfd)),
-            row!(false 0x9D + 1 * 1 => Dword Neither Nothing; ModRm::Absent; Pattern::Plain(Plain::Popfd)),
-            row!(false 0x9E + 1 * 1 => Dword Neither Nothing; ModRm::Absent; Pattern::Plain(Plain::Sahf)),
-            row!(false 0x9F + 1 * 1 => Dword Neither Nothing; ModRm::Absent; Pattern::Plain(Plain::Lahf)),
+            row!(opcode: 0x98, sizes: Variable, repeats: Neither, modrm: Absent, immediate: Nothing => Pattern::ExtendAccumulator),
+            row!(opcode: 0x99, sizes: Variable, repeats: Neither, modrm: Absent, immediate: Nothing => Pattern::SpreadSign),
+            row!(opcode: 0x9C, sizes: Dword, repeats: Neither, modrm: Absent, immediate: Nothing => Pattern::Plain(Plain::Pushfd)),
+            row!(opcode: 0x9D, sizes: Dword, repeats: Neither, modrm: Absent, immediate: Nothing => Pattern::Plain(Plain::Popfd)),
+            row!(opcode: 0x9E, sizes: Dword, repeats: Neither, modrm: Absent, immediate: Nothing => Pattern::Plain(Plain::Sahf)),
+            row!(opcode: 0x9F, sizes: Dword, repeats: Neither, modrm: Absent, immediate: Nothing => Pattern::Plain(Plain::Lahf)),
         ],
         20 => &[
-            row!(false 0xA0 + 1 * 1 => Byte Neither Dword; ModRm::Absent; Pattern::MoveAccAt),
-            row!(false 0xA1 + 1 * 1 => Variable Neither Dword; ModRm::Absent; Pattern::MoveAccAt),
-            row!(false 0xA2 + 1 * 1 => Byte Neither Dword; ModRm::Absent; Pattern::MoveAtAcc),
-            row!(false 0xA3 + 1 * 1 => Variable Neither Dword; ModRm::Absent; Pattern::MoveAtAcc),
-            row!(false 0xA4 + 1 * 1 => Byte Rep Nothing; ModRm::Absent; Pattern::Transfer(Transfer::Movs)),
-            row!(false 0xA5 + 1 * 1 => Variable Rep Nothing; ModRm::Absent; Pattern::Transfer(Transfer::Movs)),
-            row!(false 0xA6 + 1 * 1 => Byte Both Nothing; ModRm::Absent; Pattern::Compare(Comparison::Cmps)),
-            row!(false 0xA7 + 1 * 1 => Variable Both Nothing; ModRm::Absent; Pattern::Compare(Comparison::Cmps)),
+            row!(opcode: 0xA0, sizes: Byte, repeats: Neither, modrm: Absent, immediate: Dword => Pattern::MoveAccAt),
+            row!(opcode: 0xA1, sizes: Variable, repeats: Neither, modrm: Absent, immediate: Dword => Pattern::MoveAccAt),
+            row!(opcode: 0xA2, sizes: Byte, repeats: Neither, modrm: Absent, immediate: Dword => Pattern::MoveAtAcc),
+            row!(opcode: 0xA3, sizes: Variable, repeats: Neither, modrm: Absent, immediate: Dword => Pattern::MoveAtAcc),
+            row!(opcode: 0xA4, sizes: Byte, repeats: Rep, modrm: Absent, immediate: Nothing => Pattern::Transfer(Transfer::Movs)),
+            row!(opcode: 0xA5, sizes: Variable, repeats: Rep, modrm: Absent, immediate: Nothing => Pattern::Transfer(Transfer::Movs)),
+            row!(opcode: 0xA6, sizes: Byte, repeats: Both, modrm: Absent, immediate: Nothing => Pattern::Compare(Comparison::Cmps)),
+            row!(opcode: 0xA7, sizes: Variable, repeats: Both, modrm: Absent, immediate: Nothing => Pattern::Compare(Comparison::Cmps)),
         ],
         21 => &[
-            row!(false 0xA8 + 1 * 1 => Byte Neither Byte; ModRm::Absent; Pattern::TestAccImmediate),
-            row!(false 0xA9 + 1 * 1 => Variable Neither Variable; ModRm::Absent; Pattern::TestAccImmediate),
-            row!(false 0xAA + 1 * 1 => Byte Rep Nothing; ModRm::Absent; Pattern::Transfer(Transfer::Stos)),
-            row!(false 0xAB + 1 * 1 => Variable Rep Nothing; ModRm::Absent; Pattern::Transfer(Transfer::Stos)),
-            row!(false 0xAC + 1 * 1 => Byte Rep Nothing; ModRm::Absent; Pattern::Transfer(Transfer::Lods)),
-            row!(false 0xAD + 1 * 1 => Variable Rep Nothing; ModRm::Absent; Pattern::Transfer(Transfer::Lods)),
-            row!(false 0xAE + 1 * 1 => Byte Both Nothing; ModRm::Absent; Pattern::Compare(Comparison::Scas)),
-            row!(false 0xAF + 1 * 1 => Variable Both Nothing; ModRm::Absent; Pattern::Compare(Comparison::Scas)),
+            row!(opcode: 0xA8, sizes: Byte, repeats: Neither, modrm: Absent, immediate: Byte => Pattern::TestAccImmediate),
+            row!(opcode: 0xA9, sizes: Variable, repeats: Neither, modrm: Absent, immediate: Variable => Pattern::TestAccImmediate),
+            row!(opcode: 0xAA, sizes: Byte, repeats: Rep, modrm: Absent, immediate: Nothing => Pattern::Transfer(Transfer::Stos)),
+            row!(opcode: 0xAB, sizes: Variable, repeats: Rep, modrm: Absent, immediate: Nothing => Pattern::Transfer(Transfer::Stos)),
+            row!(opcode: 0xAC, sizes: Byte, repeats: Rep, modrm: Absent, immediate: Nothing => Pattern::Transfer(Transfer::Lods)),
+            row!(opcode: 0xAD, sizes: Variable, repeats: Rep, modrm: Absent, immediate: Nothing => Pattern::Transfer(Transfer::Lods)),
+            row!(opcode: 0xAE, sizes: Byte, repeats: Both, modrm: Absent, immediate: Nothing => Pattern::Compare(Comparison::Scas)),
+            row!(opcode: 0xAF, sizes: Variable, repeats: Both, modrm: Absent, immediate: Nothing => Pattern::Compare(Comparison::Scas)),
         ],
         22 => &[
-            row!(false 0xB0 + 1 * 8 => Byte Neither Byte; ModRm::Absent; Pattern::MoveRegImmediate),
+            row!(opcodes: 8 from 0xB0 by 1, sizes: Byte, repeats: Neither, modrm: Absent, immediate: Byte => Pattern::MoveRegImmediate),
         ],
         _ => &[
-            row!(false 0xB8 + 1 * 8 => Variable Neither Variable; ModRm::Absent; Pattern::MoveRegImmediate),
+            row!(opcodes: 8 from 0xB8 by 1, sizes: Variable, repeats: Neither, modrm: Absent, immediate: Variable => Pattern::MoveRegImmediate),
         ],
     }
 }
@@ -164,101 +195,101 @@ fn high_rows(part: u8) -> &'static [Row]
 {
     match part {
         24 => &[
-            row!(false 0xC6 + 1 * 1 => Byte Neither Byte; ModRm::Only(0); Pattern::MoveRmImmediate),
-            row!(false 0xC7 + 1 * 1 => Variable Neither Variable; ModRm::Only(0); Pattern::MoveRmImmediate),
-            row!(false 0xC0 + 1 * 1 => Byte Neither Byte; ModRm::Only(0); Pattern::ShiftRm(Shift::Rol, CountColumn::Immediate)),
-            row!(false 0xC0 + 1 * 1 => Byte Neither Byte; ModRm::Only(1); Pattern::ShiftRm(Shift::Ror, CountColumn::Immediate)),
-            row!(false 0xC0 + 1 * 1 => Byte Neither Byte; ModRm::Only(4); Pattern::ShiftRm(Shift::Shl, CountColumn::Immediate)),
-            row!(false 0xC0 + 1 * 1 => Byte Neither Byte; ModRm::Only(5); Pattern::ShiftRm(Shift::Shr, CountColumn::Immediate)),
-            row!(false 0xC0 + 1 * 1 => Byte Neither Byte; ModRm::Only(7); Pattern::ShiftRm(Shift::Sar, CountColumn::Immediate)),
-            row!(false 0xC1 + 1 * 1 => Variable Neither Byte; ModRm::Only(0); Pattern::ShiftRm(Shift::Rol, CountColumn::Immediate)),
-            row!(false 0xC1 + 1 * 1 => Variable Neither Byte; ModRm::Only(1); Pattern::ShiftRm(Shift::Ror, CountColumn::Immediate)),
-            row!(false 0xC1 + 1 * 1 => Variable Neither Byte; ModRm::Only(4); Pattern::ShiftRm(Shift::Shl, CountColumn::Immediate)),
-            row!(false 0xC1 + 1 * 1 => Variable Neither Byte; ModRm::Only(5); Pattern::ShiftRm(Shift::Shr, CountColumn::Immediate)),
-            row!(false 0xC1 + 1 * 1 => Variable Neither Byte; ModRm::Only(7); Pattern::ShiftRm(Shift::Sar, CountColumn::Immediate)),
-            row!(false 0xC2 + 1 * 1 => Dword Neither Word; ModRm::Absent; Pattern::Return),
-            row!(false 0xC3 + 1 * 1 => Dword Neither Nothing; ModRm::Absent; Pattern::Return),
+            row!(opcode: 0xC6, sizes: Byte, repeats: Neither, modrm: Only(0), immediate: Byte => Pattern::MoveRmImmediate),
+            row!(opcode: 0xC7, sizes: Variable, repeats: Neither, modrm: Only(0), immediate: Variable => Pattern::MoveRmImmediate),
+            row!(opcode: 0xC0, sizes: Byte, repeats: Neither, modrm: Only(0), immediate: Byte => Pattern::ShiftRm(Shift::Rol, CountColumn::Immediate)),
+            row!(opcode: 0xC0, sizes: Byte, repeats: Neither, modrm: Only(1), immediate: Byte => Pattern::ShiftRm(Shift::Ror, CountColumn::Immediate)),
+            row!(opcode: 0xC0, sizes: Byte, repeats: Neither, modrm: Only(4), immediate: Byte => Pattern::ShiftRm(Shift::Shl, CountColumn::Immediate)),
+            row!(opcode: 0xC0, sizes: Byte, repeats: Neither, modrm: Only(5), immediate: Byte => Pattern::ShiftRm(Shift::Shr, CountColumn::Immediate)),
+            row!(opcode: 0xC0, sizes: Byte, repeats: Neither, modrm: Only(7), immediate: Byte => Pattern::ShiftRm(Shift::Sar, CountColumn::Immediate)),
+            row!(opcode: 0xC1, sizes: Variable, repeats: Neither, modrm: Only(0), immediate: Byte => Pattern::ShiftRm(Shift::Rol, CountColumn::Immediate)),
+            row!(opcode: 0xC1, sizes: Variable, repeats: Neither, modrm: Only(1), immediate: Byte => Pattern::ShiftRm(Shift::Ror, CountColumn::Immediate)),
+            row!(opcode: 0xC1, sizes: Variable, repeats: Neither, modrm: Only(4), immediate: Byte => Pattern::ShiftRm(Shift::Shl, CountColumn::Immediate)),
+            row!(opcode: 0xC1, sizes: Variable, repeats: Neither, modrm: Only(5), immediate: Byte => Pattern::ShiftRm(Shift::Shr, CountColumn::Immediate)),
+            row!(opcode: 0xC1, sizes: Variable, repeats: Neither, modrm: Only(7), immediate: Byte => Pattern::ShiftRm(Shift::Sar, CountColumn::Immediate)),
+            row!(opcode: 0xC2, sizes: Dword, repeats: Neither, modrm: Absent, immediate: Word => Pattern::Return),
+            row!(opcode: 0xC3, sizes: Dword, repeats: Neither, modrm: Absent, immediate: Nothing => Pattern::Return),
         ],
         25 => &[
-            row!(false 0xC9 + 1 * 1 => Dword Neither Nothing; ModRm::Absent; Pattern::Plain(Plain::Leave)),
-            row!(false 0xCC + 1 * 1 => Dword Neither Nothing; ModRm::Absent; Pattern::Plain(Plain::Int3)),
-            row!(false 0xCD + 1 * 1 => Dword Neither Byte; ModRm::Absent; Pattern::Interrupt),
-            row!(false 0xCE + 1 * 1 => Dword Neither Nothing; ModRm::Absent; Pattern::Plain(Plain::Into)),
+            row!(opcode: 0xC9, sizes: Dword, repeats: Neither, modrm: Absent, immediate: Nothing => Pattern::Plain(Plain::Leave)),
+            row!(opcode: 0xCC, sizes: Dword, repeats: Neither, modrm: Absent, immediate: Nothing => Pattern::Plain(Plain::Int3)),
+            row!(opcode: 0xCD, sizes: Dword, repeats: Neither, modrm: Absent, immediate: Byte => Pattern::Interrupt),
+            row!(opcode: 0xCE, sizes: Dword, repeats: Neither, modrm: Absent, immediate: Nothing => Pattern::Plain(Plain::Into)),
         ],
         26 => &[
-            row!(false 0xD0 + 1 * 1 => Byte Neither Nothing; ModRm::Only(0); Pattern::ShiftRm(Shift::Rol, CountColumn::One)),
-            row!(false 0xD0 + 1 * 1 => Byte Neither Nothing; ModRm::Only(1); Pattern::ShiftRm(Shift::Ror, CountColumn::One)),
-            row!(false 0xD0 + 1 * 1 => Byte Neither Nothing; ModRm::Only(4); Pattern::ShiftRm(Shift::Shl, CountColumn::One)),
-            row!(false 0xD0 + 1 * 1 => Byte Neither Nothing; ModRm::Only(5); Pattern::ShiftRm(Shift::Shr, CountColumn::One)),
-            row!(false 0xD0 + 1 * 1 => Byte Neither Nothing; ModRm::Only(7); Pattern::ShiftRm(Shift::Sar, CountColumn::One)),
-            row!(false 0xD1 + 1 * 1 => Variable Neither Nothing; ModRm::Only(0); Pattern::ShiftRm(Shift::Rol, CountColumn::One)),
-            row!(false 0xD1 + 1 * 1 => Variable Neither Nothing; ModRm::Only(1); Pattern::ShiftRm(Shift::Ror, CountColumn::One)),
-            row!(false 0xD1 + 1 * 1 => Variable Neither Nothing; ModRm::Only(4); Pattern::ShiftRm(Shift::Shl, CountColumn::One)),
-            row!(false 0xD1 + 1 * 1 => Variable Neither Nothing; ModRm::Only(5); Pattern::ShiftRm(Shift::Shr, CountColumn::One)),
-            row!(false 0xD1 + 1 * 1 => Variable Neither Nothing; ModRm::Only(7); Pattern::ShiftRm(Shift::Sar, CountColumn::One)),
-            row!(false 0xD2 + 1 * 1 => Byte Neither Nothing; ModRm::Only(0); Pattern::ShiftRm(Shift::Rol, CountColumn::Cl)),
-            row!(false 0xD2 + 1 * 1 => Byte Neither Nothing; ModRm::Only(1); Pattern::ShiftRm(Shift::Ror, CountColumn::Cl)),
-            row!(false 0xD2 + 1 * 1 => Byte Neither Nothing; ModRm::Only(4); Pattern::ShiftRm(Shift::Shl, CountColumn::Cl)),
-            row!(false 0xD2 + 1 * 1 => Byte Neither Nothing; ModRm::Only(5); Pattern::ShiftRm(Shift::Shr, CountColumn::Cl)),
-            row!(false 0xD2 + 1 * 1 => Byte Neither Nothing; ModRm::Only(7); Pattern::ShiftRm(Shift::Sar, CountColumn::Cl)),
-            row!(false 0xD3 + 1 * 1 => Variable Neither Nothing; ModRm::Only(0); Pattern::ShiftRm(Shift::Rol, CountColumn::Cl)),
-            row!(false 0xD3 + 1 * 1 => Variable Neither Nothing; ModRm::Only(1); Pattern::ShiftRm(Shift::Ror, CountColumn::Cl)),
-            row!(false 0xD3 + 1 * 1 => Variable Neither Nothing; ModRm::Only(4); Pattern::ShiftRm(Shift::Shl, CountColumn::Cl)),
-            row!(false 0xD3 + 1 * 1 => Variable Neither Nothing; ModRm::Only(5); Pattern::ShiftRm(Shift::Shr, CountColumn::Cl)),
-            row!(false 0xD3 + 1 * 1 => Variable Neither Nothing; ModRm::Only(7); Pattern::ShiftRm(Shift::Sar, CountColumn::Cl)),
+            row!(opcode: 0xD0, sizes: Byte, repeats: Neither, modrm: Only(0), immediate: Nothing => Pattern::ShiftRm(Shift::Rol, CountColumn::One)),
+            row!(opcode: 0xD0, sizes: Byte, repeats: Neither, modrm: Only(1), immediate: Nothing => Pattern::ShiftRm(Shift::Ror, CountColumn::One)),
+            row!(opcode: 0xD0, sizes: Byte, repeats: Neither, modrm: Only(4), immediate: Nothing => Pattern::ShiftRm(Shift::Shl, CountColumn::One)),
+            row!(opcode: 0xD0, sizes: Byte, repeats: Neither, modrm: Only(5), immediate: Nothing => Pattern::ShiftRm(Shift::Shr, CountColumn::One)),
+            row!(opcode: 0xD0, sizes: Byte, repeats: Neither, modrm: Only(7), immediate: Nothing => Pattern::ShiftRm(Shift::Sar, CountColumn::One)),
+            row!(opcode: 0xD1, sizes: Variable, repeats: Neither, modrm: Only(0), immediate: Nothing => Pattern::ShiftRm(Shift::Rol, CountColumn::One)),
+            row!(opcode: 0xD1, sizes: Variable, repeats: Neither, modrm: Only(1), immediate: Nothing => Pattern::ShiftRm(Shift::Ror, CountColumn::One)),
+            row!(opcode: 0xD1, sizes: Variable, repeats: Neither, modrm: Only(4), immediate: Nothing => Pattern::ShiftRm(Shift::Shl, CountColumn::One)),
+            row!(opcode: 0xD1, sizes: Variable, repeats: Neither, modrm: Only(5), immediate: Nothing => Pattern::ShiftRm(Shift::Shr, CountColumn::One)),
+            row!(opcode: 0xD1, sizes: Variable, repeats: Neither, modrm: Only(7), immediate: Nothing => Pattern::ShiftRm(Shift::Sar, CountColumn::One)),
+            row!(opcode: 0xD2, sizes: Byte, repeats: Neither, modrm: Only(0), immediate: Nothing => Pattern::ShiftRm(Shift::Rol, CountColumn::Cl)),
+            row!(opcode: 0xD2, sizes: Byte, repeats: Neither, modrm: Only(1), immediate: Nothing => Pattern::ShiftRm(Shift::Ror, CountColumn::Cl)),
+            row!(opcode: 0xD2, sizes: Byte, repeats: Neither, modrm: Only(4), immediate: Nothing => Pattern::ShiftRm(Shift::Shl, CountColumn::Cl)),
+            row!(opcode: 0xD2, sizes: Byte, repeats: Neither, modrm: Only(5), immediate: Nothing => Pattern::ShiftRm(Shift::Shr, CountColumn::Cl)),
+            row!(opcode: 0xD2, sizes: Byte, repeats: Neither, modrm: Only(7), immediate: Nothing => Pattern::ShiftRm(Shift::Sar, CountColumn::Cl)),
+            row!(opcode: 0xD3, sizes: Variable, repeats: Neither, modrm: Only(0), immediate: Nothing => Pattern::ShiftRm(Shift::Rol, CountColumn::Cl)),
+            row!(opcode: 0xD3, sizes: Variable, repeats: Neither, modrm: Only(1), immediate: Nothing => Pattern::ShiftRm(Shift::Ror, CountColumn::Cl)),
+            row!(opcode: 0xD3, sizes: Variable, repeats: Neither, modrm: Only(4), immediate: Nothing => Pattern::ShiftRm(Shift::Shl, CountColumn::Cl)),
+            row!(opcode: 0xD3, sizes: Variable, repeats: Neither, modrm: Only(5), immediate: Nothing => Pattern::ShiftRm(Shift::Shr, CountColumn::Cl)),
+            row!(opcode: 0xD3, sizes: Variable, repeats: Neither, modrm: Only(7), immediate: Nothing => Pattern::ShiftRm(Shift::Sar, CountColumn::Cl)),
         ],
         27 => &[],
         28 => &[
-            row!(false 0xE0 + 1 * 1 => Dword Neither SignedByte; ModRm::Absent; Pattern::Loop(Loop::Loopne)),
-            row!(false 0xE1 + 1 * 1 => Dword Neither SignedByte; ModRm::Absent; Pattern::Loop(Loop::Loope)),
-            row!(false 0xE2 + 1 * 1 => Dword Neither SignedByte; ModRm::Absent; Pattern::Loop(Loop::Loop)),
-            row!(false 0xE3 + 1 * 1 => Dword Neither SignedByte; ModRm::Absent; Pattern::Loop(Loop::Jecxz)),
-            row!(false 0xE4 + 1 * 1 => Byte Neither Byte; ModRm::Absent; Pattern::InImmediate),
-            row!(false 0xE5 + 1 * 1 => Dword Neither Byte; ModRm::Absent; Pattern::InImmediate),
-            row!(false 0xE6 + 1 * 1 => Byte Neither Byte; ModRm::Absent; Pattern::OutImmediate),
-            row!(false 0xE7 + 1 * 1 => Dword Neither Byte; ModRm::Absent; Pattern::OutImmediate),
+            row!(opcode: 0xE0, sizes: Dword, repeats: Neither, modrm: Absent, immediate: SignedByte => Pattern::Loop(Loop::Loopne)),
+            row!(opcode: 0xE1, sizes: Dword, repeats: Neither, modrm: Absent, immediate: SignedByte => Pattern::Loop(Loop::Loope)),
+            row!(opcode: 0xE2, sizes: Dword, repeats: Neither, modrm: Absent, immediate: SignedByte => Pattern::Loop(Loop::Loop)),
+            row!(opcode: 0xE3, sizes: Dword, repeats: Neither, modrm: Absent, immediate: SignedByte => Pattern::Loop(Loop::Jecxz)),
+            row!(opcode: 0xE4, sizes: Byte, repeats: Neither, modrm: Absent, immediate: Byte => Pattern::InImmediate),
+            row!(opcode: 0xE5, sizes: Dword, repeats: Neither, modrm: Absent, immediate: Byte => Pattern::InImmediate),
+            row!(opcode: 0xE6, sizes: Byte, repeats: Neither, modrm: Absent, immediate: Byte => Pattern::OutImmediate),
+            row!(opcode: 0xE7, sizes: Dword, repeats: Neither, modrm: Absent, immediate: Byte => Pattern::OutImmediate),
         ],
         29 => &[
-            row!(false 0xE8 + 1 * 1 => Dword Neither Dword; ModRm::Absent; Pattern::Call),
-            row!(false 0xE9 + 1 * 1 => Dword Neither Dword; ModRm::Absent; Pattern::Jump),
-            row!(false 0xEB + 1 * 1 => Dword Neither SignedByte; ModRm::Absent; Pattern::Jump),
-            row!(false 0xEC + 1 * 1 => Byte Neither Nothing; ModRm::Absent; Pattern::InDx),
-            row!(false 0xED + 1 * 1 => Dword Neither Nothing; ModRm::Absent; Pattern::InDx),
-            row!(false 0xEE + 1 * 1 => Byte Neither Nothing; ModRm::Absent; Pattern::OutDx),
-            row!(false 0xEF + 1 * 1 => Dword Neither Nothing; ModRm::Absent; Pattern::OutDx),
+            row!(opcode: 0xE8, sizes: Dword, repeats: Neither, modrm: Absent, immediate: Dword => Pattern::Call),
+            row!(opcode: 0xE9, sizes: Dword, repeats: Neither, modrm: Absent, immediate: Dword => Pattern::Jump),
+            row!(opcode: 0xEB, sizes: Dword, repeats: Neither, modrm: Absent, immediate: SignedByte => Pattern::Jump),
+            row!(opcode: 0xEC, sizes: Byte, repeats: Neither, modrm: Absent, immediate: Nothing => Pattern::InDx),
+            row!(opcode: 0xED, sizes: Dword, repeats: Neither, modrm: Absent, immediate: Nothing => Pattern::InDx),
+            row!(opcode: 0xEE, sizes: Byte, repeats: Neither, modrm: Absent, immediate: Nothing => Pattern::OutDx),
+            row!(opcode: 0xEF, sizes: Dword, repeats: Neither, modrm: Absent, immediate: Nothing => Pattern::OutDx),
         ],
         30 => &[
-            row!(false 0xF4 + 1 * 1 => Dword Neither Nothing; ModRm::Absent; Pattern::Plain(Plain::Hlt)),
-            row!(false 0xF5 + 1 * 1 => Dword Neither Nothing; ModRm::Absent; Pattern::Plain(Plain::Cmc)),
-            row!(false 0xF6 + 1 * 1 => Byte Neither Byte; ModRm::Only(0); Pattern::TestRmImmediate),
-            row!(false 0xF6 + 1 * 1 => Byte Neither Nothing; ModRm::Only(2); Pattern::UnaryRm(Unary::Not)),
-            row!(false 0xF6 + 1 * 1 => Byte Neither Nothing; ModRm::Only(3); Pattern::UnaryRm(Unary::Neg)),
-            row!(false 0xF6 + 1 * 1 => Byte Neither Nothing; ModRm::Only(4); Pattern::ProductRm(Product::Mul)),
-            row!(false 0xF6 + 1 * 1 => Byte Neither Nothing; ModRm::Only(5); Pattern::ProductRm(Product::Imul)),
-            row!(false 0xF6 + 1 * 1 => Byte Neither Nothing; ModRm::Only(6); Pattern::ProductRm(Product::Div)),
-            row!(false 0xF6 + 1 * 1 => Byte Neither Nothing; ModRm::Only(7); Pattern::ProductRm(Product::Idiv)),
-            row!(false 0xF7 + 1 * 1 => Variable Neither Variable; ModRm::Only(0); Pattern::TestRmImmediate),
-            row!(false 0xF7 + 1 * 1 => Variable Neither Nothing; ModRm::Only(2); Pattern::UnaryRm(Unary::Not)),
-            row!(false 0xF7 + 1 * 1 => Variable Neither Nothing; ModRm::Only(3); Pattern::UnaryRm(Unary::Neg)),
-            row!(false 0xF7 + 1 * 1 => Variable Neither Nothing; ModRm::Only(4); Pattern::ProductRm(Product::Mul)),
-            row!(false 0xF7 + 1 * 1 => Variable Neither Nothing; ModRm::Only(5); Pattern::ProductRm(Product::Imul)),
-            row!(false 0xF7 + 1 * 1 => Variable Neither Nothing; ModRm::Only(6); Pattern::ProductRm(Product::Div)),
-            row!(false 0xF7 + 1 * 1 => Variable Neither Nothing; ModRm::Only(7); Pattern::ProductRm(Product::Idiv)),
+            row!(opcode: 0xF4, sizes: Dword, repeats: Neither, modrm: Absent, immediate: Nothing => Pattern::Plain(Plain::Hlt)),
+            row!(opcode: 0xF5, sizes: Dword, repeats: Neither, modrm: Absent, immediate: Nothing => Pattern::Plain(Plain::Cmc)),
+            row!(opcode: 0xF6, sizes: Byte, repeats: Neither, modrm: Only(0), immediate: Byte => Pattern::TestRmImmediate),
+            row!(opcode: 0xF6, sizes: Byte, repeats: Neither, modrm: Only(2), immediate: Nothing => Pattern::UnaryRm(Unary::Not)),
+            row!(opcode: 0xF6, sizes: Byte, repeats: Neither, modrm: Only(3), immediate: Nothing => Pattern::UnaryRm(Unary::Neg)),
+            row!(opcode: 0xF6, sizes: Byte, repeats: Neither, modrm: Only(4), immediate: Nothing => Pattern::ProductRm(Product::Mul)),
+            row!(opcode: 0xF6, sizes: Byte, repeats: Neither, modrm: Only(5), immediate: Nothing => Pattern::ProductRm(Product::Imul)),
+            row!(opcode: 0xF6, sizes: Byte, repeats: Neither, modrm: Only(6), immediate: Nothing => Pattern::ProductRm(Product::Div)),
+            row!(opcode: 0xF6, sizes: Byte, repeats: Neither, modrm: Only(7), immediate: Nothing => Pattern::ProductRm(Product::Idiv)),
+            row!(opcode: 0xF7, sizes: Variable, repeats: Neither, modrm: Only(0), immediate: Variable => Pattern::TestRmImmediate),
+            row!(opcode: 0xF7, sizes: Variable, repeats: Neither, modrm: Only(2), immediate: Nothing => Pattern::UnaryRm(Unary::Not)),
+            row!(opcode: 0xF7, sizes: Variable, repeats: Neither, modrm: Only(3), immediate: Nothing => Pattern::UnaryRm(Unary::Neg)),
+            row!(opcode: 0xF7, sizes: Variable, repeats: Neither, modrm: Only(4), immediate: Nothing => Pattern::ProductRm(Product::Mul)),
+            row!(opcode: 0xF7, sizes: Variable, repeats: Neither, modrm: Only(5), immediate: Nothing => Pattern::ProductRm(Product::Imul)),
+            row!(opcode: 0xF7, sizes: Variable, repeats: Neither, modrm: Only(6), immediate: Nothing => Pattern::ProductRm(Product::Div)),
+            row!(opcode: 0xF7, sizes: Variable, repeats: Neither, modrm: Only(7), immediate: Nothing => Pattern::ProductRm(Product::Idiv)),
         ],
         _ => &[
-            row!(false 0xFA + 1 * 1 => Dword Neither Nothing; ModRm::Absent; Pattern::Plain(Plain::Cli)),
-            row!(false 0xFB + 1 * 1 => Dword Neither Nothing; ModRm::Absent; Pattern::Plain(Plain::Sti)),
-            row!(false 0xF8 + 1 * 1 => Dword Neither Nothing; ModRm::Absent; Pattern::Plain(Plain::Clc)),
-            row!(false 0xF9 + 1 * 1 => Dword Neither Nothing; ModRm::Absent; Pattern::Plain(Plain::Stc)),
-            row!(false 0xFC + 1 * 1 => Dword Neither Nothing; ModRm::Absent; Pattern::Plain(Plain::Cld)),
-            row!(false 0xFD + 1 * 1 => Dword Neither Nothing; ModRm::Absent; Pattern::Plain(Plain::Std)),
-            row!(false 0xFE + 1 * 1 => Byte Neither Nothing; ModRm::Only(0); Pattern::UnaryRm(Unary::Inc)),
-            row!(false 0xFE + 1 * 1 => Byte Neither Nothing; ModRm::Only(1); Pattern::UnaryRm(Unary::Dec)),
-            row!(false 0xFF + 1 * 1 => Variable Neither Nothing; ModRm::Only(0); Pattern::UnaryRm(Unary::Inc)),
-            row!(false 0xFF + 1 * 1 => Variable Neither Nothing; ModRm::Only(1); Pattern::UnaryRm(Unary::Dec)),
-            row!(false 0xFF + 1 * 1 => Dword Neither Nothing; ModRm::Only(2); Pattern::CallRm),
-            row!(false 0xFF + 1 * 1 => Dword Neither Nothing; ModRm::Only(4); Pattern::JumpRm),
-            row!(false 0xFF + 1 * 1 => Dword Neither Nothing; ModRm::Only(6); Pattern::PushRm),
+            row!(opcode: 0xFA, sizes: Dword, repeats: Neither, modrm: Absent, immediate: Nothing => Pattern::Plain(Plain::Cli)),
+            row!(opcode: 0xFB, sizes: Dword, repeats: Neither, modrm: Absent, immediate: Nothing => Pattern::Plain(Plain::Sti)),
+            row!(opcode: 0xF8, sizes: Dword, repeats: Neither, modrm: Absent, immediate: Nothing => Pattern::Plain(Plain::Clc)),
+            row!(opcode: 0xF9, sizes: Dword, repeats: Neither, modrm: Absent, immediate: Nothing => Pattern::Plain(Plain::Stc)),
+            row!(opcode: 0xFC, sizes: Dword, repeats: Neither, modrm: Absent, immediate: Nothing => Pattern::Plain(Plain::Cld)),
+            row!(opcode: 0xFD, sizes: Dword, repeats: Neither, modrm: Absent, immediate: Nothing => Pattern::Plain(Plain::Std)),
+            row!(opcode: 0xFE, sizes: Byte, repeats: Neither, modrm: Only(0), immediate: Nothing => Pattern::UnaryRm(Unary::Inc)),
+            row!(opcode: 0xFE, sizes: Byte, repeats: Neither, modrm: Only(1), immediate: Nothing => Pattern::UnaryRm(Unary::Dec)),
+            row!(opcode: 0xFF, sizes: Variable, repeats: Neither, modrm: Only(0), immediate: Nothing => Pattern::UnaryRm(Unary::Inc)),
+            row!(opcode: 0xFF, sizes: Variable, repeats: Neither, modrm: Only(1), immediate: Nothing => Pattern::UnaryRm(Unary::Dec)),
+            row!(opcode: 0xFF, sizes: Dword, repeats: Neither, modrm: Only(2), immediate: Nothing => Pattern::CallRm),
+            row!(opcode: 0xFF, sizes: Dword, repeats: Neither, modrm: Only(4), immediate: Nothing => Pattern::JumpRm),
+            row!(opcode: 0xFF, sizes: Dword, repeats: Neither, modrm: Only(6), immediate: Nothing => Pattern::PushRm),
         ],
     }
 }
@@ -273,27 +304,27 @@ fn escaped_rows(part: u8) -> &'static [Row]
         0 => &[],
         1 => &[],
         2 => &[
-            row!(true 0x80 + 1 * 16 => Dword Neither Dword; ModRm::Absent; Pattern::JumpIf),
-            row!(true 0x90 + 1 * 16 => Byte Neither Nothing; ModRm::Any; Pattern::SetCondition),
-            row!(true 0xAF + 1 * 1 => Variable Neither Nothing; ModRm::Any; Pattern::MultiplyRegRm),
-            row!(true 0xB6 + 1 * 1 => Variable Neither Nothing; ModRm::Any; Pattern::ZeroExtendByte),
-            row!(true 0xB7 + 1 * 1 => Dword Neither Nothing; ModRm::Any; Pattern::ZeroExtendWord),
-            row!(true 0xBE + 1 * 1 => Variable Neither Nothing; ModRm::Any; Pattern::SignExtendByte),
-            row!(true 0xBF + 1 * 1 => Dword Neither Nothing; ModRm::Any; Pattern::SignExtendWord),
-            row!(true 0xBA + 1 * 1 => Dword Neither Byte; ModRm::Only(4); Pattern::BitTestRmImmediate(BitTest::Bt)),
-            row!(true 0xBA + 1 * 1 => Dword Neither Byte; ModRm::Only(5); Pattern::BitTestRmImmediate(BitTest::Bts)),
-            row!(true 0xBA + 1 * 1 => Dword Neither Byte; ModRm::Only(6); Pattern::BitTestRmImmediate(BitTest::Btr)),
-            row!(true 0xBA + 1 * 1 => Dword Neither Byte; ModRm::Only(7); Pattern::BitTestRmImmediate(BitTest::Btc)),
-            row!(true 0xA3 + 1 * 1 => Dword Neither Nothing; ModRm::AnyRegister; Pattern::BitTestRmReg(BitTest::Bt)),
-            row!(true 0xAB + 1 * 1 => Dword Neither Nothing; ModRm::AnyRegister; Pattern::BitTestRmReg(BitTest::Bts)),
-            row!(true 0xB3 + 1 * 1 => Dword Neither Nothing; ModRm::AnyRegister; Pattern::BitTestRmReg(BitTest::Btr)),
-            row!(true 0xBB + 1 * 1 => Dword Neither Nothing; ModRm::AnyRegister; Pattern::BitTestRmReg(BitTest::Btc)),
-            row!(true 0xBC + 1 * 1 => Dword Neither Nothing; ModRm::Any; Pattern::BitScanRegRm(BitScan::Bsf)),
-            row!(true 0xBD + 1 * 1 => Dword Neither Nothing; ModRm::Any; Pattern::BitScanRegRm(BitScan::Bsr)),
-            row!(true 0xA4 + 1 * 1 => Dword Neither Byte; ModRm::Any; Pattern::DoubleShiftRmReg(DoubleShift::Shld, CountColumn::Immediate)),
-            row!(true 0xA5 + 1 * 1 => Dword Neither Nothing; ModRm::Any; Pattern::DoubleShiftRmReg(DoubleShift::Shld, CountColumn::Cl)),
-            row!(true 0xAC + 1 * 1 => Dword Neither Byte; ModRm::Any; Pattern::DoubleShiftRmReg(DoubleShift::Shrd, CountColumn::Immediate)),
-            row!(true 0xAD + 1 * 1 => Dword Neither Nothing; ModRm::Any; Pattern::DoubleShiftRmReg(DoubleShift::Shrd, CountColumn::Cl)),
+            row!(opcodes: 16 from 0x0F 0x80 by 1, sizes: Dword, repeats: Neither, modrm: Absent, immediate: Dword => Pattern::JumpIf),
+            row!(opcodes: 16 from 0x0F 0x90 by 1, sizes: Byte, repeats: Neither, modrm: Any, immediate: Nothing => Pattern::SetCondition),
+            row!(opcode: 0x0F 0xAF, sizes: Variable, repeats: Neither, modrm: Any, immediate: Nothing => Pattern::MultiplyRegRm),
+            row!(opcode: 0x0F 0xB6, sizes: Variable, repeats: Neither, modrm: Any, immediate: Nothing => Pattern::ZeroExtendByte),
+            row!(opcode: 0x0F 0xB7, sizes: Dword, repeats: Neither, modrm: Any, immediate: Nothing => Pattern::ZeroExtendWord),
+            row!(opcode: 0x0F 0xBE, sizes: Variable, repeats: Neither, modrm: Any, immediate: Nothing => Pattern::SignExtendByte),
+            row!(opcode: 0x0F 0xBF, sizes: Dword, repeats: Neither, modrm: Any, immediate: Nothing => Pattern::SignExtendWord),
+            row!(opcode: 0x0F 0xBA, sizes: Dword, repeats: Neither, modrm: Only(4), immediate: Byte => Pattern::BitTestRmImmediate(BitTest::Bt)),
+            row!(opcode: 0x0F 0xBA, sizes: Dword, repeats: Neither, modrm: Only(5), immediate: Byte => Pattern::BitTestRmImmediate(BitTest::Bts)),
+            row!(opcode: 0x0F 0xBA, sizes: Dword, repeats: Neither, modrm: Only(6), immediate: Byte => Pattern::BitTestRmImmediate(BitTest::Btr)),
+            row!(opcode: 0x0F 0xBA, sizes: Dword, repeats: Neither, modrm: Only(7), immediate: Byte => Pattern::BitTestRmImmediate(BitTest::Btc)),
+            row!(opcode: 0x0F 0xA3, sizes: Dword, repeats: Neither, modrm: AnyRegister, immediate: Nothing => Pattern::BitTestRmReg(BitTest::Bt)),
+            row!(opcode: 0x0F 0xAB, sizes: Dword, repeats: Neither, modrm: AnyRegister, immediate: Nothing => Pattern::BitTestRmReg(BitTest::Bts)),
+            row!(opcode: 0x0F 0xB3, sizes: Dword, repeats: Neither, modrm: AnyRegister, immediate: Nothing => Pattern::BitTestRmReg(BitTest::Btr)),
+            row!(opcode: 0x0F 0xBB, sizes: Dword, repeats: Neither, modrm: AnyRegister, immediate: Nothing => Pattern::BitTestRmReg(BitTest::Btc)),
+            row!(opcode: 0x0F 0xBC, sizes: Dword, repeats: Neither, modrm: Any, immediate: Nothing => Pattern::BitScanRegRm(BitScan::Bsf)),
+            row!(opcode: 0x0F 0xBD, sizes: Dword, repeats: Neither, modrm: Any, immediate: Nothing => Pattern::BitScanRegRm(BitScan::Bsr)),
+            row!(opcode: 0x0F 0xA4, sizes: Dword, repeats: Neither, modrm: Any, immediate: Byte => Pattern::DoubleShiftRmReg(DoubleShift::Shld, CountColumn::Immediate)),
+            row!(opcode: 0x0F 0xA5, sizes: Dword, repeats: Neither, modrm: Any, immediate: Nothing => Pattern::DoubleShiftRmReg(DoubleShift::Shld, CountColumn::Cl)),
+            row!(opcode: 0x0F 0xAC, sizes: Dword, repeats: Neither, modrm: Any, immediate: Byte => Pattern::DoubleShiftRmReg(DoubleShift::Shrd, CountColumn::Immediate)),
+            row!(opcode: 0x0F 0xAD, sizes: Dword, repeats: Neither, modrm: Any, immediate: Nothing => Pattern::DoubleShiftRmReg(DoubleShift::Shrd, CountColumn::Cl)),
         ],
         _ => &[],
     }

@@ -25,7 +25,8 @@ name_text name = map visible_byte (before_zero name)
 
 -- a symbol's line: its value, its letter, its name
 abbrev pub name_line : Symbol → List ℕ
-name_line s = eight_digits s.value ++ (codes " " ++ (letter_of s.class ++ (codes " " ++ (name_text s.name ++ codes "\n"))))
+name_line s =
+    eight_digits s.value ++ (codes " " ++ (letter_of s.class ++ (codes " " ++ (name_text s.name ++ codes "\n"))))
 
 abbrev pub name_lines : List Symbol → List ℕ
 name_lines symbols = flat_map name_line symbols

@@ -40,7 +40,23 @@ use Rattle.mx_insn.specs.declared.insn.Plain.{Plain}
 use Rattle.mx_insn.specs.declared.insn.Insn.{Insn}
 use Rattle.mx_insn.specs.declared.insn.Insn.TheVariants as insns
 use Rattle.mx_insn.specs.declared.row.Row.{Row}
-use Rattle.mx_insn.specs.Table.{shift_number, product_number, arithmetic_rm_reg_row, arithmetic_reg_rm_row, arithmetic_byte_row, arithmetic_whole_row, arithmetic_signed_row, increase_reg_row, decrease_reg_row, push_reg_row, pop_reg_row, push_dword_row, push_signed_row, multiply_whole_row, multiply_signed_row, jump_if_signed_row, jump_if_dword_row, test_rm_reg_row, test_rm_byte_row, test_rm_whole_row, exchange_rm_reg_row, move_rm_reg_row, move_reg_rm_row, move_reg_byte_row, move_reg_whole_row, move_rm_byte_row, move_rm_whole_row, load_address_row, extend_accumulator_row, spread_sign_row, transfer_row, compare_row, shift_immediate_row, shift_one_row, shift_cl_row, return_bytes_row, return_row, interrupt_row, loop_row, call_row, jump_dword_row, jump_signed_row, call_rm_row, jump_rm_row, push_rm_row, in_immediate_byte_row, in_immediate_dword_row, out_immediate_byte_row, out_immediate_dword_row, in_dx_byte_row, in_dx_dword_row, out_dx_byte_row, out_dx_dword_row, not_rm_row, neg_rm_row, product_row, increase_rm_row, decrease_rm_row, plain_row, set_condition_row, multiply_reg_rm_row, zero_extend_byte_row, zero_extend_word_row, sign_extend_byte_row, sign_extend_word_row, bit_test_number, bit_test_immediate_row, bit_test_register_row, bit_scan_row, double_shift_immediate_row, double_shift_cl_row}
+use Rattle.mx_insn.specs.Table.{shift_number, product_number, arithmetic_rm_reg_row, arithmetic_reg_rm_row}
+use Rattle.mx_insn.specs.Table.{arithmetic_byte_row, arithmetic_whole_row, arithmetic_signed_row, increase_reg_row}
+use Rattle.mx_insn.specs.Table.{decrease_reg_row, push_reg_row, pop_reg_row, push_dword_row, push_signed_row}
+use Rattle.mx_insn.specs.Table.{multiply_whole_row, multiply_signed_row, jump_if_signed_row, jump_if_dword_row}
+use Rattle.mx_insn.specs.Table.{test_rm_reg_row, test_rm_byte_row, test_rm_whole_row, exchange_rm_reg_row}
+use Rattle.mx_insn.specs.Table.{move_rm_reg_row, move_reg_rm_row, move_reg_byte_row, move_reg_whole_row}
+use Rattle.mx_insn.specs.Table.{move_rm_byte_row, move_rm_whole_row, load_address_row, extend_accumulator_row}
+use Rattle.mx_insn.specs.Table.{spread_sign_row, transfer_row, compare_row, shift_immediate_row, shift_one_row}
+use Rattle.mx_insn.specs.Table.{shift_cl_row, return_bytes_row, return_row, interrupt_row, loop_row, call_row}
+use Rattle.mx_insn.specs.Table.{jump_dword_row, jump_signed_row, call_rm_row, jump_rm_row, push_rm_row}
+use Rattle.mx_insn.specs.Table.{in_immediate_byte_row, in_immediate_dword_row, out_immediate_byte_row}
+use Rattle.mx_insn.specs.Table.{out_immediate_dword_row, in_dx_byte_row, in_dx_dword_row, out_dx_byte_row}
+use Rattle.mx_insn.specs.Table.{out_dx_dword_row, not_rm_row, neg_rm_row, product_row, increase_rm_row, decrease_rm_row}
+use Rattle.mx_insn.specs.Table.{plain_row, set_condition_row, multiply_reg_rm_row, zero_extend_byte_row}
+use Rattle.mx_insn.specs.Table.{zero_extend_word_row, sign_extend_byte_row, sign_extend_word_row, bit_test_number}
+use Rattle.mx_insn.specs.Table.{bit_test_immediate_row, bit_test_register_row, bit_scan_row, double_shift_immediate_row}
+use Rattle.mx_insn.specs.Table.{double_shift_cl_row}
 use Rattle.mx_encode.specs.declared.Wide.{Wide}
 use Rattle.mx_encode.specs.declared.fields.Number.{Number}
 use Rattle.mx_encode.specs.declared.fields.Number.TheVariants as numbers
@@ -61,18 +77,27 @@ pub record Choice : Type 0 where
 
 -- without a ModRM byte
 abbrev pub bare : Row → Bool → ℕ → Number → Choice
-bare row resized number immediate = record { row = row; resized = resized; repeat = None; number = number; rm = None; immediate = immediate }
+bare row resized number immediate =
+    record { row = row; resized = resized; repeat = None; number = number; rm = None; immediate = immediate }
 
 -- with a reg field, and an operand that mod and rm name
 abbrev pub with_rm : Row → Bool → ℕ → ℕ → Operand → Number → Choice
 with_rm row resized number reg o immediate =
-    record { row = row; resized = resized; repeat = None; number = number; rm = Some (record { reg = reg; operand = o }); immediate = immediate }
+    record {
+      row = row;
+      resized = resized;
+      repeat = None;
+      number = number;
+      rm = Some (record { reg = reg; operand = o });
+      immediate = immediate;
+    }
 
 -- ---- two operands
 
 -- 83 if the value is a byte with its sign extended and isn't marked wide, else 81; 80 for bytes
 abbrev pub arithmetic_immediate : Arithmetic → Operand → Immediate → Bool → Choice
-arithmetic_immediate o to (immediate.Byte n) long = with_rm arithmetic_byte_row false 0 (arithmetic_number o) to (numbers.Byte n)
+arithmetic_immediate o to (immediate.Byte n) long =
+    with_rm arithmetic_byte_row false 0 (arithmetic_number o) to (numbers.Byte n)
 arithmetic_immediate o to (immediate.Word n) long =
     if shortens 16 n long then with_rm arithmetic_signed_row true 0 (arithmetic_number o) to (short n)
     else with_rm arithmetic_whole_row true 0 (arithmetic_number o) to (numbers.Word n)
@@ -82,24 +107,39 @@ arithmetic_immediate o to (immediate.Dword n) long =
 
 -- a register from a register by the row rm, r; from memory by r, rm
 abbrev pub arithmetic_choice : Arithmetic → Operands → Bool → Choice
-arithmetic_choice o (operands.ToRegister size to (operand.Register from)) long = with_rm (arithmetic_rm_reg_row size) (is_word size) (arithmetic_number o) (register_number from) (operand.Register to) numbers.Nothing
-arithmetic_choice o (operands.ToRegister size to (operand.Memory m)) long = with_rm (arithmetic_reg_rm_row size) (is_word size) (arithmetic_number o) (register_number to) (operand.Memory m) numbers.Nothing
-arithmetic_choice o (operands.ToMemory size to from) long = with_rm (arithmetic_rm_reg_row size) (is_word size) (arithmetic_number o) (register_number from) (operand.Memory to) numbers.Nothing
+arithmetic_choice o (operands.ToRegister size to (operand.Register from)) long =
+    with_rm (arithmetic_rm_reg_row size) (is_word size) (arithmetic_number o) (register_number from)
+    (operand.Register to) numbers.Nothing
+arithmetic_choice o (operands.ToRegister size to (operand.Memory m)) long =
+    with_rm (arithmetic_reg_rm_row size) (is_word size) (arithmetic_number o) (register_number to)
+    (operand.Memory m) numbers.Nothing
+arithmetic_choice o (operands.ToMemory size to from) long =
+    with_rm (arithmetic_rm_reg_row size) (is_word size) (arithmetic_number o) (register_number from)
+    (operand.Memory to) numbers.Nothing
 arithmetic_choice o (operands.Immediate to value) long = arithmetic_immediate o to value long
 
 -- a register by B0 + r and B8 + r, memory by C6 and C7
 abbrev pub move_immediate : Operand → Immediate → Choice
-move_immediate (operand.Register r) (immediate.Byte n) = bare move_reg_byte_row false (register_number r) (numbers.Byte n)
-move_immediate (operand.Register r) (immediate.Word n) = bare move_reg_whole_row true (register_number r) (numbers.Word n)
-move_immediate (operand.Register r) (immediate.Dword n) = bare move_reg_whole_row false (register_number r) (numbers.Dword n)
-move_immediate (operand.Memory m) (immediate.Byte n) = with_rm move_rm_byte_row false 0 0 (operand.Memory m) (numbers.Byte n)
-move_immediate (operand.Memory m) (immediate.Word n) = with_rm move_rm_whole_row true 0 0 (operand.Memory m) (numbers.Word n)
-move_immediate (operand.Memory m) (immediate.Dword n) = with_rm move_rm_whole_row false 0 0 (operand.Memory m) (numbers.Dword n)
+move_immediate (operand.Register r) (immediate.Byte n) =
+    bare move_reg_byte_row false (register_number r) (numbers.Byte n)
+move_immediate (operand.Register r) (immediate.Word n) =
+    bare move_reg_whole_row true (register_number r) (numbers.Word n)
+move_immediate (operand.Register r) (immediate.Dword n) =
+    bare move_reg_whole_row false (register_number r) (numbers.Dword n)
+move_immediate (operand.Memory m) (immediate.Byte n) =
+    with_rm move_rm_byte_row false 0 0 (operand.Memory m) (numbers.Byte n)
+move_immediate (operand.Memory m) (immediate.Word n) =
+    with_rm move_rm_whole_row true 0 0 (operand.Memory m) (numbers.Word n)
+move_immediate (operand.Memory m) (immediate.Dword n) =
+    with_rm move_rm_whole_row false 0 0 (operand.Memory m) (numbers.Dword n)
 
 abbrev pub move_choice : Operands → Choice
-move_choice (operands.ToRegister size to (operand.Register from)) = with_rm (move_rm_reg_row size) (is_word size) 0 (register_number from) (operand.Register to) numbers.Nothing
-move_choice (operands.ToRegister size to (operand.Memory m)) = with_rm (move_reg_rm_row size) (is_word size) 0 (register_number to) (operand.Memory m) numbers.Nothing
-move_choice (operands.ToMemory size to from) = with_rm (move_rm_reg_row size) (is_word size) 0 (register_number from) (operand.Memory to) numbers.Nothing
+move_choice (operands.ToRegister size to (operand.Register from)) =
+    with_rm (move_rm_reg_row size) (is_word size) 0 (register_number from) (operand.Register to) numbers.Nothing
+move_choice (operands.ToRegister size to (operand.Memory m)) =
+    with_rm (move_reg_rm_row size) (is_word size) 0 (register_number to) (operand.Memory m) numbers.Nothing
+move_choice (operands.ToMemory size to from) =
+    with_rm (move_rm_reg_row size) (is_word size) 0 (register_number from) (operand.Memory to) numbers.Nothing
 move_choice (operands.Immediate to value) = move_immediate to value
 
 abbrev pub test_choice : Size → Operand → Register → Choice
@@ -134,7 +174,8 @@ product_choice o size operand = with_rm (product_row o size) (is_word size) 0 (p
 
 -- the count 1 by D0 and D1, CL by D2 and D3, another by C0 and C1
 abbrev pub shift_choice : Shift → Size → Operand → Count → Choice
-shift_choice o size operand counts.Cl = with_rm (shift_cl_row o size) (is_word size) 0 (shift_number o) operand numbers.Nothing
+shift_choice o size operand counts.Cl =
+    with_rm (shift_cl_row o size) (is_word size) 0 (shift_number o) operand numbers.Nothing
 shift_choice o size operand (counts.Immediate n) =
     if n == 1 then with_rm (shift_one_row o size) (is_word size) 0 (shift_number o) operand numbers.Nothing
     else with_rm (shift_immediate_row o size) (is_word size) 0 (shift_number o) operand (numbers.Byte n)
@@ -144,17 +185,21 @@ abbrev pub bit_test_choice : BitTest → Operand → ℕ → Choice
 bit_test_choice o operand n = with_rm (bit_test_immediate_row o) false 0 (bit_test_number o) operand (numbers.Byte n)
 
 abbrev pub register_bit_test : BitTest → Register → Register → Choice
-register_bit_test o r n = with_rm (bit_test_register_row o) false 0 (register_number n) (operand.Register r) numbers.Nothing
+register_bit_test o r n =
+    with_rm (bit_test_register_row o) false 0 (register_number n) (operand.Register r) numbers.Nothing
 
 -- CL by A5 and AD, a number by A4 and AC
 abbrev pub double_shift_choice : DoubleShift → Operand → Register → Count → Choice
-double_shift_choice o operand r counts.Cl = with_rm (double_shift_cl_row o) false 0 (register_number r) operand numbers.Nothing
-double_shift_choice o operand r (counts.Immediate n) = with_rm (double_shift_immediate_row o) false 0 (register_number r) operand (numbers.Byte n)
+double_shift_choice o operand r counts.Cl =
+    with_rm (double_shift_cl_row o) false 0 (register_number r) operand numbers.Nothing
+double_shift_choice o operand r (counts.Immediate n) =
+    with_rm (double_shift_immediate_row o) false 0 (register_number r) operand (numbers.Byte n)
 
 -- ---- into a register
 
 abbrev pub load_address : OperandSize → Register → Memory → Choice
-load_address size to m = with_rm load_address_row (is_resized size) 0 (register_number to) (operand.Memory m) numbers.Nothing
+load_address size to m =
+    with_rm load_address_row (is_resized size) 0 (register_number to) (operand.Memory m) numbers.Nothing
 
 abbrev pub multiply_choice : OperandSize → Register → Operand → Choice
 multiply_choice size to from = with_rm multiply_reg_rm_row (is_resized size) 0 (register_number to) from numbers.Nothing

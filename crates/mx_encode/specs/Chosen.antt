@@ -9,7 +9,15 @@ use Rattle.mx_encode.specs.Choice.{Choice, choice}
 
 -- 66 is before F3 and F2
 abbrev pub fields_of : Choice → Bool → Fields
-fields_of c long = record { resized = c.resized; repeat = c.repeat; turned = false; number = c.number; place = place_for c.rm long; immediate = number_bytes c.immediate }
+fields_of c long =
+    record {
+      resized = c.resized;
+      repeat = c.repeat;
+      turned = false;
+      number = c.number;
+      place = place_for c.rm long;
+      immediate = number_bytes c.immediate;
+    }
 
 -- the bytes, whole, are the spelling of the instruction that is chosen
 pub record Chosen (i : Insn) (wide : Wide) (bytes : List ℕ) : Type 0 where

@@ -49,8 +49,10 @@ operand_with_displacement (operand.Register r) n = operand.Register r
 operand_with_displacement (operand.Memory m) n = operand.Memory (memory_with_displacement m n)
 
 abbrev pub operands_with_displacement : Operands → ℕ → Operands
-operands_with_displacement (operands.ToRegister size to from) n = operands.ToRegister size to (operand_with_displacement from n)
-operands_with_displacement (operands.ToMemory size to from) n = operands.ToMemory size (memory_with_displacement to n) from
+operands_with_displacement (operands.ToRegister size to from) n =
+    operands.ToRegister size to (operand_with_displacement from n)
+operands_with_displacement (operands.ToMemory size to from) n =
+    operands.ToMemory size (memory_with_displacement to n) from
 operands_with_displacement (operands.Immediate to value) n = operands.Immediate (operand_with_displacement to n) value
 
 abbrev pub with_displacement : Insn → ℕ → Insn
@@ -63,7 +65,8 @@ with_displacement (insns.LoadAddress size to m) n = insns.LoadAddress size to (m
 with_displacement (insns.Unary o size x) n = insns.Unary o size (operand_with_displacement x n)
 with_displacement (insns.Product o size x) n = insns.Product o size (operand_with_displacement x n)
 with_displacement (insns.Multiply size to from) n = insns.Multiply size to (operand_with_displacement from n)
-with_displacement (insns.MultiplyImmediate to from by) n = insns.MultiplyImmediate to (operand_with_displacement from n) by
+with_displacement (insns.MultiplyImmediate to from by) n =
+    insns.MultiplyImmediate to (operand_with_displacement from n) by
 with_displacement (insns.Shift o size x count) n = insns.Shift o size (operand_with_displacement x n) count
 with_displacement (insns.DoubleShift o x r count) n = insns.DoubleShift o (operand_with_displacement x n) r count
 with_displacement (insns.BitTest o x k) n = insns.BitTest o (operand_with_displacement x n) k

@@ -1,5 +1,6 @@
 -- What the code's functions give.
-use Rattle.std.specs.Prelude.{◌≡◌, ℕ, ◌+◌, ◌<◌, ◌^◌, Bool, true, false, List, ◌∷◌, ◌++◌, Option, Some, None, Result, Ok, Err}
+use Rattle.std.specs.Prelude.{◌≡◌, ℕ, ◌+◌, ◌<◌, ◌^◌, Bool, true, false, List, ◌∷◌, ◌++◌, Option, Some, None, Result, Ok}
+use Rattle.std.specs.Prelude.{Err}
 use Rattle.mx_word.specs.Names.{register_number}
 use Rattle.mx_word.specs.declared.size.Size.{Size}
 use Rattle.mx_word.specs.declared.size.Size.TheVariants.{Byte, Word, Dword}
@@ -18,7 +19,8 @@ use Rattle.mx_insn.specs.declared.insn.Port.{Port}
 use Rattle.mx_insn.specs.declared.insn.Port.TheVariants as ports
 use Rattle.mx_insn.specs.declared.insn.Insn.{Insn}
 use Rattle.mx_insn.specs.declared.insn.Insn.TheVariants as insns
-use Rattle.mx_insn.specs.Spelling.{Sib, opcode, Place, operand_size, is_resized, is_escaped, prefix_bytes, escape_bytes, modrm_bytes}
+use Rattle.mx_insn.specs.Spelling.{Sib, opcode, Place, operand_size, is_resized, is_escaped, prefix_bytes, escape_bytes}
+use Rattle.mx_insn.specs.Spelling.{modrm_bytes}
 use Rattle.mx_encode.specs.declared.NoForm.{NoForm}
 use Rattle.mx_encode.specs.declared.fields.Sib as code_sib
 use Rattle.mx_encode.specs.declared.fields.RmFields as code_place
@@ -43,7 +45,14 @@ is_wide number_forms.Shortest = false
 
 -- a choice, without its row
 abbrev pub laid : Choice → Encoding
-laid c = record { operand_size = operand_size c.resized; repeat = c.repeat; map = opcode_map c.row.escaped; opcode = opcode c.row c.number; rm = c.rm; immediate = c.immediate }
+laid c = record {
+  operand_size = operand_size c.resized;
+  repeat = c.repeat;
+  map = opcode_map c.row.escaped;
+  opcode = opcode c.row c.number;
+  rm = c.rm;
+  immediate = c.immediate;
+}
 
 -- what a function returned is what was chosen
 abbrev pub GivesBytes : Result Encoding NoForm → Option Choice → Type 0
@@ -58,21 +67,87 @@ RegFits None = Unit {0}
 RegFits (Some rm) = rm.reg < 8
 
 abbrev pub form_bytes : Encoding → Option Place → List ℕ
-form_bytes f place = prefix_bytes (is_resized f.operand_size) f.repeat false ++ (escape_bytes (is_escaped f.map) ++ (f.opcode ∷ (modrm_bytes place ++ number_bytes f.immediate)))
+form_bytes f place =
+    prefix_bytes (is_resized f.operand_size) f.repeat false
+    ++ (escape_bytes (is_escaped f.map) ++ (f.opcode ∷ (modrm_bytes place ++ number_bytes f.immediate)))
 
 -- a value by an opcode for bytes and the next, for words and dwords, under /0
 abbrev pub value_into : ℕ → Operand → Immediate → Encoding
-value_into first to (immediate.Byte n) = record { operand_size = operand_sizes.Dword; repeat = None; map = opcode_maps.OneByte; opcode = first; rm = Some (record { reg = 0; operand = to }); immediate = numbers.Byte n }
-value_into first to (immediate.Word n) = record { operand_size = operand_sizes.Word; repeat = None; map = opcode_maps.OneByte; opcode = first + 1; rm = Some (record { reg = 0; operand = to }); immediate = numbers.Word n }
-value_into first to (immediate.Dword n) = record { operand_size = operand_sizes.Dword; repeat = None; map = opcode_maps.OneByte; opcode = first + 1; rm = Some (record { reg = 0; operand = to }); immediate = numbers.Dword n }
+value_into first to (immediate.Byte n) =
+    record {
+      operand_size = operand_sizes.Dword;
+      repeat = None;
+      map = opcode_maps.OneByte;
+      opcode = first;
+      rm = Some (record { reg = 0; operand = to });
+      immediate = numbers.Byte n;
+    }
+value_into first to (immediate.Word n) =
+    record {
+      operand_size = operand_sizes.Word;
+      repeat = None;
+      map = opcode_maps.OneByte;
+      opcode = first + 1;
+      rm = Some (record { reg = 0; operand = to });
+      immediate = numbers.Word n;
+    }
+value_into first to (immediate.Dword n) =
+    record {
+      operand_size = operand_sizes.Dword;
+      repeat = None;
+      map = opcode_maps.OneByte;
+      opcode = first + 1;
+      rm = Some (record { reg = 0; operand = to });
+      immediate = numbers.Dword n;
+    }
 
 -- INC or DEC, by the opcode for words and dwords in a register or else under /n of FE and FF
 abbrev pub step_form : ℕ → ℕ → Size → Operand → Encoding
-step_form first n Byte o = record { operand_size = operand_sizes.Dword; repeat = None; map = opcode_maps.OneByte; opcode = 0xFE; rm = Some (record { reg = n; operand = o }); immediate = numbers.Nothing }
-step_form first n Word (operand.Register r) = record { operand_size = operand_sizes.Word; repeat = None; map = opcode_maps.OneByte; opcode = first + register_number r; rm = None; immediate = numbers.Nothing }
-step_form first n Dword (operand.Register r) = record { operand_size = operand_sizes.Dword; repeat = None; map = opcode_maps.OneByte; opcode = first + register_number r; rm = None; immediate = numbers.Nothing }
-step_form first n Word (operand.Memory m) = record { operand_size = operand_sizes.Word; repeat = None; map = opcode_maps.OneByte; opcode = 0xFF; rm = Some (record { reg = n; operand = operand.Memory m }); immediate = numbers.Nothing }
-step_form first n Dword (operand.Memory m) = record { operand_size = operand_sizes.Dword; repeat = None; map = opcode_maps.OneByte; opcode = 0xFF; rm = Some (record { reg = n; operand = operand.Memory m }); immediate = numbers.Nothing }
+step_form first n Byte o =
+    record {
+      operand_size = operand_sizes.Dword;
+      repeat = None;
+      map = opcode_maps.OneByte;
+      opcode = 0xFE;
+      rm = Some (record { reg = n; operand = o });
+      immediate = numbers.Nothing;
+    }
+step_form first n Word (operand.Register r) =
+    record {
+      operand_size = operand_sizes.Word;
+      repeat = None;
+      map = opcode_maps.OneByte;
+      opcode = first + register_number r;
+      rm = None;
+      immediate = numbers.Nothing;
+    }
+step_form first n Dword (operand.Register r) =
+    record {
+      operand_size = operand_sizes.Dword;
+      repeat = None;
+      map = opcode_maps.OneByte;
+      opcode = first + register_number r;
+      rm = None;
+      immediate = numbers.Nothing;
+    }
+step_form first n Word (operand.Memory m) =
+    record {
+      operand_size = operand_sizes.Word;
+      repeat = None;
+      map = opcode_maps.OneByte;
+      opcode = 0xFF;
+      rm = Some (record { reg = n; operand = operand.Memory m });
+      immediate = numbers.Nothing;
+    }
+step_form first n Dword (operand.Memory m) =
+    record {
+      operand_size = operand_sizes.Dword;
+      repeat = None;
+      map = opcode_maps.OneByte;
+      opcode = 0xFF;
+      rm = Some (record { reg = n; operand = operand.Memory m });
+      immediate = numbers.Nothing;
+    }
 
 -- ---- the numbers of an instruction are as wide as their types
 
@@ -141,4 +216,5 @@ sib_seen None = None
 sib_seen (Some s) = Some (record { scale = s.scale; index = s.index; base = s.base })
 
 abbrev pub place_seen : code_place.RmFields → Place
-place_seen p = record { mode = p.mode; reg = p.reg; rm = p.rm; sib = sib_seen p.sib; displacement = number_bytes p.displacement }
+place_seen p =
+    record { mode = p.mode; reg = p.reg; rm = p.rm; sib = sib_seen p.sib; displacement = number_bytes p.displacement }

@@ -19,7 +19,8 @@ base_number (Some r) = register_number r
 -- a SIB byte only if there is an index, or the base is ESP, whose number means that one follows; without an
 -- index its index field is 100 and its scale bits are 0
 abbrev pub sib_of : Option Register → Option Index → Option Sib
-sib_of base (Some i) = Some (record { scale = scale_number i.scale; index = register_number i.register; base = base_number base })
+sib_of base (Some i) =
+    Some (record { scale = scale_number i.scale; index = register_number i.register; base = base_number base })
 sib_of base None = if base_number base == 4 then Some (record { scale = 0; index = 4; base = 4 }) else None
 
 abbrev pub rm_number : Option Register → Option Sib → ℕ
@@ -45,12 +46,14 @@ memory_place reg m long = record {
   reg = reg;
   rm = rm_number m.base (sib_of m.base m.index);
   sib = sib_of m.base m.index;
-  displacement = bytes_of (displacement_length (mode_of m.base m.displacement long) (base_number m.base)) m.displacement;
+  displacement =
+      bytes_of (displacement_length (mode_of m.base m.displacement long) (base_number m.base)) m.displacement;
 }
 
 -- by the reg field, the operand, and the mark on its displacement
 abbrev pub place_written : ℕ → Operand → Bool → Place
-place_written reg (operand.Register r) long = record { mode = 3; reg = reg; rm = register_number r; sib = None; displacement = [] }
+place_written reg (operand.Register r) long =
+    record { mode = 3; reg = reg; rm = register_number r; sib = None; displacement = [] }
 place_written reg (operand.Memory m) long = memory_place reg m long
 
 abbrev pub place_for : Option Rm → Bool → Option Place

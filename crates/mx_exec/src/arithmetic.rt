@@ -148,7 +148,8 @@ pub fn shift_by<P: Place>(
 
 // ---- the accumulator
 
-/// What is above the accumulator: AH, DX or EDX.
+/// What is above the accumulator: AH, DX or EDX. Registers of a byte are AL, CL, DL, BL, then AH, CH, DH, BH: so
+/// number 4, which is ESP at the other sizes, is AH.
 #[inline(always)]
 fn upper_register(size: Size) -> Register
     ensures { result ≡ upper_register size }

@@ -9,6 +9,7 @@ ghost use Rattle.mx_exec.specs.Image.{Performs};
 
 use crate::Image;
 use crate::image::dword_sum;
+use mx_mem::Vector;
 
 /// How an instruction ended. EIP is not set yet.
 #[derive(Clone, Copy)]
@@ -24,12 +25,12 @@ pub enum TurnEnd {
     /// It is at an address; the four bytes at another may have been written.
     Called { to: u32, at: u32 },
     /// The vector of a fault, which changed nothing.
-    Fault(u8),
+    Fault(Vector),
 }
 
 /// Sets EIP as an instruction ended, or answers the vector.
 #[inline(always)]
-pub fn settle(image: &mut Image, end: TurnEnd, next: u32) -> Result<(), u8>
+pub fn settle(image: &mut Image, end: TurnEnd, next: u32) -> Result<(), Vector>
     ensures { (m : Image) (wanted : Result Image ℕ) → Leads next m wanted end image.old
         → Performs m wanted result image.new }
 {

@@ -9,7 +9,7 @@ use crate::text::{TextSegment, decode_at};
 use mx_decode::DecodeFault;
 use mx_flags::Flags;
 use mx_insn::Insn;
-use mx_mem::{GENERAL_PROTECTION, Segment};
+use mx_mem::{GENERAL_PROTECTION, Segment, Vector};
 use mx_regs::Regs;
 use mx_word::{Register, Size};
 use std::alloc::Global;
@@ -52,7 +52,7 @@ pub enum Outcome {
     /// INT 33: the process calls the kernel.
     Trap,
     /// A fault with its vector, which changed nothing.
-    Fault(u8),
+    Fault(Vector),
 }
 
 impl Image {
@@ -111,7 +111,7 @@ impl Image {
     }
 
     /// Jumps, or answers the vector of a target that isn't below the code's limit.
-    pub(crate) fn jump(&mut self, target: u32) -> Result<(), u8>
+    pub(crate) fn jump(&mut self, target: u32) -> Result<(), Vector>
         ensures { Performs self.old (image_at_target target self.old) result self.new }
     {
         if target as usize >= self.code_limit() {

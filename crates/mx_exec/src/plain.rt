@@ -8,18 +8,18 @@ use crate::image::dword_sum;
 use crate::{Image, settle, stack};
 use mx_flags::Flags;
 use mx_insn::Plain;
-use mx_mem::{GENERAL_PROTECTION, STACK_FAULT};
+use mx_mem::{GENERAL_PROTECTION, STACK_FAULT, Vector};
 use mx_word::{Register, Size};
 
 /// On to the next instruction.
-fn pass(image: &mut Image, next: u32) -> Result<(), u8>
+fn pass(image: &mut Image, next: u32) -> Result<(), Vector>
     ensures { Performs image.old (image_at_next next image.old) result image.new }
 {
     image.eip = next;
     Ok(())
 }
 
-fn push_flags(image: &mut Image, next: u32) -> Result<(), u8>
+fn push_flags(image: &mut Image, next: u32) -> Result<(), Vector>
     ensures { Performs image.old (plain_after Plain.Pushfd next image.old) result image.new }
 {
     let bits = image.flags.to_bits();
@@ -27,7 +27,7 @@ fn push_flags(image: &mut Image, next: u32) -> Result<(), u8>
     settle(image, end, next)
 }
 
-fn pop_flags(image: &mut Image, next: u32) -> Result<(), u8>
+fn pop_flags(image: &mut Image, next: u32) -> Result<(), Vector>
     ensures { Performs image.old (plain_after Plain.Popfd next image.old) result image.new }
 {
     let bits = stack::top(image)?;
@@ -38,7 +38,7 @@ fn pop_flags(image: &mut Image, next: u32) -> Result<(), u8>
 }
 
 /// LEAVE: ESP is EBP, then POP EBP.
-fn leave(image: &mut Image) -> Result<(), u8>
+fn leave(image: &mut Image) -> Result<(), Vector>
     ensures { Performs image.old (frame_released image.old) result image.new }
 {
     let top = image.register(Register::Ebp);
@@ -50,7 +50,7 @@ fn leave(image: &mut Image) -> Result<(), u8>
     Ok(())
 }
 
-fn set_carry(image: &mut Image, carry: bool, next: u32) -> Result<(), u8>
+fn set_carry(image: &mut Image, carry: bool, next: u32) -> Result<(), Vector>
     ensures { Performs image.old
         (image_at_next next (record image.old { flags = record image.old.flags { carry = carry } }))
         result image.new }
@@ -59,7 +59,7 @@ fn set_carry(image: &mut Image, carry: bool, next: u32) -> Result<(), u8>
     pass(image, next)
 }
 
-fn set_direction(image: &mut Image, direction: bool, next: u32) -> Result<(), u8>
+fn set_direction(image: &mut Image, direction: bool, next: u32) -> Result<(), Vector>
     ensures { Performs image.old
         (image_at_next next (record image.old
         { flags = record image.old.flags { direction = direction } })) result image.new }
@@ -68,7 +68,7 @@ fn set_direction(image: &mut Image, direction: bool, next: u32) -> Result<(), u8
     pass(image, next)
 }
 
-fn store_low_flags(image: &mut Image, next: u32) -> Result<(), u8>
+fn store_low_flags(image: &mut Image, next: u32) -> Result<(), Vector>
     ensures { Performs image.old (plain_after Plain.Sahf next image.old) result image.new }
 {
     let byte = image.regs.get(Size::Byte, Register::Esp);
@@ -76,7 +76,7 @@ fn store_low_flags(image: &mut Image, next: u32) -> Result<(), u8>
     pass(image, next)
 }
 
-fn load_low_flags(image: &mut Image, next: u32) -> Result<(), u8>
+fn load_low_flags(image: &mut Image, next: u32) -> Result<(), Vector>
     ensures { Performs image.old (plain_after Plain.Lahf next image.old) result image.new }
 {
     let byte = u32::from(image.flags.low_byte());
@@ -84,7 +84,7 @@ fn load_low_flags(image: &mut Image, next: u32) -> Result<(), u8>
     pass(image, next)
 }
 
-pub fn perform_plain(image: &mut Image, operation: Plain, next: u32) -> Result<(), u8>
+pub fn perform_plain(image: &mut Image, operation: Plain, next: u32) -> Result<(), Vector>
     ensures { Performs image.old (plain_after operation next image.old) result image.new }
 {
     match operation {

@@ -13,7 +13,7 @@ ghost use Rattle.mx_exec.specs.Stack.{top_of, image_after_drop, has_room, has_dw
 use crate::image::{dword_difference, dword_sum};
 use crate::{Image, Source, TurnEnd};
 use mx_insn::Insn;
-use mx_mem::{OutOfLimit, STACK_FAULT, Segment};
+use mx_mem::{OutOfLimit, STACK_FAULT, Segment, Vector};
 use mx_regs::Regs;
 use mx_word::{Register, Size};
 
@@ -49,7 +49,7 @@ pub fn push_from<S: Source>(image: &mut Image, from: &S) -> TurnEnd
 
 /// The dword on top of the image's stack.
 #[inline(always)]
-pub fn top(image: &Image) -> Result<u32, u8>
+pub fn top(image: &Image) -> Result<u32, Vector>
     ensures { result ≡ top_of image.now }
 {
     match image
@@ -144,7 +144,7 @@ fn store_all(memory: &mut Segment, regs: &Regs, top: u32)
 }
 
 /// PUSHAD: all eight registers or nothing.
-pub fn push_all(image: &mut Image) -> Result<(), u8>
+pub fn push_all(image: &mut Image) -> Result<(), Vector>
     ensures { Performs image.old (pushad image.old) result image.new }
 {
     let top = image.register(Register::Esp);
@@ -211,7 +211,7 @@ fn load_all(regs: &mut Regs, memory: &Segment, top: u32)
 }
 
 /// POPAD: all registers but ESP, or nothing.
-pub fn pop_all(image: &mut Image) -> Result<(), u8>
+pub fn pop_all(image: &mut Image) -> Result<(), Vector>
     ensures { Performs image.old (popad image.old) result image.new }
 {
     let top = image.register(Register::Esp);

@@ -18,7 +18,7 @@ use crate::{
 use mx_alu::Signedness;
 use mx_decode::DecodeFault;
 use mx_insn::{Insn, Plain};
-use mx_mem::{GENERAL_PROTECTION, INVALID_OPCODE};
+use mx_mem::{GENERAL_PROTECTION, INVALID_OPCODE, Vector};
 
 /// How a step ends that performs an instruction with no fault.
 pub fn outcome(insn: &Insn) -> Outcome
@@ -145,7 +145,7 @@ fn calculate(image: &mut Image, insn: &Insn) -> TurnEnd
 /// Performs an instruction, or answers its vector and changes nothing. Inlined, so that a step has
 /// no registers to save.
 #[inline(always)]
-pub fn perform(image: &mut Image, insn: &Insn, next: u32) -> Result<(), u8>
+pub fn perform(image: &mut Image, insn: &Insn, next: u32) -> Result<(), Vector>
     ensures { Performs image.old (after insn.now next image.old) result image.new }
 {
     match insn {

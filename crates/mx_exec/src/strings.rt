@@ -9,12 +9,12 @@ ghost use Rattle.mx_exec.specs.Strings.{read_by, written_by, pointer_after, imag
 use crate::Image;
 use crate::image::{dword_difference, dword_sum};
 use mx_insn::{Comparison, Repeat, Transfer};
-use mx_mem::{GENERAL_PROTECTION, OutOfLimit};
+use mx_mem::{GENERAL_PROTECTION, OutOfLimit, Vector};
 use mx_word::{Register, Size};
 
 /// The number that a pointer names.
 #[inline(always)]
-fn read_by(image: &Image, pointer: Register, size: Size) -> Result<u32, u8>
+fn read_by(image: &Image, pointer: Register, size: Size) -> Result<u32, Vector>
     ensures value { result ≡ read_by pointer size image.now }
     ensures below { IfOk result (λ v. v < 2 ^ width size) }
 {
@@ -25,7 +25,7 @@ fn read_by(image: &Image, pointer: Register, size: Size) -> Result<u32, u8>
 }
 
 #[inline(always)]
-fn write_by(image: &mut Image, pointer: Register, size: Size, value: u32) -> Result<(), u8>
+fn write_by(image: &mut Image, pointer: Register, size: Size, value: u32) -> Result<(), Vector>
     requires { value < 2 ^ width size }
     ensures performs { Performs image.old (written_by pointer size value image.old) result image.new }
     ensures eip { image.new.eip ≡ image.old.eip }
@@ -53,7 +53,7 @@ fn advance(image: &mut Image, pointer: Register, size: Size)
 
 /// One MOVS, STOS or LODS.
 #[inline(always)]
-fn transfer_once(image: &mut Image, operation: Transfer, size: Size) -> Result<(), u8>
+fn transfer_once(image: &mut Image, operation: Transfer, size: Size) -> Result<(), Vector>
     ensures performs { Performs image.old (image_after_transfer operation size image.old) result
         image.new }
     ensures eip { image.new.eip ≡ image.old.eip }
@@ -82,7 +82,7 @@ fn transfer_once(image: &mut Image, operation: Transfer, size: Size) -> Result<(
 }
 
 /// One CMPS or SCAS.
-fn compare_once(image: &mut Image, operation: Comparison, size: Size) -> Result<(), u8>
+fn compare_once(image: &mut Image, operation: Comparison, size: Size) -> Result<(), Vector>
     ensures { Performs image.old (image_after_comparison operation size image.old) result
         image.new }
 {
@@ -123,7 +123,7 @@ fn is_counted_out(image: &Image) -> bool
 }
 
 /// A transfer alone.
-pub fn transfer(image: &mut Image, operation: Transfer, size: Size, next: u32) -> Result<(), u8>
+pub fn transfer(image: &mut Image, operation: Transfer, size: Size, next: u32) -> Result<(), Vector>
     ensures { Performs image.old (transfer operation size false next image.old) result image.new }
 {
     transfer_once(image, operation, size)?;
@@ -134,7 +134,12 @@ pub fn transfer(image: &mut Image, operation: Transfer, size: Size, next: u32) -
 /// One iteration of a transfer after REP. Answers whether the instruction is still next: as long as ECX
 /// isn't 0. Else EIP is at the one after it.
 #[inline(always)]
-pub fn iterate(image: &mut Image, operation: Transfer, size: Size, next: u32) -> Result<bool, u8>
+pub fn iterate(
+    image: &mut Image,
+    operation: Transfer,
+    size: Size,
+    next: u32,
+) -> Result<bool, Vector>
     ensures { Iterates image.old (transfer operation size true next image.old) result image.new }
 {
     if is_counted_out(image) {
@@ -156,7 +161,7 @@ pub fn repeat_transfer(
     operation: Transfer,
     size: Size,
     next: u32,
-) -> Result<(), u8>
+) -> Result<(), Vector>
     ensures { Performs image.old (transfer operation size true next image.old) result image.new }
 {
     match iterate(image, operation, size, next) {
@@ -182,7 +187,7 @@ pub fn compare(
     size: Size,
     repeat: Option<Repeat>,
     next: u32,
-) -> Result<(), u8>
+) -> Result<(), Vector>
     ensures { Performs image.old (compare operation size repeat next image.old) result image.new }
 {
     let Some(repeat) = repeat else {

@@ -7,6 +7,9 @@
 //! read. A flag that the last operation left has a field of its own: a value, or which sum or difference it comes
 //! from, whose operands are still there. So a compare computes no more than its difference, AND stores its result,
 //! and INC doesn't compute the carry that it leaves. ADC with the carry set, and SBB with it, compute all seven.
+//!
+//! Why: nearly all flags are set again before anything reads them, and a conditional jump reads one or two. A contract
+//! sees `Flags` as seven truth values, those that the fields give; so no caller can tell when they were computed.
 #![tactic(auto)]
 
 ghost use Rattle.std.specs.Prelude.{ℕ, Bool, ◌≡◌, ◌+◌, ◌-◌, ◌^◌, ◌<◌, ◌%◌, ◌/◌};

@@ -24,9 +24,12 @@ use Rattle.mx_insn.specs.declared.insn.Insn.{Insn}
 use Rattle.mx_insn.specs.declared.insn.Insn.TheVariants as insns
 use Rattle.mx_insn.specs.Sizes.{size_of_immediate, size_of_operands, value_of_immediate, wide_size, wide_value}
 use Rattle.mx_insn_words.specs.declared.mnemonic.Single as single_names
-use Rattle.mx_insn_words.specs.declared.mnemonic.Single.TheVariants.{Mov, Test, Xchg, Lea, Movzx, Movsx, Push, Pop, Jmp, Call, Ret, Int, Cbw, Cwde, Cwd, Cdq, In, Out}
+use Rattle.mx_insn_words.specs.declared.mnemonic.Single.TheVariants.{Mov, Test, Xchg, Lea, Movzx, Movsx, Push, Pop, Jmp}
+use Rattle.mx_insn_words.specs.declared.mnemonic.Single.TheVariants.{Call, Ret, Int, Cbw, Cwde, Cwd, Cdq, In, Out}
 use Rattle.mx_insn_words.specs.declared.mnemonic.Mnemonic.{Mnemonic}
-use Rattle.mx_insn_words.specs.declared.mnemonic.Mnemonic.TheVariants.{Arithmetic, Unary, Product, Shift, DoubleShift, BitTest, BitScan, Loop, Plain, Single, JumpIf, SetCondition, Transfer, Compare}
+use Rattle.mx_insn_words.specs.declared.mnemonic.Mnemonic.TheVariants.{Arithmetic, Unary, Product, Shift, DoubleShift}
+use Rattle.mx_insn_words.specs.declared.mnemonic.Mnemonic.TheVariants.{BitTest, BitScan, Loop, Plain, Single, JumpIf}
+use Rattle.mx_insn_words.specs.declared.mnemonic.Mnemonic.TheVariants.{SetCondition, Transfer, Compare}
 use Rattle.mx_insn_words.specs.declared.written.Written.{Written}
 use Rattle.mx_insn_words.specs.declared.written.Written.TheVariants as written
 
@@ -109,11 +112,13 @@ written_operand size (operand.Memory m) = written.Memory size m
 abbrev pub written_pair : Operands → List Written
 written_pair (operands.ToRegister size to from) = written.Register size to ∷ written_operand size from ∷ []
 written_pair (operands.ToMemory size to from) = written.Memory size to ∷ written.Register size from ∷ []
-written_pair (operands.Immediate to n) = written_operand (size_of_immediate n) to ∷ written.Number (value_of_immediate n) ∷ []
+written_pair (operands.Immediate to n) =
+    written_operand (size_of_immediate n) to ∷ written.Number (value_of_immediate n) ∷ []
 
 -- register, operand and number of an IMUL of three operands
 abbrev pub written_product : Register → Operand → WideImmediate → List Written
-written_product to from by = written.Register (wide_size by) to ∷ written_operand (wide_size by) from ∷ written.Number (wide_value by) ∷ []
+written_product to from by =
+    written.Register (wide_size by) to ∷ written_operand (wide_size by) from ∷ written.Number (wide_value by) ∷ []
 
 -- how far a shift goes: a number, or CL
 abbrev pub written_count : Count → Written
@@ -153,10 +158,12 @@ written_operands next (insns.Exchange size x r) = written_operand size x ∷ wri
 written_operands next (insns.LoadAddress size r m) = written.Register (size_of_operands size) r ∷ written.Address m ∷ []
 written_operands next (insns.Unary o size x) = written_operand size x ∷ []
 written_operands next (insns.Product o size x) = written_operand size x ∷ []
-written_operands next (insns.Multiply size r x) = written.Register (size_of_operands size) r ∷ written_operand (size_of_operands size) x ∷ []
+written_operands next (insns.Multiply size r x) =
+    written.Register (size_of_operands size) r ∷ written_operand (size_of_operands size) x ∷ []
 written_operands next (insns.MultiplyImmediate r x n) = written_product r x n
 written_operands next (insns.Shift o size x n) = written_operand size x ∷ written_count n ∷ []
-written_operands next (insns.DoubleShift o x r n) = written_operand Dword x ∷ written.Register Dword r ∷ written_count n ∷ []
+written_operands next (insns.DoubleShift o x r n) =
+    written_operand Dword x ∷ written.Register Dword r ∷ written_count n ∷ []
 written_operands next (insns.BitTest o x n) = written_operand Dword x ∷ written.Number n ∷ []
 written_operands next (insns.BitTestRegister o r n) = written.Register Dword r ∷ written.Register Dword n ∷ []
 written_operands next (insns.BitScan o r x) = written.Register Dword r ∷ written_operand Dword x ∷ []

@@ -1,5 +1,6 @@
 -- How an operand is written.
-use Rattle.std.specs.Prelude.{ℕ, Bool, not, ◌&&◌, ◌||◌, ◌==◌, if◌then◌else◌, List, [], ◌∷◌, ◌++◌, codes, Option, Some, None, is_none}
+use Rattle.std.specs.Prelude.{ℕ, Bool, not, ◌&&◌, ◌||◌, ◌==◌, if◌then◌else◌, List, [], ◌∷◌, ◌++◌, codes, Option, Some}
+use Rattle.std.specs.Prelude.{None, is_none}
 use Rattle.std.specs.List.{join_with_byte}
 use Rattle.mx_word.specs.declared.size.Size.TheVariants.{Dword}
 use Rattle.mx_word.specs.declared.names.Register.{Register}

@@ -29,4 +29,5 @@ operands_text (x ∷ xs) = codes " " ++ join_by operand_text (codes ", ") (x ∷
 
 -- an instruction, by the address of the next one
 abbrev pub statement_text : ℕ → Insn → List ℕ
-statement_text next i = prefix_text (prefix_of i) ++ (word_of (mnemonic_of i) ++ operands_text (written_operands next i))
+statement_text next i =
+    prefix_text (prefix_of i) ++ (word_of (mnemonic_of i) ++ operands_text (written_operands next i))

@@ -12,7 +12,9 @@ use Rattle.mx_sched.specs.Proc.EndpointNumbers.{slot_of}
 use Rattle.mx_sched.specs.Proc.Errors.{errno_bits}
 use Rattle.mx_sched.specs.Proc.Partners.{order_of_source, may_be}
 use Rattle.mx_sched.specs.Proc.Waits.{caller_of}
-use Rattle.mx_sched.specs.Proc.TableState.{TableState, process_at, with_state, with_result, with_pending, table_after_block, table_after_unblock, table_after_delivery, table_after_notice, pending_source}
+use Rattle.mx_sched.specs.Proc.TableState.{TableState, process_at, with_state, with_result, with_pending}
+use Rattle.mx_sched.specs.Proc.TableState.{table_after_block, table_after_unblock, table_after_delivery}
+use Rattle.mx_sched.specs.Proc.TableState.{table_after_notice, pending_source}
 use Rattle.mx_sched.specs.Queueing.{table_after_queueing}
 use Rattle.mx_ipc.specs.declared.calls.Call.{Call}
 use Rattle.mx_ipc.specs.declared.calls.Call.TheVariants as call
@@ -39,7 +41,9 @@ hears _ from = false
 
 -- SEND: partner first, caller last
 unfoldable pub table_after_send : TableState → ℕ → ℕ → TableState
-table_after_send w s d = if accepts (process_at w d).state s then goes_on (goes_on (table_after_delivery w s d) d 0) s 0 else table_after_block w s d Sending
+table_after_send w s d =
+    if accepts (process_at w d).state s then goes_on (goes_on (table_after_delivery w s d) d 0) s 0
+    else table_after_block w s d Sending
 
 -- a caller whose message was taken: after a SEND it goes on, in a SENDREC it turns to receiving
 unfoldable pub table_after_release : TableState → ℕ → ℕ → State → TableState
@@ -48,7 +52,8 @@ table_after_release w s p _ = goes_on (table_after_unblock w p) p 0
 
 abbrev pub table_after_taking_from : TableState → ℕ → State → Option ℕ → TableState
 table_after_taking_from w s state None = with_state w s state
-table_after_taking_from w s state (Some p) = goes_on (table_after_release (table_after_delivery w p s) s p (process_at w p).state) s 0
+table_after_taking_from w s state (Some p) =
+    goes_on (table_after_release (table_after_delivery w p s) s p (process_at w p).state) s 0
 
 -- the first caller's message, of those that the partner may be; else the process waits in a state
 unfoldable pub table_after_taking : TableState → ℕ → Partner → State → TableState
@@ -64,11 +69,16 @@ table_after_receive w s p = table_after_receive_by w s p (pending_source w s p)
 
 -- SENDREC: SEND, then RECEIVE from that process without notifications
 unfoldable pub table_after_sendrec : TableState → ℕ → ℕ → TableState
-table_after_sendrec w s d = if accepts (process_at w d).state s then table_after_taking (goes_on (table_after_delivery w s d) d 0) s (partner.Only (source.Slot d)) (Awaiting d) else table_after_block w s d Calling
+table_after_sendrec w s d =
+    if accepts (process_at w d).state s
+    then table_after_taking (goes_on (table_after_delivery w s d) d 0) s (partner.Only (source.Slot d)) (Awaiting d)
+    else table_after_block w s d Calling
 
 -- a notification: delivered at once, or its source's bit is set
 unfoldable pub table_after_notifying : TableState → Source → ℕ → TableState
-table_after_notifying w from d = if hears (process_at w d).state from then goes_on (table_after_notice w d from) d 0 else with_pending w d (order_of_source from) true
+table_after_notifying w from d =
+    if hears (process_at w d).state from then goes_on (table_after_notice w d from) d 0
+    else with_pending w d (order_of_source from) true
 
 -- whom a RECEIVE names
 abbrev pub partner_of : Party → Partner
@@ -93,7 +103,8 @@ table_after_call_by w s call (Some party) None = table_after_checked_call w s ca
 
 -- a call by s that names a number: the first check that holds gives the result, else it acts
 unfoldable pub table_after_call : TableState → ℕ → Call → ℕ → TableState
-table_after_call w s call n = let party = party_of w n in table_after_call_by w s call party (call_refusal w s call party)
+table_after_call w s call n =
+    let party = party_of w n in table_after_call_by w s call party (call_refusal w s call party)
 
 abbrev pub call_answer_by : Call → Option Party → Option Errno → TrapAnswer
 call_answer_by call.Sendrec (Some System) None = Kernel

@@ -1,8 +1,10 @@
 -- The six checks of a trap (book, 2.6.3; proc.c, sys_call and mini_send).
-use Rattle.std.specs.Prelude.{ℕ, ◌≡◌, ◌≢◌, ◌<◌, ◌+◌, ◌==◌, nat_lt, not, ◌&&◌, ◌||◌, Bool, true, false, List, [], ◌∷◌, Option, Some, None, if◌then◌else◌, length, drop, is_none}
+use Rattle.std.specs.Prelude.{ℕ, ◌≡◌, ◌≢◌, ◌<◌, ◌+◌, ◌==◌, nat_lt, not, ◌&&◌, ◌||◌, Bool, true, false, List, [], ◌∷◌}
+use Rattle.std.specs.Prelude.{Option, Some, None, if◌then◌else◌, length, drop, is_none}
 use Rattle.mx_sched.specs.Proc.declared.errors.Errno.{Errno}
 use Rattle.mx_sched.specs.Proc.declared.errors.Errno.TheVariants.{BadAddress, Locked, BadEndpoint, Denied, Dead}
-use Rattle.mx_sched.specs.Proc.EndpointNumbers.{slot_of, generation_of, any_endpoint, hardware_endpoint, system_endpoint, clock_endpoint}
+use Rattle.mx_sched.specs.Proc.EndpointNumbers.{slot_of, generation_of, any_endpoint, hardware_endpoint}
+use Rattle.mx_sched.specs.Proc.EndpointNumbers.{system_endpoint, clock_endpoint}
 use Rattle.mx_sched.specs.Proc.Endpoints.{names_slot, is_current}
 use Rattle.mx_sched.specs.Proc.Sound.{HasBuffer}
 use Rattle.mx_sched.specs.Proc.Waits.{leads, Reaches}
@@ -15,7 +17,9 @@ use Rattle.mx_ipc.specs.declared.calls.Party.TheVariants.{Any, Hardware, Clock, 
 
 -- the call that ECX numbers
 abbrev pub call_of : ℕ → Option Call
-call_of n = if n == 1 then Some Send else if n == 2 then Some Receive else if n == 3 then Some Sendrec else if n == 4 then Some Notify else None
+call_of n =
+    if n == 1 then Some Send else if n == 2 then Some Receive else if n == 3 then Some Sendrec
+    else if n == 4 then Some Notify else None
 
 abbrev pub call_number : Call → ℕ
 call_number Send = 1
@@ -95,8 +99,10 @@ MayBeSentTo w s _ = Unit {0}
 
 -- THE SIX CHECKS of a call by s, in order, each with the error that is its result if it holds
 abbrev pub checks : TableState → ℕ → Call → Option Party → List (Bool × Errno)
-checks w s call party =
-    (not (has_bit (process_at w s).schedule.terms.masks.traps (call_number call)) || of_party party (to_pseudo call), Denied)
+checks w s call party = (
+  not (has_bit (process_at w s).schedule.terms.masks.traps (call_number call)) || of_party party (to_pseudo call),
+  Denied,
+)
     ∷ (is_none party || of_party party (out_of_place call), BadEndpoint)
     ∷ (not (is_notify call) && is_outside w s, BadAddress)
     ∷ (of_process party (λ d g. not (is_receive call) && is_masked w s d), Denied)
@@ -111,7 +117,8 @@ first_error (check ∷ rest) = if check.0 then Some check.1 else first_error res
 
 -- those after the trap mask, for a party
 unfoldable pub party_refusal : TableState → ℕ → Call → Party → Option Errno
-party_refusal w s call party = if to_pseudo call party then Some Denied else first_error (drop 1 (checks w s call (Some party)))
+party_refusal w s call party =
+    if to_pseudo call party then Some Denied else first_error (drop 1 (checks w s call (Some party)))
 
 -- the last three, for a process
 unfoldable pub process_refusal : TableState → ℕ → Call → ℕ → ℕ → Option Errno

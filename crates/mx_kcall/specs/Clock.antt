@@ -18,7 +18,8 @@ is_due uptime (Some due) = nat_le due uptime
 -- the slots, counted from n, whose alarms are due
 abbrev pub due_slots : ℕ → ℕ → List Process → List ℕ
 due_slots uptime n [] = []
-due_slots uptime n (p ∷ ps) = if is_due uptime p.alarm then n ∷ due_slots uptime (n + 1) ps else due_slots uptime (n + 1) ps
+due_slots uptime n (p ∷ ps) =
+    if is_due uptime p.alarm then n ∷ due_slots uptime (n + 1) ps else due_slots uptime (n + 1) ps
 
 -- an alarm rings: it is cleared, and CLOCK notifies
 abbrev pub table_after_ring : TableState → ℕ → TableState

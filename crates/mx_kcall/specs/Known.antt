@@ -1,5 +1,5 @@
--- What a kernel call may know of the table, for its refusals, its reply and what it does: no byte of a memory, and no delivery
--- that is recorded (our choice).
+-- What a kernel call may know of the table, for its refusals, its reply and what it does: no byte of a memory, and no
+-- delivery that is recorded (our choice).
 use Rattle.std.specs.Prelude.{ℕ, ◌==◌, not, ◌&&◌, Bool, List, length, Option, None, slice_index_or}
 use Rattle.mx_respawn.specs.Proc.declared.windows.Access.{Access}
 use Rattle.mx_respawn.specs.Proc.declared.windows.Rules.{Rules}
@@ -61,4 +61,6 @@ known w s = record {
 
 -- under the strict rules another's memory is barred to s but for an open window
 abbrev pub is_barred : Known → (Access → Bool) → ℕ → VirtualAddress → ℕ → Bool
-is_barred k allows s at count = is_strict k.rules && not (slot_of at.endpoint == s) && not (is_open allows (k.window (slot_of at.endpoint)) at.offset count)
+is_barred k allows s at count =
+    is_strict k.rules && not (slot_of at.endpoint == s)
+    && not (is_open allows (k.window (slot_of at.endpoint)) at.offset count)

@@ -1,7 +1,9 @@
 -- Why a kernel call is refused (our choice).
-use Rattle.std.specs.Prelude.{ℕ, ◌≡◌, ◌<◌, ◌≤◌, ◌+◌, ◌-◌, ◌==◌, nat_lt, nat_le, not, ◌&&◌, ◌||◌, Bool, true, false, List, [], ◌∷◌, length, Option, Some, None}
+use Rattle.std.specs.Prelude.{ℕ, ◌≡◌, ◌<◌, ◌≤◌, ◌+◌, ◌-◌, ◌==◌, nat_lt, nat_le, not, ◌&&◌, ◌||◌, Bool, true, false}
+use Rattle.std.specs.Prelude.{List, [], ◌∷◌, length, Option, Some, None}
 use Rattle.mx_respawn.specs.Proc.declared.errors.Errno.{Errno}
-use Rattle.mx_respawn.specs.Proc.declared.errors.Errno.TheVariants.{NotPermitted, BadAddress, Invalid, BadEndpoint, Denied, Dead, NotReady, BadRequest}
+use Rattle.mx_respawn.specs.Proc.declared.errors.Errno.TheVariants.{NotPermitted, BadAddress, Invalid, BadEndpoint}
+use Rattle.mx_respawn.specs.Proc.declared.errors.Errno.TheVariants.{Denied, Dead, NotReady, BadRequest}
 use Rattle.mx_respawn.specs.Proc.EndpointNumbers.{slot_of}
 use Rattle.mx_respawn.specs.Proc.States.{is_out}
 use Rattle.mx_respawn.specs.Proc.TableState.{TableState, process_at, memory_at}
@@ -70,11 +72,13 @@ refusal_of_kernel_call w s r = first_error (kernel_call_reasons w s r)
 -- of a call with this bit
 abbrev pub kernel_call_refusal_by : TableState → ℕ → ℕ → Option KernelCall → Option Errno
 kernel_call_refusal_by w s bit None = Some BadRequest
-kernel_call_refusal_by w s bit (Some r) = first_error ((not (has_bit (process_at w s).schedule.terms.masks.calls bit), Denied) ∷ kernel_call_reasons w s r)
+kernel_call_refusal_by w s bit (Some r) =
+    first_error ((not (has_bit (process_at w s).schedule.terms.masks.calls bit), Denied) ∷ kernel_call_reasons w s r)
 
 -- THE REFUSAL of the call at the buffer of a process, or none
 unfoldable pub kernel_call_refusal : TableState → ℕ → Option Errno
-kernel_call_refusal w s = let m = message_words_at w s in kernel_call_refusal_by w s (m.kind - first_call) (kernel_call_under w.rules m)
+kernel_call_refusal w s =
+    let m = message_words_at w s in kernel_call_refusal_by w s (m.kind - first_call) (kernel_call_under w.rules m)
 
 -- What is known of a call that isn't refused; of most calls nothing.
 abbrev pub IsPermitted : TableState → KernelCall → Type 0
@@ -84,7 +88,8 @@ IsPermitted w (Vircopy copy) =
     (slot_of copy.source.endpoint < length w.slots) × (slot_of copy.target.endpoint < length w.slots)
     × (copy.source.offset + copy.count ≤ length (memory_at w (slot_of copy.source.endpoint)))
     × (copy.target.offset + copy.count ≤ length (memory_at w (slot_of copy.target.endpoint)))
-IsPermitted w (Kill endpoint) = (slot_of endpoint < length w.slots) × (is_out (process_at w (slot_of endpoint)).state ≡ false)
+IsPermitted w (Kill endpoint) =
+    (slot_of endpoint < length w.slots) × (is_out (process_at w (slot_of endpoint)).state ≡ false)
 IsPermitted w (Whois slot) = slot < length w.slots
 IsPermitted w (Grant grant) = slot_of grant.user < length w.slots
 IsPermitted w _ = Unit {0}

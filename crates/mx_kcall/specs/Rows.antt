@@ -1,5 +1,6 @@
--- The table of kernel calls (our choice), which is `CALLS`: the call of row n has the type 600 hex plus n, and bit n of the mask.
-use Rattle.std.specs.Prelude.{ℕ, ◌-◌, ◌==◌, nat_lt, not, ◌||◌, Bool, List, take, position, Option, Some, None, slice_get, if◌then◌else◌}
+-- The table of kernel calls (our choice). The call of row n has the type 600 hex plus n, and bit n of the mask.
+use Rattle.std.specs.Prelude.{ℕ, ◌-◌, ◌==◌, nat_lt, not, ◌||◌, Bool, List, take, position, Option, Some, None}
+use Rattle.std.specs.Prelude.{slice_get, if◌then◌else◌}
 use Rattle.mx_respawn.specs.Proc.declared.windows.Rules.{Rules}
 use Rattle.mx_kcall.specs.Windows.{is_strict}
 use Rattle.mx_kcall.specs.declared.rows.CallRow.{CallRow}
@@ -7,6 +8,7 @@ use Rattle.mx_kcall.specs.declared.rows.ReplyCount.{ReplyCount}
 use Rattle.mx_kcall.specs.declared.rows.ReplyCount.TheVariants.{Always, AfterRead}
 use Rattle.mx_kcall.specs.declared.rows.TheConstants.{CALLS, FIRST_CALL}
 
+-- the rows that the code goes by: `call_row` promises that they are those of the table in `Requests`
 abbrev pub calls : List CallRow
 calls = CALLS
 

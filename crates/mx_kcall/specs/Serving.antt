@@ -1,5 +1,6 @@
 -- What a kernel call does and answers (our choice).
-use Rattle.std.specs.Prelude.{ℕ, ◌+◌, ◌-◌, ◌/◌, ◌%◌, ◌^◌, ◌==◌, not, ◌&&◌, Bool, true, false, Option, Some, None, if◌then◌else◌, slice_index}
+use Rattle.std.specs.Prelude.{ℕ, ◌+◌, ◌-◌, ◌/◌, ◌%◌, ◌^◌, ◌==◌, not, ◌&&◌, Bool, true, false, Option, Some, None}
+use Rattle.std.specs.Prelude.{if◌then◌else◌, slice_index}
 use Rattle.mx_respawn.specs.Proc.declared.errors.Errno.{Errno}
 use Rattle.mx_respawn.specs.Proc.declared.process.DeathCause.TheVariants as cause
 use Rattle.mx_respawn.specs.Proc.EndpointNumbers.{slot_of}
@@ -11,9 +12,11 @@ use Rattle.mx_kcall.specs.declared.request.ReplyWords.{ReplyWords}
 use Rattle.mx_kcall.specs.declared.request.After.{After}
 use Rattle.mx_kcall.specs.declared.request.After.TheVariants.{Reply, Died}
 use Rattle.mx_kcall.specs.declared.request.KernelCall.{KernelCall}
-use Rattle.mx_kcall.specs.declared.request.KernelCall.TheVariants.{Exit, Times, SetAlarm, Irqctl, Devio, Vircopy, Kill, Whois, Grant}
+use Rattle.mx_kcall.specs.declared.request.KernelCall.TheVariants.{Exit, Times, SetAlarm, Irqctl, Devio, Vircopy, Kill}
+use Rattle.mx_kcall.specs.declared.request.KernelCall.TheVariants.{Whois, Grant}
 use Rattle.mx_kcall.specs.Effects.{Effect, table_after_effect}
-use Rattle.mx_kcall.specs.Effects.Effect.{Nothing, SetsAlarm, SetsOwner, WritesConsole, SetsRegister, Copies, Kills, SetsWindow}
+use Rattle.mx_kcall.specs.Effects.Effect.{Nothing, SetsAlarm, SetsOwner, WritesConsole, SetsRegister, Copies, Kills}
+use Rattle.mx_kcall.specs.Effects.Effect.{SetsWindow}
 use Rattle.mx_kcall.specs.Known.{Known, known}
 use Rattle.mx_kcall.specs.Windows.{granted}
 use Rattle.mx_kcall.specs.Requests.{kernel_call_under, message_words_at, reply_bytes, no_reply_words}
@@ -30,7 +33,8 @@ ticks_left uptime (Some due) = due - uptime
 
 -- what DEVIO does: it writes if its action isn't 0. Register 0 is the console
 abbrev pub device_effect : ℕ → ℕ → ℕ → Effect
-device_effect action register value = if action == 0 then Nothing else if register == 0 then WritesConsole (value % 256) else SetsRegister register value
+device_effect action register value =
+    if action == 0 then Nothing else if register == 0 then WritesConsole (value % 256) else SetsRegister register value
 
 -- WHAT EACH CALL DOES, by what it may know; most calls do nothing but reply
 abbrev pub effect_of : Known → ℕ → KernelCall → Effect
@@ -59,7 +63,8 @@ one_word n = record { p0 = n; p1 = 0; p2 = 0 }
 abbrev pub reply_of : Known → KernelCall → ReplyWords
 reply_of k Times = record { p0 = k.uptime; p1 = k.steps % 2 ^ 32; p2 = k.steps / 2 ^ 32 }
 reply_of k (SetAlarm delay) = one_word (ticks_left k.uptime k.alarm)
-reply_of k (Devio action register value) = one_word (if action == 0 && not (register == 0) then slice_index k.registers register else 0)
+reply_of k (Devio action register value) =
+    one_word (if action == 0 && not (register == 0) then slice_index k.registers register else 0)
 reply_of k (Whois slot) = one_word (k.endpoint slot)
 reply_of k _ = no_reply_words
 
@@ -78,7 +83,9 @@ table_after_reply w s result a = goes_on (with_message w s (reply_bytes result a
 
 -- a call that isn't refused: the caller dies without a reply, or the reply is written after what the call did
 unfoldable pub table_after_serving : TableState → ℕ → KernelCall → TableState
-table_after_serving w s r = if ends_caller s r then table_after_death w s cause.Exit else table_after_reply (table_after_change w s r) s 0 (words_of_reply w s r)
+table_after_serving w s r =
+    if ends_caller s r then table_after_death w s cause.Exit
+    else table_after_reply (table_after_change w s r) s 0 (words_of_reply w s r)
 
 abbrev pub answer_of_serving : ℕ → KernelCall → After
 answer_of_serving s r = if ends_caller s r then Died else Reply 0
@@ -95,7 +102,9 @@ answer_of_kernel_call_by s None None = Died
 
 -- A KERNEL CALL by s: the world after it, and how it ended
 unfoldable pub table_after_kernel_call : TableState → ℕ → TableState
-table_after_kernel_call w s = table_after_kernel_call_by w s (kernel_call_under w.rules (message_words_at w s)) (kernel_call_refusal w s)
+table_after_kernel_call w s =
+    table_after_kernel_call_by w s (kernel_call_under w.rules (message_words_at w s)) (kernel_call_refusal w s)
 
 unfoldable pub answer_of_kernel_call : TableState → ℕ → After
-answer_of_kernel_call w s = answer_of_kernel_call_by s (kernel_call_under w.rules (message_words_at w s)) (kernel_call_refusal w s)
+answer_of_kernel_call w s =
+    answer_of_kernel_call_by s (kernel_call_under w.rules (message_words_at w s)) (kernel_call_refusal w s)

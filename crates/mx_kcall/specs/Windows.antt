@@ -31,7 +31,8 @@ allows Both = λ access. allows_reading access && allows_writing access
 -- A WINDOW IS OPEN for a range: a test of its access passes, and it has the whole range, also one of no bytes
 abbrev pub is_open : (Access → Bool) → Option Window → ℕ → ℕ → Bool
 is_open allows None at count = false
-is_open allows (Some window) at count = allows window.access && nat_le window.place at && nat_le (at + count) (window.place + window.count)
+is_open allows (Some window) at count =
+    allows window.access && nat_le window.place at && nat_le (at + count) (window.place + window.count)
 
 -- the access of a grant's number; 0 is no access
 abbrev pub access_of : ℕ → Option Access
@@ -39,4 +40,5 @@ access_of n = if n == 1 then Some Read else if n == 2 then Some Write else if n 
 
 -- what a grant opens
 abbrev pub granted : ℕ → ℕ → ℕ → Option Window
-granted place count access = option_map (λ (a : Access). record { place = place; count = count; access = a }) (access_of access)
+granted place count access =
+    option_map (λ (a : Access). record { place = place; count = count; access = a }) (access_of access)

@@ -2,6 +2,7 @@
 //! mask of calls are the row's place.
 
 ghost use Rattle.std.specs.Prelude.{◌≡◌, ◌<◌, ◌≤◌, ◌+◌, ◌==◌, IfSome, length, option_copied, position};
+ghost use Rattle.mx_kcall.specs.Requests.{AreOfTable};
 ghost use Rattle.mx_kcall.specs.Rows.{is_space, is_there, name_of, reply_count, row_of};
 
 use crate::windows::is_strict;
@@ -113,8 +114,10 @@ pub static CALLS: [CallRow; 9] = [
     },
 ];
 
-/// The row of a request's type, or nothing if no call has this type.
+/// The row of a request's type, or nothing if no call has this type. The rows are those of the definition's table.
+#[tactic(auto, unfolding(crate::specs::Requests::AreOfTable, crate::specs::Requests::typed_from, crate::specs::Requests::call_table))]
 pub fn call_row(kind: u32) -> Option<&'static CallRow>
+    ensures table { AreOfTable CALLS }
     ensures value { option_copied result ≡ row_of kind }
     ensures place { IfSome result (λ _. (FIRST_CALL ≤ kind) × (kind < FIRST_CALL + 32)) }
 {

@@ -1,5 +1,6 @@
 -- What single bytes of an assembler text are, and the bytes of a text between quotes (our own notation).
-use Rattle.std.specs.Prelude.{ℕ, ◌+◌, ◌<◌, ◌≤◌, Bool, ◌&&◌, ◌||◌, ◌==◌, if◌then◌else◌, List, [], ◌∷◌, length, slice_index, IsTrue}
+use Rattle.std.specs.Prelude.{ℕ, ◌+◌, ◌<◌, ◌≤◌, Bool, ◌&&◌, ◌||◌, ◌==◌, if◌then◌else◌, List, [], ◌∷◌, length}
+use Rattle.std.specs.Prelude.{slice_index, IsTrue}
 use Rattle.mx_text.specs.Bytes.{is_letter, begins_name}
 
 -- what may follow a backslash: n, 0, a quote, a backslash

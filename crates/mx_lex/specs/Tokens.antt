@@ -1,5 +1,6 @@
 -- Which tokens an assembler text is made of (our own notation).
-use Rattle.std.specs.Prelude.{◌≡◌, ◌≢◌, ℕ, ◌+◌, ◌<◌, ◌≤◌, ◌⊎◌, true, false, List, [], ◌∷◌, length, slice_index, slice_range, ⊤}
+use Rattle.std.specs.Prelude.{◌≡◌, ◌≢◌, ℕ, ◌+◌, ◌<◌, ◌≤◌, ◌⊎◌, true, false, List, [], ◌∷◌, length, slice_index}
+use Rattle.std.specs.Prelude.{slice_range, ⊤}
 use Rattle.mx_text.specs.Bytes.{is_digit, is_word_byte}
 use Rattle.mx_text.specs.Numbers.{IsNumber}
 use Rattle.mx_lex.specs.Bytes.{is_escape, ends_at, AllFrom, begins_word}
@@ -55,7 +56,8 @@ pub data Gap (t : List ℕ) : ℕ → ℕ → Type 0 where
   none : {a : ℕ} → Gap t a a
   blank : {a b : ℕ} → (slice_index t a ≡ 32) ⊎ (slice_index t a ≡ 9) → Gap t (a + 1) b → Gap t a b
   carriage_return : {a b : ℕ} → slice_index t a ≡ 13 → ends_at t a ≡ true → Gap t (a + 1) b → Gap t a b
-  comment : {a b c : ℕ} → slice_index t a ≡ 59 → a < c → ((k : ℕ) → a + 1 ≤ k → k < c → slice_index t k ≢ 10) → (c ≡ length t) ⊎ (slice_index t c ≡ 10) → Gap t c b → Gap t a b
+  comment : {a b c : ℕ} → slice_index t a ≡ 59 → a < c → ((k : ℕ) → a + 1 ≤ k → k < c → slice_index t k ≢ 10)
+      → (c ≡ length t) ⊎ (slice_index t c ≡ 10) → Gap t c b → Gap t a b
 
 -- the tokens from a up to b, in order, with only gaps between
 abbrev pub AreTokens : List ℕ → ℕ → List Token → ℕ → Type 0
@@ -85,7 +87,8 @@ BrokenAt t a (BadByte e) =
     ⊎ ((slice_index t a ≡ 34) × IsBrokenText t (a + 1) (BadByte e))
 BrokenAt t a (BadNumber e) =
     (e ≡ a) × (is_digit (slice_index t a) ≡ true) ×
-    ((b : ℕ) × (a < b) × AllFrom is_word_byte t a b × (b < length t → is_word_byte (slice_index t b) ≡ false) × (b ≤ length t) ×
+    ((b : ℕ) × (a < b) × AllFrom is_word_byte t a b × (b < length t → is_word_byte (slice_index t b) ≡ false)
+    × (b ≤ length t) ×
     ((n : ℕ) → IsNumber (slice_range t a b) n → ⊥))
 BrokenAt t a (OpenText e) = (slice_index t a ≡ 34) × IsBrokenText t (a + 1) (OpenText e)
 BrokenAt t a NoMemory = ⊥

@@ -378,10 +378,6 @@ after_acting rules d m n a records more e x h i = recorded_by rules d m n a reco
 pub after_returning : (rules : Rules) (d m : KernelState) (n a s : ℕ) (records more : List Record) (o : Out) → m ≡ state_after_back d a s o → more ≡ records ++ record { actor = a; event = recorded.Back o.count } ∷ [] → kept_of rules m n more ≡ with_record (kept_of rules d n records) a (recorded.Back o.count)
 after_returning rules d m n a s records more o h e = recorded_by rules d m n a records more (recorded.Back o.count) (ap (λ (d : KernelState). d.services) h) (ap (λ (d : KernelState). d.others) h) (ap (λ (d : KernelState). d.capacity) h) e
 
--- there is room for a record more
-pub room_for : (d m : KernelState) (room : ℕ) (k : BootAndHistory) → IsAtReplay d room k → HoldsOf m → m.records ≡ d.records + 1 → m.capacity ≡ d.capacity → length k.history < room
-room_for d m room k h holds r c = omega (arith, h.records, h.space, holds.room, r, c)
-
 -- a processor is an actor
 pub is_actor : (d : KernelState) (room : ℕ) (k : BootAndHistory) (a : ℕ) → IsAtReplay d room k → a < length d.leases → a < actors k.boot
 is_actor d room k a h b =

@@ -145,13 +145,6 @@ goes_on_settled t u s h own others q = elim (cases_eq q s) [
   | inr n ↦ h q (others q n)
 ]
 
--- one that is out is doomed
-pub doomed_settled : (t u : TableState) (s : ℕ) → u ≡ with_state t s Doomed → s < length t.slots → Settled t → Settled u
-doomed_settled t u s e b h = subst Settled (sym e) (λ q. elim (cases_eq q s) [
-  | inl i ↦ λ z. let x : Doomed ≡ Home = sym (ap (λ (p : Process). p.state) (put-at t s (record (process_at t s) { state = Doomed }) b)) ∙ ap (λ y. (process_at (with_state t s Doomed) y).state) (sym i) ∙ z in cc
-  | inr n ↦ λ z. h q (sym (ap (λ (p : Process). p.state) (put-other t s q (record (process_at t s) { state = Doomed }) n)) ∙ z)
-])
-
 pub is_down_not_home : (st : State) (cause : DeathCause) → st ≡ Down cause → st ≢ Home
 is_down_not_home st cause e h = let z : Down cause ≡ Home = sym e ∙ h in cc
 

@@ -17,7 +17,8 @@ first_process s = new_process (image_of_program s.program) s.terms
 -- the slots of those services that begin at this level. The first service has slot n, the next n + 1
 abbrev pub slots_from : ℕ → ℕ → List Service → List ℕ
 slots_from n level [] = []
-slots_from n level (s ∷ ss) = if s.terms.level == level then n ∷ slots_from (n + 1) level ss else slots_from (n + 1) level ss
+slots_from n level (s ∷ ss) =
+    if s.terms.level == level then n ∷ slots_from (n + 1) level ss else slots_from (n + 1) level ss
 
 -- one slot for each service, in their order; each ready list has its slots in slot order; all else is
 -- as in an empty table

@@ -1,5 +1,6 @@
 -- The current state of a kernel: of a process that is out it knows slot and budget.
-use Rattle.std.specs.Prelude.{◌≡◌, ◌<◌, ◌≤◌, ℕ, ◌+◌, ◌-◌, ◌^◌, true, false, nat_lt, if◌then◌else◌, List, map, length, replicate, Option, Some, None, Result, Ok, Err, slice_get, slice_set}
+use Rattle.std.specs.Prelude.{◌≡◌, ◌<◌, ◌≤◌, ℕ, ◌+◌, ◌-◌, ◌^◌, true, false, nat_lt, if◌then◌else◌, List, map, length}
+use Rattle.std.specs.Prelude.{replicate, Option, Some, None, Result, Ok, Err, slice_get, slice_set}
 use Rattle.mx_ipc.specs.Proc.declared.windows.Rules.{Rules}
 use Rattle.mx_ipc.specs.Proc.EndpointNumbers.{slot_of, endpoint_from}
 use Rattle.mx_ipc.specs.Proc.Endpoints.{is_alive}
@@ -23,7 +24,8 @@ use Rattle.mx_machine.specs.declared.holding.Out.{Out}
 use Rattle.mx_machine.specs.Boot.{first_table}
 use Rattle.mx_machine.specs.History.{number_of_record}
 pub use Rattle.mx_machine.specs.Move.{is_for_all}
-use Rattle.mx_machine.specs.Move.{if_full, line_refusal, kill_refusal, respawn_refusal, take_refusal, table_after_sending_out, table_after_back, table_after_kill, held_at_take}
+use Rattle.mx_machine.specs.Move.{if_full, line_refusal, kill_refusal, respawn_refusal, take_refusal}
+use Rattle.mx_machine.specs.Move.{table_after_sending_out, table_after_back, table_after_kill, held_at_take}
 use Rattle.mx_machine.specs.Sound.{lease_of, lease_at}
 use Rattle.mx_machine.specs.World.{World, out_count}
 
@@ -37,11 +39,27 @@ pub record KernelState : Type 0 where
 
 -- the state at boot
 abbrev pub kernel_state_at_boot : Rules → List Service → ℕ → ℕ → ℕ → KernelState
-kernel_state_at_boot rules services cpus others capacity = record { table = first_table rules services; leases = replicate cpus None; others = others; services = services; records = 0; capacity = capacity }
+kernel_state_at_boot rules services cpus others capacity =
+    record {
+      table = first_table rules services;
+      leases = replicate cpus None;
+      others = others;
+      services = services;
+      records = 0;
+      capacity = capacity;
+    }
 
 -- what a kernel knows of a machine
 abbrev pub kernel_state_of : World → KernelState
-kernel_state_of w = record { table = w.table; leases = map lease_of w.cpus; others = w.others; services = w.services; records = w.records; capacity = w.capacity }
+kernel_state_of w =
+    record {
+      table = w.table;
+      leases = map lease_of w.cpus;
+      others = w.others;
+      services = w.services;
+      records = w.records;
+      capacity = w.capacity;
+    }
 
 abbrev pub records_left : KernelState → ℕ
 records_left d = d.capacity - (d.records + out_count d.leases)
@@ -56,11 +74,15 @@ with_lease d a x = record d { leases = slice_set d.leases a x }
 -- ---- a processor's events
 
 abbrev pub refusal_to_take : KernelState → ℕ → Option Refusal
-refusal_to_take d a = if nat_lt a (length d.leases) then take_refusal (records_left d) (lease_at d.leases a) (first_ready d.table.ready) else Some CpuBusy
+refusal_to_take d a =
+    if nat_lt a (length d.leases) then take_refusal (records_left d) (lease_at d.leases a) (first_ready d.table.ready)
+    else Some CpuBusy
 
 -- a slot's process is taken by a processor
 abbrev pub state_after_take : KernelState → ℕ → ℕ → KernelState
-state_after_take d a s = with_lease (state_with_record d (table_after_sending_out d.table s)) a (Some (record { slot = s; budget = (process_at d.table s).schedule.ticks }))
+state_after_take d a s =
+    with_lease (state_with_record d (table_after_sending_out d.table s)) a
+    (Some (record { slot = s; budget = (process_at d.table s).schedule.ticks }))
 
 -- It was accepted that a processor takes a process.
 pub record HasTaken (d n : KernelState) (a s : ℕ) (o : Out) : Type 0 where
@@ -78,7 +100,8 @@ AnswersTake d n a (Err r) = (refusal_to_take d a ≡ Some r) × (n ≡ d)
 
 -- it comes back
 abbrev pub state_after_back : KernelState → ℕ → ℕ → Out → KernelState
-state_after_back d a s o = with_lease (state_with_record d (table_after_back d.table (record { slot = s; out = o }))) a None
+state_after_back d a s o =
+    with_lease (state_with_record d (table_after_back d.table (record { slot = s; out = o }))) a None
 
 -- ---- the events that any actor may do
 
@@ -108,9 +131,10 @@ abbrev pub answer_to : KernelState → Event → Answer
 answer_to d (Respawn s) = Respawned (endpoint_from ((process_at d.table s).generation + 1) s)
 answer_to d _ = Done
 
--- how each of them is recorded
+-- how each of them is recorded; it is asked of no other event
 abbrev pub recorded_as : Event → Recorded
 recorded_as (Line l) = recorded.Line l
+recorded_as Tick = recorded.Tick
 recorded_as (Kill e) = recorded.Kill e
 recorded_as (Respawn s) = recorded.Respawn s
 recorded_as _ = recorded.Tick

@@ -1,5 +1,6 @@
 -- The machine of one thread: a kernel, and what its processors hold.
-use Rattle.std.specs.Prelude.{ℕ, true, ◌≡◌, ◌<◌, ◌≤◌, List, [], ◌∷◌, Option, Some, None, Result, Ok, Err, length, slice_index_or, if◌then◌else◌}
+use Rattle.std.specs.Prelude.{ℕ, true, ◌≡◌, ◌<◌, ◌≤◌, List, [], ◌∷◌, Option, Some, None, Result, Ok, Err, length}
+use Rattle.std.specs.Prelude.{slice_index_or, if◌then◌else◌}
 use Rattle.mx_machine.specs.declared.events.Answer.{Answer}
 use Rattle.mx_machine.specs.declared.events.Answer.TheVariants.{Went, Returned}
 use Rattle.mx_machine.specs.declared.events.Event.{Event}
@@ -48,7 +49,8 @@ pub record IsMachineState (m : MachineState) : Type 0 where
   pub places : length m.outs ≡ 8
   pub each : (a : ℕ) → IsHeld (held_by (replay m.kernel) a) (slice_index_or m.outs a None)
 
--- A tool has worked with what a processor holds: the world is that after the steps of its run, none of which is refused.
+-- A tool has worked with what a processor holds: the world is that after the steps of its run, none of which is
+-- refused.
 pub record HasWorked (w u : World) (a j : ℕ) (l : HeldProcess) : Type 0 where
   pub held : held_by w a ≡ Some l
   pub accepted : AreAccepted w (steps_of a (held_run j l.out).0.0)
@@ -58,7 +60,8 @@ pub record HasWorked (w u : World) (a j : ℕ) (l : HeldProcess) : Type 0 where
 -- one step of what a processor holds
 abbrev pub hold_after_step : Option Out → Result Answer Refusal × Option Out
 hold_after_step None = (Err CpuEmpty, None)
-hold_after_step (Some o) = if at_stop o then (Err AtStop, Some o) else (Ok (Went (outcome_of_step o)), Some (out_after_step o))
+hold_after_step (Some o) =
+    if at_stop o then (Err AtStop, Some o) else (Ok (Went (outcome_of_step o)), Some (out_after_step o))
 
 -- who raises lines, lets the clock tick, kills and respawns is one of the actors
 abbrev pub IsActor : World → ℕ → Event → Type 0

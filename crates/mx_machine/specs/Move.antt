@@ -1,5 +1,6 @@
 -- What each event does to the whole machine (our choice). The crates below define the calls that it makes.
-use Rattle.std.specs.Prelude.{ℕ, ◌+◌, nat_lt, nat_le, not, ◌||◌, Bool, true, false, List, [], ◌∷◌, length, Option, Some, None, Result, Ok, Err, slice_get, slice_set, if◌then◌else◌}
+use Rattle.std.specs.Prelude.{ℕ, ◌+◌, nat_lt, nat_le, not, ◌||◌, Bool, true, false, List, [], ◌∷◌, length, Option, Some}
+use Rattle.std.specs.Prelude.{None, Result, Ok, Err, slice_get, slice_set, if◌then◌else◌}
 use Rattle.mx_image.specs.declared.runs.Stop.{Stop}
 use Rattle.mx_image.specs.declared.runs.Stop.TheVariants.{Spent, Trap, Fault}
 use Rattle.mx_kcall.specs.Proc.declared.process.Process.{Process}
@@ -10,7 +11,8 @@ use Rattle.mx_kcall.specs.Proc.EndpointNumbers.{slot_of, endpoint_from}
 use Rattle.mx_kcall.specs.Proc.Endpoints.{is_alive}
 use Rattle.mx_kcall.specs.Proc.Queues.{first_ready}
 use Rattle.mx_kcall.specs.Proc.States.{is_down, is_out}
-use Rattle.mx_kcall.specs.Proc.TableState.{TableState, process_at, with_state, endpoint_of, table_after_dequeue, table_after_move_out, table_after_move_home, table_after_steps}
+use Rattle.mx_kcall.specs.Proc.TableState.{TableState, process_at, with_state, endpoint_of, table_after_dequeue}
+use Rattle.mx_kcall.specs.Proc.TableState.{table_after_move_out, table_after_move_home, table_after_steps}
 use Rattle.mx_kcall.specs.Queueing.{table_after_queueing}
 use Rattle.mx_kcall.specs.TrapAnswer.{TrapAnswer}
 use Rattle.mx_kcall.specs.TrapAnswer.TheVariants as trap_ends
@@ -25,7 +27,8 @@ use Rattle.mx_machine.specs.declared.holding.Out.{Out}
 use Rattle.mx_machine.specs.declared.events.Event.{Event}
 use Rattle.mx_machine.specs.declared.events.Event.TheVariants.{Step, Take, Back, Line, Tick, Kill, Respawn}
 use Rattle.mx_machine.specs.declared.events.Refusal.{Refusal}
-use Rattle.mx_machine.specs.declared.events.Refusal.TheVariants.{NotDown, Worn, NoService, CpuBusy, CpuEmpty, LogFull, NoLine, NoProcess, AtStop}
+use Rattle.mx_machine.specs.declared.events.Refusal.TheVariants.{NotDown, Worn, NoService, CpuBusy, CpuEmpty, LogFull}
+use Rattle.mx_machine.specs.declared.events.Refusal.TheVariants.{NoLine, NoProcess, AtStop}
 use Rattle.mx_machine.specs.declared.events.Answer.{Answer}
 use Rattle.mx_machine.specs.declared.events.Answer.TheVariants.{Went, Taken, Returned, Done, Respawned}
 use Rattle.mx_machine.specs.Held.{out_after_step, outcome_of_step}
@@ -86,12 +89,15 @@ kill_refusal left false = Some NoProcess
 -- a Respawn's refusal, by how many records are free, the slot's process, and the slot's service
 abbrev pub respawn_refusal : ℕ → Process → Option Service → Option Refusal
 respawn_refusal left p None = Some NoService
-respawn_refusal left p (Some v) = if not (is_down p.state) then Some NotDown else if is_worn p v then Some Worn else if_full left 1
+respawn_refusal left p (Some v) =
+    if not (is_down p.state) then Some NotDown else if is_worn p v then Some Worn else if_full left 1
 
 -- THE REFUSAL of actor a's event at world w: the first reason that holds, or none
 unfoldable pub event_refusal : World → ℕ → Event → Option Refusal
 event_refusal w a Step = step_refusal (held_by w a)
-event_refusal w a Take = if nat_lt a (length w.cpus) then take_refusal (free_records w) (held_by w a) (first_ready w.table.ready) else Some CpuBusy
+event_refusal w a Take =
+    if nat_lt a (length w.cpus) then take_refusal (free_records w) (held_by w a) (first_ready w.table.ready)
+    else Some CpuBusy
 event_refusal w a Back = back_refusal (held_by w a)
 event_refusal w a (Line l) = line_refusal (free_records w) (owner_of w.table l)
 event_refusal w a Tick = if_full (free_records w) 1
@@ -106,7 +112,12 @@ table_after_sending_out t s = table_after_move_out (table_after_dequeue t s) s
 
 -- what a processor holds just after a Take: the budget is the ticks that the process has left
 abbrev pub held_at_take : TableState → ℕ → HeldProcess
-held_at_take t s = let p = process_at t s in record { slot = s; out = record { image = p.image; budget = p.schedule.ticks; count = 0; stop = Spent; decoded = tt } }
+held_at_take t s =
+    let p = process_at t s in
+    record {
+      slot = s;
+      out = record { image = p.image; budget = p.schedule.ticks; count = 0; stop = Spent; decoded = tt };
+    }
 
 -- killed while on a processor
 abbrev pub is_doomed : State → Bool
@@ -132,7 +143,8 @@ table_after_coming_home t l = table_after_steps (table_after_move_home t l.slot 
 
 -- A RETURN, which is a Back: the image comes home, and the turn ends
 unfoldable pub table_after_back : TableState → HeldProcess → TableState
-table_after_back t l = table_after_end_of_turn (table_after_coming_home t l) l.slot (is_doomed (process_at t l.slot).state) l.out.stop
+table_after_back t l =
+    table_after_end_of_turn (table_after_coming_home t l) l.slot (is_doomed (process_at t l.slot).state) l.out.stop
 
 -- A KILL of slot s's process: if it is on a processor, it is doomed, and dies at its Back; else it dies now
 unfoldable pub table_after_kill : TableState → ℕ → TableState
@@ -154,7 +166,8 @@ world_after_step w a (Some l) = with_held w a (Some (record l { out = out_after_
 
 abbrev pub world_after_take : World → ℕ → Option ℕ → World
 world_after_take w a None = w
-world_after_take w a (Some s) = with_held (world_with_record w (table_after_sending_out w.table s)) a (Some (held_at_take w.table s))
+world_after_take w a (Some s) =
+    with_held (world_with_record w (table_after_sending_out w.table s)) a (Some (held_at_take w.table s))
 
 abbrev pub world_after_back : World → ℕ → Option HeldProcess → World
 world_after_back w a None = w

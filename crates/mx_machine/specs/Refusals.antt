@@ -1,7 +1,8 @@
 -- The numbers and names of the reasons to refuse an event. They are our own choice.
 use Rattle.std.specs.Prelude.{ℕ, List, codes}
 use Rattle.mx_machine.specs.declared.events.Refusal.{Refusal}
-use Rattle.mx_machine.specs.declared.events.Refusal.TheVariants.{NotDown, Worn, NoService, CpuBusy, CpuEmpty, LogFull, NoLine, NoProcess, AtStop}
+use Rattle.mx_machine.specs.declared.events.Refusal.TheVariants.{NotDown, Worn, NoService, CpuBusy, CpuEmpty, LogFull}
+use Rattle.mx_machine.specs.declared.events.Refusal.TheVariants.{NoLine, NoProcess, AtStop}
 
 abbrev pub code_of_refusal : Refusal → ℕ
 code_of_refusal NotDown = 40

@@ -1,4 +1,27 @@
 //! The events of a machine, the answers to them, and the reasons to refuse them.
+//!
+//! # Five types of events
+//!
+//! What may happen to a machine is spelled in five types. Each has what its users may say, and no more.
+//!
+//! | type | how it differs |
+//! |---|---|
+//! | `Event` | What the machine makes. Who does it is said beside it, and a `Back` has no number: the machine counts. |
+//! | `Recorded` | What a history keeps. It has no step; a `Back` has the number of its steps. |
+//! | `Verb` (`mx_boot`) | The word that begins a line of a text, without the numbers after it. |
+//! | `ScriptLine` (`mx_boot`) | A line of a script. It names its processor, and a step is as many as the line says. |
+//! | `OutsideCall` (`mx_cpus`) | What comes from outside while threads run a machine: a line, a kill or a tick; or a wait, which is no event. |
+//!
+//! Which becomes which:
+//!
+//! | from | to | by |
+//! |---|---|---|
+//! | `Verb`, fields | `ScriptLine`; `Recorded`; `Event` | `script_line_of`, `recorded_of` (`mx_boot`); `outside_event_of` (`mx_app_turns`) |
+//! | `ScriptLine` | `Event` | `perform_line` (`mx_app_step`) |
+//! | `Event` | `OutsideCall` | `call_of_event` (`mx_app_run`), which refuses what only processors and respawners do |
+//! | `OutsideCall` | `Event` | `make_call` (`mx_cpus`) |
+//! | `Event` | `Recorded` | `recorded_as`, if any actor may do it; else `Kernel::take` and `Kernel::back` |
+//! | `Recorded` | `Event` | `own_event` (`mx_walk`): a history made again; the steps of a `Back` come before it |
 
 ghost use Rattle.std.specs.Prelude.{◌≡◌};
 ghost use Rattle.mx_machine.specs.Refusals.{code_of_refusal, name_of_refusal};

@@ -85,15 +85,18 @@ fn note(records: &mut Vec<Record>, actor: u8, event: Recorded)
     }
 }
 
-/// How an event that any actor may do is recorded; any other as a tick.
+/// How an event that any actor may do is recorded. A processor's own events have no record by themselves: a step is
+/// counted by its `Back`, whose number only `Kernel::back` knows.
 pub fn recorded_as(event: Event) -> Recorded
+    requires { is_for_all event ≡ true }
     ensures { result ≡ recorded_as event }
 {
     match event {
         Event::Line(line) => Recorded::Line(line),
+        Event::Tick => Recorded::Tick,
         Event::Kill(endpoint) => Recorded::Kill(endpoint),
         Event::Respawn(slot) => Recorded::Respawn(slot),
-        _ => Recorded::Tick,
+        Event::Step | Event::Take | Event::Back => unreachable!(),
     }
 }
 

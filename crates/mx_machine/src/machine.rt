@@ -25,6 +25,7 @@ pub struct Machine {
     pub(crate) outs: [Option<Out>; 8],
 }
 
+// A derived drop would be proved again at each way out of each function that has a machine; this one is a call.
 impl Drop for Machine {
     fn drop(self) {
         let Machine { kernel: _, outs: _ } = self;

@@ -1,5 +1,10 @@
 //! A segment: bytes at the addresses from 0 up to a limit. The limit here is the number of bytes: an address
 //! is inside if it is below the limit. In the 80386 manual the limit is the last address inside.
+//!
+//! The bytes are in pages of 4,096, each an allocation of its own: a large segment needs no large piece of memory, and
+//! the segment of a dead process serves its slot's next one. An access inside one page, as nearly all are, is one
+//! comparison with the limit, and a look at the page; one over two pages goes byte by byte. A contract sees a list of
+//! bytes, and never a page.
 
 ghost use Rattle.std.specs.Prelude.{◌≡◌, ◌+◌, ◌%◌, ◌^◌, ◌<◌, ◌≤◌, Ok, Err, OnOk, OnErr, IfOk, IfSome, [], length, slice_get, ℕ, slice_index, slice_set, replicate, take, drop};
 ghost use Rattle.mx_word.specs.Word.{width, bytes_in, value_at};

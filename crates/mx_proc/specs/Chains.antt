@@ -1,5 +1,6 @@
 -- Lists of slots that are linked by index. No slot has the number 255.
-use Rattle.std.specs.Prelude.{ℕ, zero, suc, ◌≡◌, ◌<◌, ◌≤◌, ◌==◌, List, [], ◌∷◌, ◌++◌, length, map, slice_index, slice_set, slice_index_or, take, drop, if◌then◌else◌}
+use Rattle.std.specs.Prelude.{ℕ, zero, suc, ◌≡◌, ◌<◌, ◌≤◌, ◌==◌, List, [], ◌∷◌, ◌++◌, length, map, slice_index}
+use Rattle.std.specs.Prelude.{slice_set, slice_index_or, take, drop, if◌then◌else◌}
 use Rattle.mx_proc.specs.Queues.{list_at, times}
 
 -- from a place on, the links lead along these slots, and then to none

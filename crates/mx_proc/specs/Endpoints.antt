@@ -1,4 +1,5 @@
--- Which endpoints name slots, and which are alive (our choice). As a signed number one that names a slot isn't negative.
+-- Which endpoints name slots, and which are alive (our choice). As a signed number one that names a slot isn't
+-- negative.
 use Rattle.std.specs.Prelude.{ℕ, ◌^◌, ◌==◌, ◌&&◌, nat_lt, not, Bool, length, Result, Ok, Err, if◌then◌else◌}
 use Rattle.mx_proc.specs.declared.table.Stale.{Stale}
 use Rattle.mx_proc.specs.EndpointNumbers.{slot_of, generation_of}

@@ -2,7 +2,8 @@
 -- are those of MINIX's errno.h).
 use Rattle.std.specs.Prelude.{ℕ, ◌-◌, ◌^◌}
 use Rattle.mx_proc.specs.declared.errors.Errno.{Errno}
-use Rattle.mx_proc.specs.declared.errors.Errno.TheVariants.{NotPermitted, BadAddress, Invalid, Locked, BadEndpoint, Denied, Dead, NotReady, BadRequest}
+use Rattle.mx_proc.specs.declared.errors.Errno.TheVariants.{NotPermitted, BadAddress, Invalid, Locked, BadEndpoint}
+use Rattle.mx_proc.specs.declared.errors.Errno.TheVariants.{Denied, Dead, NotReady, BadRequest}
 
 abbrev pub errno_bits : Errno → ℕ
 errno_bits NotPermitted = 2 ^ 32 - 1

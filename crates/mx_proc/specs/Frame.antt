@@ -26,7 +26,14 @@ pub record Frame : Type 0 where
   pub devices : Devices
 
 abbrev pub fixed_of : Process → FixedOfProcess
-fixed_of p = record { generation = p.generation; restarts_used = p.restarts_used; steps = p.steps; terms = p.schedule.terms; lasting = lasting p.image }
+fixed_of p =
+    record {
+      generation = p.generation;
+      restarts_used = p.restarts_used;
+      steps = p.steps;
+      terms = p.schedule.terms;
+      lasting = lasting p.image;
+    }
 
 abbrev pub loan_of : Process → Option ℕ
 loan_of p = if is_out p.state then Some p.schedule.ticks else None
@@ -36,4 +43,5 @@ frame w = record { fixed = map fixed_of w.slots; loans = map loan_of w.slots; up
 
 -- of one slot all is this process's, of the others what it was
 abbrev pub frame_with_process : Frame → ℕ → Process → Frame
-frame_with_process f s p = record f { fixed = slice_set f.fixed s (fixed_of p); loans = slice_set f.loans s (loan_of p) }
+frame_with_process f s p =
+    record f { fixed = slice_set f.fixed s (fixed_of p); loans = slice_set f.loans s (loan_of p) }

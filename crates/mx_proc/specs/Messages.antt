@@ -12,4 +12,5 @@ type_of bytes = value_at (drop 4 bytes) 0 4
 
 -- a notification (our choice): type 4096, p0 the uptime, p1 the interrupt lines, else zeros
 abbrev pub notification : ℕ → ℕ → ℕ → List ℕ
-notification source uptime lines = bytes_of 4 source ++ bytes_of 4 4096 ++ bytes_of 4 uptime ++ bytes_of 4 lines ++ replicate 20 0
+notification source uptime lines =
+    bytes_of 4 source ++ bytes_of 4 4096 ++ bytes_of 4 uptime ++ bytes_of 4 lines ++ replicate 20 0

@@ -1,5 +1,6 @@
 -- Whom a process receives from, and the order of notifications (our choice).
-use Rattle.std.specs.Prelude.{ℕ, ◌+◌, ◌-◌, ◌==◌, ◌&&◌, Bool, true, false, List, [], ◌∷◌, Option, Some, None, if◌then◌else◌}
+use Rattle.std.specs.Prelude.{ℕ, ◌+◌, ◌-◌, ◌==◌, ◌&&◌, Bool, true, false, List, [], ◌∷◌, Option, Some, None}
+use Rattle.std.specs.Prelude.{if◌then◌else◌}
 use Rattle.mx_proc.specs.declared.process.Source.{Source}
 use Rattle.mx_proc.specs.declared.process.Source.TheVariants.{Hardware, Clock, Slot}
 use Rattle.mx_proc.specs.declared.process.Partner.{Partner}
@@ -29,4 +30,5 @@ may_be (Only source) place = order_of_source source == place
 -- the first place, counted from here, whose bit is set and that the partner may be
 abbrev pub first_pending : Partner → ℕ → List Bool → Option ℕ
 first_pending partner place [] = None
-first_pending partner place (bit ∷ bits) = if bit && may_be partner place then Some place else first_pending partner (place + 1) bits
+first_pending partner place (bit ∷ bits) =
+    if bit && may_be partner place then Some place else first_pending partner (place + 1) bits

@@ -1,5 +1,6 @@
 -- The sixteen ready lists (book, 2.6): 0 is the highest, and the last one is the idle list.
-use Rattle.std.specs.Prelude.{ℕ, ◌+◌, ◌<◌, ◌≡◌, length, Bool, true, false, ◌==◌, List, [], ◌∷◌, filter, slice_index_or, Option, Some, None}
+use Rattle.std.specs.Prelude.{ℕ, ◌+◌, ◌<◌, ◌≡◌, length, Bool, true, false, ◌==◌, List, [], ◌∷◌, filter, slice_index_or}
+use Rattle.std.specs.Prelude.{Option, Some, None}
 use Rattle.std.specs.Int.{bit_at}
 use Rattle.std.proofs.Common.{not}
 

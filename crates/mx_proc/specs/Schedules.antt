@@ -21,7 +21,15 @@ fewer a b n h = omega (arith, h)
 
 -- a full quantum, in the list of the terms
 abbrev pub first_schedule : Terms → Schedule
-first_schedule terms = record { terms = terms; level = terms.level; ticks = terms.quantum; lowest = terms.lowest; best_above = terms.best_above; ticks_fit = le_refl terms.quantum }
+first_schedule terms =
+    record {
+      terms = terms;
+      level = terms.level;
+      ticks = terms.quantum;
+      lowest = terms.lowest;
+      best_above = terms.best_above;
+      ticks_fit = le_refl terms.quantum;
+    }
 
 -- a full quantum, in the list nearest to a level
 abbrev pub renewed_schedule : ℕ → Schedule → Schedule

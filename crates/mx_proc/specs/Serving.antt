@@ -1,5 +1,6 @@
 -- What death, kernel calls, interrupt lines and the clock change of a table.
-use Rattle.std.specs.Prelude.{ℕ, ◌+◌, ◌^◌, ◌++◌, ◌∷◌, [], ◌==◌, false, map, List, Option, Some, None, if◌then◌else◌, slice_set, replicate, bit_or}
+use Rattle.std.specs.Prelude.{ℕ, ◌+◌, ◌^◌, ◌++◌, ◌∷◌, [], ◌==◌, false, map, List, Option, Some, None, if◌then◌else◌}
+use Rattle.std.specs.Prelude.{slice_set, replicate, bit_or}
 use Rattle.circular_buffer.specs.Buffer.{keep_last}
 use Rattle.mx_mem.specs.Segment.{with_bytes_at, part}
 use Rattle.mx_proc.specs.declared.process.Process.{Process}
@@ -14,7 +15,8 @@ use Rattle.mx_proc.specs.TableState.{TableState, process_at, with_process, with_
 
 -- a process without the pending bit of a slot, and without the window for it
 abbrev pub without_bit_of : ℕ → Process → Process
-without_bit_of s p = record p { pending = slice_set p.pending (order_of_source (Slot s)) false; windows = slice_set p.windows s None }
+without_bit_of s p =
+    record p { pending = slice_set p.pending (order_of_source (Slot s)) false; windows = slice_set p.windows s None }
 
 -- an owner, unless it is this slot
 abbrev pub owner_but : ℕ → Option ℕ → Option ℕ
@@ -30,13 +32,17 @@ table_after_forgetting w s = record w {
 
 -- a process is down, with nothing pending and no windows
 abbrev pub table_after_burial : TableState → ℕ → DeathCause → TableState
-table_after_burial w s cause = with_process w s (record (process_at w s) { state = Down cause; pending = replicate 34 false; lines = 0; alarm = None; windows = replicate 32 None })
+table_after_burial w s cause =
+    with_process w s
+    (record (process_at w s)
+    { state = Down cause; pending = replicate 34 false; lines = 0; alarm = None; windows = replicate 32 None })
 
 -- ---- windows
 
 -- what the process of one slot (the second) may use of another's memory is this now
 abbrev pub with_window : TableState → ℕ → ℕ → Option Window → TableState
-with_window w s t window = let p = process_at w s in with_process w s (record p { windows = slice_set p.windows t window })
+with_window w s t window =
+    let p = process_at w s in with_process w s (record p { windows = slice_set p.windows t window })
 
 -- ---- alarms, lines and the clock
 
@@ -57,16 +63,24 @@ with_tick w = record w { uptime = w.uptime + 1 }
 -- ---- registers, console, copies
 
 abbrev pub with_device_register : TableState → ℕ → ℕ → TableState
-with_device_register w register value = record w { devices = record w.devices { registers = slice_set w.devices.registers register value } }
+with_device_register w register value =
+    record w { devices = record w.devices { registers = slice_set w.devices.registers register value } }
 
 -- one byte more on the console
 abbrev pub with_console_byte : TableState → ℕ → TableState
-with_console_byte w byte = let c = w.devices.console in record w { devices = record w.devices { console = record { kept = keep_last 4096 (c.kept ++ byte ∷ []); count = c.count + 1 } } }
+with_console_byte w byte =
+    let c = w.devices.console in
+    record w {
+      devices = record w.devices
+          { console = record { kept = keep_last 4096 (c.kept ++ byte ∷ []); count = c.count + 1 } };
+    }
 
 -- bytes of one process over those of another or its own, as if the source were read whole first
 abbrev pub with_copy : TableState → ℕ → ℕ → ℕ → ℕ → ℕ → TableState
-with_copy w from at to place count = with_memory w to (with_bytes_at (memory_at w to) place (part (memory_at w from) at count))
+with_copy w from at to place count =
+    with_memory w to (with_bytes_at (memory_at w to) place (part (memory_at w from) at count))
 
 -- a process with bytes copied to a place
 abbrev pub process_after_copy : Process → ℕ → List ℕ → Process
-process_after_copy p place bytes = record p { image = record p.image { memory = with_bytes_at p.image.memory place bytes } }
+process_after_copy p place bytes =
+    record p { image = record p.image { memory = with_bytes_at p.image.memory place bytes } }

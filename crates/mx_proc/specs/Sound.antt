@@ -1,5 +1,6 @@
 -- What always holds of a table.
-use Rattle.std.specs.Prelude.{ℕ, ◌+◌, ◌<◌, ◌^◌, ◌≡◌, ◌≤◌, ◌==◌, ◌≢◌, true, List, [], length, None, IfSome, slice_index_or, if◌then◌else◌}
+use Rattle.std.specs.Prelude.{ℕ, ◌+◌, ◌<◌, ◌^◌, ◌≡◌, ◌≤◌, ◌==◌, ◌≢◌, true, List, [], length, None, IfSome}
+use Rattle.std.specs.Prelude.{slice_index_or, if◌then◌else◌}
 use Rattle.mx_proc.specs.declared.process.Process.{Process}
 use Rattle.mx_proc.specs.declared.process.State.TheVariants.{Home}
 use Rattle.mx_proc.specs.Queues.{tally, times, list_at}

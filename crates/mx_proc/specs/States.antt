@@ -1,7 +1,8 @@
 -- What a state means for the queues.
 use Rattle.std.specs.Prelude.{◌≡◌, Bool, true, false}
 use Rattle.mx_proc.specs.declared.process.State.{State}
-use Rattle.mx_proc.specs.declared.process.State.TheVariants.{Ready, Out, Doomed, Sending, Calling, Receiving, Awaiting, Down}
+use Rattle.mx_proc.specs.declared.process.State.TheVariants.{Ready, Out, Doomed, Sending, Calling, Receiving, Awaiting}
+use Rattle.mx_proc.specs.declared.process.State.TheVariants.{Down}
 
 -- in the ready list of its level
 abbrev pub is_ready : State → Bool

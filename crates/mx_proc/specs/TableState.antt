@@ -1,5 +1,6 @@
 -- A table as plain lists (proc.c), and the changes that it is made of.
-use Rattle.std.specs.Prelude.{ℕ, ◌<◌, ◌+◌, ◌-◌, ◌*◌, ◌^◌, ◌++◌, ◌∷◌, Bool, false, List, [], Option, Some, None, slice_index_or, slice_set, length, replicate, take, drop}
+use Rattle.std.specs.Prelude.{ℕ, ◌<◌, ◌+◌, ◌-◌, ◌*◌, ◌^◌, ◌++◌, ◌∷◌, Bool, false, List, [], Option, Some, None}
+use Rattle.std.specs.Prelude.{slice_index_or, slice_set, length, replicate, take, drop}
 use Rattle.std.specs.Option.{option_map}
 use Rattle.circular_buffer.specs.Buffer.{keep_last}
 use Rattle.mx_exec.specs.declared.image.Image.{Image}
@@ -44,7 +45,17 @@ pub record TableState : Type 0 where
 
 -- a table as it is made
 abbrev pub empty_table : Rules → TableState
-empty_table rules = record { slots = []; ready = replicate 16 []; waits = []; renewed = None; uptime = 0; devices = no_devices; deliveries = []; rules = rules }
+empty_table rules =
+    record {
+      slots = [];
+      ready = replicate 16 [];
+      waits = [];
+      renewed = None;
+      uptime = 0;
+      devices = no_devices;
+      deliveries = [];
+      rules = rules;
+    }
 
 -- the process of an index past the table
 abbrev pub nobody : Process
@@ -74,7 +85,9 @@ with_state w s state = with_process w s (record (process_at w s) { state = state
 
 -- EAX, which has the result of a trap
 abbrev pub with_result : TableState → ℕ → ℕ → TableState
-with_result w s r = let p = process_at w s in with_process w s (record p { image = record p.image { regs = record p.image.regs { eax = r } } })
+with_result w s r =
+    let p = process_at w s in
+    with_process w s (record p { image = record p.image { regs = record p.image.regs { eax = r } } })
 
 -- EBX, the address of the buffer for messages
 abbrev pub buffer_at : TableState → ℕ → ℕ
@@ -84,10 +97,12 @@ abbrev pub memory_at : TableState → ℕ → List ℕ
 memory_at w s = (process_at w s).image.memory
 
 abbrev pub with_memory : TableState → ℕ → List ℕ → TableState
-with_memory w s bytes = let p = process_at w s in with_process w s (record p { image = record p.image { memory = bytes } })
+with_memory w s bytes =
+    let p = process_at w s in with_process w s (record p { image = record p.image { memory = bytes } })
 
 abbrev pub with_pending : TableState → ℕ → ℕ → Bool → TableState
-with_pending w s place bit = let p = process_at w s in with_process w s (record p { pending = slice_set p.pending place bit })
+with_pending w s place bit =
+    let p = process_at w s in with_process w s (record p { pending = slice_set p.pending place bit })
 
 -- what the process of one slot (the second) may use of another's memory
 abbrev pub window_of : TableState → ℕ → ℕ → Option Window
@@ -120,7 +135,10 @@ table_with_last w s level = let p = renewed level (process_at w s) in record w {
 
 -- a process leaves the list of its level
 abbrev pub table_after_dequeue : TableState → ℕ → TableState
-table_after_dequeue w s = let level = (process_at w s).schedule.level in record (with_state w s Home) { ready = slice_set w.ready level (without s (list_at w.ready level)) }
+table_after_dequeue w s =
+    let level =
+    (process_at w s).schedule.level in
+    record (with_state w s Home) { ready = slice_set w.ready level (without s (list_at w.ready level)) }
 
 -- a send is blocked, after the others
 abbrev pub table_after_block : TableState → ℕ → ℕ → State → TableState
@@ -138,7 +156,11 @@ with_message w s bytes = with_memory w s (with_bytes_at (memory_at w s) (buffer_
 
 -- a delivery is recorded, and the oldest past 1,024 goes
 abbrev pub with_delivery_kept : TableState → ℕ → ℕ → ℕ → DeliveryKind → TableState
-with_delivery_kept w from to message_type kind = record w { deliveries = keep_last 1024 (w.deliveries ++ record { from = from; to = to; message_type = message_type; kind = kind } ∷ []) }
+with_delivery_kept w from to message_type kind =
+    record w {
+      deliveries = keep_last 1024
+          (w.deliveries ++ record { from = from; to = to; message_type = message_type; kind = kind } ∷ []);
+    }
 
 -- the 36 bytes at the buffer of a process, with the source written by the kernel
 abbrev pub message_of : TableState → ℕ → List ℕ
@@ -146,7 +168,10 @@ message_of w s = with_source (endpoint_of w s) (take 36 (drop (buffer_at w s) (m
 
 -- the message of one process comes to another
 unfoldable pub table_after_delivery : TableState → ℕ → ℕ → TableState
-table_after_delivery w from to = let message = message_of w from in with_delivery_kept (with_message w to message) (endpoint_of w from) (endpoint_of w to) (type_of message) Message
+table_after_delivery w from to =
+    let message =
+    message_of w from in
+    with_delivery_kept (with_message w to message) (endpoint_of w from) (endpoint_of w to) (type_of message) Message
 
 -- the endpoint of a source of notifications
 abbrev pub source_endpoint : TableState → Source → ℕ
@@ -161,18 +186,24 @@ IsUsedSource w _ = Unit {0}
 
 -- the first source, in their order, that has a pending bit at a slot and that the partner may be
 abbrev pub pending_source : TableState → ℕ → Partner → Option Source
-pending_source w s partner = option_map source_in_order (first_pending partner 0 (take (2 + length w.slots) (process_at w s).pending))
+pending_source w s partner =
+    option_map source_in_order (first_pending partner 0 (take (2 + length w.slots) (process_at w s).pending))
 
 -- a process whose pending bit, and the lines that are reported, are cleared
 abbrev pub without_pending : Process → Source → Process
-without_pending p source = record p { pending = slice_set p.pending (order_of_source source) false; lines = p.lines - lines_in_notification source p.lines }
+without_pending p source =
+    record p {
+      pending = slice_set p.pending (order_of_source source) false;
+      lines = p.lines - lines_in_notification source p.lines;
+    }
 
 -- a notification comes to a process, and its pending bit is cleared
 unfoldable pub table_after_notice : TableState → ℕ → Source → TableState
 table_after_notice w d source =
     let p = process_at w d in
     let bytes = notification (source_endpoint w source) w.uptime (lines_in_notification source p.lines) in
-    with_delivery_kept (with_message (with_process w d (without_pending p source)) d bytes) (source_endpoint w source) (endpoint_of w d) 4096 Notification
+    with_delivery_kept (with_message (with_process w d (without_pending p source)) d bytes) (source_endpoint w source)
+    (endpoint_of w d) 4096 Notification
 
 -- ---- images out and home
 
@@ -204,7 +235,8 @@ new_process image terms = record nobody { state = Ready; schedule = first_schedu
 
 -- the process after a dead one: nothing of that is left but its generation and its restarts, each one more
 abbrev pub process_after : Process → Image → Terms → Process
-process_after dead image terms = record (new_process image terms) { generation = dead.generation + 1; restarts_used = dead.restarts_used + 1 }
+process_after dead image terms =
+    record (new_process image terms) { generation = dead.generation + 1; restarts_used = dead.restarts_used + 1 }
 
 -- one slot more, at the end of the list of its level
 abbrev pub table_after_add : TableState → Image → Terms → TableState

@@ -1,5 +1,6 @@
 -- Blocked sends as pairs of who sends and to whom, in order of blocking (proc.c: the caller queues).
-use Rattle.std.specs.Prelude.{ℕ, zero, suc, ◌+◌, ◌≡◌, ◌⊎◌, ◌==◌, ◌&&◌, ◌||◌, Bool, false, List, [], ◌∷◌, filter, length, Option, Some, None, if◌then◌else◌}
+use Rattle.std.specs.Prelude.{ℕ, zero, suc, ◌+◌, ◌≡◌, ◌⊎◌, ◌==◌, ◌&&◌, ◌||◌, Bool, false, List, [], ◌∷◌, filter, length}
+use Rattle.std.specs.Prelude.{Option, Some, None, if◌then◌else◌}
 use Rattle.std.proofs.Common.{not}
 use Rattle.mx_proc.specs.declared.process.Partner.{Partner}
 use Rattle.mx_proc.specs.Partners.{may_be}
@@ -17,7 +18,8 @@ next_of slot (p ∷ pairs) = if p.0 == slot then Some p.1 else next_of slot pair
 -- of those that the partner may be, the first that waits for a slot
 abbrev pub caller_of : ℕ → Partner → List (ℕ × ℕ) → Option ℕ
 caller_of slot partner [] = None
-caller_of slot partner (p ∷ pairs) = if (p.1 == slot) && may_be partner (2 + p.0) then Some p.0 else caller_of slot partner pairs
+caller_of slot partner (p ∷ pairs) =
+    if (p.1 == slot) && may_be partner (2 + p.0) then Some p.0 else caller_of slot partner pairs
 
 -- how many pairs are from a slot
 abbrev pub sends_of : ℕ → List (ℕ × ℕ) → ℕ

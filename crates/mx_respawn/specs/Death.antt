@@ -26,11 +26,14 @@ receives_from_alone _ s = false
 -- the slots other than s, counted from n, that receive only from s
 abbrev pub receivers : ℕ → ℕ → List Process → List ℕ
 receivers s n [] = []
-receivers s n (p ∷ ps) = if not (n == s) && receives_from_alone p.state s then n ∷ receivers s (n + 1) ps else receivers s (n + 1) ps
+receivers s n (p ∷ ps) =
+    if not (n == s) && receives_from_alone p.state s then n ∷ receivers s (n + 1) ps else receivers s (n + 1) ps
 
 -- a process leaves its ready list or its blocked send, if it is in one
 unfoldable pub table_after_taking_out : TableState → ℕ → TableState
-table_after_taking_out w s = let st = (process_at w s).state in if is_ready st then table_after_dequeue w s else if is_sending st then table_after_unblock w s else w
+table_after_taking_out w s =
+    let st = (process_at w s).state in if is_ready st then table_after_dequeue w s
+    else if is_sending st then table_after_unblock w s else w
 
 -- a process that waits goes on with EDEADDST
 abbrev pub table_after_freeing : TableState → ℕ → TableState
@@ -45,7 +48,9 @@ table_after_freeing_all w (p ∷ ps) = table_after_freeing_all (table_after_free
 abbrev pub waiting_for : TableState → ℕ → List ℕ
 waiting_for w s = callers s w.waits ++ receivers s 0 w.slots
 
--- a process dies: it leaves its queue; who waits for it goes on; its bits, its alarm, its lines, its windows and those for it
--- are cleared; it is down
+-- a process dies: it leaves its queue; who waits for it goes on; its bits, its alarm, its lines, its windows and those
+-- for it are cleared; it is down
 unfoldable pub table_after_death : TableState → ℕ → DeathCause → TableState
-table_after_death w s cause = let left = table_after_taking_out w s in table_after_burial (table_after_forgetting (table_after_freeing_all left (waiting_for left s)) s) s cause
+table_after_death w s cause =
+    let left = table_after_taking_out w s in
+    table_after_burial (table_after_forgetting (table_after_freeing_all left (waiting_for left s)) s) s cause

@@ -5,4 +5,5 @@ use Rattle.mx_respawn.specs.Death.{receives_from_alone, table_after_freeing}
 
 -- a process goes on if it receives only from this slot
 abbrev pub table_after_waking : TableState → ℕ → ℕ → TableState
-table_after_waking w s t = if not (t == s) && receives_from_alone (process_at w t).state s then table_after_freeing w t else w
+table_after_waking w s t =
+    if not (t == s) && receives_from_alone (process_at w t).state s then table_after_freeing w t else w

@@ -17,4 +17,6 @@ next_level p again = if again then p.schedule.level + 1 else p.schedule.level - 
 
 -- with ticks left, to the front of its list; else with a new quantum, to the end of the list of the next level
 unfoldable pub table_after_queueing : TableState → ℕ → TableState
-table_after_queueing w s = let p = process_at w s in if nat_lt 0 p.schedule.ticks then table_with_first w s else table_with_last w s (next_level p (is_last_renewed w s))
+table_after_queueing w s =
+    let p = process_at w s in if nat_lt 0 p.schedule.ticks then table_with_first w s
+    else table_with_last w s (next_level p (is_last_renewed w s))

@@ -3,7 +3,9 @@ use Rattle.std.specs.Prelude.{ℕ}
 use Rattle.mx_word.specs.declared.names.Register.{Register}
 use Rattle.mx_word.specs.declared.names.Register.TheVariants.{Eax, Ecx, Edx, Ebx, Esp, Ebp, Esi, Edi}
 use Rattle.mx_word.specs.declared.names.Condition.{Condition}
-use Rattle.mx_word.specs.declared.names.Condition.TheVariants.{Overflow, NotOverflow, Below, NotBelow, Zero, NotZero, BelowOrEqual, NotBelowOrEqual, Sign, NotSign, Parity, NotParity, Less, NotLess, LessOrEqual, NotLessOrEqual}
+use Rattle.mx_word.specs.declared.names.Condition.TheVariants.{Overflow, NotOverflow, Below, NotBelow, Zero, NotZero}
+use Rattle.mx_word.specs.declared.names.Condition.TheVariants.{BelowOrEqual, NotBelowOrEqual, Sign, NotSign, Parity}
+use Rattle.mx_word.specs.declared.names.Condition.TheVariants.{NotParity, Less, NotLess, LessOrEqual, NotLessOrEqual}
 
 abbrev pub register_number : Register → ℕ
 register_number Eax = 0

@@ -1,5 +1,7 @@
 -- Words as whole numbers, as signed numbers and as bytes.
-use Rattle.std.specs.Prelude.{ℕ, zero, suc, ◌+◌, ◌-◌, ◌*◌, ◌/◌, ◌^◌, ◌%◌, ℤ, pos, negsuc, ◌+ℤ◌, ◌-ℤ◌, ◌≤ℤ◌, neg_ℤ, Bool, true, false, nat_lt, nat_le, int_lt, int_le, ◌||◌, if◌then◌else◌, count_ones, ◌==◌, List, [], ◌∷◌, slice_index}
+use Rattle.std.specs.Prelude.{ℕ, zero, suc, ◌+◌, ◌-◌, ◌*◌, ◌/◌, ◌^◌, ◌%◌, ℤ, pos, negsuc, ◌+ℤ◌, ◌-ℤ◌, ◌≤ℤ◌, neg_ℤ, Bool}
+use Rattle.std.specs.Prelude.{true, false, nat_lt, nat_le, int_lt, int_le, ◌||◌, if◌then◌else◌, count_ones, ◌==◌, List}
+use Rattle.std.specs.Prelude.{[], ◌∷◌, slice_index}
 use Rattle.mx_word.specs.declared.size.Size.{Size}
 use Rattle.mx_word.specs.declared.size.Size.TheVariants.{Byte, Word, Dword}
 
