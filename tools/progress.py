@@ -88,6 +88,7 @@ class Progress:
         # The trial's own lines are taken away from standard error as it is later.
         self.out = sys.stderr
         self.estimate = Estimate(time.monotonic(), used())
+        self.forget()
         self.is_over = threading.Event()
         self.has_line = False
         self.teller = threading.Thread(target=self.tell, daemon=True)
@@ -117,5 +118,9 @@ class Progress:
         if self.has_line:
             print("\r\033[K", end="", file=self.out, flush=True)
             self.has_line = False
+        self.forget()
+
+    def forget(self):
+        """Takes the file away, also that of a builder that was killed."""
         if os.path.exists(self.file):
             os.remove(self.file)
