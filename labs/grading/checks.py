@@ -1,22 +1,29 @@
-"""What a lab checks: each row of its `points.json` is made, run and compared with what is wanted."""
+"""What a lab checks: each row of its `points.json` is made, run and compared with what is wanted.
+
+A row has a `name`, `points`, what to `do` (a function `do_..` of Check), and `draws`: the function of `drawn` that draws
+its cases. The rest are words of that `do`.
+"""
 import json
 import os
 import re
 import shutil
 import struct
 
-from .commands import SHOWN, Lost, run
+from . import drawn, facts, models
+from .commands import Lost, run
 from .image import Program
-from .making import MX
+from .making import LABS, MX
+
+PARTNERS = os.path.join(LABS, "partners")
 
 
 def bytes_of(what):
-    """An input or an output as the checks have it: a text, hexadecimal bytes, or dwords."""
-    if "text" in what:
-        return what["text"].encode() + b"\0"
-    if "hex" in what:
-        return bytes.fromhex(what["hex"])
-    return b"".join(struct.pack("<I", it & 0xFFFFFFFF) for it in what["dwords"])
+    """An input or an output as the cases have it: hexadecimal bytes, or dwords."""
+    return bytes.fromhex(what["hex"]) if "hex" in what else packed(what["dwords"])
+
+
+def packed(dwords):
+    return b"".join(struct.pack("<I", it & 0xFFFFFFFF) for it in dwords)
 
 
 class Lab:
@@ -26,12 +33,13 @@ class Lab:
             made = json.load(it)
         self.name, self.checks = made["name"], made["points"]
         self.programs = [name for it in self.checks if it["do"] == "make" for name in it["programs"]]
+        self.files = [it["file"] for it in self.checks if it["do"] == "answers"]
 
     def given(self, name):
         """The file of this name that the lab has, for the checks or for students too; None if a student makes it."""
         if name.removesuffix(".out") in self.programs:
             return None
-        paths = (os.path.join(self.folder, it, name) for it in ("checks", "start"))
+        paths = (os.path.join(it, name) for it in (f"{self.folder}/checks", f"{self.folder}/start", PARTNERS))
         return next((it for it in paths if os.path.exists(it)), None)
 
     def headers(self):
@@ -57,6 +65,10 @@ class Check:
     def has_history(self):
         return self.config is not None and os.path.exists(os.path.join(self.room, self.log))
 
+    def cases(self):
+        source = drawn.source_of(self.student.seed, self.row["name"])
+        return list(getattr(drawn, self.row["draws"])(source))
+
     def make(self, name):
         """The file of a student's program. If it can't be made, what was run is the command that failed."""
         try:
@@ -76,8 +88,27 @@ class Check:
             it.write("".join(f"{line}\n" for line in lines))
         return name
 
+    def written(self, path, values):
+        """A copy of a program with bytes over its data: its name in the room, and the program."""
+        with open(path, "rb") as it:
+            program = Program(it.read())
+        for name, data in values.items():
+            program.write(name, data)
+        return program
+
+    def keep(self, name, program):
+        with open(os.path.join(self.room, name), "wb") as it:
+            it.write(program.data)
+        return name
+
     def do(self):
-        getattr(self, "do_" + self.row["do"])()
+        """Does what the row says. What shows why points are lost is the record that a fact or a model names."""
+        try:
+            getattr(self, "do_" + self.row["do"])()
+        except Lost as it:
+            if getattr(it, "record", None):
+                self.show_at(str(it.record))
+            raise
 
     def do_make(self):
         """The program can be made of the student's text."""
@@ -86,19 +117,12 @@ class Check:
 
     def with_input(self, case):
         """A copy of the program with the case's bytes at `input`."""
-        name = self.row["program"]
-        with open(self.make(name), "rb") as it:
-            program = Program(it.read())
-        if "input" in case:
-            program.write("input", bytes_of(case["input"]))
-        path = f"{self.number}.{name}.out"
-        with open(os.path.join(self.room, path), "wb") as it:
-            it.write(program.data)
-        return path, program
+        program = self.written(self.make(self.row["program"]), {"input": bytes_of(case["input"])})
+        return self.keep(f"{self.number}.{self.row['program']}.out", program), program
 
     def do_one(self):
         """A program alone: registers when it stops at its trap, within so many steps."""
-        for case in self.row["cases"]:
+        for case in self.cases():
             path, _ = self.with_input(case)
             printed = self.mx("one", path, str(self.row["steps"]))
             stop = printed.splitlines()[-1]
@@ -110,58 +134,62 @@ class Check:
                     raise Lost(told(case), f"{register} {wanted & 0xFFFFFFFF:08x}", f"{register} {came:08x}")
 
     def do_memory(self):
-        """A program alone: the bytes at a symbol when it stops at its trap."""
-        for case in self.row["cases"]:
+        """A program alone: the dwords at a symbol when it stops at its trap."""
+        for case in self.cases():
             path, program = self.with_input(case)
             config = self.write("config", [f"service it {path} traps 1e send 0 calls 1 level 7 best 7 "
                                            f"quantum {self.row['steps']} restarts 0"])
-            wanted = bytes_of(case["want"])
+            wanted = case["want"]["dwords"]
             at = program.address(self.row["at"])
-            script = self.write("db", ["take 0", f"go 0 {self.row['steps']}", f"mem 0 {at} {len(wanted)}"])
+            script = self.write("db", ["take 0", f"go 0 {self.row['steps']}", f"mem 0 {at} {4 * len(wanted)}"])
             lines = self.mx("db", config, script).splitlines()
             if not re.fullmatch(r"stepped \d+ trap", lines[1]):
                 raise Lost(told(case), f"a trap within {self.row['steps']} steps", lines[1])
-            came = bytes.fromhex("".join(it[8:] for it in lines if re.fullmatch("[0-9a-f]{8}( [0-9a-f]{2})+", it)))
+            came = [facts.signed(it) for it in struct.unpack(f"<{len(wanted)}I", memory_of(lines))]
             if came != wanted:
-                raise Lost(told(case), wanted.hex(" "), came.hex(" "))
+                raise Lost(told(case), " ".join(map(str, wanted)), " ".join(map(str, came)))
 
-    def machine(self, config):
-        """Copies a configuration of the lab and makes what programs it names: the configuration's name."""
-        self.config = config
-        path = self.lab.given(config)
-        shutil.copy(path, self.room)
-        with open(path, encoding="ascii") as it:
-            services = [words for words in (line.split("#")[0].split() for line in it) if words[:1] == ["service"]]
-        for words in services:
-            given = self.lab.given(words[2])
-            if given:
-                shutil.copy(given, self.room)
-            else:
-                self.make(words[2].removesuffix(".out"))
-        return config
+    def machine(self, case):
+        """Writes a case's configuration into the room, and makes or copies the programs that it names. What is drawn for a
+        service is written over the data of a copy of its program."""
+        lines = []
+        for line in case["config"]:
+            words = line.split()
+            if words[0] == "service":
+                words[2] = self.program_of(words[1], words[2], case.get("set", {}).get(words[1]))
+            lines.append(" ".join(words))
+        self.config = self.write("config", lines)
+        return self.config
+
+    def program_of(self, service, file, values):
+        """The name in the room of a service's program."""
+        given = self.lab.given(file)
+        if not given:
+            return os.path.basename(self.make(file.removesuffix(".out")))
+        if values is None:
+            shutil.copy(given, self.room)
+            return file
+        program = self.written(given, {name: packed(it) for name, it in values.items()})
+        return self.keep(f"{self.number}.{service}.out", program)
 
     def do_turns(self):
         """A machine that runs by turns until it is at rest, with the interrupts and ticks of a file."""
-        for case in self.row["cases"]:
-            config = self.machine(case.get("config") or self.row["config"])
-            words = ["--turns", str(self.row["turns"])]
+        for case in self.cases():
+            words = [self.machine(case), self.log, "--turns", str(self.row["turns"])]
             if "events" in case:
                 words += ["--events", self.write("events", case["events"])]
-            self.compare(case, self.mx("turns", config, self.log, *words))
-
-    def do_script(self):
-        """A machine that is driven by a script of the lab."""
-        config = self.machine(self.row["config"])
-        for case in self.row["cases"]:
-            shutil.copy(self.lab.given(case["script"]), self.room)
-            self.compare(case, self.mx("step", config, case["script"], "--save", self.log))
+            self.compare(case, self.mx("turns", *words))
 
     def do_sweep(self):
         """A fault at each position of a run: the machine ends at rest, with the wanted console, at each of them."""
-        config, bound = self.machine(self.row["config"]), ["--turns", str(self.row["turns"])]
-        self.compare({**self.row, "name": "without the fault"}, self.mx("turns", config, self.log, *bound))
-        fault = self.write("fault", self.row["fault"])
-        wanted = self.row["want"]["console"]
+        for case in self.cases():
+            config, bound = self.machine(case), ["--turns", str(self.row["turns"])]
+            printed = self.mx("turns", config, self.log, *bound)
+            self.compare({**case, "name": "without the fault"}, printed)
+            self.compare_sweep(case, config, self.write("fault", case["fault"]), bound)
+
+    def compare_sweep(self, case, config, fault, bound):
+        wanted = case["want"]["console"]
         for block in blocks(self.mx("sweep", config, self.log, fault, *bound)):
             if (block["ending"], block["console"]) == ("rest", wanted):
                 continue
@@ -170,17 +198,18 @@ class Check:
             self.mx("sweep", config, self.log, fault, *bound, *at, "--save", saved)
             self.log, self.place = saved, str(int(block["position"]) + 1)
             self.shows = f"--from {self.place} | sed -n 1,40p"
-            raise Lost(f"{', '.join(self.row['fault'])} at {block['head']}", f"rest, console {wanted!r}",
+            raise Lost(f"{', '.join(case['fault'])} at {block['head']}", f"rest, console {wanted!r}",
                        f"{block['ending']}, console {block['console']!r}; {', '.join(block['states'])}")
 
     def do_threads(self):
-        """Runs by threads: each has the wanted console, and its history prints the same report again."""
-        config = self.machine(self.row["config"])
-        for number in range(self.row["runs"]):
-            printed = self.mx("run", config, self.log, "--ticks", str(self.row.get("ticks", 0)))
-            self.compare({**self.row, "name": f"run {number + 1}"}, printed)
-            if self.mx("replay", config, self.log) != printed:
-                raise Lost("the replay of the history prints another report")
+        """Runs by threads: each has what is wanted, and its history prints the same report again."""
+        for case in self.cases():
+            config = self.machine(case)
+            for number in range(self.row["runs"]):
+                printed = self.mx("run", config, self.log, "--ticks", "0")
+                self.compare({**case, "name": f"run {number + 1}"}, printed)
+                if self.mx("replay", config, self.log) != printed:
+                    raise Lost("the replay of the history prints another report")
 
     def do_answers(self):
         """Answers in a text: a line each, whose first word says to what. What is wanted isn't told."""
@@ -192,44 +221,38 @@ class Check:
                        came="; ".join(f"{it} {given[it]}" if it in given else f"no line `{it}`" for it in wrong))
 
     def compare(self, case, printed):
-        """The report's states and the console, as far as the case names them."""
-        want = case["want"]
+        """The report's states, the console and the history, as far as the case names them."""
+        want = case.get("want", {})
         lines = printed.split("\n")
         at = next((i for i, it in enumerate(lines) if re.match(r"console \d+$", it)), None)
         if at is None:
-            raise Lost(told(case), "a report", printed[-SHOWN:])
+            raise Lost(told(case), "a report", printed)
         trace = run([MX, "trace", self.config, self.log], self.room, self.student.bounds)
         states = {words[1]: " ".join(words[3:-2]) for words in map(str.split, lines[:at - 1])}
         ending = ended(states)
         self.compare_console(case, "\n".join(lines[at + 1:]), trace, ending)
-        self.compare_trace(case, trace)
+        try:
+            self.compare_history(case, trace)
+        except Lost as it:
+            it.came = f"{it.came}; {ending}"
+            raise
+        self.show_at("end")
         for name, state in want.get("states", {}).items():
             if states.get(name) != state:
                 raise Lost(told(case), f"{name} {state}", ending)
 
     def compare_console(self, case, text, trace, ending):
         """The console's bytes. The place is the record that wrote the first one that is another than is wanted."""
-        want = case["want"]
-        console = "".join(it for it in text if it in want.get("letters", it))
+        want = case.get("want", {})
         wanted = want.get("console", want.get("starts", ""))
-        first = next((i for i, it in enumerate(console) if it != wanted[i:i + 1]), len(console))
-        records = [record for record, byte in re.findall(r"(?m)^(\d+)   console 0x(\w+)", trace)
-                   if chr(int(byte, 16)) in want.get("letters", chr(int(byte, 16)))]
-        came = f"console {console!r}; {ending}"
+        first = next((i for i, it in enumerate(text) if it != wanted[i:i + 1]), len(text))
+        records = re.findall(r"(?m)^(\d+)   console 0x\w+", trace)
+        came = f"console {text!r}; {ending}"
         self.show_at((records + ["end"])[min(first, len(records))])
-        if "console" in want and console != wanted:
+        if "console" in want and text != wanted:
             raise Lost(told(case), f"console {wanted!r}", came)
-        if "starts" in want and not console.startswith(wanted):
+        if "starts" in want and not text.startswith(wanted):
             raise Lost(told(case), f"console {wanted!r} and so on", came)
-        left, first = list(want.get("sorted", console)), len(console)
-        for i, letter in enumerate(console):
-            if letter not in left:
-                first = i
-                break
-            left.remove(letter)
-        self.show_at((records + ["end"])[min(first, len(records))])
-        if first < len(console) or left:
-            raise Lost(told(case), f"console of these letters in any order: {want['sorted']!r}", came)
         self.show_at("end")
 
     def show_at(self, place):
@@ -237,23 +260,40 @@ class Check:
         self.place = place
         self.shows = "| tail -n 30" if place == "end" else f"--from {max(1, int(place) - 9)} --to {place}"
 
-    def compare_trace(self, case, trace):
-        """What was said in the run: a result that has to be there, who asked whom for what, and the reports."""
-        want = case["want"]
-        if "refused" in want and want["refused"] not in trace:
-            raise Lost(told(case), f"a trap that is answered by {want['refused']}", "none in the trace")
+    def compare_history(self, case, trace):
+        """What was said in the run: by a model, by facts, by who asked whom for what, by reports, and by memory."""
+        found, want = facts.events(trace), case.get("want", {})
+        if "model" in case:
+            name, service = case["model"]
+            models.MODELS[name](told(case), service).follow(found)
+        facts.require(told(case), case.get("facts", []), found)
         for pair, wanted in want.get("asks", {}).items():
             who, whom = pair.split()
-            came = " ".join(re.findall(rf"message {who} \d+ to {whom} \d+ type (-?\d+)", trace))
+            came = " ".join(it.words[5] for it in found if it.words[:4] == ["message", who, "to", whom])
             if came != wanted:
                 raise Lost(told(case), f"messages of {who} to {whom} of the types {wanted}", came or "none")
-        for pair, wanted in want.get("sends", {}).items():
-            who, whom = pair.split()
-            came = re.findall(rf"message {who} \d+ to {whom} \d+ (type .*)", trace)
-            if came != [wanted]:
-                raise Lost(told(case), f"one message of {who} to {whom}: {wanted}", "; ".join(came) or "none")
-        if "reports" in want:
-            compare_reports(told(case), want["reports"], trace)
+        if "taken" in want:
+            models.compare_taken(told(case), *want["taken"], found)
+        if "steps" in want:
+            models.compare_steps(told(case), want["steps"], found)
+        for row in case.get("memory", []):
+            self.compare_memory(case, row, found)
+
+    def compare_memory(self, case, row, found):
+        """The bytes of a process at the address that is a message's second word, when that message was taken."""
+        event = next(it for it in found if facts.fits(it, row["at"]))
+        wanted = row["bytes"].encode()
+        words = f"goto {event.record}\nmem {row['slot']} {models.numbers(event)[1]} {len(wanted)}\n"
+        came = memory_of(run([MX, "look", self.config, self.log], self.room, self.student.bounds, given=words).splitlines())
+        if came != wanted:
+            lost = Lost(told(case), f"at the address of `{' '.join(event.words)}` the bytes {wanted!r}", repr(came))
+            lost.record = event.record
+            raise lost
+
+
+def memory_of(lines):
+    """The bytes that `mem` prints."""
+    return bytes.fromhex("".join(it[8:] for it in lines if re.fullmatch("[0-9a-f]{8}( [0-9a-f]{2})+", it)))
 
 
 def blocks(printed):
@@ -277,25 +317,8 @@ def ended(states):
     return ("not at rest, " if runs else "at rest, ") + ", ".join(f"{name} {it}" for name, it in states.items())
 
 
-def compare_reports(name, to, trace):
-    """In each report to a service (type 1) the third word is the count of steps that TIMES answered its sender just
-    before: the sender has sent nothing since then."""
-    steps = {}
-    for who, low, sender, party, kind, words in re.findall(
-            r"back \d+: (\S+ \d+) trap SENDREC SYSTEM, TIMES.*\n\d+   answer 0 OK \d+ (\d+)"
-            r"|   message (\S+ \d+) to (\S+) \d+ type (-?\d+)(.*)", trace):
-        if who:
-            steps[who] = low
-            continue
-        answered = steps.pop(sender, "that TIMES answered just before")
-        if (party, kind) == (to, "1") and (words.split() + ["0"] * 4)[3] != answered:
-            raise Lost(f"{name}: the report of {sender}", f"p[2] {answered}", words.strip())
-
-
 def told(case):
     """A case in words: its name, or its input."""
     if "name" in case:
         return case["name"]
-    if "input" in case:
-        return "with input " + ", ".join(f"{kind} {value}" for kind, value in case["input"].items())
-    return "as it is"
+    return "with input " + ", ".join(f"{kind} {value}" for kind, value in case["input"].items())

@@ -1,17 +1,23 @@
 """Grades the folders of a course, and prints what came of it."""
 import argparse
+import concurrent.futures
+import hashlib
+import multiprocessing
 import os
 import re
+import secrets
 import shutil
+import signal
 import sys
 import tempfile
 
 from . import told
+from .alike import alike
 from .checks import Check, Lab
 from .commands import Lost, printable
 from .making import LABS, Kit, Student
 
-REFUSED = 2  # the status if nothing was graded
+REFUSED, INTERRUPTED = 2, 130  # statuses: nothing was graded; not all was
 SECONDS = 30  # of one command
 
 
@@ -20,15 +26,18 @@ class Refused(Exception):
 
 
 def room_of(lab, folder, keep):
-    """The folder of the grader's own in which a student's folder is graded."""
-    return os.path.join(keep, os.path.basename(lab.folder), re.sub(r"\W+", "_", folder.strip("/")) or "it")
+    """The folder of the grader's own in which a student's folder is graded: no two have the same."""
+    path = os.path.realpath(folder)
+    name = re.sub(r"\W+", "_", os.path.basename(path))[:40] or "it"
+    return os.path.join(keep, os.path.basename(lab.folder), f"{name}-{hashlib.sha256(os.fsencode(path)).hexdigest()[:8]}")
 
 
-def grade(lab, folder, room, kit, seconds):
+def grade(lab, folder, keep, seconds, secret):
     """All checks of a lab over a folder: what each gave, and all together."""
+    room = room_of(lab, folder, keep)
     shutil.rmtree(room, ignore_errors=True)
     os.makedirs(room)
-    student = Student(lab, folder, room, kit, seconds)
+    student = Student(lab, folder, room, Kit(keep), seconds, secret)
     results = []
     for number, row in enumerate(lab.checks, 1):
         check = Check(lab, number, row, student)
@@ -52,11 +61,15 @@ def find_lab(word):
 
 def refuse_folders(folders):
     """Before anything is graded: a folder that isn't there isn't a student without points."""
+    seen = set()
     for folder in folders:
         if not os.path.isdir(folder):
             raise Refused(f"{folder} is no folder" if os.path.lexists(folder) else f"no folder {folder}")
         if not os.access(folder, os.R_OK | os.X_OK):
             raise Refused(f"the folder {folder} can't be read")
+        if os.path.realpath(folder) in seen:
+            raise Refused(f"the folder {folder} is named twice")
+        seen.add(os.path.realpath(folder))
 
 
 def made_keep(folder):
@@ -69,40 +82,101 @@ def made_keep(folder):
     return os.path.abspath(folder)
 
 
-def graded_all(words):
-    """Each folder in turn, and what came of it."""
-    lab = find_lab(words.lab)
-    refuse_folders(words.folders)
+def secret_of(file, keep):
+    """The teacher's secret, by which all is drawn. Without a file of his own it is drawn once, and kept."""
+    path = file or os.path.join(keep, "secret")
+    try:
+        if not file and not os.path.exists(path):
+            with open(os.open(path, os.O_WRONLY | os.O_CREAT | os.O_EXCL, 0o600), "w", encoding="ascii") as it:
+                it.write(secrets.token_hex(16) + "\n")
+        with open(path, encoding="utf-8") as it:
+            return it.read().strip()
+    except (OSError, UnicodeDecodeError) as it:
+        raise Refused(f"the secret {path} can't be read: {it}") from None
+
+
+def writers(words, lab):
+    """The files that have a line or an element a student."""
+    kinds = ((words.csv, told.Csv), (words.junit, told.Junit))
+    try:
+        return [kind(file, lab) for file, kind in kinds if file]
+    except OSError as it:
+        raise Refused(f"{it.filename} can't be written: {it.strerror}") from None
+
+
+def begin_worker():
+    """A process that grades leaves an interrupt to the first one, which ends it, and then ends what it has started."""
+    signal.signal(signal.SIGINT, signal.SIG_IGN)
+    signal.signal(signal.SIGTERM, lambda *_: sys.exit(INTERRUPTED))
+
+
+def graded_all(words, lab, keep, secret):
+    """What came of each folder: in turn, or by several processes as soon as each is done."""
+    rest = keep, words.seconds, secret
+    if words.jobs == 1 or len(words.folders) == 1:
+        yield from (grade(lab, it, *rest) for it in words.folders)
+        return
+    with concurrent.futures.ProcessPoolExecutor(words.jobs, initializer=begin_worker) as pool:
+        try:
+            made = [pool.submit(grade, lab, it, *rest) for it in words.folders]
+            yield from (it.result() for it in concurrent.futures.as_completed(made))
+        except (KeyboardInterrupt, GeneratorExit):
+            pool.shutdown(wait=False, cancel_futures=True)
+            for it in multiprocessing.active_children():
+                it.terminate()
+            raise
+
+
+def grade_all(words, lab):
+    """Grades, and tells what came of each folder. The status."""
+    tell = told.print_json if words.json else told.print_line if words.all else told.print_results
     keep = made_keep(words.keep)
-    kit = Kit(keep)
-    for folder in words.folders:
-        yield grade(lab, folder, room_of(lab, folder, keep), kit, words.seconds)
+    secret, files = secret_of(words.secret, keep), writers(words, lab)
+    complete = True
+    for it in graded_all(words, lab, keep, secret):
+        tell(it)
+        for file in files:
+            file.add(it)
+        complete = complete and it["points"] == it["of"]
+    return 0 if complete else 1
+
+
+def print_alike(lab, folders):
+    for likeness, one, other in alike(lab, folders):
+        print(f"{likeness:.2f}  {printable(one)}  {printable(other)}")
+    return 0
 
 
 def parsed(doc, words):
-    parser = argparse.ArgumentParser(prog="labs/grade", description=doc, usage=argparse.SUPPRESS,
+    parser = argparse.ArgumentParser(prog="labs/grade", description=doc, usage=argparse.SUPPRESS, add_help=False,
                                      formatter_class=argparse.RawDescriptionHelpFormatter)
-    parser.add_argument("lab")
-    parser.add_argument("folders", nargs="+", metavar="FOLDER")
-    parser.add_argument("--all", action="store_true")
-    parser.add_argument("--json", action="store_true")
-    parser.add_argument("--keep", default="graded")
-    parser.add_argument("--seconds", type=int, default=SECONDS)
+    parser.add_argument("-h", "--help", action="help", help=argparse.SUPPRESS)
+    parser.add_argument("lab", help=argparse.SUPPRESS)
+    parser.add_argument("folders", nargs="+", metavar="FOLDER", help=argparse.SUPPRESS)
+    for name in ("all", "json", "alike"):
+        parser.add_argument(f"--{name}", action="store_true", help=argparse.SUPPRESS)
+    for name in ("csv", "junit", "secret"):
+        parser.add_argument(f"--{name}", metavar="FILE", help=argparse.SUPPRESS)
+    parser.add_argument("--keep", default="graded", help=argparse.SUPPRESS)
+    parser.add_argument("--seconds", type=int, default=SECONDS, help=argparse.SUPPRESS)
+    parser.add_argument("-j", type=int, default=1, dest="jobs", help=argparse.SUPPRESS)
     found = parser.parse_args(words)
-    if len(found.folders) > 1 and not found.all:
+    if len(found.folders) > 1 and not (found.all or found.alike):
         parser.error("several folders want --all")
+    if found.jobs < 1 or found.seconds < 1:
+        parser.error("-j and --seconds want a number of 1 at least")
     return found
 
 
 def main(doc, words):
     found = parsed(doc, words)
-    tell = told.print_json if found.json else told.print_line if found.all else told.print_results
-    complete = True
     try:
-        for it in graded_all(found):
-            tell(it)
-            complete = complete and it["points"] == it["of"]
+        lab = find_lab(found.lab)
+        refuse_folders(found.folders)
+        return print_alike(lab, found.folders) if found.alike else grade_all(found, lab)
     except Refused as it:
         print(f"grade: {printable(it)}", file=sys.stderr)
         return REFUSED
-    return 0 if complete else 1
+    except KeyboardInterrupt:
+        print("grade: interrupted; what is told is complete", file=sys.stderr)
+        return INTERRUPTED

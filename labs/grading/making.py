@@ -1,5 +1,6 @@
 """Programs of a student's texts. Nothing of a student's folder is run here: texts are copied, assembled and compiled."""
-import filecmp
+import functools
+import hashlib
 import os
 import re
 import shlex
@@ -31,10 +32,14 @@ class Kit:
     """What a program in C is made of besides a student's text: copied and compiled once, for all students."""
 
     def __init__(self, keep):
-        self.folder = os.path.join(keep, "kit")
+        texts = hashlib.sha256()
+        for it in OF_KIT:
+            with open(os.path.join(KIT, it), "rb") as file:
+                texts.update(file.read())
+        self.folder = os.path.join(keep, f"kit-{texts.hexdigest()[:8]}")
 
     def make(self):
-        """Makes the folder under another name first, so that two graders at once don't see half of it."""
+        """Makes the folder under another name first, so that nobody sees half of it; another grader may be faster."""
         with tempfile.TemporaryDirectory(dir=os.path.dirname(self.folder)) as top:
             kit = os.path.join(top, "kit")
             os.mkdir(kit)
@@ -46,18 +51,15 @@ class Kit:
             run(["gcc", "-m32", "-c", "-o", "kit/start.o", "kit/start.S"], top, COMPILER)
             for it in LIBRARY:
                 run(["gcc", "@kit/flags", "-c", "-o", f"kit/{it}.o", f"kit/{it}.c"], top, COMPILER)
-            if not os.path.exists(self.folder):
+            try:
                 os.rename(kit, self.folder)
-
-    def is_current(self):
-        """Whether the folder is there, and made of what the course has now."""
-        return os.path.isdir(self.folder) and all(
-            filecmp.cmp(os.path.join(KIT, it), os.path.join(self.folder, it), shallow=False) for it in OF_KIT)
+            except OSError:
+                if not os.path.isdir(self.folder):
+                    raise
 
     def copy(self, room):
         """Copies the kit into a room, where it is found under the same name. Gives the folder of gcc's own headers."""
-        if not self.is_current():
-            shutil.rmtree(self.folder, ignore_errors=True)
+        if not os.path.isdir(self.folder):
             self.make()
         if not os.path.exists(os.path.join(room, "kit")):
             shutil.copytree(self.folder, os.path.join(room, "kit"))
@@ -68,11 +70,24 @@ class Kit:
 class Student:
     """A student's folder: its files are copied from it once, and nothing in it is ever run."""
 
-    def __init__(self, lab, folder, room, kit, seconds):
+    def __init__(self, lab, folder, room, kit, seconds, secret=""):
         self.lab, self.folder, self.room, self.kit = lab, folder, room, kit
         self.bounds = Bounds(seconds)
+        self.secret = secret
         self.pasted = None  # the last command by which a program was made
         self.made = {}  # of each program that was tried: its file, or what was lost, and the command
+
+    @functools.cached_property
+    def seed(self):
+        """What is drawn for this student is drawn by this: the teacher's secret, the names of lab and folder, and the texts. So
+        a new text gets other numbers than those that were told of the old one, and the same text the same."""
+        texts = hashlib.sha256()
+        for name in sorted(os.listdir(self.folder)):
+            path = os.path.join(self.folder, name)
+            if re.fullmatch(r"\w+\.(s|c|h)", name) and os.path.isfile(path) and not os.path.islink(path):
+                texts.update(f"{name}\0".encode() + self.read(name))
+        names = (os.path.basename(it) for it in (self.lab.folder, os.path.abspath(self.folder)))
+        return "\0".join([self.secret, *names, texts.hexdigest()])
 
     def run(self, words, bounds=COMPILER):
         self.pasted = shlex.join(["mx" if it == MX else it for it in words])

@@ -1,12 +1,12 @@
-/* Another partner for one of the pair: its number is 4, and it writes nothing. It is in the one slot that it may not send
- * to. */
+/* Another partner for one of the pair, with a number that is drawn; it writes nothing. It is in the one slot that it may
+ * not send to. */
 #include "mx.h"
 
-#define NUMBER 4
+volatile int32_t number = 4;
 
 int main(void)
 {
-    message mine = {.m_type = 1, .p = {NUMBER}};
+    message mine = {.m_type = 1, .p = {number}};
     message others;
     int other = 0;
     int result = send(other, &mine);

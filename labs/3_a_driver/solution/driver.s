@@ -17,11 +17,17 @@ wait:   mov ecx, 2              ; RECEIVE
         int 33
         mov eax, [buf+8]
         mov [now], eax
+        mov dword [bits], 0     ; CLOCK has no lines
+        cmp dword [buf], -1
+        jnz due_is
         mov eax, [buf+12]
         mov [bits], eax
-        call release            ; by HARDWARE or by CLOCK: the time tells
-        cmp dword [buf], -1
-        jnz wait
+        test eax, 8
+        jz due_is
+        mov dword [buf+4], 0x602 ; SETALARM, before any letter: a tick that comes meanwhile counts
+        mov dword [buf+8], 3
+        call kernel
+due_is: call release            ; by HARDWARE or by CLOCK: the time tells
         test dword [bits], 32
         jz button
         mov edi, 0x73           ; s
@@ -36,9 +42,6 @@ button: test dword [bits], 8
 bounce: mov eax, [now]
         add eax, 3
         mov [due], eax
-        mov dword [buf+4], 0x602 ; SETALARM
-        mov dword [buf+8], 3
-        call kernel
         jmp wait
 
 ; Writes an r if the button is down and its time is over.
@@ -48,12 +51,8 @@ release:cmp dword [is_down], 0
         cmp eax, [due]
         jb short no
         mov dword [is_down], 0
-        mov eax, [buf]          ; the source, which the kernel's answer overwrites
-        push eax
         mov edi, 0x72           ; r
         call put
-        pop eax
-        mov [buf], eax
 no:     ret
 
 ; Writes the letter in EDI on the console.

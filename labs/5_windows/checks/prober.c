@@ -1,5 +1,5 @@
-/* A client that tries the store. It writes a dot for each answer that is as it should be, and a letter for one that
- * isn't. */
+/* A client that tries the store, with bytes that are drawn. It writes a dot for each answer that is as it should be, and a
+ * letter for one that isn't. */
 #include "mx.h"
 
 #define STORE 0
@@ -8,8 +8,12 @@
 #define BYTES 64
 #define BLOCKS 8
 
+/* Where the drawn bytes begin, the block that is put first, and the one that is put twice. */
+volatile uint32_t seed[3] = {1, 0, 0};
+
 static char before = 'b';
 static char bytes[BYTES + 2];
+static char other[BYTES];
 
 static void expect(int is_right, char letter)
 {
@@ -24,45 +28,70 @@ static int ask(int type, uint32_t block, const void *place)
     return result == OK ? m.m_type : result;
 }
 
-static void fill(char letter)
+/* Byte i of a block's text: each block has another one, and all bytes of it differ from their neighbours. */
+static char drawn(uint32_t text, uint32_t i)
 {
-    int i;
+    uint32_t word = (seed[0] + text * 64 + i) * 2654435761u;
 
-    for (i = 0; i < BYTES; i++)
-        bytes[1 + i] = letter;
+    return word >> 24 ^ i;
 }
 
-static int has(char letter)
+static void fill(char *place, uint32_t text)
 {
-    int i;
+    uint32_t i;
+
+    for (i = 0; i < BYTES; i++)
+        place[i] = drawn(text, i);
+}
+
+static int has(const char *place, uint32_t text)
+{
+    uint32_t i;
 
     for (i = 0; i < BYTES; i++) {
-        if (bytes[1 + i] != letter)
+        if (place[i] != drawn(text, i))
             return 0;
     }
     return 1;
 }
 
+static int is_given_back(char *place, uint32_t block, uint32_t text)
+{
+    fill(place, 99);
+    return ask(GET, block, place) == OK && has(place, text);
+}
+
 int main(void)
 {
-    uint32_t block;
+    uint32_t i, block;
 
     bytes[0] = bytes[BYTES + 1] = before;
     sys_grant(STORE, bytes + 1, BYTES, GRANT_READ | GRANT_WRITE);
-    for (block = 0; block < BLOCKS; block++) {
-        fill('0' + block);
+    for (i = 0; i < BLOCKS; i++) {
+        block = (seed[1] + i) % BLOCKS;
+        fill(bytes + 1, block);
         expect(ask(PUT, block, bytes + 1) == OK, 'p');
     }
-    for (block = BLOCKS; block-- > 0;) {
-        fill('?');
-        expect(ask(GET, block, bytes + 1) == OK && has('0' + block), 'g');
-    }
+    for (i = BLOCKS; i-- > 0;)
+        expect(is_given_back(bytes + 1, i, i), 'g');
     expect(bytes[0] == before && bytes[BYTES + 1] == before, 'o');
     expect(ask(PUT, BLOCKS, bytes + 1) == EINVAL, 'n');
     expect(ask(GET, 0xffffffff, bytes + 1) == EINVAL, 'n');
     expect(ask(3, 0, bytes + 1) == EBADREQUEST, 't');
     expect(ask(PUT, 1, bytes + 2) == EPERM, 'w');
     expect(ask(GET, 1, bytes) == EPERM, 'w');
-    expect(ask(GET, 1, bytes + 1) == OK && has('1'), 'k');
+    expect(is_given_back(bytes + 1, 1, 1), 'k');
+
+    /* A notification, which isn't answered; a block again, from another address and to it. */
+    notify(STORE);
+    fill(other, 10);
+    sys_grant(STORE, other, BYTES, GRANT_READ);
+    expect(ask(PUT, seed[2], other) == OK, 'p');
+    expect(ask(GET, seed[2], other) == EPERM, 'w');
+    sys_grant(STORE, other, BYTES, GRANT_READ | GRANT_WRITE);
+    for (i = 0; i < 3; i++)
+        expect(is_given_back(other, (seed[2] + i) % BLOCKS, i == 0 ? 10 : (seed[2] + i) % BLOCKS), 'g');
+    expect(ask(PUT, 0x7fffffff, other) == EINVAL, 'n');
+    expect(ask(0, 0, other) == EBADREQUEST, 't');
     return 0;
 }

@@ -1,11 +1,13 @@
-/* A thief in the place of the store. It answers as a store does, and tries to copy what it wasn't given. For each copy
- * that it shouldn't be able to make it writes an X. */
+/* A thief in the place of the store. It answers as a store does, with bytes of its own, which are drawn, and tries to copy
+ * what it wasn't given. For each copy that it shouldn't be able to make it writes an X. */
 #include "mx.h"
 
 #define STORE_SLOT 0
 #define PUT 1
 #define GET 2
 #define BYTES 64
+
+volatile uint32_t given[BYTES / 4] = {1};
 
 static char kept[BYTES];
 static char room[2 * BYTES];
@@ -61,7 +63,7 @@ int main(void)
         if (m.m_type == PUT)
             m.m_type = sys_vircopy(m.m_source, m.p[1], self, (uint32_t)kept, BYTES);
         else
-            m.m_type = sys_vircopy(self, (uint32_t)kept, m.m_source, m.p[1], BYTES);
+            m.m_type = sys_vircopy(self, (uint32_t)given, m.m_source, m.p[1], BYTES);
         send(m.m_source, &m);
     }
     return 1;

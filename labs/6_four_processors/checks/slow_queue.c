@@ -1,8 +1,8 @@
-/* A queue that has one item after 15 answers NOTHING, one for a GET, and then none any more. */
+/* A queue that has one item after some answers NOTHING, whose number is drawn, one for a GET, and then none any more. */
 #include "mx.h"
 #include "services.h"
 
-#define PATIENCE 15
+volatile int32_t patience = 15;
 
 int main(void)
 {
@@ -14,7 +14,7 @@ int main(void)
         gets += m.m_type == GET;
         tries += m.m_type == TRY;
         if (m.m_type == TRY)
-            m.m_type = gets > 0 ? ENDED : tries == PATIENCE + 1 ? OK : NOTHING;
+            m.m_type = gets > 0 ? ENDED : tries == patience + 1 ? OK : NOTHING;
         else
             m.m_type = gets > 1 ? ENDED : OK;
         m.p[0] = 1;

@@ -10,20 +10,20 @@ static message waiting[SLOTS];  /* the oldest first */
 static int waits;
 static int ended;               /* producers */
 
-static void answer(int who, int type, int item)
+static int answer(int who, int type, int item)
 {
     message m = {.m_type = type, .p = {item}};
 
-    send(who, &m);
+    return send(who, &m);
 }
 
+/* Gives the oldest item to who asked for it. If that process is dead, the item stays. */
 static void take(int who)
 {
-    int item = items[first];
-
+    if (answer(who, OK, items[first]) != OK)
+        return;
     first = (first + 1) % ROOM;
     count--;
-    answer(who, OK, item);
 }
 
 /* Serves a request if that can be done now. */

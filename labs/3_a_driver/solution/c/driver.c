@@ -29,7 +29,6 @@ static void press(uint32_t now)
         put('p');
     }
     due = now + QUIET;
-    sys_setalarm(QUIET);
 }
 
 int main(void)
@@ -40,13 +39,15 @@ int main(void)
     sys_irqtake(SENSOR);
     while (receive(ANY, &m) == OK) {
         uint32_t now = m.p[0];
+        int lines = m.m_source == HARDWARE ? m.p[1] : 0;
 
+        /* Before any letter: a tick that comes meanwhile counts. */
+        if (lines & LINE_BIT(BUTTON))
+            sys_setalarm(QUIET);
         release(now);
-        if (m.m_source != HARDWARE)
-            continue;
-        if (m.p[1] & LINE_BIT(SENSOR))
+        if (lines & LINE_BIT(SENSOR))
             put('s');
-        if (m.p[1] & LINE_BIT(BUTTON))
+        if (lines & LINE_BIT(BUTTON))
             press(now);
     }
     return 1;

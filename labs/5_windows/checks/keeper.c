@@ -1,0 +1,42 @@
+/* A store that gives back bytes of its own, which are drawn, and not those that it got; before it got any, zeros. */
+#include "mx.h"
+
+#define STORE_SLOT 0
+#define PUT 1
+#define GET 2
+#define BYTES 64
+
+volatile uint32_t given[BYTES / 4] = {1};
+
+static volatile uint32_t zeros[BYTES / 4];
+static char kept[BYTES];
+static int self;
+static int was_put;
+
+static int copy(const message *m)
+{
+    int result;
+
+    do {
+        if (m->m_type == PUT)
+            result = sys_vircopy(m->m_source, m->p[1], self, (uint32_t)kept, BYTES);
+        else
+            result = sys_vircopy(self, (uint32_t)(was_put ? given : zeros), m->m_source, m->p[1], BYTES);
+    } while (result == ENOTREADY);
+    was_put |= m->m_type == PUT;
+    return result;
+}
+
+int main(void)
+{
+    message m;
+
+    sys_whois(STORE_SLOT, &self);
+    while (receive(ANY, &m) == OK) {
+        if (m.m_type == NOTIFICATION)
+            continue;
+        m.m_type = m.m_type == PUT || m.m_type == GET ? copy(&m) : EBADREQUEST;
+        send(m.m_source, &m);
+    }
+    return 1;
+}

@@ -1,0 +1,121 @@
+"""Facts about a run's history: what was said, called and written, as `mx trace` prints it.
+
+An event of a history is a line of words:
+
+    message FROM to TO type T words W ..      a message was taken; also `notify` for a notification
+    call WHO NAME W .. answer R W ..          a kernel call and its result
+    trap WHO SEND WHOM result R               a trap that wasn't a kernel call, if its result was known at once
+    console WHO 0xHH                          a byte was written
+    tick N                                    the uptime
+
+A fact is one of these, where EVENT is such a line in which `*` stands for any word, and `..` at its end for any words:
+
+    N EVENT          there are N of these; N+ at least N
+    in order: EVENT; EVENT ..                 each comes after the one before it
+    each EVENT: after EVENT; no EVENT since   each of the first comes after one of the second, without the third between
+"""
+import collections
+import re
+
+from .commands import Lost
+
+Event = collections.namedtuple("Event", "record words who")
+CALL = re.compile(r"(\d+) \d+ back \d+: (\S+) (\d+) trap SENDREC SYSTEM, (\S+)(.*)")
+TRAP = re.compile(r"(\d+) \d+ back \d+: (\S+) (\d+) trap (SEND|RECEIVE|SENDREC|NOTIFY)(?: (\S+)(?: (\d+))?)?$")
+ANSWER = re.compile(r"(\d+)   answer (-?\d+)(?: [A-Z]+)?(.*)")
+SAID = re.compile(r"(\d+)   (message|notify) (\S+)(?: (\d+))? to (\S+) (\d+) type (\d+)(?: words(.*))?")
+STATE = re.compile(r"(\d+)   (\S+) (\d+): (.*?) -> (.*?)(?:, result (-?\d+).*)?$")
+CONSOLE = re.compile(r"(\d+)   console (0x\w+)")
+TICK = re.compile(r"(\d+) \d+ tick: uptime (\d+)")
+
+
+def signed(word):
+    """A dword as a number that may be below 0, as types and results are meant."""
+    number = int(word)
+    return number - (1 << 32) if number >> 31 else number
+
+
+def events(trace):
+    """The events of a history, in order. `who` is whose endpoint it was: of a message the sender's and the taker's."""
+    found, last = [], None  # last: the trap of this record
+    for line in trace.splitlines():
+        last = read(line, found, last)
+    return found
+
+
+def read(line, found, last):
+    """Adds the event of a line, if it is one. Gives the trap whose result may follow."""
+    if it := CALL.match(line):
+        return it[1], it[2], it[3], ["call", it[2], it[4], *it[5].split(), "answer"]
+    if it := TRAP.match(line):
+        return it[1], it[2], it[3], ["trap", it[2], it[4], it[5] or "any", "result"]
+    if (it := ANSWER.match(line)) and last:
+        found.append(Event(int(it[1]), [*last[3], it[2], *it[3].split()], (last[2],)))
+    elif it := SAID.match(line):
+        said = [it[2], it[3], "to", it[5], "type", str(signed(it[7])), *(["words", *it[8].split()] if it[8] else [])]
+        found.append(Event(int(it[1]), said, (it[4], it[6])))
+    elif it := STATE.match(line):
+        if last and last[:3] == (it[1], it[2], it[3]) and last[3][0] == "trap" and it[6]:
+            found.append(Event(int(it[1]), [*last[3], it[6]], (it[3],)))
+        if it[5].startswith("down"):
+            found.append(Event(int(it[1]), ["down", it[2], *it[5].split()[1:]], (it[3],)))
+    elif (it := CONSOLE.match(line)) and last:
+        found.append(Event(int(it[1]), ["console", last[1], it[2]], (last[2],)))
+    elif it := TICK.match(line):
+        found.append(Event(int(it[1]), ["tick", it[2]], ()))
+    return last
+
+
+def fits(event, pattern):
+    """Whether an event is one of a pattern's."""
+    wanted = pattern.split()
+    words = event.words
+    if wanted[-1] == "..":
+        wanted, words = wanted[:-1], words[:len(wanted) - 1]
+    return len(words) == len(wanted) and all(it in ("*", word) for it, word in zip(wanted, words))
+
+
+def missing(fact, found):
+    """What isn't so of a fact, and the record that shows it; None if it is so."""
+    if fact.startswith("in order: "):
+        return missing_order(fact.removeprefix("in order: ").split("; "), found)
+    if fact.startswith("each "):
+        return missing_each(*re.fullmatch(r"each (.*): after (.*); no (.*) since", fact).groups(), found)
+    count, more, pattern = re.fullmatch(r"(\d+)(\+?) (.*)", fact).groups()
+    there = [it for it in found if fits(it, pattern)]
+    if len(there) == int(count) or (more and len(there) > int(count)):
+        return None
+    alike = [" ".join(it.words) for it in found if it.words[:2] == pattern.split()[:2]]
+    return f"{len(there)}; there are: {'; '.join(alike[:6]) or 'none alike'}", there[-1].record if there else None
+
+
+def missing_order(patterns, found):
+    at = 0
+    for pattern in patterns:
+        after = next((i for i in range(at, len(found)) if fits(found[i], pattern)), None)
+        if after is None:
+            return f"after record {found[at - 1].record if at else 0} there is no {pattern}", found[at - 1].record if at else None
+        at = after + 1
+    return None
+
+
+def missing_each(pattern, before, end, found):
+    is_open = False
+    for it in found:
+        if fits(it, before):
+            is_open = True
+        elif fits(it, end):
+            is_open = False
+        if fits(it, pattern) and not is_open:
+            return f"record {it.record}: {' '.join(it.words)}", it.record
+    return None
+
+
+def require(name, facts, found):
+    """Loses the points if one of the facts isn't so. Gives nothing."""
+    for fact in facts:
+        what = missing(fact, found)
+        if what:
+            lost = Lost(name, f"in the history: {fact}", what[0])
+            lost.record = what[1]
+            raise lost
