@@ -12,6 +12,9 @@ MEMORY = 1 << 30  # of a compiler
 NOT_PASSED = ("CPATH", "C_INCLUDE_PATH", "COMPILER_PATH", "GCC_EXEC_PREFIX", "DEPENDENCIES_OUTPUT", "SUNPRO_DEPENDENCIES")
 
 
+RUNNING = []  # the command that this process waits for
+
+
 class Lost(Exception):
     """Why a check's points are lost: what was wanted, and what came."""
 
@@ -69,8 +72,15 @@ def run(words, folder, bounds, status=(0,), given=None):
     return printed
 
 
+def stop_running():
+    """Stops the command that runs just now, if one does, with all that it started."""
+    if RUNNING:
+        os.killpg(RUNNING[-1], signal.SIGKILL)
+
+
 def wait(made, bounds):
     """The status of a command; None if it has to be stopped, with all that it started."""
+    RUNNING.append(made.pid)
     try:
         # Others may have the processors: its own seconds are bounded by the system.
         return made.wait(timeout=3 * bounds.seconds)
@@ -78,8 +88,9 @@ def wait(made, bounds):
         return None
     finally:
         if made.poll() is None:
-            os.killpg(made.pid, signal.SIGKILL)
+            stop_running()
             made.wait()
+        RUNNING.clear()
 
 
 def read_back(file):

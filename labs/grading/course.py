@@ -14,7 +14,7 @@ import tempfile
 from . import told
 from .alike import alike
 from .checks import Check, Lab
-from .commands import Lost, printable
+from .commands import Lost, printable, stop_running
 from .making import LABS, Kit, Student
 
 REFUSED, INTERRUPTED = 2, 130  # statuses: nothing was graded; not all was
@@ -105,9 +105,14 @@ def writers(words, lab):
 
 
 def begin_worker():
-    """A process that grades leaves an interrupt to the first one, which ends it, and then ends what it has started."""
+    """A process that grades leaves an interrupt to the first one, which ends it, with what it has started."""
     signal.signal(signal.SIGINT, signal.SIG_IGN)
-    signal.signal(signal.SIGTERM, lambda *_: sys.exit(INTERRUPTED))
+    signal.signal(signal.SIGTERM, end_worker)
+
+
+def end_worker(*_):
+    stop_running()
+    os._exit(INTERRUPTED)
 
 
 def graded_all(words, lab, keep, secret):
@@ -127,16 +132,37 @@ def graded_all(words, lab, keep, secret):
             raise
 
 
+class Interrupts:
+    """An interrupt, which waits while a student is told and written everywhere."""
+
+    is_held = has_come = False
+
+    def __enter__(self):
+        self.is_held = True
+
+    def __exit__(self, *_):
+        self.is_held = False
+        if self.has_come:
+            raise KeyboardInterrupt
+
+    def come(self, *_):
+        self.has_come = True
+        if not self.is_held:
+            raise KeyboardInterrupt
+
+
 def grade_all(words, lab):
     """Grades, and tells what came of each folder. The status."""
     tell = told.print_json if words.json else told.print_line if words.all else told.print_results
     keep = made_keep(words.keep)
     secret, files = secret_of(words.secret, keep), writers(words, lab)
-    complete = True
+    complete, interrupts = True, Interrupts()
+    signal.signal(signal.SIGINT, interrupts.come)
     for it in graded_all(words, lab, keep, secret):
-        tell(it)
-        for file in files:
-            file.add(it)
+        with interrupts:
+            tell(it)
+            for file in files:
+                file.add(it)
         complete = complete and it["points"] == it["of"]
     return 0 if complete else 1
 

@@ -160,7 +160,8 @@ def strange_requests(draw):
     steps = [(ASK, 0, it, draw.randint(1, 99)) for it in kinds]
     numbers = [draw.randint(1, 9), draw.randint(1 << 17, 1 << 29), -draw.randint(1 << 17, 1 << 29), -draw.randint(1, 9)]
     draw.shuffle(numbers)
-    steps += [(POKE, 0), (ASK, 0, READ, 7), *[(ASK, 0, ADD, it) for it in numbers], (ASK, 0, READ, 7)]
+    steps += [(POKE, 0), (ASK, 0, READ, 7), *[(ASK, 0, ADD, it) for it in numbers]]
+    steps += [(ASK, 0, READ, 7), (ASK, 0, ADD, draw.randint(1, 9)), (ASK, 0, READ, 7)]
     yield served(draw, "a client that asks for what there is not", [("asker", steps, 7, 0)], "totals",
                  want={"states": {"server": "receiving any"}})
 
@@ -287,8 +288,12 @@ def busy(draw):
 
 
 def answering(draw, restarts, lives=()):
-    """A driver with answers of its own to 1 to 6. Each of its lives in turn ends at a request after so many answers."""
-    answers = [draw.randint(1, 99_999) for _ in range(6)]
+    """A driver with answers of its own to 1 to 6, whose last digits differ from one another and from those of the squares.
+    Each of its lives in turn ends at a request after so many answers."""
+    digits = draw.sample(range(10), 6)
+    while any(digits[i] == (i + 1) ** 2 % 10 for i in range(6)):
+        digits = draw.sample(range(10), 6)
+    answers = [10 * draw.randint(1, 9999) + it for it in digits]
     made = {"answers": [0, *answers], "lives": [*lives, *[1000] * (24 - len(lives))]}
     line = service("driver", "teller.out", send="fffe", calls="81", level=4, restarts=restarts)
     return line, made, "".join(str(it % 10) for it in answers)
