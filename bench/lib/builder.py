@@ -13,8 +13,6 @@ import tempfile
 
 TOP = os.path.dirname(os.path.dirname(os.path.dirname(os.path.abspath(__file__))))
 PROGRAMS = os.path.join(TOP, "bench", "programs")
-# The proved program.
-PROGRAM = os.path.join(TOP, "crates", "mx", "out", "mx")
 
 
 def read_lines(path):
