@@ -53,7 +53,7 @@ deed_word deed.Spent = codes "spent"
 deed_word deed.Early = codes "early"
 deed_word (deed.Fault v) = codes "fault " ++ decimal v
 deed_word (deed.Call n) = name_or (codes "trap") (call_name n)
-deed_word (deed.Kernel kind) = name_or (codes "type") (request_name kind)
+deed_word (deed.Kernel rules kind) = name_or (codes "type") (request_name rules kind)
 
 -- with a mark if it went wrong, in brackets if it wasn't made
 unfoldable pub deed_text : Deed → Manner → List ℕ

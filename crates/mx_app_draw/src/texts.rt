@@ -95,7 +95,7 @@ fn push_deed_word(out: &mut Vec<u8>, deed: Deed) -> Result<(), AllocError>
         Deed::Early => out.extend_from_slice(b"early"),
         Deed::Fault(vector) => push_counted(out, b"fault", u32::from(vector)),
         Deed::Call(call) => push_name_or(out, b"trap", call_name(call)),
-        Deed::Kernel(kind) => push_name_or(out, b"type", request_name(kind)),
+        Deed::Kernel(rules, kind) => push_name_or(out, b"type", request_name(rules, kind)),
     }
 }
 

@@ -20,7 +20,7 @@ use Rattle.mx_walk.specs.declared.positions.Position.{Position}
 use Rattle.mx_walker.specs.Walks.{Walk, world_here}
 use Rattle.mx_app_look.specs.declared.sight.Sight.{Sight}
 use Rattle.mx_app_look.specs.Places.{place_text}
-use Rattle.mx_app_look.specs.Slots.{slot_asked}
+use Rattle.mx_app_look.specs.Slots.{limit_in, slot_asked}
 
 -- ---- breakpoints and watches
 
@@ -45,13 +45,13 @@ abbrev pub by_debugger : Result (Unit {0}) DebugError × List Watched → Result
 by_debugger (Ok done, xs) = (Ok tt, xs)
 by_debugger (Err e, xs) = (Err (ByDebugger e), xs)
 
-abbrev pub watch_at : List Watched → ℕ → ℕ → Result ℕ Refused → Result (Unit {0}) Refused × List Watched
-watch_at xs slot n (Err r) = (Err r, xs)
-watch_at xs slot n (Ok at) = by_debugger (watch_set xs slot at n)
+abbrev pub watch_at : Walk → List Watched → ℕ → ℕ → Result ℕ Refused → Result (Unit {0}) Refused × List Watched
+watch_at k xs slot n (Err r) = (Err r, xs)
+watch_at k xs slot n (Ok at) = by_debugger (watch_set xs (limit_in (world_here k) slot) (record { slot = slot; address = at; count = n }))
 
 abbrev pub watch_in : Walk → List Watched → AddressWord → ℕ → Result ℕ Refused → Result (Unit {0}) Refused × List Watched
 watch_in k xs at n (Err r) = (Err r, xs)
-watch_in k xs at n (Ok slot) = watch_at xs slot n (address_asked (world_here k) slot at)
+watch_in k xs at n (Ok slot) = watch_at k xs slot n (address_asked (world_here k) slot at)
 
 abbrev pub watches_after : Walk → List Watched → ℕ → AddressWord → ℕ → Result (Unit {0}) Refused × List Watched
 watches_after k xs slot at n = watch_in k xs at n (slot_asked k (Some slot))

@@ -1,23 +1,18 @@
 -- What `until` is asked to look for, as it is typed (our own).
-use Rattle.std.specs.Prelude.{ℕ, List, [], ◌∷◌, Option, Some, None, codes, find, if◌then◌else◌}
-use Rattle.std.specs.List.{range_with_len}
+use Rattle.std.specs.Prelude.{ℕ, List, [], ◌∷◌, Option, Some, None, codes, if◌then◌else◌}
 use Rattle.std.specs.Str.{bytes_eq}
 use Rattle.mx_boot.specs.Script.{count_field, only_count}
-use Rattle.mx_look_trace.specs.KernelCalls.{request_name}
+use Rattle.mx_look_trace.specs.KernelCalls.{request_type}
 use Rattle.mx_text.specs.Bytes.{is_digit}
 use Rattle.mx_text.specs.Fields.{only, pair, ◌>>=◌}
 use Rattle.mx_boot.specs.Addresses.{number_field}
 use Rattle.mx_app_look.specs.declared.happening.Happening.{Happening}
 use Rattle.mx_app_look.specs.declared.happening.Happening.TheVariants.{Call, Death, Delivery}
 
--- the type that has this name, of the types 0x600 to 0x60f
-abbrev pub type_of_name : List ℕ → Option ℕ
-type_of_name word = find (λ kind. bytes_eq word (request_name kind)) (range_with_len 0x600 16)
-
--- a number begins with a digit
+-- a number begins with a digit; else it is the name of a kernel call
 abbrev pub type_of_word : List ℕ → Option ℕ
 type_of_word [] = None
-type_of_word (b ∷ bs) = if is_digit b then number_field (b ∷ bs) else type_of_name (b ∷ bs)
+type_of_word (b ∷ bs) = if is_digit b then number_field (b ∷ bs) else request_type (b ∷ bs)
 
 -- SLOT TYPE
 abbrev pub call_asked : List ℕ → List (List ℕ) → Option Happening

@@ -56,9 +56,8 @@ fn go_to<P: Progress>(
         ≡ P.shown progress.old ++ shown_to sight.walker to) }
     ensures grown { IfErr result (λ _. HasGrown (P.shown progress.old) (P.shown progress.new)) }
 {
-    let Sight { walker, points } = sight;
-    let walker = walker.go_to(alloc, to, progress)?;
-    show_place(alloc, Sight { walker, points })
+    let walker = sight.walker.go_to(alloc, to, progress)?;
+    show_place(alloc, Sight { walker, ..sight })
 }
 
 /// Goes to the position that is asked for, if the walker can come there.
@@ -76,9 +75,8 @@ fn go_to_asked<P: Progress>(
         ++ shown_to sight.walker (to_of sight.walker (requests.GoTo asked))) }
     ensures grown { IfErr result (λ _. HasGrown (P.shown progress.old) (P.shown progress.new)) }
 {
-    let Sight { walker, points } = sight;
-    let (walker, is_there) = mx_look_moves::go_to_asked(alloc, walker, asked, progress)?;
-    let sight = Sight { walker, points };
+    let (walker, is_there) = mx_look_moves::go_to_asked(alloc, sight.walker, asked, progress)?;
+    let sight = Sight { walker, ..sight };
     if is_there {
         show_place(alloc, sight)
     } else {
@@ -92,11 +90,10 @@ fn show_place(alloc: Global, sight: Sight) -> Result<(Sight, Vec<u8>), Failure>
     ensures same { IfOk result (λ r. r.0 ≡ sight) }
     ensures text { IfOk result (λ r. r.1.items ≡ place_text sight.walker) }
 {
-    let Sight { walker, points } = sight;
-    let mut walker = walker;
+    let mut sight = sight;
     let mut text = Vec::new(alloc);
-    push_place(alloc, &mut text, &mut walker)?;
-    Ok((Sight { walker, points }, text))
+    push_place(alloc, &mut text, &mut sight.walker)?;
+    Ok((sight, text))
 }
 
 /// Answers what the record above did.
@@ -112,10 +109,9 @@ fn show_why<P: Progress>(
         ≡ P.shown progress.old ++ why_shown sight.walker) }
     ensures grown { IfErr result (λ _. HasGrown (P.shown progress.old) (P.shown progress.new)) }
 {
-    let Sight { walker, points } = sight;
     let mut text = Vec::new(alloc);
-    let walker = push_why(alloc, &mut text, walker, progress)?;
-    Ok((Sight { walker, points }, text))
+    let walker = push_why(alloc, &mut text, sight.walker, progress)?;
+    Ok((Sight { walker, ..sight }, text))
 }
 
 /// Answers the report.

@@ -114,11 +114,10 @@ fn go_on_to<P: Progress>(
         ++ shown_to sight.walker (to_of sight.walker (requests.Until happening))) }
     ensures grown { IfErr result (λ _. HasGrown (P.shown progress.old) (P.shown progress.new)) }
 {
-    let Sight { walker, points } = sight;
     let mut text = Vec::new(alloc);
-    let mut walker = go_on_until(alloc, walker, happening, &mut text, progress)?;
+    let mut walker = go_on_until(alloc, sight.walker, happening, &mut text, progress)?;
     push_place(alloc, &mut text, &mut walker)?;
-    Ok((Sight { walker, points }, text))
+    Ok((Sight { walker, ..sight }, text))
 }
 
 /// Goes on to right below the first record in which it happens, if each slot that it is about has a service.

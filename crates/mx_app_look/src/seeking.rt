@@ -13,7 +13,8 @@ use crate::point_request::PointRequest;
 use crate::points::Points;
 use crate::searches::{go_back_to_point, go_on_to_point};
 use crate::sight::Sight;
-use crate::slots::{address_here, slot_asked};
+use crate::slots::{address_here, limit_here, slot_asked};
+use crate::watches::Watch;
 use mx_app_failure::Failure;
 use mx_boot::AddressWord;
 use mx_print_answers::{Refused, push_done};
@@ -39,8 +40,8 @@ fn set_break(
     Ok(())
 }
 
-/// Sets a watch. Refuses if there is no such slot or symbol, if its bytes are none or too many, or if it would
-/// be the ninth watch, and then changes nothing.
+/// Sets a watch. Refuses if there is no such slot or symbol, if its bytes are none, too many or past the
+/// memory, or if it would be the ninth watch, and then changes nothing.
 fn set_watch(
     walker: &Walker,
     points: &mut Points,
@@ -53,8 +54,13 @@ fn set_watch(
     ensures same { points.new.breakpoints ≡ points.old.breakpoints }
 {
     let slot = slot_asked(walker, Some(slot))?;
-    let at = address_here(walker, slot, address)?;
-    points.watches.set(slot, at, count)?;
+    let address = address_here(walker, slot, address)?;
+    let watch = Watch {
+        slot,
+        address,
+        count,
+    };
+    points.watches.set(watch, limit_here(walker, slot))?;
     Ok(())
 }
 
@@ -106,29 +112,23 @@ pub(crate) fn perform_point(
     ensures text { IfOk result (λ r. r.1.items
         ≡ point_text (point_made sight request.now).1 (point_made sight request.now).0) }
 {
-    let Sight { walker, points } = sight;
-    let mut points = points;
-    let done = set_point(&walker, &mut points, request);
+    let mut sight = sight;
+    let done = set_point(&sight.walker, &mut sight.points, request);
     let mut line = String::new(alloc);
-    push_point(&mut line, &points, done)?;
-    Ok((Sight { walker, points }, line.into_bytes()))
+    push_point(&mut line, &sight.points, done)?;
+    Ok((sight, line.into_bytes()))
 }
 
 /// Answers what a search found, and the place where it halted.
-fn show_halt(
-    alloc: Global,
-    walker: Walker,
-    points: Points,
-    found: String,
-) -> Result<(Sight, Vec<u8>), Failure>
+fn show_halt(alloc: Global, sight: Sight, found: String) -> Result<(Sight, Vec<u8>), Failure>
     ensures err { IfErr result IsWanting }
-    ensures sight { IfOk result (λ r. r.0 ≡ record { walker = walker; points = points }) }
-    ensures text { IfOk result (λ r. r.1.items ≡ string_bytes found ++ place_text walker) }
+    ensures same { IfOk result (λ r. r.0 ≡ sight) }
+    ensures text { IfOk result (λ r. r.1.items ≡ string_bytes found ++ place_text sight.walker) }
 {
-    let mut walker = walker;
+    let mut sight = sight;
     let mut text = found.into_bytes();
-    push_place(alloc, &mut text, &mut walker)?;
-    Ok((Sight { walker, points }, text))
+    push_place(alloc, &mut text, &mut sight.walker)?;
+    Ok((sight, text))
 }
 
 /// Goes on to the next halt.
@@ -144,9 +144,8 @@ pub(crate) fn go_on<P: Progress>(
         × IsNextShown sight.walker sight.points ps) }
     ensures grown { IfErr result (λ _. HasGrown (P.shown progress.old) (P.shown progress.new)) }
 {
-    let Sight { walker, points } = sight;
-    let (walker, found) = go_on_to_point(alloc, walker, &points, progress)?;
-    show_halt(alloc, walker, points, found)
+    let (walker, found) = go_on_to_point(alloc, sight.walker, &sight.points, progress)?;
+    show_halt(alloc, Sight { walker, ..sight }, found)
 }
 
 /// Goes back to the last halt.
@@ -162,7 +161,6 @@ pub(crate) fn go_back<P: Progress>(
         × IsLastShown sight.walker sight.points ps) }
     ensures grown { IfErr result (λ _. HasGrown (P.shown progress.old) (P.shown progress.new)) }
 {
-    let Sight { walker, points } = sight;
-    let (walker, found) = go_back_to_point(alloc, walker, &points, progress)?;
-    show_halt(alloc, walker, points, found)
+    let (walker, found) = go_back_to_point(alloc, sight.walker, &sight.points, progress)?;
+    show_halt(alloc, Sight { walker, ..sight }, found)
 }

@@ -3,11 +3,11 @@
 ghost use Rattle.std.specs.Prelude.{◌≡◌, slice_get};
 ghost use Rattle.mx_print_answers.specs.Slots.{address_asked};
 ghost use Rattle.mx_walker.specs.Walks.{world_here};
-ghost use Rattle.mx_app_look.specs.Slots.{or_not_here, slot_asked, slot_next};
+ghost use Rattle.mx_app_look.specs.Slots.{limit_in, or_not_here, slot_asked, slot_next};
 
 use mx_boot::AddressWord;
 use mx_debug::DebugError;
-use mx_print_answers::{Refused, address_asked, slot_named};
+use mx_print_answers::{Refused, address_asked, image_in, slot_named};
 use mx_proc::Slot;
 use mx_walker::Walker;
 
@@ -49,4 +49,14 @@ pub(crate) fn address_here(walker: &Walker, slot: Slot, asked: &AddressWord) -> 
     ensures { result ≡ address_asked (world_here walker.now) slot asked.now }
 {
     address_asked(walker.machine(), slot, asked)
+}
+
+/// How many bytes the memory of a slot's process has.
+pub(crate) fn limit_here(walker: &Walker, slot: Slot) -> usize
+    ensures { result ≡ limit_in (world_here walker.now) slot }
+{
+    match image_in(walker.machine(), slot) {
+        Some(image) => image.memory.limit(),
+        None => 0,
+    }
 }

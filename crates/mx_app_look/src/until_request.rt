@@ -1,23 +1,13 @@
 //! What `until` is asked to look for, as it is typed.
 
-ghost use Rattle.std.specs.Prelude.{◌≡◌, find};
-ghost use Rattle.std.specs.List.{range_with_len};
-ghost use Rattle.std.specs.Str.{bytes_eq};
-ghost use Rattle.mx_look_trace.specs.KernelCalls.{request_name};
+ghost use Rattle.std.specs.Prelude.{◌≡◌};
 ghost use Rattle.mx_text.specs.Fields.{fields};
-ghost use Rattle.mx_app_look.specs.UntilRequests.{call_asked, delivery_asked, type_of_name, type_of_word, until_asked};
+ghost use Rattle.mx_app_look.specs.UntilRequests.{call_asked, delivery_asked, type_of_word, until_asked};
 
 use crate::happening::Happening;
 use mx_boot::{count, only_count, word_number};
-use mx_look_trace::request_name;
+use mx_look_trace::request_type;
 use mx_text::{is_digit, next_field, one_field, two_fields};
-
-/// The type of the kernel call of this name.
-fn type_of_name(word: &[u8]) -> Option<u32>
-    ensures { result ≡ type_of_name word.now }
-{
-    (0x600..0x610u32).find(|kind| word == request_name(*kind))
-}
 
 /// The type that a word is: a number, which begins with a digit, or a kernel call's name.
 fn type_named(word: &[u8]) -> Option<u32>
@@ -26,7 +16,7 @@ fn type_named(word: &[u8]) -> Option<u32>
     if is_digit(*word.first()?) {
         word_number(word)
     } else {
-        type_of_name(word)
+        request_type(word)
     }
 }
 

@@ -1,7 +1,8 @@
 //! Bytes that are watched.
 
-ghost use Rattle.std.specs.Prelude.{◌≡◌, Some, None, IfErr, IfOk, OnErr, OnOk};
-ghost use Rattle.mx_app_look.specs.Watches.{places_of, watch_set, with_watch};
+ghost use Rattle.std.specs.Prelude.{◌≡◌, ◌+◌, ◌++◌, Some, None, IfErr, IfOk, OnErr, OnOk};
+ghost use Rattle.std.specs.List.{list_any};
+ghost use Rattle.mx_app_look.specs.Watches.{is_watch, place_at, places_of, watch_set, with_watch};
 ghost use Rattle.mx_debug.specs.declared.error.DebugError.TheVariants as errors;
 
 use arrayvec::ArrayVec;
@@ -56,13 +57,26 @@ impl Watches {
         self.watches.as_slice()
     }
 
-    /// Adds a watch. Refuses a ninth, and then changes nothing.
+    /// Whether the same bytes are watched.
+    fn has(&self, watch: Watch) -> bool
+        ensures { result ≡ list_any (is_watch watch) self.now }
+    {
+        self.watches
+            .as_slice()
+            .iter()
+            .any(|other| is_watch(watch, other))
+    }
+
+    /// Adds a watch; one that is there already isn't added again. Refuses a ninth, and then changes nothing.
     fn add(&mut self, watch: Watch) -> Result<(), DebugError>
         ensures added { OnOk result (with_watch self.old watch ≡ Some self.new) }
         ensures full { OnErr result (with_watch self.old watch ≡ None) }
         ensures unchanged { OnErr result (self.new ≡ self.old) }
         ensures error { IfErr result (λ e. e ≡ errors.TooMany) }
     {
+        if self.has(watch) {
+            return Ok(());
+        }
         if self.watches.is_full() {
             return Err(DebugError::TooMany);
         }
@@ -70,34 +84,47 @@ impl Watches {
         Ok(())
     }
 
-    /// Watches `count` bytes of a slot's process from an address on. Refuses if they are none or more than 16,
-    /// or if it would be the ninth watch, and then changes nothing.
-    pub fn set(&mut self, slot: Slot, address: u32, count: u32) -> Result<(), DebugError>
-        ensures { watch_set self.old slot address count ≡ (result, self.new) }
+    /// Watches bytes of a slot's process, whose memory has `limit` bytes. Refuses if they are none or more than
+    /// 16, if the first of them is past the memory, or if it would be the ninth watch, and then changes
+    /// nothing.
+    pub fn set(&mut self, watch: Watch, limit: usize) -> Result<(), DebugError>
+        ensures { watch_set self.old limit watch ≡ (result, self.new) }
     {
-        if count == 0 || count > MOST_BYTES {
+        if watch.count == 0 || watch.count > MOST_BYTES || watch.address as usize >= limit {
             return Err(DebugError::NotHere);
         }
-        self.add(Watch {
-            slot,
-            address,
-            count,
-        })
+        self.add(watch)
     }
 }
 
-/// The places of a watch's bytes. An address of 32 bits is 0 after the last one.
+/// Whether two watches are of the same bytes.
+fn is_watch(watch: Watch, other: &Watch) -> bool
+    ensures { result ≡ is_watch watch other.now }
+{
+    other.slot == watch.slot && other.address == watch.address && other.count == watch.count
+}
+
+/// Appends the place of a watch's byte, that many bytes after the first; there is none after the last address.
+fn push_place(places: &mut Vec<BytePlace>, watch: Watch, offset: u32) -> Result<(), AllocError>
+    ensures { OnOk result (places.new.items ≡ places.old.items
+        ++ place_at watch.slot (watch.address + offset)) }
+{
+    if let Some(address) = watch.address.checked_add(offset) {
+        places.push(BytePlace {
+            slot: watch.slot,
+            address,
+        })?;
+    }
+    Ok(())
+}
+
+/// The places of a watch's bytes.
 pub(crate) fn places_of(alloc: Global, watch: Watch) -> Result<Vec<BytePlace>, AllocError>
     ensures { IfOk result (λ places. places.items ≡ places_of watch) }
 {
     let mut places = Vec::new(alloc);
-    let mut at = watch.address;
-    for _ in 0..watch.count {
-        places.push(BytePlace {
-            slot: watch.slot,
-            address: at,
-        })?;
-        at = at.wrapping_add(1);
+    for offset in 0..watch.count {
+        push_place(&mut places, watch, offset)?;
     }
     Ok(places)
 }

@@ -43,7 +43,7 @@ unfoldable pub code_part : Image → ℕ → Option Part
 code_part m at = part_of_front (code_front m at)
 
 abbrev pub part_text_if : ℕ → Option Part → List ℕ
-part_text_if at None = []
+part_text_if at None = codes "no code"
 part_text_if at (Some p) = part_text (dword_sum at (part_size p)) p
 
 -- ---- THE LINE

@@ -57,6 +57,7 @@ glance_of w = record {
   slots = slot_glances w.table w.services;
   cpus = cpu_glances w;
   faults = fault_glances w;
+  rules = w.table.rules;
   owners = w.table.devices.owners;
   uptime = w.table.uptime;
   written = w.table.devices.console.count;

@@ -26,7 +26,7 @@ fn push_place(out: &mut String, symbol: &Symbol, at: u32) -> Result<(), AllocErr
     out.push_str(" ")
 }
 
-/// Appends the instruction or the byte at an address, as a listing has it; nothing if the code ends there.
+/// Appends the instruction or the byte at an address, as a listing has it; `no code` if the code ends there.
 fn push_part(out: &mut String, part: Option<Part>, at: u32) -> Result<(), AllocError>
     ensures { OnOk result (string_bytes out.new ≡ string_bytes out.old
         ++ part_text_if at part) }
@@ -39,7 +39,7 @@ fn push_part(out: &mut String, part: Option<Part>, at: u32) -> Result<(), AllocE
             out.push_str(".data1 ")?;
             push_number(out, u32::from(byte))
         }
-        None => Ok(()),
+        None => out.push_str("no code"),
     }
 }
 

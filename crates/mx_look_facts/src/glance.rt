@@ -11,7 +11,7 @@ use crate::kept::{last_byte, look_at_deliveries};
 use crate::slot_glances::{SlotGlance, look_at_slots};
 use mx_image::Stop;
 use mx_machine::{Machine, Out};
-use mx_proc::{Delivery, Slot};
+use mx_proc::{Delivery, Rules, Slot};
 
 /// What is looked at of a processor that holds a process.
 #[derive(Clone, Copy)]
@@ -31,6 +31,8 @@ pub struct Glance {
     pub cpus: [Option<CpuGlance>; 8],
     /// The faults of the processes on the processors.
     pub faults: [Option<FaultGlance>; 8],
+    /// The rules, which say what is a kernel call.
+    pub rules: Rules,
     /// Who owns which interrupt line.
     pub owners: [Option<u8>; 16],
     /// The ticks since boot.
@@ -85,6 +87,7 @@ impl Glance {
             slots: [None; 32],
             cpus: [None; 8],
             faults: [None; 8],
+            rules: machine.rules(),
             owners: [None; 16],
             uptime: 0,
             written: 0,
@@ -109,6 +112,7 @@ impl Glance {
         let services = kernel.services();
         look_at_slots(&mut self.slots, table, services);
         look_at_deliveries(&mut self.deliveries, table, services.len());
+        self.rules = table.rules();
         self.owners = table.devices().owners;
         self.uptime = table.uptime();
         self.written = console.count();

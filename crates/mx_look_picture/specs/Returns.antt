@@ -4,6 +4,7 @@ use Rattle.mx_image.specs.declared.runs.Stop.{Stop}
 use Rattle.mx_image.specs.declared.runs.Stop.TheVariants as stop
 use Rattle.mx_machine.specs.declared.history.Recorded.{Recorded}
 use Rattle.mx_machine.specs.declared.history.Recorded.TheVariants.{Back}
+use Rattle.mx_proc.specs.declared.windows.Rules.{Rules}
 use Rattle.mx_look_facts.specs.declared.slot_glances.SlotGlance.{SlotGlance}
 use Rattle.mx_look_facts.specs.declared.glance.CpuGlance.{CpuGlance}
 use Rattle.mx_look_facts.specs.declared.step.Step.{Step}
@@ -27,21 +28,21 @@ use Rattle.mx_look_picture.specs.Fates.{height_of}
 
 -- ---- what it did
 
--- the type of a kernel call follows the source; SENDREC is call 3
-abbrev pub kernel_deed : Option (List ℕ) → Deed
-kernel_deed None = deed.Call 3
-kernel_deed (Some message) = deed.Kernel (slice_index message 1)
+-- the type of a kernel call follows the source, and the rules say which types are calls; SENDREC is call 3
+abbrev pub kernel_deed : Rules → Option (List ℕ) → Deed
+kernel_deed rules None = deed.Call 3
+kernel_deed rules (Some message) = deed.Kernel rules (slice_index message 1)
 
-unfoldable pub trap_deed : CpuGlance → Deed
-trap_deed h = if asks_kernel h then kernel_deed h.image.words else deed.Call h.image.ecx
+unfoldable pub trap_deed : Rules → CpuGlance → Deed
+trap_deed rules h = if asks_kernel h then kernel_deed rules h.image.words else deed.Call h.image.ecx
 
-abbrev pub deed_by : CpuGlance → Stop → Deed
-deed_by h stop.Spent = if nat_lt h.count h.budget then deed.Early else deed.Spent
-deed_by h (stop.Fault v) = deed.Fault v
-deed_by h stop.Trap = trap_deed h
+abbrev pub deed_by : Rules → CpuGlance → Stop → Deed
+deed_by rules h stop.Spent = if nat_lt h.count h.budget then deed.Early else deed.Spent
+deed_by rules h (stop.Fault v) = deed.Fault v
+deed_by rules h stop.Trap = trap_deed rules h
 
-unfoldable pub deed_of : CpuGlance → Deed
-deed_of h = deed_by h h.stop
+unfoldable pub deed_of : Rules → CpuGlance → Deed
+deed_of rules h = deed_by rules h h.stop
 
 -- ---- how it ended
 
@@ -77,7 +78,7 @@ trap_manner x s = if is_doomed_in x s then manner.Unmade else if has_gone_wrong 
 -- how the deed ended. Only a trap can be left unmade, if its process was killed
 abbrev pub manner_by : Step → ℕ → Deed → Manner
 manner_by x s (deed.Call n) = trap_manner x s
-manner_by x s (deed.Kernel t) = trap_manner x s
+manner_by x s (deed.Kernel rules t) = trap_manner x s
 manner_by x s _ = manner.Plain
 
 unfoldable pub manner_of : Step → ℕ → Deed → Manner
@@ -99,7 +100,7 @@ deed_label_of x at s d = deed_label at s d (manner_of x s d)
 
 abbrev pub return_of : Step → Spot → Option CpuGlance → List Value
 return_of x at None = []
-return_of x at (Some h) = deed_label_of x at h.slot (deed_of h)
+return_of x at (Some h) = deed_label_of x at h.slot (deed_of x.before.rules h)
 
 abbrev pub return_by : Step → Spot → Recorded → List Value
 return_by x at (Back n) = return_of x at (held_before x)

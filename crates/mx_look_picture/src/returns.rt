@@ -14,36 +14,37 @@ use mx_look_facts::{
     kernel_call, slot_in,
 };
 use mx_machine::Recorded;
+use mx_proc::Rules;
 use std::alloc::AllocError;
 
 /// The number of the call SENDREC.
 const SENDREC: u32 = 3;
 
-/// What a trap asked for: a call, by its number; or a kernel call, by the type in its message, if the
-/// message is inside the memory.
+/// What a trap asked for: a call, by its number; or a kernel call, by the rules and the type in its message,
+/// if the message is inside the memory.
 #[tactic(auto, unfolding(crate::specs::Returns::trap_deed))]
-fn trap_deed(held: &CpuGlance) -> Deed
-    ensures { result ≡ trap_deed held.now }
+fn trap_deed(rules: Rules, held: &CpuGlance) -> Deed
+    ensures { result ≡ trap_deed rules held.now }
 {
     if !asks_kernel(held) {
         return Deed::Call(held.image.ecx);
     }
     match &held.image.words {
-        Some(words) => Deed::Kernel(words[1]),
+        Some(words) => Deed::Kernel(rules, words[1]),
         None => Deed::Call(SENDREC),
     }
 }
 
 /// What a process did last: it trapped or faulted, spent its budget, or stopped early.
 #[tactic(auto, unfolding(crate::specs::Returns::deed_of))]
-fn deed_of(held: &CpuGlance) -> Deed
-    ensures { result ≡ deed_of held.now }
+fn deed_of(rules: Rules, held: &CpuGlance) -> Deed
+    ensures { result ≡ deed_of rules held.now }
 {
     match held.stop {
         Stop::Spent if held.count < held.budget => Deed::Early,
         Stop::Spent => Deed::Spent,
         Stop::Fault(vector) => Deed::Fault(vector),
-        Stop::Trap => trap_deed(held),
+        Stop::Trap => trap_deed(rules, held),
     }
 }
 
@@ -94,7 +95,7 @@ fn manner_of(step: &Step, slot: u32, deed: Deed) -> Manner
 {
     match deed {
         Deed::Spent | Deed::Early | Deed::Fault(_) => Manner::Plain,
-        Deed::Call(_) | Deed::Kernel(_) => {
+        Deed::Call(_) | Deed::Kernel(_, _) => {
             if is_doomed_in(step, slot) {
                 Manner::Unmade
             } else if has_gone_wrong(step, slot) || has_failed_call(step, slot) {
@@ -128,7 +129,7 @@ pub(crate) fn push_return(out: &mut Vec<Value>, step: &Step, spot: Spot) -> Resu
         return Ok(());
     };
     let slot = u32::from(held.slot);
-    let deed = deed_of(held);
+    let deed = deed_of(step.before.rules, held);
     let manner = manner_of(step, slot, deed);
     let below = Point {
         x: spot.x - 4,

@@ -1,6 +1,7 @@
 //! What is drawn: bars, arrows, marks and texts. Coordinates are whole numbers, from the top left.
 
 use crate::scene_values::Standing;
+use mx_proc::Rules;
 
 /// What a viewer shows when it is asked about a value. A place counts the steps of a scene from 0.
 #[derive(Clone, Copy)]
@@ -98,8 +99,8 @@ pub enum Deed {
     Fault(u8),
     /// A trap with this number of a call.
     Call(u32),
-    /// A kernel call of this type.
-    Kernel(u32),
+    /// A SENDREC to SYSTEM with this type, in a machine of these rules.
+    Kernel(Rules, u32),
 }
 
 /// How it ended: with an error, or not made since its process was killed.

@@ -6,7 +6,6 @@ use Rattle.mx_machine.specs.declared.history.Recorded.{Recorded}
 use Rattle.mx_machine.specs.declared.history.Recorded.TheVariants.{Back}
 use Rattle.mx_insn_words.specs.Numbers.{eight_digits}
 use Rattle.mx_look_facts.specs.Code.{code_text}
-use Rattle.mx_look_facts.specs.Part.{Part}
 use Rattle.mx_look_facts.specs.declared.reasons.FaultReason.{FaultReason}
 use Rattle.mx_look_facts.specs.declared.reasons.FaultReason.TheVariants.{Outside, CodeEnd, Target, Forbidden, Other}
 use Rattle.mx_look_facts.specs.declared.faults.FaultGlance.{FaultGlance}
@@ -44,13 +43,9 @@ reason_text f Other = []
 
 -- ---- THE LINE
 
-abbrev pub no_code : Option Part → List ℕ
-no_code None = codes "no code"
-no_code (Some p) = []
-
 -- where: the code as a listing has it; and why
 unfoldable pub fault_text : FaultGlance → List ℕ
-fault_text f = code_text f.symbol f.part f.at ++ no_code f.part ++ reason_text f f.reason
+fault_text f = code_text f.symbol f.part f.at ++ reason_text f f.reason
 
 unfoldable pub faulted : Step → FaultGlance → List ℕ
 faulted x f = margin x ++ codes "at " ++ fault_text f ++ codes "\n"

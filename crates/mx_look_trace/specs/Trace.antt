@@ -9,7 +9,7 @@ use Rattle.mx_machine.specs.declared.history.Recorded.{Recorded}
 use Rattle.mx_machine.specs.declared.history.Recorded.TheVariants.{Take, Back, Line, Tick, Kill, Respawn}
 use Rattle.mx_proc.specs.declared.deliveries.Delivery.{Delivery}
 use Rattle.mx_proc.specs.EndpointNumbers.{hardware_endpoint, clock_endpoint}
-use Rattle.mx_print_report.specs.Numbers.{hex_text}
+use Rattle.mx_print_report.specs.Numbers.{two_digits}
 use Rattle.mx_print_report.specs.Words.{doing_text, kind_word}
 use Rattle.mx_look_facts.specs.declared.slot_glances.SlotGlance.{SlotGlance}
 use Rattle.mx_look_facts.specs.declared.glance.CpuGlance.{CpuGlance}
@@ -56,7 +56,7 @@ call_text n = name_or (decimal n) (call_name n)
 abbrev pub stop_text_by : Glance → CpuGlance → Stop → List ℕ
 stop_text_by g h stop.Spent = if nat_lt h.count h.budget then codes "early" else codes "spent"
 stop_text_by g h (stop.Fault v) = codes "fault " ++ decimal v
-stop_text_by g h stop.Trap = codes "trap " ++ call_text h.image.ecx ++ codes " " ++ party_text g h.image.eax ++ request_text h
+stop_text_by g h stop.Trap = codes "trap " ++ call_text h.image.ecx ++ codes " " ++ party_text g h.image.eax ++ request_text g.rules h
 
 unfoldable pub stop_text : Glance → CpuGlance → List ℕ
 stop_text g h = stop_text_by g h h.stop
@@ -125,9 +125,12 @@ answer_line_by x (Some h) = answered_if x h (slot_in x.after h.slot)
 unfoldable pub answer_line : Step → List ℕ
 answer_line x = answer_line_by x (kernel_call x)
 
+unfoldable pub byte_text : ℕ → List ℕ
+byte_text b = codes "0x" ++ two_digits b
+
 -- a byte, and its character from ! to ~
 unfoldable pub console_text : ℕ → List ℕ
-console_text b = codes "console 0x" ++ hex_text b ++ (if nat_lt 32 b && nat_lt b 127 then codes " '" ++ b ∷ codes "'" else [])
+console_text b = codes "console " ++ byte_text b ++ (if nat_lt 32 b && nat_lt b 127 then codes " '" ++ b ∷ codes "'" else [])
 
 abbrev pub console_line_by : Step → Option ℕ → List ℕ
 console_line_by x None = []

@@ -2,11 +2,11 @@
 
 ghost use Rattle.std.specs.Prelude.{◌≡◌, ◌++◌, OnOk, string_bytes};
 ghost use Rattle.mx_insn_words.specs.Numbers.{eight_digits};
-ghost use Rattle.mx_look_trace.specs.Faults.{access_text, fault_line, fault_text, faulted, limit_number, no_code, reason_text, size_text, target_text, touched_text};
+ghost use Rattle.mx_look_trace.specs.Faults.{access_text, fault_line, fault_text, faulted, limit_number, reason_text, size_text, target_text, touched_text};
 
 use crate::lines::push_margin;
 use mx_insn_words::push_eight_digits;
-use mx_look_facts::{Access, FaultGlance, FaultReason, Part, Step, fault_in, push_code};
+use mx_look_facts::{Access, FaultGlance, FaultReason, Step, fault_in, push_code};
 use mx_machine::Recorded;
 use std::alloc::AllocError;
 use std::fmt::Write;
@@ -88,23 +88,12 @@ fn push_reason(out: &mut String, fault: &FaultGlance) -> Result<(), AllocError>
     }
 }
 
-/// What is printed in place of an instruction if the code ends before it.
-fn no_code(part: Option<Part>) -> &'static str
-    ensures { result.now ≡ no_code part }
-{
-    match part {
-        Some(_) => "",
-        None => "no code",
-    }
-}
-
 /// Appends the code that faulted, and why.
 #[tactic(auto, unfolding(crate::specs::Faults::fault_text))]
 fn push_fault(out: &mut String, fault: &FaultGlance) -> Result<(), AllocError>
     ensures { OnOk result (string_bytes out.new ≡ string_bytes out.old ++ fault_text fault.now) }
 {
     push_code(out, fault.symbol.as_ref(), fault.part, fault.at)?;
-    out.push_str(no_code(fault.part))?;
     push_reason(out, fault)
 }
 

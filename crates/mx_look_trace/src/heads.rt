@@ -66,7 +66,7 @@ fn push_stop(out: &mut Vec<u8>, glance: &Glance, held: &CpuGlance) -> Result<(),
             push_call(out, held.image.ecx)?;
             out.push(b' ')?;
             push_party(out, glance, held.image.eax)?;
-            push_request(out, held)
+            push_request(out, glance.rules, held)
         }
     }
 }

@@ -1,45 +1,73 @@
 //! Kernel calls: what is asked, and what is answered. Names and counts of words are those of the table of
-//! kernel calls.
+//! kernel calls. A type is that of a call only if the rules have the call.
 
-ghost use Rattle.std.specs.Prelude.{◌≡◌, ◌≤◌, ◌++◌, OnOk, option_copied, slice_index};
-ghost use Rattle.mx_kcall.specs.Rows.{row_of};
-ghost use Rattle.mx_look_trace.specs.KernelCalls.{answer_count, answer_text, other_type, request_name, request_text, request_words, row_by_digits};
+ghost use Rattle.std.specs.Prelude.{◌≡◌, ◌≤◌, ◌++◌, OnOk, option_copied, option_map, position, slice_index};
+ghost use Rattle.std.specs.Str.{bytes_eq};
+ghost use Rattle.mx_kcall.specs.Rows.{calls, name_of, row_of};
+ghost use Rattle.mx_look_trace.specs.KernelCalls.{answer_count, answer_text, other_type, request_name, request_text, request_type, request_words, row_by_digits, row_under};
 
 use crate::numbers::{push_result, push_spaced};
 use crate::reasons::request_reason;
-use mx_kcall::{CallRow, FIRST_CALL, call_row};
+use mx_kcall::{CALLS, CallRow, FIRST_CALL, call_row, is_there};
 use mx_look_facts::{CpuGlance, Glance, asks_kernel};
 use mx_print_report::{push_counted, push_decimal};
+use mx_proc::Rules;
 use std::alloc::AllocError;
 
-/// The name of the request of a type, or nothing.
-#[tactic(auto, unfolding(crate::specs::KernelCalls::request_name))]
-pub fn request_name(kind: u32) -> &'static [u8]
-    ensures { result.now ≡ request_name kind }
+/// The call of a type, if these rules have it.
+fn row_under(rules: Rules, kind: u32) -> Option<&'static CallRow>
+    ensures { option_copied result ≡ row_under rules kind }
 {
-    match call_row(kind) {
+    let row = call_row(kind)?;
+    if is_there(rules, row) {
+        Some(row)
+    } else {
+        None
+    }
+}
+
+/// The name of the call of a type, or nothing if these rules have none.
+#[tactic(auto, unfolding(crate::specs::KernelCalls::request_name))]
+pub fn request_name(rules: Rules, kind: u32) -> &'static [u8]
+    ensures { result.now ≡ request_name rules kind }
+{
+    match row_under(rules, kind) {
         Some(row) => row.name(),
         None => b"",
     }
 }
 
-/// The request whose type has these decimal digits, read in hexadecimal.
-fn row_by_digits(kind: u32) -> Option<&'static CallRow>
-    ensures { option_copied result ≡ row_by_digits kind }
+/// The place in the table of the call of this name.
+fn call_named(name: &[u8]) -> Option<usize>
+    ensures { result ≡ position (λ row. bytes_eq name.now (name_of row)) calls }
+{
+    CALLS.iter().position(|row| name == row.name())
+}
+
+/// The type of the call of this name, whichever rules have it.
+pub fn request_type(name: &[u8]) -> Option<u32>
+    ensures { result ≡ request_type name.now }
+{
+    Some(FIRST_CALL + call_named(name)? as u32)
+}
+
+/// The call whose type has these decimal digits, read in hexadecimal.
+fn row_by_digits(rules: Rules, kind: u32) -> Option<&'static CallRow>
+    ensures { option_copied result ≡ row_by_digits rules kind }
 {
     if kind < 600 || kind > 609 {
         return None;
     }
-    call_row(kind - 600 + FIRST_CALL)
+    row_under(rules, kind - 600 + FIRST_CALL)
 }
 
-/// Appends a type that no request has, and the request whose type it is if its digits are hexadecimal.
+/// Appends a type that no call has, and the call whose type it is if its digits are hexadecimal.
 #[tactic(auto, unfolding(crate::specs::KernelCalls::other_type))]
-fn push_other_type(out: &mut Vec<u8>, kind: u32) -> Result<(), AllocError>
-    ensures { OnOk result (out.new.items ≡ out.old.items ++ other_type kind) }
+fn push_other_type(out: &mut Vec<u8>, rules: Rules, kind: u32) -> Result<(), AllocError>
+    ensures { OnOk result (out.new.items ≡ out.old.items ++ other_type rules kind) }
 {
     push_counted(out, b", type", kind)?;
-    let Some(row) = row_by_digits(kind) else {
+    let Some(row) = row_by_digits(rules, kind) else {
         return Ok(());
     };
     out.extend_from_slice(b": 0x")?;
@@ -50,12 +78,12 @@ fn push_other_type(out: &mut Vec<u8>, kind: u32) -> Result<(), AllocError>
 
 /// Appends a request.
 #[tactic(auto, unfolding(crate::specs::KernelCalls::request_words))]
-fn push_request_words(out: &mut Vec<u8>, words: &[u32; 9]) -> Result<(), AllocError>
-    ensures { OnOk result (out.new.items ≡ out.old.items ++ request_words words.now) }
+fn push_request_words(out: &mut Vec<u8>, rules: Rules, words: &[u32; 9]) -> Result<(), AllocError>
+    ensures { OnOk result (out.new.items ≡ out.old.items ++ request_words rules words.now) }
 {
     let kind = words[1];
-    let Some(row) = call_row(kind) else {
-        return push_other_type(out, kind);
+    let Some(row) = row_under(rules, kind) else {
+        return push_other_type(out, rules, kind);
     };
     out.extend_from_slice(b", ")?;
     out.extend_from_slice(row.name())?;
@@ -64,11 +92,15 @@ fn push_request_words(out: &mut Vec<u8>, words: &[u32; 9]) -> Result<(), AllocEr
 
 /// Appends what a process asks of the kernel, if its trap does and the words lie inside its memory.
 #[tactic(auto, unfolding(crate::specs::KernelCalls::request_text))]
-pub(crate) fn push_request(out: &mut Vec<u8>, held: &CpuGlance) -> Result<(), AllocError>
-    ensures { OnOk result (out.new.items ≡ out.old.items ++ request_text held.now) }
+pub(crate) fn push_request(
+    out: &mut Vec<u8>,
+    rules: Rules,
+    held: &CpuGlance,
+) -> Result<(), AllocError>
+    ensures { OnOk result (out.new.items ≡ out.old.items ++ request_text rules held.now) }
 {
     match &held.image.words {
-        Some(words) if asks_kernel(held) => push_request_words(out, words),
+        Some(words) if asks_kernel(held) => push_request_words(out, rules, words),
         _ => Ok(()),
     }
 }

@@ -14,7 +14,7 @@ mod words;
 
 pub use faults::push_fault_line;
 pub use heads::{call_name, push_call, push_event, push_head};
-pub use kernel_calls::request_name;
+pub use kernel_calls::{request_name, request_type};
 pub use lines::{push_change, push_console_line, push_delivery};
 pub use mx_look_facts::{Glance, Step};
 pub use pending::push_kept;

@@ -3,7 +3,7 @@
 ghost use Rattle.std.specs.Prelude.{◌≡◌, ◌<◌, ◌++◌, OnOk};
 ghost use Rattle.mx_look_facts.specs.Step.{slot_in};
 ghost use Rattle.mx_look_trace.specs.Numbers.{margin};
-ghost use Rattle.mx_look_trace.specs.Trace.{answered, answer_line, console_text, console_line, alarm_line, told_words, delivered_words, delivery_line, delivery_parties, result_part, changed, change_line, quantum_line};
+ghost use Rattle.mx_look_trace.specs.Trace.{answered, answer_line, byte_text, console_text, console_line, alarm_line, told_words, delivered_words, delivery_line, delivery_parties, result_part, changed, change_line, quantum_line};
 
 use crate::kernel_calls::push_answer;
 use crate::numbers::{push_result, push_spaced, used_count};
@@ -13,7 +13,7 @@ use mx_look_facts::{
     CpuGlance, SlotGlance, Step, delivery_to, gone_on, has_changed, has_rung, is_ready, is_renewed,
     kernel_call, slot_in,
 };
-use mx_print_report::{kind_word, push_counted, push_decimal, push_doing, push_hex};
+use mx_print_report::{kind_word, push_counted, push_decimal, push_doing, push_two_digits};
 use mx_proc::Delivery;
 use std::alloc::AllocError;
 
@@ -61,13 +61,22 @@ pub(crate) fn push_answer_line(out: &mut Vec<u8>, step: &Step) -> Result<(), All
     }
 }
 
+/// Appends a byte in two hexadecimal digits after `0x`.
+#[tactic(auto, unfolding(crate::specs::Trace::byte_text))]
+fn push_byte(out: &mut Vec<u8>, byte: u8) -> Result<(), AllocError>
+    ensures { OnOk result (out.new.items ≡ out.old.items ++ byte_text byte) }
+{
+    out.extend_from_slice(b"0x")?;
+    push_two_digits(out, byte)
+}
+
 /// Appends a byte of the console, and its character if it has one.
 #[tactic(auto, unfolding(crate::specs::Trace::console_text))]
 fn push_console_text(out: &mut Vec<u8>, byte: u8) -> Result<(), AllocError>
     ensures { OnOk result (out.new.items ≡ out.old.items ++ console_text byte) }
 {
-    out.extend_from_slice(b"console 0x")?;
-    push_hex(out, byte)?;
+    out.extend_from_slice(b"console ")?;
+    push_byte(out, byte)?;
     if byte > 0x20 && byte < 0x7F {
         out.extend_from_slice(b" '")?;
         out.push(byte)?;

@@ -11,7 +11,7 @@ mod words;
 pub use doing::{Awaited, Doing, Naming, doing_of};
 pub use fields::push_process;
 pub use numbers::{
-    push_counted, push_decimal, push_hex, push_long, push_number, push_signed, push_two_digits,
+    push_counted, push_decimal, push_long, push_number, push_signed, push_two_digits,
 };
 pub use reporting::{push_console, push_count, report_of};
 pub use words::{kind_word, push_doing, push_name, push_named};

@@ -3,7 +3,7 @@
 ghost use Rattle.std.specs.Prelude.{◌≡◌, ◌<◌, ◌++◌, ◌∷◌, codes, false, OnOk};
 ghost use Rattle.std.specs.Fmt.{decimal, digit_glyph, signed_decimal};
 ghost use Rattle.std.specs.Int.{cast_signed, w32};
-ghost use Rattle.mx_print_report.specs.Numbers.{hex_text, two_digits};
+ghost use Rattle.mx_print_report.specs.Numbers.{two_digits};
 
 use itoa::Buffer;
 use std::alloc::AllocError;
@@ -65,17 +65,5 @@ pub fn push_two_digits(out: &mut Vec<u8>, byte: u8) -> Result<(), AllocError>
 {
     out.push(digit(byte / 16))?;
     out.push(digit(byte % 16))?;
-    Ok(())
-}
-
-/// Appends a byte in hexadecimal digits, without a zero in front.
-#[tactic(auto, unfolding(crate::specs::Numbers::hex_text))]
-pub fn push_hex(out: &mut Vec<u8>, byte: u8) -> Result<(), AllocError>
-    ensures { OnOk result (out.new.items ≡ out.old.items ++ hex_text byte) }
-{
-    if byte >= 16 {
-        return push_two_digits(out, byte);
-    }
-    out.push(digit(byte))?;
     Ok(())
 }

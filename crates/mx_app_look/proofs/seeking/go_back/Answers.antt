@@ -7,7 +7,7 @@ use Rattle.mx_app_look.proofs.seeking.go_back.Goals as goal
 pub returns-clause-halted : goal.returns-clause-halted
 returns-clause-halted g c =
     let s = c.args.sight in
-    halted_by s c.in_ok-walker.walker (string_bytes c.in_ok-walker.found) (IsLastHalt s.walker s.points) c.show_halt.result c.in_ok-walker.ensures.walker c.in_ok-walker.ensures.halt c.show_halt.ensures.sight c.show_halt.ensures.text
+    halted_by s c.in_ok-walker.walker (string_bytes c.in_ok-walker.found) (IsLastHalt s.walker s.points) c.show_halt.result c.in_ok-walker.ensures.walker c.in_ok-walker.ensures.halt c.show_halt.ensures.same c.show_halt.ensures.text
 
 pub returns-clause-shown : goal.returns-clause-shown
 returns-clause-shown g c = ok_always c.show_halt.result _ c.in_ok-walker.ensures.shown
