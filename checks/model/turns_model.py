@@ -182,24 +182,46 @@ def outcome(config, records, place, fault, bound):
     states = [f"{it.service['name']} {it.endpoint} {machine.state(it)}" for it in machine.all]
     alike = [f"{it.endpoint % 1024} {machine.state(it, 1024)}" for it in machine.all]
     console = [f"console {machine.written}", *kept_lines(machine.console)]
-    return [*answers, *states, ending, *console], (alike, ending, machine.written, machine.console)
+    return [*answers, *states, ending, *console], (alike, ending, machine.written, machine.console), answers
 
 
 def swept(config, records, fault, bound=1000, first=0, last=None):
-    """What `mx sweep` prints, and whether the fault changes the outcome of a position."""
-    last = len(records) if last is None else min(last, len(records))
-    blocks, same = [], 0
-    for place in range(first, last + 1):
-        lines, seen = outcome(config, records, place, fault, bound)
-        same += seen == outcome(config, records, place, [], bound)[1]
-        if blocks and blocks[-1][2] == lines:
-            blocks[-1][1] = place
-        else:
-            blocks.append([place, place, lines])
+    """What `mx sweep` prints, what it says on standard error, and whether a strict one is lost."""
+    until = len(records) if last is None else min(last, len(records))
+    blocks, same, given, endings = [], 0, [], []
+    for place in range(first, until + 1):
+        lines, seen, answers = outcome(config, records, place, fault, bound)
+        is_same = seen == outcome(config, records, place, [], bound)[1]
+        same += is_same
+        given += answers
+        endings.append(seen[1])
+        if not blocks or blocks[-1][2] != lines:
+            blocks.append([place, place, lines, []])
+        blocks[-1][1] = place
+        blocks[-1][3] += [] if is_same else [place]
     text = []
-    for begin, end, lines in blocks:
+    for begin, end, lines, other in blocks:
         text.append(f"position {begin}" if begin == end else f"positions {begin} to {end}")
         text += ["  " + it for it in lines]
-    positions = max(0, last + 1 - first)
-    text.append(f"{positions} positions, {len(blocks)} blocks, {same} as without the fault")
-    return "\n".join(text) + "\n", same != positions
+        text += [f"  not as without the fault, first at position {other[0]}"] if other else []
+    text.append(f"{len(endings)} positions, {len(blocks)} blocks, {same} as without the fault")
+    said = untested(fault, first, ANYWHERE if last is None else last, given, endings)
+    return "\n".join(text) + "\n", said, same != len(endings) or said != ""
+
+
+# The last position that is swept if none is named.
+ANYWHERE = 2 ** 32 - 1
+
+
+def untested(fault, first, last, given, endings):
+    """What a sweep says if it tests nothing, by what each position answered to the lines, and how it ended."""
+    why = None
+    if not fault:
+        why = "no position was tested: FAULT has no line"
+    elif not endings:
+        why = f"no position was tested: the history has none from {first} to {last}"
+    elif all(it.startswith("refused ") for it in given):
+        why = f"no position was tested: FAULT was refused at each, first {given[0].removeprefix('refused ')}"
+    elif set(endings) == {"full"}:
+        why = "each position ends full: log in CONFIG"
+    return "" if why is None else f"mx: {why}\n"

@@ -50,9 +50,9 @@ use Rattle.mx_app.specs.declared.performing.Done.{Done}
 
 -- ---- what is done
 
--- done with this status, and without turns
+-- done with this status, and with no more to tell
 abbrev pub with_status : ℕ → Done
-with_status n = record { status = n; ending = None }
+with_status n = record { status = n; ending = None; untested = None }
 
 abbrev pub done_after_work : Result (Unit {0}) Kind → Result Done Kind
 done_after_work (Ok u) = Ok (with_status 0)
@@ -66,13 +66,15 @@ done_after_replay (Err f) = Err f
 
 -- turns are done, and so is a run, however they ended
 abbrev pub done_after_turns : Result Ending Kind → Result Done Kind
-done_after_turns (Ok ending) = Ok (record { status = 0; ending = Some ending })
+done_after_turns (Ok ending) = Ok (record { status = 0; ending = Some ending; untested = None })
 done_after_turns (Err f) = Err f
 
--- a sweep is done; its status is 1 if the history is refused, and, if it is strict, if an outcome differs
+-- a sweep is done; its status is 1 if the history is refused, and, if it is strict, if an outcome differs or nothing was
+-- tested, which is told in any case
 abbrev pub done_after_sweep : Bool → Result Swept Kind → Result Done Kind
 done_after_sweep strict (Ok swept.Alike) = Ok (with_status 0)
 done_after_sweep strict (Ok swept.Differs) = Ok (with_status (if strict then 1 else 0))
+done_after_sweep strict (Ok (swept.Nothing why)) = Ok (record { status = (if strict then 1 else 0); ending = None; untested = Some why })
 done_after_sweep strict (Ok swept.Refused) = Ok (with_status 1)
 done_after_sweep strict (Err f) = Err f
 

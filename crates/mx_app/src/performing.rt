@@ -14,7 +14,9 @@ use mx_app_failure::Failure;
 use mx_app_look::{SessionWanted, look};
 use mx_app_run::{RunWanted, run};
 use mx_app_start::{Channels, FileWriter, LineReader, Reader, SharedProgress};
-use mx_app_turns::{SweepNames, SweepWanted, Swept, TurnsNames, TurnsWanted, sweep, turns};
+use mx_app_turns::{
+    SweepNames, SweepWanted, Swept, TurnsNames, TurnsWanted, Untested, sweep, turns,
+};
 use mx_turns::Ending;
 use mx_walk::Progress;
 use std::alloc::Global;
@@ -30,16 +32,19 @@ pub struct Done {
     pub status: u8,
     /// How turns ended, or a run, if the command made one of them.
     pub ending: Option<Ending>,
+    /// Why a sweep tested nothing, if the command made one that did.
+    pub untested: Option<Untested>,
 }
 
 impl Done {
-    /// Done with this status, and without turns.
+    /// Done with this status, and with no more to tell.
     pub fn with_status(status: u8) -> Done
         ensures { result ≡ with_status status }
     {
         Done {
             status,
             ending: None,
+            untested: None,
         }
     }
 }
@@ -73,19 +78,25 @@ fn done_after_turns(done: Result<Ending, Failure>) -> Result<Done, Failure>
         Ok(ending) => Ok(Done {
             status: 0,
             ending: Some(ending),
+            untested: None,
         }),
         Err(failure) => Err(failure),
     }
 }
 
 /// What is done after a sweep: the status is 1 if the history is refused, and, if the sweep is strict, if an
-/// outcome differs.
+/// outcome differs or nothing was tested.
 fn done_after_sweep(done: Result<Swept, Failure>, strict: bool) -> Result<Done, Failure>
     ensures { result ≡ done_after_sweep strict done }
 {
     match done {
         Ok(Swept::Alike) => Ok(Done::with_status(0)),
         Ok(Swept::Differs) => Ok(Done::with_status(u8::from(strict))),
+        Ok(Swept::Nothing(why)) => Ok(Done {
+            status: u8::from(strict),
+            ending: None,
+            untested: Some(why),
+        }),
         Ok(Swept::Refused) => Ok(Done::with_status(1)),
         Err(failure) => Err(failure),
     }

@@ -91,6 +91,15 @@ fn help_after(
     help_reader(rt, terminals, printed, last);
 }
 
+/// Says on standard error why a sweep tested nothing, if a command made one that did.
+fn tell_untested(rt: &impl Eprint, answer: &Result<Done, Complaint>) {
+    if let Ok(done) = answer {
+        if let Some(why) = done.untested {
+            let _ = eprint!(rt; "{why}\n");
+        }
+    }
+}
+
 /// The status to end with after what is done.
 fn status_of(answer: Result<Done, Complaint>) -> Result<u8, Complaint>
     ensures { MatchResult answer (λ done. result ≡ Ok done.status)
@@ -129,6 +138,7 @@ where
     let answer = perform_words(rt, rt.alloc(), words, &mut work, terminals.err);
     work.progress.clear();
     help_after(rt, terminals, words, &answer, work.channels.out.last());
+    tell_untested(rt, &answer);
     status_of(answer)
 }
 

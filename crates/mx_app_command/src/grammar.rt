@@ -170,7 +170,7 @@ const LAST_POSITION: CommandArgument<'static> = CommandArgument {
 /// Whether a difference is an error.
 const STRICT: CommandArgument<'static> = CommandArgument {
     name: "strict",
-    help: "Ends with status 1 if the fault changes the outcome of a position",
+    help: "Ends with status 1 if the fault changes the outcome of a position, or tests none",
     form: ArgumentForm::Flag,
 };
 

@@ -251,18 +251,22 @@ positions 0 to 10
   cli 1 down exit
   rest
   console 0
+  not as without the fault, first at position 0
 11 positions, 1 blocks, 0 as without the fault
 
 For each position K of the history: boot, the first K records, the lines of FAULT,
 and then turns as mx turns makes them, with the lines and ticks of the later records
 to come. Positions in a row that print the same are one block: what is answered to
 FAULT's lines, each service's name, endpoint and state, how the turns ended (rest,
-turns or full), and the console. FAULT has lines of a script, and kill slot S, which
-kills who is in slot S then.
+turns or full), and the console. Of a block that ends otherwise than without the fault
+the last line names the first such position K; --from K --to K --save FILE writes the
+history of its run. FAULT has lines of a script, and kill slot S, which kills who is in
+slot S then. If nothing was tested, standard error says why.
 
 Status: 0 done; 1 a text or a program's file is refused, or an event of LOG, or, with
---strict, a position ends otherwise than without the fault; 2 a mistake in the words;
-3 a file can't be read or written; 4 no memory. Formats: docs/use/REFERENCE.md.";
+--strict, a position ends otherwise than without the fault, or nothing was tested; 2 a
+mistake in the words; 3 a file can't be read or written; 4 no memory. Formats:
+docs/use/REFERENCE.md.";
 
 /// A history, and what a refused event of it gives.
 const REPLAY_EXAMPLE: &str = "In the folder examples/machines/pair:

@@ -1,5 +1,5 @@
 -- Positions that are swept and printed.
-use Rattle.std.proofs.Common.{◌≡◌, ◌∙◌, ◌<◌, ◌≤◌, ◌+◌, ◌-◌, ℕ, suc, Bool, true, false, cond, List, [], ◌∷◌, ◌++◌, length, length-append, Option, Vec, Global, append_assoc, refl, ap, sym, subst, arith}
+use Rattle.std.proofs.Common.{◌≡◌, ◌∙◌, ◌<◌, ◌≤◌, ◌+◌, ◌-◌, ℕ, suc, Bool, true, false, cond, List, [], ◌∷◌, ◌++◌, length, length-append, Option, Some, None, is_some, Vec, Global, append_assoc, refl, ap, sym, subst, arith}
 use Rattle.std.proofs.KnownBytes.{Appends-nil, Appends-trans}
 use Rattle.std.proofs.lemmas.List.{append-nil}
 use Rattle.std.proofs.lemmas.Grind.{flat_map-append}
@@ -7,82 +7,131 @@ use Rattle.std.specs.Io.KnownBytes.{Appends}
 use Rattle.std.specs.List.{flat_map}
 use Rattle.std.specs.Str.{bytes_eq}
 use Rattle.mx_machine.specs.History.{BootAndHistory}
+use Rattle.mx_sweep.specs.declared.outcomes.Findings.{Findings}
+use Rattle.mx_app_turns.specs.declared.blocks.Total.{Total}
 use Rattle.mx_app_turns.specs.declared.sweeping.Tally.{Tally}
-use Rattle.mx_app_turns.specs.Blocks.{Positions, block_text, blocks, blocks_from, count_of, positions_of}
-use Rattle.mx_app_turns.specs.Sweeping.{SweepOf, is_alike_at, run_at, text_at}
+use Rattle.mx_app_turns.specs.Blocks.{Positions, block_at, block_text, blocks_from, count_of, longer, positions_of}
+use Rattle.mx_app_turns.specs.Sweeping.{SweepOf, blocks_at, findings_at, is_alike_at, is_full_at, is_refused_at, run_at, text_at, total_of}
+use Rattle.mx_app_turns.specs.Tallied.{both, one_if, tally_of, total_one, with_next}
 
--- Positions from `from` to the one above p are swept, and the blocks above the current one are printed.
-pub record SweptSoFar (s : SweepOf) (from end p : ℕ) (old now : Option (List ℕ)) (current : Positions) (count alike : ℕ) (k : BootAndHistory) : Type 0 where
+-- ---- counts
+
+-- Of the positions from `from` to the one above p, n are so.
+pub record Counted (is : ℕ → Bool) (from end p n : ℕ) : Type 0 where
+  pub sum : n + count_of is (end - p) p ≡ count_of is (end - from) from
+  pub few : n ≤ p - from
+
+pub small : (b : Bool) → one_if b ≤ 1
+small true = omega arith
+small false = omega arith
+
+next_left : (end p : ℕ) → p < end → end - p ≡ suc (end - (p + 1))
+next_left end p h = omega (arith, h)
+
+module _ (is : ℕ → Bool) (from end : ℕ) where
+  pub count_first : (n : ℕ) → from < end → n ≡ one_if (is from) → Counted is from end (from + 1) n
+  count_first n h one = record {
+    sum = ap (λ a. a + count_of is (end - (from + 1)) (from + 1)) one ∙ sym (ap (λ i. count_of is i from) (next_left end from h));
+    few = let b = small (is from) in omega (arith, one, b);
+  }
+
+  pub count_next : (p n m : ℕ) → Counted is from end p n → from < p → p < end → m ≡ n + one_if (is p) → Counted is from end (p + 1) m
+  count_next p n m so_far above h one =
+      let step : count_of is (end - p) p ≡ one_if (is p) + count_of is (end - (p + 1)) (p + 1) = ap (λ i. count_of is i p) (next_left end p h) in
+      record {
+        sum = omega (arith, one, step, so_far.sum);
+        few = let b = small (is p) in omega (arith, one, b, so_far.few, above);
+      }
+
+  pub count_last : (p n : ℕ) → Counted is from end p n → p ≡ end → n ≡ count_of is (end - from) from
+  count_last p n so_far last =
+      let none_left : end - p ≡ 0 = omega (arith, last) in
+      let none : count_of is (end - p) p ≡ 0 = ap (λ i. count_of is i p) none_left in
+      omega (arith, none, so_far.sum)
+
+total_parts : (t : Total) (positions blocks alike refused full : ℕ) → t.positions ≡ positions → t.blocks ≡ blocks → t.alike ≡ alike → t.refused ≡ refused → t.full ≡ full
+    → t ≡ record { positions = positions; blocks = blocks; alike = alike; refused = refused; full = full }
+total_parts t positions blocks alike refused full p b a r f =
+    ap (λ n. let u : Total = record t { positions = n } in u) p ∙ ap (λ n. let u : Total = record t { positions = positions; blocks = n } in u) b
+    ∙ ap (λ n. let u : Total = record t { positions = positions; blocks = blocks; alike = n } in u) a
+    ∙ ap (λ n. let u : Total = record t { positions = positions; blocks = blocks; alike = alike; refused = n } in u) r
+    ∙ ap (λ n. let u : Total = record { positions = positions; blocks = blocks; alike = alike; refused = refused; full = n } in u) f
+
+-- ---- positions
+
+-- Positions from `from` to the one above p are swept and counted, and the blocks above the current one are printed.
+pub record SweptSoFar (s : SweepOf) (from end p : ℕ) (old now : Option (List ℕ)) (current : Positions) (total : Total) (k : BootAndHistory) : Type 0 where
   pub closed : List Positions
   pub printed : Appends old now (flat_map block_text closed)
-  pub whole : blocks (text_at s) (end - from) from ≡ closed ++ blocks_from (text_at s) (end - p) p current
-  pub counted : count ≡ length closed + 1
-  pub few : count ≤ p - from
-  pub alike_are : alike + count_of (is_alike_at s) (end - p) p ≡ count_of (is_alike_at s) (end - from) from
-  pub alike_few : alike ≤ p - from
+  pub whole : blocks_at s (end - from) from ≡ closed ++ blocks_from (text_at s) (is_alike_at s) (end - p) p current
+  pub counted : total.blocks ≡ length closed + 1
+  pub few : total.blocks ≤ p - from
+  pub positions : total.positions ≡ p - from
+  pub alike : Counted (is_alike_at s) from end p total.alike
+  pub refused : Counted (is_refused_at s) from end p total.refused
+  pub full : Counted (is_full_at s) from end p total.full
   pub above : from < p
   pub within : p ≤ end
   pub kernel : k ≡ (run_at s (p - 1)).kernel
-
-abbrev pub from_bool : Bool → ℕ
-from_bool b = cond b 1 0
-
-pub small : (b : Bool) → from_bool b ≤ 1
-small true = omega arith
-small false = omega arith
 
 module _ (s : SweepOf) (from end : ℕ) where
   abbrev f : ℕ → List ℕ
   f = text_at s
 
-  next_left : (p : ℕ) → p < end → end - p ≡ suc (end - (p + 1))
-  next_left p h = omega (arith, h)
+  abbrev is : ℕ → Bool
+  is = is_alike_at s
 
   -- the first position
-  pub first_swept : (old : Option (List ℕ)) (current : Positions) (alike : ℕ) (is : Bool) (k : BootAndHistory) → from < end → current ≡ record { first = from; last = from; text = f from }
-      → is ≡ is_alike_at s from → alike ≡ from_bool is → k ≡ (run_at s from).kernel → SweptSoFar s from end (from + 1) old old current 1 alike k
-  first_swept old current alike is k h same which n kept = record {
+  pub first_swept : (old : Option (List ℕ)) (current : Positions) (total : Total) (k : BootAndHistory) → from < end → current ≡ block_at f is from → total ≡ total_one (findings_at s from)
+      → k ≡ (run_at s from).kernel → SweptSoFar s from end (from + 1) old old current total k
+  first_swept old current total k h same one kept = record {
     closed = [];
     printed = Appends-nil old;
-    whole = ap (λ i. blocks f i from) (next_left from h) ∙ ap (blocks_from f (end - (from + 1)) (from + 1)) (sym same);
-    counted = refl;
-    few = omega arith;
-    alike_are = ap (λ a. a + count_of (is_alike_at s) (end - (from + 1)) (from + 1)) (n ∙ ap from_bool which) ∙ sym (ap (λ i. count_of (is_alike_at s) i from) (next_left from h));
-    alike_few = let b = small is in omega (arith, n, b);
+    whole = ap (λ i. blocks_at s i from) (next_left end from h) ∙ ap (blocks_from f is (end - (from + 1)) (from + 1)) (sym same);
+    counted = ap (λ (t : Total). t.blocks) one;
+    few = let b = ap (λ (t : Total). t.blocks) one in omega (arith, b);
+    positions = let n = ap (λ (t : Total). t.positions) one in omega (arith, n);
+    alike = count_first is from end total.alike h (ap (λ (t : Total). t.alike) one);
+    refused = count_first (is_refused_at s) from end total.refused h (ap (λ (t : Total). t.refused) one);
+    full = count_first (is_full_at s) from end total.full h (ap (λ (t : Total). t.full) one);
     above = omega arith;
     within = omega (arith, h);
     kernel = kept ∙ (let one : from ≡ from + 1 - 1 = omega arith in ap (λ i. (run_at s i).kernel) one);
   }
 
-  module _ (p : ℕ) (old now : Option (List ℕ)) (current : Positions) (count alike more : ℕ) (k : BootAndHistory) (so_far : SweptSoFar s from end p old now current count alike k) (h : p < end) (is : Bool) (which : is ≡ is_alike_at s p) (next : more ≡ alike + from_bool is) where
-    alike_next : more + count_of (is_alike_at s) (end - (p + 1)) (p + 1) ≡ count_of (is_alike_at s) (end - from) from
-    alike_next =
-        let rest = count_of (is_alike_at s) (end - (p + 1)) (p + 1) in
-        let one : count_of (is_alike_at s) (end - p) p ≡ from_bool (is_alike_at s p) + rest = ap (λ i. count_of (is_alike_at s) i p) (next_left p h) in
-        let by : from_bool is ≡ from_bool (is_alike_at s p) = ap from_bool which in
-        omega (arith, next, one, by, so_far.alike_are)
+  module _ (p : ℕ) (old now : Option (List ℕ)) (current : Positions) (total : Total) (k : BootAndHistory) (so_far : SweptSoFar s from end p old now current total k) (h : p < end) where
+    abbrev more : Total
+    more = both total (total_one (findings_at s p))
 
     there : p ≡ p + 1 - 1
     there = omega arith
 
-    few_alike : more ≤ p + 1 - from
-    few_alike = let b = small is in omega (arith, next, b, so_far.alike_few, so_far.above)
+    alike_next : Counted is from end (p + 1) more.alike
+    alike_next = count_next is from end p total.alike more.alike so_far.alike so_far.above h refl
 
-    by_text : (b : Bool) → bytes_eq (f p) current.text ≡ b → blocks_from f (end - p) p current ≡ cond b (blocks_from f (end - (p + 1)) (p + 1) (record current { last = p })) (current ∷ blocks_from f (end - (p + 1)) (p + 1) (record { first = p; last = p; text = f p }))
+    refused_next : Counted (is_refused_at s) from end (p + 1) more.refused
+    refused_next = count_next (is_refused_at s) from end p total.refused more.refused so_far.refused so_far.above h refl
+
+    full_next : Counted (is_full_at s) from end (p + 1) more.full
+    full_next = count_next (is_full_at s) from end p total.full more.full so_far.full so_far.above h refl
+
+    by_text : (b : Bool) → bytes_eq (f p) current.text ≡ b → blocks_from f is (end - p) p current ≡ cond b (blocks_from f is (end - (p + 1)) (p + 1) (longer current (block_at f is p))) (current ∷ blocks_from f is (end - (p + 1)) (p + 1) (block_at f is p))
     by_text b e =
-        ap (λ i. blocks_from f i p current) (next_left p h)
-        ∙ ap (λ b. cond b (blocks_from f (end - (p + 1)) (p + 1) (record current { last = p })) (current ∷ blocks_from f (end - (p + 1)) (p + 1) (record { first = p; last = p; text = f p }))) e
+        ap (λ i. blocks_from f is i p current) (next_left end p h)
+        ∙ ap (λ b. cond b (blocks_from f is (end - (p + 1)) (p + 1) (longer current (block_at f is p))) (current ∷ blocks_from f is (end - (p + 1)) (p + 1) (block_at f is p))) e
 
     -- the current block goes on
-    pub goes_on : (wider : Positions) (l : BootAndHistory) → bytes_eq (f p) current.text ≡ true → wider ≡ record current { last = p } → l ≡ (run_at s p).kernel → SweptSoFar s from end (p + 1) old now wider count more l
-    goes_on wider l e same kept = record {
+    pub goes_on : (l : BootAndHistory) → bytes_eq (f p) current.text ≡ true → l ≡ (run_at s p).kernel → SweptSoFar s from end (p + 1) old now (longer current (block_at f is p)) (record more { blocks = total.blocks }) l
+    goes_on l e kept = record {
       closed = so_far.closed;
       printed = so_far.printed;
-      whole = so_far.whole ∙ ap (λ bs. so_far.closed ++ bs) (by_text true e ∙ ap (blocks_from f (end - (p + 1)) (p + 1)) (sym same));
+      whole = so_far.whole ∙ ap (λ bs. so_far.closed ++ bs) (by_text true e);
       counted = so_far.counted;
       few = omega (arith, so_far.few, so_far.above);
-      alike_are = alike_next;
-      alike_few = few_alike;
+      positions = omega (arith, so_far.positions, so_far.above);
+      alike = alike_next;
+      refused = refused_next;
+      full = full_next;
       above = omega (arith, so_far.above);
       within = omega (arith, h);
       kernel = kept ∙ ap (λ i. (run_at s i).kernel) there;
@@ -92,62 +141,70 @@ module _ (s : SweepOf) (from end : ℕ) where
     text_more = ap (λ t. flat_map block_text so_far.closed ++ t) (sym (append-nil (block_text current))) ∙ sym (flat_map-append block_text so_far.closed (current ∷ []))
 
     -- it ends, and another begins
-    pub begins : (shut : Positions) (then : Option (List ℕ)) (other : Positions) (counts : ℕ) (l : BootAndHistory) → bytes_eq (f p) current.text ≡ false → shut ≡ current → Appends now then (block_text shut)
-        → other ≡ record { first = p; last = p; text = f p } → counts ≡ count + 1 → l ≡ (run_at s p).kernel → SweptSoFar s from end (p + 1) old then other counts more l
-    begins shut then other counts l e is_open printed same one kept = record {
+    pub begins : (then : Option (List ℕ)) (other : Positions) (l : BootAndHistory) → bytes_eq (f p) current.text ≡ false → Appends now then (block_text current)
+        → other ≡ block_at f is p → l ≡ (run_at s p).kernel → SweptSoFar s from end (p + 1) old then other more l
+    begins then other l e printed same kept = record {
       closed = so_far.closed ++ current ∷ [];
-      printed = subst (Appends old then) text_more (Appends-trans old now then (flat_map block_text so_far.closed) (block_text current) so_far.printed (subst (λ b. Appends now then (block_text b)) is_open printed));
-      whole = so_far.whole ∙ ap (λ bs. so_far.closed ++ bs) (by_text false e ∙ ap (λ b. current ∷ blocks_from f (end - (p + 1)) (p + 1) b) (sym same)) ∙ sym (append_assoc so_far.closed (current ∷ []) (blocks_from f (end - (p + 1)) (p + 1) other));
-      counted = let longer = length-append so_far.closed (current ∷ []) in omega (arith, one, longer, so_far.counted);
-      few = omega (arith, one, so_far.few, so_far.above);
-      alike_are = alike_next;
-      alike_few = few_alike;
+      printed = subst (Appends old then) text_more (Appends-trans old now then (flat_map block_text so_far.closed) (block_text current) so_far.printed printed);
+      whole = so_far.whole ∙ ap (λ bs. so_far.closed ++ bs) (by_text false e ∙ ap (λ b. current ∷ blocks_from f is (end - (p + 1)) (p + 1) b) (sym same)) ∙ sym (append_assoc so_far.closed (current ∷ []) (blocks_from f is (end - (p + 1)) (p + 1) other));
+      counted = let longer = length-append so_far.closed (current ∷ []) in omega (arith, longer, so_far.counted);
+      few = omega (arith, so_far.few, so_far.above);
+      positions = omega (arith, so_far.positions, so_far.above);
+      alike = alike_next;
+      refused = refused_next;
+      full = full_next;
       above = omega (arith, so_far.above);
       within = omega (arith, h);
       kernel = kept ∙ ap (λ i. (run_at s i).kernel) there;
     }
 
   -- whichever it is
-  pub goes : (p : ℕ) (old now then : Option (List ℕ)) (k l : BootAndHistory) (x y next : Tally) (text : Vec ℕ Global) (is b : Bool) → SweptSoFar s from end p old now (positions_of x.block) x.blocks x.alike k → p < end
-      → is ≡ is_alike_at s p → next ≡ record { block = record { first = p; last = p; text = text }; blocks = 1; alike = from_bool is } → text.items ≡ f p → bytes_eq (f p) x.block.text.items ≡ b
-      → (bytes_eq next.block.text.items x.block.text.items ≡ true → (y ≡ record x { block = record x.block { last = next.block.last }; alike = x.alike + next.alike }) × (then ≡ now))
-      → (bytes_eq next.block.text.items x.block.text.items ≡ false → (y ≡ record { block = next.block; blocks = x.blocks + next.blocks; alike = x.alike + next.alike }) × Appends now then (block_text (positions_of x.block)))
-      → l ≡ (run_at s p).kernel → SweptSoFar s from end (p + 1) old then (positions_of y.block) y.blocks y.alike l
-  goes p old now then k l x y next text is true so_far h which one told e on new kept =
+  pub goes : (p : ℕ) (old now then : Option (List ℕ)) (k l : BootAndHistory) (x y next : Tally) (text : Vec ℕ Global) (found : Findings) (b : Bool) → SweptSoFar s from end p old now (positions_of x.block) x.total k → p < end
+      → found ≡ findings_at s p → next ≡ tally_of p text found → text.items ≡ f p → bytes_eq (f p) x.block.text.items ≡ b
+      → (bytes_eq next.block.text.items x.block.text.items ≡ true → (y ≡ record { block = with_next x.block next.block; total = record (both x.total next.total) { blocks = x.total.blocks } }) × (then ≡ now))
+      → (bytes_eq next.block.text.items x.block.text.items ≡ false → (y ≡ record { block = next.block; total = both x.total next.total }) × Appends now then (block_text (positions_of x.block)))
+      → l ≡ (run_at s p).kernel → SweptSoFar s from end (p + 1) old then (positions_of y.block) y.total l
+  goes p old now then k l x y next text found true so_far h which one told e on new kept =
       let same : bytes_eq text.items x.block.text.items ≡ true = ap (λ u. bytes_eq u x.block.text.items) told ∙ e in
-      let r = subst (λ (n : Tally). bytes_eq n.block.text.items x.block.text.items ≡ true → (y ≡ record x { block = record x.block { last = n.block.last }; alike = x.alike + n.alike }) × (then ≡ now)) one on same in
-      let wide = goes_on p old now (positions_of x.block) x.blocks x.alike (x.alike + from_bool is) k so_far h is which refl (record (positions_of x.block) { last = p }) l e refl kept in
-      subst (λ (z : Tally). SweptSoFar s from end (p + 1) old then (positions_of z.block) z.blocks z.alike l) (sym r.0)
-      (subst (λ o. SweptSoFar s from end (p + 1) old o (record (positions_of x.block) { last = p }) x.blocks (x.alike + from_bool is) l) (sym r.1) wide)
-  goes p old now then k l x y next text is false so_far h which one told e on new kept =
+      let here : next ≡ tally_of p text (findings_at s p) = one ∙ ap (tally_of p text) which in
+      let r = subst (λ (n : Tally). bytes_eq n.block.text.items x.block.text.items ≡ true → (y ≡ record { block = with_next x.block n.block; total = record (both x.total n.total) { blocks = x.total.blocks } }) × (then ≡ now)) here on same in
+      let wide = goes_on p old now (positions_of x.block) x.total k so_far h l e kept in
+      subst (λ (z : Tally). SweptSoFar s from end (p + 1) old then (positions_of z.block) z.total l) (sym r.0)
+      (subst (λ o. SweptSoFar s from end (p + 1) old o (longer (positions_of x.block) (block_at f is p)) (record (both x.total (total_one (findings_at s p))) { blocks = x.total.blocks }) l) (sym r.1) wide)
+  goes p old now then k l x y next text found false so_far h which one told e on new kept =
       let other : bytes_eq text.items x.block.text.items ≡ false = ap (λ u. bytes_eq u x.block.text.items) told ∙ e in
-      let r = subst (λ (n : Tally). bytes_eq n.block.text.items x.block.text.items ≡ false → (y ≡ record { block = n.block; blocks = x.blocks + n.blocks; alike = x.alike + n.alike }) × Appends now then (block_text (positions_of x.block))) one new other in
-      let begun = begins p old now (positions_of x.block) x.blocks x.alike (x.alike + from_bool is) k so_far h is which refl (positions_of x.block) then (record { first = p; last = p; text = text.items }) (x.blocks + 1) l e refl r.1
-      (ap (λ (u : List ℕ). let o : Positions = record { first = p; last = p; text = u } in o) told) refl kept in
-      subst (λ (z : Tally). SweptSoFar s from end (p + 1) old then (positions_of z.block) z.blocks z.alike l) (sym r.0) begun
+      let here : next ≡ tally_of p text (findings_at s p) = one ∙ ap (tally_of p text) which in
+      let r = subst (λ (n : Tally). bytes_eq n.block.text.items x.block.text.items ≡ false → (y ≡ record { block = n.block; total = both x.total n.total }) × Appends now then (block_text (positions_of x.block))) here new other in
+      let begun = begins p old now (positions_of x.block) x.total k so_far h then (positions_of (tally_of p text (findings_at s p)).block) l e r.1
+      (ap (λ (u : List ℕ). let o : Positions = record { first = p; last = p; text = u; differs = cond (is p) None (Some p) } in o) told) kept in
+      subst (λ (z : Tally). SweptSoFar s from end (p + 1) old then (positions_of z.block) z.total l) (sym r.0) begun
 
-  module _ (p : ℕ) (old now then : Option (List ℕ)) (current shut : Positions) (count alike : ℕ) (k : BootAndHistory) (so_far : SweptSoFar s from end p old now current count alike k) (last : p ≡ end) where
+  module _ (p : ℕ) (old now : Option (List ℕ)) (current : Positions) (total : Total) (k : BootAndHistory) (so_far : SweptSoFar s from end p old now current total k) (last : p ≡ end) where
     none_left : end - p ≡ 0
     none_left = omega (arith, last)
 
-    whole_last : blocks f (end - from) from ≡ so_far.closed ++ current ∷ []
-    whole_last = so_far.whole ∙ ap (λ i. so_far.closed ++ blocks_from f i p current) none_left
+    whole_last : blocks_at s (end - from) from ≡ so_far.closed ++ current ∷ []
+    whole_last = so_far.whole ∙ ap (λ i. so_far.closed ++ blocks_from f is i p current) none_left
 
     -- all is printed
-    pub last_printed : shut ≡ current → Appends now then (block_text shut) → Appends old then (flat_map block_text (blocks f (end - from) from))
-    last_printed is printed =
+    pub last_printed : (then : Option (List ℕ)) → Appends now then (block_text current) → Appends old then (flat_map block_text (blocks_at s (end - from) from))
+    last_printed then printed =
         let more : flat_map block_text so_far.closed ++ block_text current ≡ flat_map block_text (so_far.closed ++ current ∷ []) =
         ap (λ t. flat_map block_text so_far.closed ++ t) (sym (append-nil (block_text current))) ∙ sym (flat_map-append block_text so_far.closed (current ∷ [])) in
         subst (Appends old then) (more ∙ sym (ap (flat_map block_text) whole_last))
-        (Appends-trans old now then (flat_map block_text so_far.closed) (block_text current) so_far.printed (subst (λ b. Appends now then (block_text b)) is printed))
+        (Appends-trans old now then (flat_map block_text so_far.closed) (block_text current) so_far.printed printed)
 
-    pub last_blocks : count ≡ length (blocks f (end - from) from)
+    last_blocks : total.blocks ≡ length (blocks_at s (end - from) from)
     last_blocks = let longer = length-append so_far.closed (current ∷ []) in let same = ap length whole_last in omega (arith, longer, same, so_far.counted)
 
-    pub last_alike : alike ≡ count_of (is_alike_at s) (end - from) from
-    last_alike =
-        let none : count_of (is_alike_at s) (end - p) p ≡ 0 = ap (λ i. count_of (is_alike_at s) i p) none_left in
-        omega (arith, none, so_far.alike_are)
+    -- and counted
+    pub last_total : total ≡ total_of s (end - from) from
+    last_total =
+        let a = count_last is from end p total.alike so_far.alike last in
+        let r = count_last (is_refused_at s) from end p total.refused so_far.refused last in
+        let w = count_last (is_full_at s) from end p total.full so_far.full last in
+        let n : total.positions ≡ end - from = so_far.positions ∙ ap (λ i. i - from) last in
+        total_parts total (end - from) (length (blocks_at s (end - from) from)) (count_of is (end - from) from) (count_of (is_refused_at s) (end - from) from) (count_of (is_full_at s) (end - from) from) n last_blocks a r w
 
     pub last_kernel : k ≡ (run_at s (end - 1)).kernel
     last_kernel = so_far.kernel ∙ ap (λ i. (run_at s (i - 1)).kernel) last

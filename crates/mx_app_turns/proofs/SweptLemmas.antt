@@ -24,11 +24,14 @@ use Rattle.mx_app_step.specs.Service.{Service}
 use Rattle.mx_app_step.specs.Written.{Written}
 use Rattle.mx_app_turns.specs.declared.blocks.Total.{Total}
 use Rattle.mx_sweep.specs.declared.faults.FaultLine.{FaultLine}
-use Rattle.mx_app_turns.specs.Blocks.{block_text, blocks, count_of, total_text}
+use Rattle.mx_app_turns.specs.Blocks.{block_text, count_of, total_text}
 use Rattle.mx_app_turns.specs.declared.sweeping.Swept.{Swept}
-use Rattle.mx_app_turns.specs.declared.sweeping.Swept.TheVariants.{Alike, Differs, Refused}
+use Rattle.mx_app_turns.specs.declared.sweeping.Swept.TheVariants.{Alike, Differs, Nothing, Refused}
+use Rattle.mx_app_turns.specs.declared.nothing_tested.Untested.{Untested}
+use Rattle.mx_app_turns.specs.declared.nothing_tested.Untested.TheVariants.{NoLine, NoPosition}
+use Rattle.mx_app_turns.specs.Untested.{refused_or_full, untested_by}
 use Rattle.mx_app_turns.specs.Begun.{IsDone}
-use Rattle.mx_app_turns.specs.Sweeping.{IsBegun, IsNotBegun, IsShown, IsSweptThrough, IsUnsaved, SweepOf, Sweeps, alike_in, ended, is_alike_at, last_text, of, positions_in, run_at, saved_if, saves_program, sweep_text, text_at, writes_over}
+use Rattle.mx_app_turns.specs.Sweeping.{IsBegun, IsNotBegun, IsShown, IsSweptThrough, IsUnsaved, SweepOf, Sweeps, blocks_at, ended, ending_of, is_alike_at, last_text, of, positions_in, refusal_at, run_at, saved_if, saves_program, sweep_text, total_in, total_of, writes_over}
 
 -- ---- how it ended
 
@@ -36,21 +39,33 @@ by_test : (b : Bool) → Refused ≡ cond b Alike Differs → ⊥
 by_test true h = absurd cc
 by_test false h = absurd cc
 
+-- what is swept isn't refused
+not_refused : (o : Option Untested) (total : Total) → Refused ≡ ended o total → ⊥
+not_refused (Some why) total h = absurd cc
+not_refused None total h = by_test (total.alike == total.positions) h
+
 -- what is printed and saved, however it ended
 module _ (s : SweepOf) (from to : ℕ) (save : Option (List ℕ)) (ws : List Written) (ps : List Part) (Prints : List ℕ → Type 0) where
   abbrev positions : ℕ
   positions = positions_in s from to
 
-  pub through : (how : Swept) → AreAccepted s.boot (events_of_history s.records) → how ≡ ended positions (alike_in s from to) → Prints (sweep_text s from to)
+  pub through : (how : Swept) → AreAccepted s.boot (events_of_history s.records) → how ≡ ending_of s from to → Prints (sweep_text s from to)
       → ws ≡ saved_if (last_text s to) positions save → ps ≡ parts_shown positions positions → IsSweptThrough s from to save ws ps Prints how
   through Alike accepted is printed written shown = (shown, accepted, is, printed, written)
   through Differs accepted is printed written shown = (shown, accepted, is, printed, written)
-  through Refused accepted is printed written shown = absurd (by_test (alike_in s from to == positions) is)
+  through (Nothing why) accepted is printed written shown = (shown, accepted, is, printed, written)
+  through Refused accepted is printed written shown = absurd (not_refused (untested_by (length s.fault) from to (total_in s from to) (refusal_at s from)) (total_in s from to) is)
 
 -- ---- the counts
 
-abbrev pub total_of : SweepOf → ℕ → ℕ → Total
-total_of s n from = record { positions = n; blocks = length (blocks (text_at s) n from); alike = count_of (is_alike_at s) n from }
+-- why nothing was tested doesn't depend on a refusal if there is no position
+by_count : (lines from to n : ℕ) (total : Total) (x y : Option Refusal) → total.positions ≡ n → (0 < n → x ≡ y) → untested_by lines from to total x ≡ untested_by lines from to total y
+by_count lines from to zero total x y none same =
+    let by : Option Refusal → Bool → Option Untested =
+    λ z b. cond (lines == 0) (Some NoLine) (cond b (Some (NoPosition from to)) (refused_or_full (cond (total.refused == total.positions) z None) (total.full == total.positions))) in
+    let at : (total.positions == 0) ≡ true = ap (λ n. n == 0) none in
+    ap (by x) at ∙ sym (ap (by y) at)
+by_count lines from to (suc n) total x y some same = ap (untested_by lines from to total) (same (omega arith))
 
 last_position : (from to end records n : ℕ) → end ≡ min to records + 1 → n ≡ end - from → 0 < n → (from < end) × (end - 1 ≡ min to records)
 last_position from to end records n is many some = (omega (arith, many, some), omega (arith, is))
@@ -68,18 +83,21 @@ module _ (t s : SweepOf) (same : t ≡ s) (from to first end records : ℕ) (at 
   counted_here : total ≡ total_of s (positions_in s from to) from
   counted_here = counted ∙ ap (λ (x : SweepOf). total_of x (end - first) first) same ∙ ap₂ (λ m f. total_of s m f) in_all at
 
-  pub all_printed : (old mid now : Option (List ℕ)) → Appends old mid (flat_map block_text (blocks (text_at t) (end - first) first)) → Appends mid now (total_text total.positions total.blocks total.alike) → Appends old now (sweep_text s from to)
+  pub all_printed : (old mid now : Option (List ℕ)) → Appends old mid (flat_map block_text (blocks_at t (end - first) first)) → Appends mid now (total_text total.positions total.blocks total.alike) → Appends old now (sweep_text s from to)
   all_printed old mid now above below =
-      let one = subst (λ (x : SweepOf). Appends old mid (flat_map block_text (blocks (text_at x) (end - first) first))) same above in
-      let two = subst (λ n. Appends old mid (flat_map block_text (blocks (text_at s) n first))) in_all one in
-      let three = subst (λ f. Appends old mid (flat_map block_text (blocks (text_at s) (positions_in s from to) f))) at two in
+      let one = subst (λ (x : SweepOf). Appends old mid (flat_map block_text (blocks_at x (end - first) first))) same above in
+      let two = subst (λ n. Appends old mid (flat_map block_text (blocks_at s n first))) in_all one in
+      let three = subst (λ f. Appends old mid (flat_map block_text (blocks_at s (positions_in s from to) f))) at two in
       let n = positions_in s from to in
-      let bs = blocks (text_at s) n from in
+      let bs = blocks_at s n from in
       Appends-trans old mid now (flat_map block_text bs) (total_text n (length bs) (count_of (is_alike_at s) n from)) three
       (subst (λ (x : Total). Appends mid now (total_text x.positions x.blocks x.alike)) counted_here below)
 
-  pub how_is : (how : Swept) → how ≡ ended total.positions total.alike → how ≡ ended (positions_in s from to) (alike_in s from to)
-  how_is how h = h ∙ ap (λ (x : Total). ended x.positions x.alike) counted_here
+  pub how_is : (how : Swept) (why : Option Refusal) → (first < end → why ≡ refusal_at s from) → how ≡ ended (untested_by (length s.fault) from to total why) total → how ≡ ending_of s from to
+  how_is how why refused h =
+      let some : 0 < total.positions → why ≡ refusal_at s from = λ m. refused (let n = ap (λ (x : Total). x.positions) counted in omega (arith, m, n)) in
+      h ∙ ap (λ (o : Option Untested). ended o total) (by_count (length s.fault) from to total.positions total why (refusal_at s from) refl some)
+      ∙ ap (λ (x : Total). ended (untested_by (length s.fault) from to x (refusal_at s from)) x) counted_here
 
   -- what is kept after the last position, if there is one
   pub last_kept : (k : BootAndHistory) → (first < end → k ≡ (run_at t (end - 1)).kernel) → 0 < total.positions → text_kept k ≡ last_text s to
@@ -121,7 +139,7 @@ refused s from to save Prints n line x (Err y) at above err ok = (0, omega arith
 
 -- its positions are swept, and then it ends
 module _ (s : SweepOf) (from to first end : ℕ) (at : first ≡ from) (by : end ≡ min to (length s.records) + 1) (total : Total) (counted : total ≡ total_of s (end - first) first) (k : BootAndHistory) (kernel : first < end → k ≡ (run_at s (end - 1)).kernel)
-    (save : Option (List ℕ)) (old mid now : Option (List ℕ)) (printed : Appends old mid (flat_map block_text (blocks (text_at s) (end - first) first))) (before after : List Written) where
+    (why : Option Refusal) (refusal : first < end → why ≡ refusal_at s from) (save : Option (List ℕ)) (old mid now : Option (List ℕ)) (printed : Appends old mid (flat_map block_text (blocks_at s (end - first) first))) (before after : List Written) where
   all_in : end - first ≡ positions_in s from to
   all_in = positions_are s from to first end (length s.records) at refl by
 
@@ -144,7 +162,7 @@ module _ (s : SweepOf) (from to first end : ℕ) (at : first ≡ from) (by : end
       )
 
   pub ends : (r : Result Swept Kind) → AreAccepted s.boot (events_of_history s.records)
-      → IfOk r (λ how. (how ≡ ended total.positions total.alike) × Appends mid now (total_text total.positions total.blocks total.alike) × (after ≡ before ++ saved_if (text_kept k) total.positions save))
+      → IfOk r (λ how. (how ≡ ended (untested_by (length s.fault) from to total why) total) × Appends mid now (total_text total.positions total.blocks total.alike) × (after ≡ before ++ saved_if (text_kept k) total.positions save))
       → IfErr r (λ f. ((after ≡ before) × IsWanting f) ⊎ ((0 < total.positions) × (ws : List Written) × (after ≡ before ++ ws) × IsUnsaved (text_kept k) save ws f)) → Ends r
   ends (Ok how) accepted ok err =
       let n = end - first in
@@ -152,7 +170,7 @@ module _ (s : SweepOf) (from to first end : ℕ) (at : first ≡ from) (by : end
       let ws = saved_if (text_kept k) total.positions save in (
         ws,
         ok.2,
-        through s from to save ws (parts_shown n n) (λ (text : List ℕ). Appends old now text) how accepted (how_is s s refl from to first end records at refl by total counted how ok.0)
+        through s from to save ws (parts_shown n n) (λ (text : List ℕ). Appends old now text) how accepted (how_is s s refl from to first end records at refl by total counted how why refusal ok.0)
             (all_printed s s refl from to first end records at refl by total counted old mid now printed ok.1) (last_saved s s refl from to first end records at refl by total counted k save kernel) (ap (λ a. parts_shown a a) all_in),
       )
   ends (Err f) accepted ok err = unended f err

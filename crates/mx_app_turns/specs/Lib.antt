@@ -4,3 +4,5 @@ pub mod FaultLines
 pub mod Blocks
 pub mod Sweeping
 pub mod Begun
+pub mod Untested
+pub mod Tallied

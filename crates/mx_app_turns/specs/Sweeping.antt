@@ -1,9 +1,10 @@
 -- What `mx sweep` reads, prints and writes (our own).
-use Rattle.std.specs.Prelude.{◌≡◌, ◌≤◌, ◌⊎◌, ◌||◌, ◌+◌, ◌-◌, ◌==◌, if◌then◌else◌, ℕ, Bool, true, false, List, [], ◌∷◌, ◌++◌, length, min, Option, Some, None, Result, Ok, Err}
+use Rattle.std.specs.Prelude.{◌≡◌, ◌≤◌, ◌⊎◌, ◌||◌, ◌+◌, ◌-◌, ◌==◌, if◌then◌else◌, ℕ, Bool, true, false, List, [], ◌∷◌, ◌++◌, length, min, is_some, Option, Some, None, Result, Ok, Err}
 use Rattle.std.specs.Str.{bytes_eq}
 use Rattle.mx_text.specs.Lines.{lines}
 use Rattle.mx_boot.specs.Reading.{AreLinesRead, TellsUnread}
 use Rattle.mx_machine.specs.Boot.{world_at_boot}
+use Rattle.mx_machine.specs.declared.events.Refusal.{Refusal}
 use Rattle.mx_machine.specs.declared.history.Record.{Record}
 use Rattle.mx_machine.specs.History.{AreAccepted, events_of_history}
 use Rattle.mx_machine.specs.World.{World}
@@ -23,11 +24,16 @@ use Rattle.mx_app_step.specs.Setup.{IsNoTextGiven, IsNotStarted, IsStart, IsText
 use Rattle.mx_app_step.specs.Written.{Written, kept}
 use Rattle.mx_app_step.specs.declared.records.Replayed.TheVariants as replayed
 use Rattle.mx_sweep.specs.declared.faults.FaultLine.{FaultLine}
-use Rattle.mx_sweep.specs.Sweep.{Run, are_alike, outcome_text, run_of}
-use Rattle.mx_app_turns.specs.Blocks.{count_of, swept_text}
+use Rattle.mx_sweep.specs.declared.outcomes.Findings.{Findings}
+use Rattle.mx_sweep.specs.Findings.{findings_of}
+use Rattle.mx_sweep.specs.Sweep.{Run, outcome_text, run_of}
+use Rattle.mx_app_turns.specs.Blocks.{Positions, blocks, count_of, swept_text}
+use Rattle.mx_app_turns.specs.declared.blocks.Total.{Total}
 use Rattle.mx_app_turns.specs.declared.sweeping.Swept.{Swept}
-use Rattle.mx_app_turns.specs.declared.sweeping.Swept.TheVariants.{Alike, Differs, Refused}
+use Rattle.mx_app_turns.specs.declared.sweeping.Swept.TheVariants.{Alike, Differs, Nothing, Refused}
+use Rattle.mx_app_turns.specs.declared.nothing_tested.Untested.{Untested}
 use Rattle.mx_app_turns.specs.FaultLines.{fault_line}
+use Rattle.mx_app_turns.specs.Untested.{untested_by}
 
 -- ---- what is read
 
@@ -76,16 +82,44 @@ run_without s k = run_of s.boot s.other s.records s.bound [] k
 abbrev pub text_at : SweepOf → ℕ → List ℕ
 text_at s k = outcome_text (run_at s k)
 
+-- what a position tells of the fault
+abbrev pub findings_at : SweepOf → ℕ → Findings
+findings_at s k = findings_of (run_at s k) (run_without s k)
+
 abbrev pub is_alike_at : SweepOf → ℕ → Bool
-is_alike_at s k = are_alike (run_at s k) (run_without s k)
+is_alike_at s k = (findings_at s k).is_alike
+
+-- each line of the fault is refused there, the first for this reason
+abbrev pub refusal_at : SweepOf → ℕ → Option Refusal
+refusal_at s k = (findings_at s k).refusal
+
+abbrev pub is_refused_at : SweepOf → ℕ → Bool
+is_refused_at s k = is_some (refusal_at s k)
+
+abbrev pub is_full_at : SweepOf → ℕ → Bool
+is_full_at s k = (findings_at s k).is_full
 
 -- how many positions there are from one to another: the last of a history is the number of its records
 abbrev pub positions_in : SweepOf → ℕ → ℕ → ℕ
 positions_in s from to = (min to (length s.records) + 1) - from
 
--- how many of them have the outcome that they have without the fault
-abbrev pub alike_in : SweepOf → ℕ → ℕ → ℕ
-alike_in s from to = count_of (is_alike_at s) (positions_in s from to) from
+-- the blocks of n positions from k on
+abbrev pub blocks_at : SweepOf → ℕ → ℕ → List Positions
+blocks_at s n k = blocks (text_at s) (is_alike_at s) n k
+
+-- what is counted of them
+abbrev pub total_of : SweepOf → ℕ → ℕ → Total
+total_of s n k = record {
+  positions = n;
+  blocks = length (blocks_at s n k);
+  alike = count_of (is_alike_at s) n k;
+  refused = count_of (is_refused_at s) n k;
+  full = count_of (is_full_at s) n k;
+}
+
+-- what is counted of the positions from one to another
+abbrev pub total_in : SweepOf → ℕ → ℕ → Total
+total_in s from to = total_of s (positions_in s from to) from
 
 -- what is printed of them
 abbrev pub sweep_text : SweepOf → ℕ → ℕ → List ℕ
@@ -105,9 +139,14 @@ abbrev pub IsUnsaved : List ℕ → Option (List ℕ) → List Written → Kind 
 IsUnsaved text None ws f = ⊥
 IsUnsaved text (Some name) ws f = IsUnwritten name text ws f
 
--- each position of a number of them has the outcome that it has without the fault, or one hasn't
-abbrev pub ended : ℕ → ℕ → Swept
-ended positions alike = if alike == positions then Alike else Differs
+-- nothing was tested; or each position has the outcome that it has without the fault, or one hasn't
+abbrev pub ended : Option Untested → Total → Swept
+ended (Some why) total = Nothing why
+ended None total = if total.alike == total.positions then Alike else Differs
+
+-- HOW A SWEEP ENDS, by what was swept
+abbrev pub ending_of : SweepOf → ℕ → ℕ → Swept
+ending_of s from to = ended (untested_by (length s.fault) from to (total_in s from to) (refusal_at s from)) (total_in s from to)
 
 -- what was shown of all positions; or, if the sweep failed, of the first n
 abbrev pub IsShown : {X : Type 0} → List Part → List Part → ℕ → Result X Kind → Type 0
@@ -119,7 +158,7 @@ IsShown before after all (Err f) = (n : ℕ) × (n ≤ all) × (after ≡ before
 abbrev pub IsSweptThrough : SweepOf → ℕ → ℕ → Option (List ℕ) → List Written → List Part → (List ℕ → Type 0) → Swept → Type 0
 IsSweptThrough s from to save ws ps Prints Refused = (ws ≡ []) × (ps ≡ []) × IsReplayPrinted s.boot s.records replayed.Refused Prints
 IsSweptThrough s from to save ws ps Prints how =
-    (let n = positions_in s from to in ps ≡ parts_shown n n) × AreAccepted s.boot (events_of_history s.records) × (how ≡ ended (positions_in s from to) (alike_in s from to))
+    (let n = positions_in s from to in ps ≡ parts_shown n n) × AreAccepted s.boot (events_of_history s.records) × (how ≡ ending_of s from to)
     × Prints (sweep_text s from to) × (ws ≡ saved_if (last_text s to) (positions_in s from to) save)
 
 -- why it isn't finished, after it was read: memory or standard output; or the file that is saved

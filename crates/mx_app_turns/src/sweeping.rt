@@ -22,20 +22,23 @@ ghost use Rattle.mx_text.specs.Lines.{lines};
 ghost use Rattle.mx_walk.specs.declared.progress.Part.{Part as Parts};
 ghost use Rattle.mx_app_turns.specs.FaultLines.{fault_line};
 ghost use Rattle.mx_app_turns.specs.declared.sweeping.Swept.TheVariants as swept;
-ghost use Rattle.mx_app_turns.specs.Blocks.{block_text, blocks, count_of, positions_of, total_text};
+ghost use Rattle.mx_app_turns.specs.Blocks.{block_text, positions_of, total_text};
+ghost use Rattle.mx_app_turns.specs.Tallied.{both, has_room, tally_of, with_next};
+ghost use Rattle.mx_app_turns.specs.Untested.{untested_by};
 ghost use Rattle.mx_sweep.specs.Swept.{IsSwept};
-ghost use Rattle.mx_app_turns.specs.Sweeping.{IsBegun, IsNotBegun, IsShown, IsUnsaved, Sweeps, ended, is_alike_at, run_at, saved_if, saves_program, text_at, writes_over};
+ghost use Rattle.mx_app_turns.specs.Sweeping.{IsBegun, IsNotBegun, IsShown, IsUnsaved, Sweeps, blocks_at, ended, findings_at, refusal_at, run_at, saved_if, saves_program, text_at, total_of, writes_over};
 ghost use Rattle.mx_app_step.specs.Kept.{kept_of, text_kept};
 ghost use Rattle.mx_app_turns.specs.Begun.{IsDone, IsReady, begun_of, is_ready, sweep_of};
 
 use crate::blocks::{Block, Total, push_block, push_total};
 use crate::fault_files::fault_lines;
+use crate::nothing_tested::{Untested, why_nothing};
 use mx_app_failure::{Failure, print_text};
 use mx_app_start::{Channels, FileWriter, History, Reader, Started, names_program, start, text_of};
 use mx_app_step::{perform_records, print_refusal, write_history};
 use mx_boot::lines_above;
 use mx_machine::{Config, Machine, Record, Refusal};
-use mx_sweep::{FaultLine, Outcome, Range, Sweep, outcome_at};
+use mx_sweep::{FaultLine, Findings, Outcome, Range, Sweep, outcome_at};
 use mx_walk::{Part, Progress};
 use std::alloc::Global;
 use std::io::Write;
@@ -61,12 +64,14 @@ pub struct SweepWanted<'a> {
 }
 
 /// How a sweep ended.
-#[derive(Clone, Copy, Debug, PartialEq, Eq)]
+#[derive(Clone, Copy, PartialEq, Eq)]
 pub enum Swept {
     /// Each position has the outcome that it has without the fault.
     Alike,
     /// A position hasn't.
     Differs,
+    /// Nothing was tested, and this is why.
+    Nothing(Untested),
     /// The history itself is refused, and nothing was swept.
     Refused,
 }
@@ -149,28 +154,21 @@ fn print_block<P: Progress, W: Write>(
     print_text(text.as_slice(), out)
 }
 
-/// What was swept so far: the block that is not printed yet, how many blocks there are with it, and how many
-/// positions have the outcome that they have without the fault.
+/// What was swept so far: the block that is not printed yet, and what is counted with it.
 #[derive(Drop)]
 struct Tally {
     block: Block,
-    blocks: usize,
-    alike: usize,
+    total: Total,
 }
 
 impl Tally {
     /// The tally of one position.
-    fn one(position: usize, text: Vec<u8>, is_alike: bool) -> Self
-        ensures { result ≡ record {
-          block = record { first = position; last = position; text = text };
-          blocks = 1;
-          alike = if is_alike then 1 else 0;
-        } }
+    fn one(position: usize, text: Vec<u8>, findings: Findings) -> Self
+        ensures { result ≡ tally_of position text findings }
     {
         Self {
-            block: Block::one(position, text),
-            blocks: 1,
-            alike: usize::from(is_alike),
+            block: Block::one(position, text, findings.is_alike),
+            total: Total::one(findings),
         }
     }
 
@@ -183,48 +181,47 @@ impl Tally {
         progress: &mut P,
         out: &mut W,
     ) -> Result<(), Failure>
-        requires blocks { self.old.blocks + next.blocks < 2 ^ 64 }
-        requires alike { self.old.alike + next.alike < 2 ^ 64 }
+        requires few { has_room self.old.total next.total }
         ensures err { IfErr result IsWanting }
         ensures same { IfErr result (λ _. self.new ≡ self.old) }
         ensures goes_on { OnOk result
             (bytes_eq next.block.text.items self.old.block.text.items ≡ true
-            → (self.new ≡ record self.old {
-              block = record self.old.block { last = next.block.last };
-              alike = self.old.alike + next.alike;
+            → (self.new ≡ record {
+              block = with_next self.old.block next.block;
+              total = record (both self.old.total next.total) { blocks = self.old.total.blocks };
             }) × (W.contents out.new ≡ W.contents out.old)) }
         ensures begins { OnOk result
             (bytes_eq next.block.text.items self.old.block.text.items ≡ false
             → (self.new ≡ record {
               block = next.block;
-              blocks = self.old.blocks + next.blocks;
-              alike = self.old.alike + next.alike;
+              total = both self.old.total next.total;
             }) × Appends (W.contents out.old) (W.contents out.new)
             (block_text (positions_of self.old.block))) }
         ensures shown { P.shown progress.new ≡ P.shown progress.old }
     {
-        let Self {
-            block,
-            blocks,
-            alike,
-        } = next;
+        let Self { block, total } = next;
+        let blocks = self.total.blocks;
         if block.text.as_slice() == self.block.text.as_slice() {
             self.block.last = block.last;
+            self.block.differs = self.block.differs.or(block.differs);
+            self.total = self.total.and(total);
+            self.total.blocks = blocks;
         } else {
             print_block(alloc, &self.block, progress, out)?;
-            self.blocks += blocks;
+            self.total = self.total.and(total);
             self.block = block;
         }
-        self.alike += alike;
         Ok(())
     }
 }
 
-/// What was swept: the machine after the last position's run, and the counts.
+/// What was swept: the machine after the last position's run, what was counted, and why the fault's first line was
+/// refused at the first position, if each line was.
 #[derive(Drop)]
 struct Done {
     machine: Machine,
     total: Total,
+    refusal: Option<Refusal>,
 }
 
 /// The outcome of a position of a sweep. It is shown then that the position is done.
@@ -241,7 +238,7 @@ fn outcome_shown<P: Progress>(
     requires within { sweep.range.end ≤ length sweep.records.now + 1 }
     ensures err { IfErr result IsWanting }
     ensures outcome { IfOk result (λ o. let s = sweep_of sweep.entry machine.kernel.boot in
-        (o.text.items ≡ text_at s position) × (o.is_alike ≡ is_alike_at s position)
+        (o.text.items ≡ text_at s position) × (o.findings ≡ findings_at s position)
         × (o.machine.kernel ≡ (run_at s position).kernel)) }
     ensures boot { IfOk result (λ o. o.machine.kernel.boot ≡ machine.kernel.boot) }
     ensures shown { OnOk result (let range = sweep.entry.range in P.shown progress.new
@@ -270,21 +267,18 @@ fn print_more<P: Progress, W: Write>(
     requires within { sweep.range.end ≤ length sweep.records.now + 1 }
     requires first { let s = sweep_of sweep first.machine.kernel.boot in
         (first.text.items ≡ text_at s sweep.range.from)
-        × (first.is_alike ≡ is_alike_at s sweep.range.from)
+        × (first.findings ≡ findings_at s sweep.range.from)
         × (first.machine.kernel ≡ (run_at s sweep.range.from).kernel) }
     ensures err { IfErr result IsWanting }
     ensures printed { OnOk result (let range = sweep.entry.range in
         Appends (W.contents out.old) (W.contents out.new)
-        (flat_map block_text (blocks (text_at (sweep_of sweep.entry first.machine.kernel.boot))
+        (flat_map block_text (blocks_at (sweep_of sweep.entry first.machine.kernel.boot)
         (range.end - range.from) range.from))) }
     ensures total { IfOk result (λ done. let range = sweep.entry.range in
         let s = sweep_of sweep.entry first.machine.kernel.boot in
-        let n = range.end - range.from in
-        done.total ≡ record {
-          positions = n;
-          blocks = length (blocks (text_at s) n range.from);
-          alike = count_of (is_alike_at s) n range.from;
-        }) }
+        done.total ≡ total_of s (range.end - range.from) range.from) }
+    ensures refusal { IfOk result (λ done. done.refusal
+        ≡ refusal_at (sweep_of sweep.entry first.machine.kernel.boot) sweep.entry.range.from) }
     ensures kernel { IfOk result (λ done. done.machine.kernel
         ≡ (run_at (sweep_of sweep.entry first.machine.kernel.boot)
         (sweep.entry.range.end - 1)).kernel) }
@@ -293,22 +287,22 @@ fn print_more<P: Progress, W: Write>(
 {
     let range = sweep.range;
     let all = range.end - range.from;
+    let refusal = first.findings.refusal;
     let mut machine = first.machine;
-    let mut tally = Tally::one(range.from, first.text, first.is_alike);
+    let mut tally = Tally::one(range.from, first.text, first.findings);
     progress.show(Part { done: 1, all });
     for position in range.from + 1..range.end {
         let outcome = outcome_shown(alloc, machine, sweep, position, progress)?;
         machine = outcome.machine;
-        let next = Tally::one(position, outcome.text, outcome.is_alike);
+        let next = Tally::one(position, outcome.text, outcome.findings);
         tally.push(alloc, next, progress, out)?;
     }
     print_block(alloc, &tally.block, progress, out)?;
-    let total = Total {
-        positions: all,
-        blocks: tally.blocks,
-        alike: tally.alike,
-    };
-    Ok(Done { machine, total })
+    Ok(Done {
+        machine,
+        total: tally.total,
+        refusal,
+    })
 }
 
 /// Sweeps positions, and prints their blocks.
@@ -324,16 +318,14 @@ fn print_positions<P: Progress, W: Write>(
     ensures err { IfErr result IsWanting }
     ensures printed { OnOk result (let range = sweep.entry.range in
         Appends (W.contents out.old) (W.contents out.new)
-        (flat_map block_text (blocks (text_at (sweep_of sweep.entry machine.kernel.boot))
+        (flat_map block_text (blocks_at (sweep_of sweep.entry machine.kernel.boot)
         (range.end - range.from) range.from))) }
     ensures total { IfOk result (λ done. let range = sweep.entry.range in
         let s = sweep_of sweep.entry machine.kernel.boot in
-        let n = range.end - range.from in
-        done.total ≡ record {
-          positions = n;
-          blocks = length (blocks (text_at s) n range.from);
-          alike = count_of (is_alike_at s) n range.from;
-        }) }
+        done.total ≡ total_of s (range.end - range.from) range.from) }
+    ensures refusal { IfOk result (λ done. let range = sweep.entry.range in
+        range.from < range.end → done.refusal
+        ≡ refusal_at (sweep_of sweep.entry machine.kernel.boot) range.from) }
     ensures kernel { IfOk result (λ done. let range = sweep.entry.range in
         range.from < range.end → done.machine.kernel
         ≡ (run_at (sweep_of sweep.entry machine.kernel.boot) (range.end - 1)).kernel) }
@@ -341,12 +333,11 @@ fn print_positions<P: Progress, W: Write>(
         (sweep.entry.range.end - sweep.entry.range.from) result }
 {
     if sweep.range.from >= sweep.range.end {
-        let total = Total {
-            positions: 0,
-            blocks: 0,
-            alike: 0,
-        };
-        return Ok(Done { machine, total });
+        return Ok(Done {
+            machine,
+            total: Total::none(),
+            refusal: None,
+        });
     }
     let first = outcome_at(alloc, machine, sweep, sweep.range.from)?;
     print_more(alloc, first, sweep, progress, out)
@@ -416,38 +407,56 @@ fn print_refused<W: Write>(
     Ok(Swept::Refused)
 }
 
+/// A sweep, and what is wanted, by which its positions were chosen.
+#[derive(Clone, Copy)]
+struct Plan<'a> {
+    sweep: Sweep<'a>,
+    wanted: SweepWanted<'a>,
+}
+
+/// How a sweep ended, by what was swept.
+fn how_ended(plan: Plan<'_>, done: &Done) -> Swept
+    ensures { result ≡ ended (untested_by (length plan.entry.sweep.fault.now)
+        plan.entry.wanted.from plan.entry.wanted.to done.now.total done.now.refusal) done.now.total }
+{
+    let SweepWanted { from, to, .. } = plan.wanted;
+    let total = done.total;
+    match why_nothing(plan.sweep.fault, from, to, total, done.refusal) {
+        Some(why) => Swept::Nothing(why),
+        None => if total.alike == total.positions {
+            Swept::Alike
+        } else {
+            Swept::Differs
+        },
+    }
+}
+
 /// Prints the counts of what was swept, and then writes a history if that is wanted.
 fn end_sweep<F: FileWriter, W: Write>(
     alloc: Global,
     done: &Done,
     files: &mut F,
     out: &mut W,
-    save: Option<&str>,
+    plan: Plan<'_>,
 ) -> Result<Swept, Failure>
     ensures ended { IfOk result (λ how. let total = done.now.total in
-        (how ≡ ended total.positions total.alike)
+        (how ≡ ended (untested_by (length plan.entry.sweep.fault.now) plan.entry.wanted.from
+        plan.entry.wanted.to total done.now.refusal) total)
         × Appends (W.contents out.old) (W.contents out.new)
         (total_text total.positions total.blocks total.alike)
         × (F.written files.new ≡ F.written files.old
         ++ saved_if (text_kept done.now.machine.kernel) total.positions
-        (option_map (λ s. s.now) save.entry))) }
+        (option_map (λ s. s.now) plan.entry.wanted.save))) }
     ensures unended { IfErr result (λ f.
         ((F.written files.new ≡ F.written files.old) × IsWanting f)
         ⊎ ((0 < done.now.total.positions) × (ws : List Written)
         × (F.written files.new ≡ F.written files.old ++ ws)
         × IsUnsaved (text_kept done.now.machine.kernel)
-        (option_map (λ s. s.now) save.entry) ws f)) }
+        (option_map (λ s. s.now) plan.entry.wanted.save) ws f)) }
 {
     print_total(alloc, done.total, out)?;
-    save_history(alloc, done, files, save)?;
-    Ok(how_ended(done.total))
-}
-
-/// A sweep, and what is wanted, by which its positions were chosen.
-#[derive(Clone, Copy)]
-struct Plan<'a> {
-    sweep: Sweep<'a>,
-    wanted: SweepWanted<'a>,
+    save_history(alloc, done, files, plan.wanted.save)?;
+    Ok(how_ended(plan, done))
 }
 
 /// Sweeps a history that was replayed, prints its blocks and the counts, and then writes a history if that is
@@ -471,13 +480,7 @@ fn sweep_replayed<R: Drop, F: FileWriter + Drop, W: Write + Drop, P: Progress>(
         (λ text. Appends (W.contents channels.old.out) (W.contents channels.new.out) text) result }
 {
     let done = print_positions(alloc, machine, plan.sweep, progress, &mut channels.out)?;
-    end_sweep(
-        alloc,
-        &done,
-        &mut channels.files,
-        &mut channels.out,
-        plan.wanted.save,
-    )
+    end_sweep(alloc, &done, &mut channels.files, &mut channels.out, plan)
 }
 
 /// Replays a history. If an event of it is refused, answers in which line of the saved text, and why.
@@ -560,21 +563,10 @@ fn sweep_begun<R: Drop, F: FileWriter + Drop, W: Write + Drop, P: Progress>(
     sweep_started(alloc, channels, progress, machine, Plan { sweep, wanted })
 }
 
-/// How a sweep ended, by its counts.
-fn how_ended(total: Total) -> Swept
-    ensures { result ≡ ended total.positions total.alike }
-{
-    if total.alike == total.positions {
-        Swept::Alike
-    } else {
-        Swept::Differs
-    }
-}
-
 /// Replays a saved history; then, for each of its positions that is wanted, boots the machine again, makes the
 /// records above the position, does what the fault's lines say, and makes turns. Prints what comes of each,
-/// positions in a row with the same lines as one block, and how many have the outcome that they have without
-/// the fault. Then writes the history of the last position's run to the file `save`, if it is named. If an event
+/// positions in a row with the same lines as one block, with a mark if one of them has another outcome without the
+/// fault, and how many have the outcome that they have without it. Then writes the history of the last position's run to the file `save`, if it is named. If an event
 /// of the saved history is refused, prints that as `replay` does, and nothing is swept. No file that is read is
 /// written over: if `save` has the name of CONFIG, LOG or FAULT, nothing is read or written. If it has
 /// that of a service's program, nothing is swept, printed or written. After each position `progress` is

@@ -18,16 +18,15 @@ use Rattle.mx_machine.specs.World.{HeldProcess, World, actors, held_by}
 use Rattle.mx_print_answers.specs.declared.said.Said.{Said}
 use Rattle.mx_print_answers.specs.declared.said.Said.TheVariants.{Refused}
 use Rattle.mx_machine.specs.declared.events.Refusal.TheVariants.{NoProcess}
-use Rattle.mx_print_answers.specs.Said.{said_line}
-use Rattle.mx_turns.specs.declared.turns.Ending.{Ending}
 use Rattle.mx_turns.specs.Made.{HasMade}
 use Rattle.mx_turns.specs.Turns.{turns}
 use Rattle.mx_machine.proofs.ActorLemmas.{actors_after_events}
 use Rattle.mx_turns.proofs.MadeLemmas.{kept_boot, same_boot}
 use Rattle.mx_turns.proofs.TurnLemmas.{cpus_stay}
 use Rattle.mx_sweep.specs.declared.faults.FaultLine.{FaultLine}
+use Rattle.mx_sweep.specs.declared.running.Course.{Course}
 use Rattle.mx_sweep.specs.Faults.{fault_kept, fault_made, faults_kept, faults_made, kept_now, line_now, made_now}
-use Rattle.mx_sweep.specs.Sweep.{coming, indented, run_from, run_of, said_text}
+use Rattle.mx_sweep.specs.Sweep.{coming, run_from, run_of}
 use Rattle.mx_sweep.specs.Swept.{HasRun}
 
 -- ---- a fault's line changes no number of processors
@@ -98,13 +97,13 @@ module _ (other : ℕ) (fault : List FaultLine) (i : ℕ) (d : FaultLine) (b : i
   left : drop i fault ≡ line ∷ drop (i + 1) fault
   left = let next : suc i ≡ i + 1 = omega arith in drop-cons fault i d b ∙ ap (λ n. line ∷ drop n fault) next
 
-  pub next_text : (t x y : List ℕ) (w u : World) (s : Said) → fault_made w other line ≡ (s, u) → y ≡ x ++ indented (said_line s) → x ++ said_text (faults_made w other (drop i fault)).0 ≡ t
-      → y ++ said_text (faults_made u other (drop (i + 1) fault)).0 ≡ t
-  next_text t x y w u s h is before =
-      ap (λ (z : List ℕ). z ++ said_text (faults_made u other (drop (i + 1) fault)).0) is
-      ∙ append_assoc x (indented (said_line s)) (said_text (faults_made u other (drop (i + 1) fault)).0)
-      ∙ sym (ap (λ (p : Said × World). x ++ (indented (said_line p.0) ++ said_text (faults_made p.1 other (drop (i + 1) fault)).0)) h)
-      ∙ sym (ap (λ (ls : List FaultLine). x ++ said_text (faults_made w other ls).0) left) ∙ before
+  pub next_said : (t x y : List Said) (w u : World) (s : Said) → fault_made w other line ≡ (s, u) → y ≡ x ++ s ∷ [] → x ++ (faults_made w other (drop i fault)).0 ≡ t
+      → y ++ (faults_made u other (drop (i + 1) fault)).0 ≡ t
+  next_said t x y w u s h is before =
+      ap (λ (z : List Said). z ++ (faults_made u other (drop (i + 1) fault)).0) is
+      ∙ append_assoc x (s ∷ []) (faults_made u other (drop (i + 1) fault)).0
+      ∙ sym (ap (λ (p : Said × World). x ++ (p.0 ∷ (faults_made p.1 other (drop (i + 1) fault)).0)) h)
+      ∙ sym (ap (λ (ls : List FaultLine). x ++ (faults_made w other ls).0) left) ∙ before
 
   pub next_world : (v w u : World) (s : Said) → fault_made w other line ≡ (s, u) → (faults_made w other (drop i fault)).1 ≡ v → (faults_made u other (drop (i + 1) fault)).1 ≡ v
   next_world v w u s h before =
@@ -141,16 +140,18 @@ kept_above boot records above k m n up first booted is =
     ∙ ap (λ (rs : List Record). kept_of (record { boot = boot; history = [] }) boot (events_of_history rs)) up
 
 -- from a machine on: the fault's lines, and then turns
-pub run_done : (n known : ℕ) (other : ℕ) (rest : List Record) (fault : List FaultLine) (m0 m1 m2 : MachineState) (evs : List Event) (how : Ending)
-    → n ≡ known → evs ≡ coming rest → world_of m1 ≡ (faults_made (world_of m0) other fault).1 → m1.kernel ≡ faults_kept m0.kernel (world_of m0) other fault
-    → HasMade m1 (turns n (world_of m1) evs).made m2 → how ≡ (turns n (world_of m1) evs).ending
-    → HasRun (run_from m0.kernel (world_of m0) other rest known fault) m2 how
-run_done n known other rest fault m0 m1 m2 evs how bound come world kernel made ends =
+pub run_done : (n known : ℕ) (other : ℕ) (rest : List Record) (fault : List FaultLine) (m0 m1 m2 : MachineState) (evs : List Event) (course : Course)
+    → n ≡ known → evs ≡ coming rest → course.said.items ≡ (faults_made (world_of m0) other fault).0 → world_of m1 ≡ (faults_made (world_of m0) other fault).1
+    → m1.kernel ≡ faults_kept m0.kernel (world_of m0) other fault
+    → HasMade m1 (turns n (world_of m1) evs).made m2 → course.ending ≡ (turns n (world_of m1) evs).ending
+    → HasRun (run_from m0.kernel (world_of m0) other rest known fault) m2 course
+run_done n known other rest fault m0 m1 m2 evs done bound come said world kernel made ends =
     let v = (faults_made (world_of m0) other fault).1 in
     let kept = faults_kept m0.kernel (world_of m0) other fault in
     let course : turns n (world_of m1) evs ≡ turns known v (coming rest) =
     ap (λ b. turns b (world_of m1) evs) bound ∙ ap (λ (u : World). turns known u evs) world ∙ ap (λ (es : List Event). turns known v es) come in
     record {
+      said = said;
       ending = ends ∙ ap (λ c. c.ending) course;
       world = made.world ∙ ap (λ (u : World). world_after_events u (turns n (world_of m1) evs).made) world ∙ ap (λ c. world_after_events v c.made) course;
       kernel = made.kernel ∙ ap (λ (x : BootAndHistory). kept_of x (world_of m1) (turns n (world_of m1) evs).made) kernel

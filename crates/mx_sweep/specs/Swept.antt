@@ -5,7 +5,7 @@ use Rattle.mx_machine.specs.Boot.{world_at_boot}
 use Rattle.mx_machine.specs.declared.history.Record.{Record}
 use Rattle.mx_machine.specs.History.{AreAccepted, events_of_history}
 use Rattle.mx_machine.specs.World.{World, actors}
-use Rattle.mx_turns.specs.declared.turns.Ending.{Ending}
+use Rattle.mx_sweep.specs.declared.running.Course.{Course}
 use Rattle.mx_sweep.specs.declared.running.Sweep.{Sweep}
 use Rattle.mx_sweep.specs.Sweep.{Run}
 
@@ -20,8 +20,9 @@ pub record IsSwept (s : Sweep) (boot : World) : Type 0 where
   pub other : s.other < actors boot
   pub alone : length boot.cpus < actors boot
 
--- a machine is after a run, whose turns ended so
-pub record HasRun (r : Run) (m : MachineState) (how : Ending) : Type 0 where
-  pub ending : how ≡ r.ending
+-- a machine is after a run, and this is said of its fault, and how its turns ended
+pub record HasRun (r : Run) (m : MachineState) (c : Course) : Type 0 where
+  pub said : c.said.items ≡ r.said
+  pub ending : c.ending ≡ r.ending
   pub world : world_of m ≡ r.world
   pub kernel : m.kernel ≡ r.kernel

@@ -11,5 +11,5 @@ mod outside;
 mod running;
 
 pub use faults::FaultLine;
-pub use outcomes::{Outcome, outcome_at};
+pub use outcomes::{Findings, Outcome, outcome_at};
 pub use running::{Range, Sweep};

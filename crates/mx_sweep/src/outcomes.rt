@@ -5,11 +5,13 @@ ghost use Rattle.std.specs.Str.{bytes_eq};
 ghost use Rattle.mx_app_step.specs.Machine.{world_of};
 ghost use Rattle.mx_machine.specs.History.{replay};
 ghost use Rattle.mx_print_report.specs.declared.doing.Naming.TheVariants as by;
-ghost use Rattle.mx_sweep.specs.Sweep.{are_alike, end_text, ending_word, kept_text, outcome_text, process_lines, run_of, said_text, seen_text, shown};
+ghost use Rattle.mx_sweep.specs.Sweep.{end_text, ending_word, kept_text, outcome_text, process_lines, run_of, said_text, seen_text, shown};
+ghost use Rattle.mx_sweep.specs.Findings.{findings_of, is_refused, refusal_of};
 ghost use Rattle.mx_sweep.specs.Swept.{HasRun, IsSwept};
 
-use crate::running::{Sweep, run_at};
-use mx_machine::{Kernel, Machine, Service};
+use crate::running::{Course, Sweep, run_at};
+use mx_machine::{Kernel, Machine, Refusal, Service};
+use mx_print_answers::Said;
 use mx_print_report::{Naming, push_console, push_count, push_process};
 use mx_proc::Table;
 use mx_text::next_line;
@@ -17,13 +19,56 @@ use mx_turns::Ending;
 use mx_word::NoMemory;
 use std::alloc::{AllocError, Global};
 
-/// The outcome of a position: the machine after its run, its lines, and whether the same position has this
-/// outcome without the fault too.
+/// What a position tells of its fault.
+#[derive(Clone, Copy)]
+pub struct Findings {
+    /// Whether the position has the same outcome without the fault.
+    pub is_alike: bool,
+    /// Why the fault's first line was refused, if each of its lines was.
+    pub refusal: Option<Refusal>,
+    /// Whether the turns ended since the history was full.
+    pub is_full: bool,
+}
+
+/// The outcome of a position: the machine after its run, its lines, and what it tells of the fault.
 #[derive(Drop)]
 pub struct Outcome {
     pub machine: Machine,
     pub text: Vec<u8>,
-    pub is_alike: bool,
+    pub findings: Findings,
+}
+
+/// Appends a line for each answer to a line of a fault.
+fn push_said(alloc: Global, text: &mut Vec<u8>, said: &[Said]) -> Result<(), AllocError>
+    ensures { OnOk result (text.new.items ≡ text.old.items ++ said_text said.now) }
+{
+    for answer in said {
+        let line = format!(in alloc; "  {answer}\n")?;
+        text.extend_from_slice(line.as_bytes())?;
+    }
+    Ok(())
+}
+
+/// Whether an answer is a refusal.
+fn is_refused(answer: Said) -> bool
+    ensures { result ≡ is_refused answer }
+{
+    matches!(answer, Said::Refused(_))
+}
+
+/// Why the first line of a fault was refused, if each of its lines was.
+fn refusal_of(said: &[Said]) -> Option<Refusal>
+    ensures { result ≡ refusal_of said.now }
+{
+    for answer in said {
+        if !is_refused(*answer) {
+            return None;
+        }
+    }
+    match said.first() {
+        Some(Said::Refused(refusal)) => Some(*refusal),
+        _ => None,
+    }
 }
 
 /// Appends a line for each service.
@@ -132,20 +177,22 @@ fn compared_text(alloc: Global, machine: &Machine, ending: Ending) -> Result<Vec
     Ok(seen)
 }
 
-/// Appends the lines of an outcome that follow those of the fault.
+/// Appends the lines of an outcome.
 #[tactic(auto, unfolding(mx_machine::specs::Machine::world_of))]
 fn push_outcome(
     alloc: Global,
     text: &mut Vec<u8>,
     machine: &Machine,
-    ending: Ending,
+    course: &Course,
 ) -> Result<(), AllocError>
     ensures { OnOk result (let w = world_of machine.now in text.new.items ≡ text.old.items
-        ++ end_text by.Endpoints w ending ++ kept_text w.table.devices.console.kept) }
+        ++ said_text course.now.said.items ++ end_text by.Endpoints w course.now.ending
+        ++ kept_text w.table.devices.console.kept) }
 {
     let mut kept = Vec::new(alloc);
     push_console(&mut kept, &machine.kernel().table().devices().console)?;
-    push_end(text, Naming::Endpoints, machine.kernel(), ending)?;
+    push_said(alloc, text, course.said.as_slice())?;
+    push_end(text, Naming::Endpoints, machine.kernel(), course.ending)?;
     push_kept(text, kept.as_slice())
 }
 
@@ -155,19 +202,17 @@ fn compared_at(
     machine: Machine,
     sweep: Sweep<'_>,
     position: usize,
-    text: &mut Vec<u8>,
-) -> Result<(Machine, Ending, Vec<u8>), NoMemory>
+) -> Result<(Machine, Course, Vec<u8>), NoMemory>
     requires swept { IsSwept sweep machine.kernel.boot }
     requires position { position ≤ length sweep.records.now }
     ensures run { IfOk result (λ done. let run = run_of machine.kernel.boot sweep.entry.other
         sweep.entry.records.now sweep.entry.bound sweep.entry.fault.now position in
-        HasRun run done.0 done.1 × (text.new.items ≡ text.old.items ++ said_text run.said)
-        × (done.2.items ≡ seen_text run)) }
+        HasRun run done.0 done.1 × (done.2.items ≡ seen_text run)) }
     ensures boot { IfOk result (λ done. done.0.kernel.boot ≡ machine.kernel.boot) }
 {
-    let (machine, ending) = run_at(alloc, machine, sweep, position, text)?;
-    let seen = compared_text(alloc, &machine, ending)?;
-    Ok((machine, ending, seen))
+    let (machine, course) = run_at(alloc, machine, sweep, position)?;
+    let seen = compared_text(alloc, &machine, course.ending)?;
+    Ok((machine, course, seen))
 }
 
 /// The outcome of a position of a history: without the fault first, and then with it. Takes memory to boot the
@@ -190,21 +235,26 @@ pub fn outcome_at(
     ensures text { IfOk result (λ done. done.text.items ≡ outcome_text
         (run_of machine.kernel.boot sweep.entry.other sweep.entry.records.now sweep.entry.bound
         sweep.entry.fault.now position)) }
-    ensures alike { IfOk result (λ done. let run = run_of machine.kernel.boot sweep.entry.other
+    ensures findings { IfOk result (λ done. let run = run_of machine.kernel.boot sweep.entry.other
         sweep.entry.records.now sweep.entry.bound in
-        done.is_alike ≡ are_alike (run sweep.entry.fault.now position) (run [] position)) }
+        done.findings ≡ findings_of (run sweep.entry.fault.now position) (run [] position)) }
 {
-    let mut text = Vec::new(alloc);
     let unharmed = Sweep {
         fault: &[],
         ..sweep
     };
-    let (machine, _, without) = compared_at(alloc, machine, unharmed, position, &mut text)?;
-    let (machine, ending, with) = compared_at(alloc, machine, sweep, position, &mut text)?;
-    push_outcome(alloc, &mut text, &machine, ending)?;
-    Ok(Outcome {
+    let (machine, _, without) = compared_at(alloc, machine, unharmed, position)?;
+    let (machine, course, with) = compared_at(alloc, machine, sweep, position)?;
+    let mut text = Vec::new(alloc);
+    push_outcome(alloc, &mut text, &machine, &course)?;
+    let findings = Findings {
         is_alike: with.as_slice() == without.as_slice(),
+        refusal: refusal_of(course.said.as_slice()),
+        is_full: course.ending == Ending::Full,
+    };
+    Ok(Outcome {
         machine,
         text,
+        findings,
     })
 }

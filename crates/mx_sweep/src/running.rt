@@ -1,10 +1,10 @@
 //! A run with a fault at a position of a history.
 
-ghost use Rattle.std.specs.Prelude.{◌≡◌, ◌<◌, ◌≤◌, ◌++◌, IfOk, OnOk, length};
+ghost use Rattle.std.specs.Prelude.{◌≡◌, ◌<◌, ◌≤◌, IfOk, OnOk, length};
 ghost use Rattle.mx_app_step.specs.Machine.{world_of};
 ghost use Rattle.mx_machine.specs.World.{actors};
 ghost use Rattle.mx_sweep.specs.Faults.{faults_kept, faults_made};
-ghost use Rattle.mx_sweep.specs.Sweep.{run_from, run_of, said_text};
+ghost use Rattle.mx_sweep.specs.Sweep.{run_from, run_of};
 ghost use Rattle.mx_sweep.specs.Swept.{HasRun, IsSwept};
 
 use crate::booting::boot_again;
@@ -13,6 +13,7 @@ use crate::outside::coming_of;
 use mx_app_start::NoProgress;
 use mx_app_step::perform_records;
 use mx_machine::{Config, Machine, Record};
+use mx_print_answers::Said;
 use mx_turns::{Ending, Outside, make_turns};
 use mx_word::NoMemory;
 use std::alloc::{AllocError, Global};
@@ -37,17 +38,16 @@ pub struct Sweep<'a> {
     pub bound: u32,
 }
 
-/// Does what the lines of a fault say, and appends a line for each to a text.
+/// Does what the lines of a fault say, and answers what is said of each.
 fn perform_fault(
     alloc: Global,
     machine: &mut Machine,
     other: u8,
     fault: &[FaultLine],
-    text: &mut Vec<u8>,
-) -> Result<(), AllocError>
+) -> Result<Vec<Said>, AllocError>
     requires { other < actors (world_of machine.old) }
-    ensures text { OnOk result (text.new.items ≡ text.old.items
-        ++ said_text (faults_made (world_of machine.old) other fault.now).0) }
+    ensures said { IfOk result (λ said. said.items
+        ≡ (faults_made (world_of machine.old) other fault.now).0) }
     ensures world { OnOk result (world_of machine.new
         ≡ (faults_made (world_of machine.old) other fault.now).1) }
     ensures kept { OnOk result (machine.new.kernel
@@ -55,30 +55,36 @@ fn perform_fault(
     ensures actors { actors (world_of machine.new) ≡ actors (world_of machine.old) }
     ensures cpus { length (world_of machine.new).cpus ≡ length (world_of machine.old).cpus }
 {
+    let mut said = Vec::new(alloc);
     for line in fault {
-        let said = perform_fault_line(machine, other, *line);
-        let line = format!(in alloc; "  {said}\n")?;
-        text.extend_from_slice(line.as_bytes())?;
+        let answer = perform_fault_line(machine, other, *line);
+        said.push(answer)?;
     }
-    Ok(())
+    Ok(said)
+}
+
+/// A run with a fault, besides its machine: what is said of the fault's lines, and how the turns after them ended.
+#[derive(Drop)]
+pub(crate) struct Course {
+    pub said: Vec<Said>,
+    pub ending: Ending,
 }
 
 /// Does what the lines of a sweep's fault say, and makes turns, with the lines and the ticks of these records to
-/// come. Appends the answers to the fault's lines to a text. Answers how the turns ended.
+/// come.
 fn run_on(
     alloc: Global,
     machine: &mut Machine,
     sweep: Sweep<'_>,
     rest: &[Record],
-    text: &mut Vec<u8>,
-) -> Result<Ending, AllocError>
+) -> Result<Course, AllocError>
     requires other { sweep.other < actors (world_of machine.old) }
     requires alone { length (world_of machine.old).cpus < actors (world_of machine.old) }
-    ensures run { IfOk result (λ ending. let run = run_from machine.old.kernel
-        (world_of machine.old) sweep.entry.other rest.now sweep.entry.bound sweep.entry.fault.now in
-        HasRun run machine.new ending × (text.new.items ≡ text.old.items ++ said_text run.said)) }
+    ensures run { IfOk result (λ course. HasRun (run_from machine.old.kernel
+        (world_of machine.old) sweep.entry.other rest.now sweep.entry.bound sweep.entry.fault.now)
+        machine.new course) }
 {
-    perform_fault(alloc, machine, sweep.other, sweep.fault, text)?;
+    let said = perform_fault(alloc, machine, sweep.other, sweep.fault)?;
     let events = coming_of(alloc, rest)?;
     let outside = Outside {
         events: events.as_slice(),
@@ -87,30 +93,28 @@ fn run_on(
     let bound = u64::from(sweep.bound);
     let log = sweep.config.log as usize;
     // A sweep shows its positions, and not their turns.
-    Ok(make_turns(machine, outside, bound, log, &mut NoProgress::new()))
+    let ending = make_turns(machine, outside, bound, log, &mut NoProgress::new());
+    Ok(Course { said, ending })
 }
 
 /// Boots a machine again, makes the records of the history up to a position, does what the fault's lines say, and
-/// makes turns, with the lines and the ticks of the other records to come. Appends the answers to the fault's
-/// lines to a text. Answers the machine, and how the turns ended.
+/// makes turns, with the lines and the ticks of the other records to come. Answers the machine, and how it ran.
 pub(crate) fn run_at(
     alloc: Global,
     machine: Machine,
     sweep: Sweep<'_>,
     position: usize,
-    text: &mut Vec<u8>,
-) -> Result<(Machine, Ending), NoMemory>
+) -> Result<(Machine, Course), NoMemory>
     requires swept { IsSwept sweep machine.kernel.boot }
     requires position { position ≤ length sweep.records.now }
-    ensures run { IfOk result (λ done. let run = run_of machine.kernel.boot sweep.entry.other
-        sweep.entry.records.now sweep.entry.bound sweep.entry.fault.now position in
-        HasRun run done.0 done.1 × (text.new.items ≡ text.old.items ++ said_text run.said)) }
+    ensures run { IfOk result (λ done. HasRun (run_of machine.kernel.boot sweep.entry.other
+        sweep.entry.records.now sweep.entry.bound sweep.entry.fault.now position) done.0 done.1) }
     ensures boot { IfOk result (λ done. done.0.kernel.boot ≡ machine.kernel.boot) }
 {
     let mut machine = boot_again(alloc, machine, sweep.config)?;
     if let Err(_) = perform_records(&mut machine, &sweep.records[..position]) {
         unreachable!();
     }
-    let ending = run_on(alloc, &mut machine, sweep, &sweep.records[position..], text)?;
-    Ok((machine, ending))
+    let course = run_on(alloc, &mut machine, sweep, &sweep.records[position..])?;
+    Ok((machine, course))
 }

@@ -8,7 +8,7 @@ use Rattle.mx_app_turns.proofs.sweeping.print_more.Given as goal
 -- the positions so far are swept, and the blocks above the current one are printed
 abbrev pub invariant-loop-position : goal.invariant-loop-position
 invariant-loop-position g l = record {
-  swept : SweptSoFar (sweep_of l.sweep l.fn.first.machine.kernel.boot) l.sweep.range.from l.sweep.range.end l.position (g.W.Write.contents l.initial.out) (g.W.Write.contents l.out) (positions_of l.tally.block) l.tally.blocks l.tally.alike l.machine.kernel;
+  swept : SweptSoFar (sweep_of l.sweep l.fn.first.machine.kernel.boot) l.sweep.range.from l.sweep.range.end l.position (g.W.Write.contents l.initial.out) (g.W.Write.contents l.out) (positions_of l.tally.block) l.tally.total l.machine.kernel;
   boot : l.machine.kernel.boot ≡ l.fn.first.machine.kernel.boot;
   shown : g.P.Progress.shown l.progress ≡ g.P.Progress.shown l.fn.progress ++ parts_shown (l.sweep.range.end - l.sweep.range.from) (l.position - l.sweep.range.from);
 }

@@ -5,22 +5,27 @@ use Rattle.std.specs.List.{flat_map}
 use Rattle.mx_machine.specs.World.{World}
 use Rattle.mx_sweep.specs.Swept.{IsSwept}
 use Rattle.mx_app_turns.specs.Begun.{sweep_of}
-use Rattle.mx_app_turns.specs.Blocks.{block_text, blocks}
-use Rattle.mx_app_turns.specs.Sweeping.{is_alike_at, run_at, text_at}
+use Rattle.mx_app_turns.specs.Blocks.{block_text}
+use Rattle.mx_app_turns.specs.Sweeping.{blocks_at, findings_at, refusal_at, run_at, text_at, total_of}
 use Rattle.mx_app_turns.specs.declared.sweeping.Done.{Done}
-use Rattle.mx_app_turns.proofs.SweptLemmas.{total_of}
 use Rattle.mx_app_turns.proofs.sweeping.print_positions.Goals as goal
 
 pub returns-clause-printed : goal.returns-clause-printed
 returns-clause-printed g c =
     let range = c.args.sweep.range in
-    subst (λ (w : World). OnOk c.print_more.result (Appends (g.W.Write.contents c.args.out.now) (g.W.Write.contents c.print_more.new.out) (flat_map block_text (blocks (text_at (sweep_of c.args.sweep w)) (range.end - range.from) range.from)))) c.in_ok-first.ensures.boot
+    subst (λ (w : World). OnOk c.print_more.result (Appends (g.W.Write.contents c.args.out.now) (g.W.Write.contents c.print_more.new.out) (flat_map block_text (blocks_at (sweep_of c.args.sweep w) (range.end - range.from) range.from)))) c.in_ok-first.ensures.boot
     c.print_more.ensures.printed
 
 pub returns-clause-total : goal.returns-clause-total
 returns-clause-total g c =
     let range = c.args.sweep.range in
     subst (λ (w : World). IfOk c.print_more.result (λ (done : Done). done.total ≡ total_of (sweep_of c.args.sweep w) (range.end - range.from) range.from)) c.in_ok-first.ensures.boot c.print_more.ensures.total
+
+pub returns-clause-refusal : goal.returns-clause-refusal
+returns-clause-refusal g c =
+    let from = c.args.sweep.range.from in
+    IfOk-weaker c.print_more.result _ _ (λ (done : Done) h _. h)
+    (subst (λ (w : World). IfOk c.print_more.result (λ (done : Done). done.refusal ≡ refusal_at (sweep_of c.args.sweep w) from)) c.in_ok-first.ensures.boot c.print_more.ensures.refusal)
 
 pub returns-clause-kernel : goal.returns-clause-kernel
 returns-clause-kernel g c =
@@ -36,4 +41,4 @@ print_more-requires-clause-first g c =
     let h = c.in_ok-first.ensures in
     let o = c.in_ok-first.first in
     let from = c.args.sweep.range.from in
-    subst (λ (w : World). (let s = sweep_of c.args.sweep w in (o.text.items ≡ text_at s from) × (o.is_alike ≡ is_alike_at s from) × (o.machine.kernel ≡ (run_at s from).kernel))) (sym h.boot) (h.text, h.alike, h.kernel)
+    subst (λ (w : World). (let s = sweep_of c.args.sweep w in (o.text.items ≡ text_at s from) × (o.findings ≡ findings_at s from) × (o.machine.kernel ≡ (run_at s from).kernel))) (sym h.boot) (h.text, h.findings, h.kernel)

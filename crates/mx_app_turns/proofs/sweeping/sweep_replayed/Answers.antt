@@ -1,8 +1,9 @@
-use Rattle.std.proofs.Common.{◌-◌, ℕ, List, [], Option, ap, arith, length, refl, sym}
+use Rattle.std.proofs.Common.{◌∙◌, ◌-◌, ℕ, List, [], Option, ap, arith, length, refl, sym}
 use Rattle.std.proofs.lemmas.List.{append-nil}
 use Rattle.std.specs.Io.KnownBytes.{Appends}
 use Rattle.std.specs.Prelude.{option_map}
 use Rattle.mx_app_turns.specs.Begun.{sweep_of}
+use Rattle.mx_app_turns.specs.Sweeping.{refusal_at}
 use Rattle.mx_walk.specs.Parts.{parts_shown}
 use Rattle.mx_app_turns.proofs.SweptLemmas.{ends, positions_are, wanting}
 use Rattle.mx_app_turns.proofs.sweeping.sweep_replayed.Goals as goal
@@ -31,7 +32,7 @@ returns-clause-done g c =
     let n = range.end - range.from in
     let done = c.in_ok-done.done in
     let made = c.in_ok-done.ensures in
-    let e = ends (sweep_of c.args.plan.sweep c.args.machine.kernel.boot) c.args.plan.wanted.from c.args.plan.wanted.to range.from range.end c.requires.from c.requires.end done.total made.total done.machine.kernel made.kernel save
+    let e = ends (sweep_of c.args.plan.sweep c.args.machine.kernel.boot) c.args.plan.wanted.from c.args.plan.wanted.to range.from range.end c.requires.from c.requires.end done.total made.total done.machine.kernel made.kernel done.refusal (λ some. made.refusal some ∙ ap (refusal_at (sweep_of c.args.plan.sweep c.args.machine.kernel.boot)) c.requires.from) save
     (g.W.Write.contents c.args.channels.now.out) (g.W.Write.contents c.print_positions.new.out) (g.W.Write.contents c.end_sweep.new.out) made.printed (g.F.FileWriter.written c.args.channels.now.files) (g.F.FileWriter.written c.end_sweep.new.files)
     c.end_sweep.result c.requires.swept.accepted c.end_sweep.ensures.ended c.end_sweep.ensures.unended in
     (e.0, parts_shown n n, e.1, made.shown, e.2)

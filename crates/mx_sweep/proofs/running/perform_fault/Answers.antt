@@ -1,6 +1,6 @@
-use Rattle.std.proofs.Common.{◌∙◌, ◌++◌, ℕ, List, ap}
+use Rattle.std.proofs.Common.{◌∙◌}
 use Rattle.mx_app_step.specs.Machine.{world_of}
-use Rattle.mx_sweep.proofs.RunLemmas.{next_kept, next_text, next_world}
+use Rattle.mx_sweep.proofs.RunLemmas.{next_kept, next_said, next_world}
 use Rattle.mx_sweep.proofs.running.perform_fault.Goals as goal
 
 pub loop-line-preserved : goal.loop-line-preserved
@@ -8,14 +8,13 @@ loop-line-preserved c =
     let inv = c.loop-line.invariant in
     let i = c.loop-line.line-index in
     let w = world_of c.loop-line.machine in
-    let u = world_of c.perform_fault_line-said.new.machine in
-    let said = c.perform_fault_line-said.result in
-    let made = c.perform_fault_line-said.ensures.made in
+    let u = world_of c.perform_fault_line-answer.new.machine in
+    let answer = c.perform_fault_line-answer.result in
+    let made = c.perform_fault_line-answer.ensures.made in
     record {
-      text = next_text c.args.other c.args.fault.now i _ c.loop-line-test.true _ c.loop-line.text.items c.extend_from_slice.new.self.items w u said made
-          (c.in_ok-extend_from_slice.ensures.items ∙ ap (λ (l : List ℕ). c.loop-line.text.items ++ l) (c.as_bytes.ensures.value ∙ c.in_ok-line.ensures.ok)) inv.text;
-      world = next_world c.args.other c.args.fault.now i _ c.loop-line-test.true _ w u said made inv.world;
-      kept = next_kept c.args.other c.args.fault.now i _ c.loop-line-test.true _ c.loop-line.machine.kernel c.perform_fault_line-said.new.machine.kernel w u said made c.perform_fault_line-said.ensures.kept inv.kept;
-      actors = c.perform_fault_line-said.ensures.actors ∙ inv.actors;
-      cpus = c.perform_fault_line-said.ensures.cpus ∙ inv.cpus;
+      said = next_said c.args.other c.args.fault.now i _ c.loop-line-test.true _ c.loop-line.said.items c.push.new.self.items w u answer made c.in_ok-push.ensures.items inv.said;
+      world = next_world c.args.other c.args.fault.now i _ c.loop-line-test.true _ w u answer made inv.world;
+      kept = next_kept c.args.other c.args.fault.now i _ c.loop-line-test.true _ c.loop-line.machine.kernel c.perform_fault_line-answer.new.machine.kernel w u answer made c.perform_fault_line-answer.ensures.kept inv.kept;
+      actors = c.perform_fault_line-answer.ensures.actors ∙ inv.actors;
+      cpus = c.perform_fault_line-answer.ensures.cpus ∙ inv.cpus;
     }

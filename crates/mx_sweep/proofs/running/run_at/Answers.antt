@@ -7,7 +7,7 @@ use Rattle.mx_machine.specs.declared.history.Record.{Record}
 use Rattle.mx_machine.specs.History.{AreAccepted, BootAndHistory, events_of_history}
 use Rattle.mx_machine.specs.World.{World, actors}
 use Rattle.mx_machine.proofs.ActorLemmas.{actors_after_events}
-use Rattle.mx_sweep.specs.Sweep.{Run, said_text}
+use Rattle.mx_sweep.specs.Sweep.{Run}
 use Rattle.mx_sweep.specs.Swept.{HasRun}
 use Rattle.mx_sweep.proofs.RunLemmas.{alone_still, kept_above, run_boot, run_same, world_above}
 use Rattle.mx_sweep.proofs.running.run_at.Goals as goal
@@ -44,10 +44,10 @@ returns-clause-run c =
     let above = world_above boot (world_of c.in_ok-machine.machine) (world_of c.perform_records.new.machine) records (take k records) k refl c.in_ok-machine.ensures.world c.in_default.ensures.ok.1 in
     let kept = kept_above boot records (take k records) k c.in_ok-machine.machine c.perform_records.new.machine refl c.in_ok-machine.ensures.kernel c.in_ok-machine.ensures.world c.in_default.ensures.kept in
     let below : take (length records - k) (drop k records) ≡ drop k records = take_all (length records - k) (drop k records) (omega (arith, length-drop k records)) in
-    subst (λ (r : Run). HasRun r c.run_on.new.machine c.in_ok-ending.ending × (c.run_on.new.text.items ≡ c.args.text.now.items ++ said_text r.said))
-    (run_same c.perform_records.new.machine.kernel _ (world_of c.perform_records.new.machine) _ c.args.sweep.other _ (drop k records) c.args.sweep.bound c.args.sweep.fault.now kept above below) c.in_ok-ending.ensures.run
+    subst (λ (r : Run). HasRun r c.run_on.new.machine c.in_ok-course.course)
+    (run_same c.perform_records.new.machine.kernel _ (world_of c.perform_records.new.machine) _ c.args.sweep.other _ (drop k records) c.args.sweep.bound c.args.sweep.fault.now kept above below) c.in_ok-course.ensures.run
 
 pub returns-clause-boot : goal.returns-clause-boot
 returns-clause-boot c =
-    ap (λ (k : BootAndHistory). k.boot) (returns-clause-run c).0.kernel
+    ap (λ (k : BootAndHistory). k.boot) (returns-clause-run c).kernel
     ∙ run_boot c.args.machine.kernel.boot c.args.sweep.other c.args.sweep.records.now c.args.sweep.bound c.args.sweep.fault.now c.args.position
