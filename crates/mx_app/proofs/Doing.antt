@@ -4,7 +4,7 @@ use Rattle.std.specs.Prelude.{IfOk}
 use Rattle.std.specs.Io.KnownBytes.{Appends}
 use Rattle.std.proofs.lemmas.List.{append-nil}
 use Rattle.mx_app_command.specs.declared.words.CommandRequest.{CommandRequest}
-use Rattle.mx_app_command.specs.declared.words.CommandRequest.TheVariants.{Look, Sweep, Turns}
+use Rattle.mx_app_command.specs.declared.words.CommandRequest.TheVariants.{Look, Run, Sweep, Turns}
 use Rattle.mx_app_command.specs.declared.words.RecordRange.{RecordRange}
 use Rattle.mx_app_db.specs.ScriptLine.{ScriptLine}
 use Rattle.mx_app_db.specs.declared.script.DebugLine.{DebugLine}
@@ -38,6 +38,7 @@ use Rattle.mx_app_run.specs.Run.{Runs}
 use Rattle.mx_app_turns.specs.Sweeping.{Sweeps}
 use Rattle.mx_app_turns.specs.declared.sweeping.Swept.{Swept}
 use Rattle.mx_app_turns.specs.Turned.{MakesTurns}
+use Rattle.mx_app_run.specs.declared.running.RunEnding.{RunEnding}
 use Rattle.mx_turns.specs.declared.turns.Ending.{Ending}
 use Rattle.mx_walk.specs.Parts.{walk_shown}
 use Rattle.mx_walker.specs.Walks.{Walk}
@@ -45,7 +46,7 @@ use Rattle.mx_app.specs.Deeds.{Deeds}
 use Rattle.mx_app.specs.Explained.{ExplainsConfig}
 use Rattle.mx_app.specs.Named.{Assembles, ShowsFile}
 use Rattle.mx_app.specs.declared.performing.Done.{Done}
-use Rattle.mx_app.specs.Requests.{Debugs, Draws, Explains, Looks, Performs, PerformsUntyped, Replays, SavesApart, Shows, Steps, Traces, saves_over, done_after_replay, done_after_sweep, done_after_turns, done_after_work}
+use Rattle.mx_app.specs.Requests.{Debugs, Draws, Explains, Looks, Performs, PerformsUntyped, Replays, SavesApart, Shows, Steps, Traces, saves_over, done_after_replay, done_after_run, done_after_sweep, done_after_turns, done_after_work}
 
 -- what a request asked for and wrote, and what is done of it
 abbrev pub AsksAndWrites : List Asked → List Asked → List Written → List Written → (List Asked → List Written → Type 0) → Type 0
@@ -63,12 +64,13 @@ abbrev pub nothing_done : Deeds
 nothing_done = record { asked = []; written = []; typed = []; shown = [] }
 
 -- a request that takes no lines and shows no progress
-untyped : (request : CommandRequest) (asks : Bool) (qs : List Asked) (ws : List Written) (Prints : List ℕ → Type 0) (r : Result Done Kind)
-    → PerformsUntyped request qs ws Prints r → Performs request asks (record { asked = qs; written = ws; typed = []; shown = [] }) Prints r
-untyped (Look config log) asks qs ws Prints r h = absurd h
-untyped (Turns config log ticks events bound) asks qs ws Prints r h = absurd h
-untyped (Sweep config log fault bound from to strict save) asks qs ws Prints r h = absurd h
-untyped request asks qs ws Prints r h = (refl, refl, h)
+untyped : (WasShown : Part → Type 0) (request : CommandRequest) (asks : Bool) (qs : List Asked) (ws : List Written) (Prints : List ℕ → Type 0) (r : Result Done Kind)
+    → PerformsUntyped request qs ws Prints r → Performs WasShown request asks (record { asked = qs; written = ws; typed = []; shown = [] }) Prints r
+untyped WasShown (Run config log ticks events) asks qs ws Prints r h = absurd h
+untyped WasShown (Look config log) asks qs ws Prints r h = absurd h
+untyped WasShown (Turns config log ticks events bound) asks qs ws Prints r h = absurd h
+untyped WasShown (Sweep config log fault bound from to strict save) asks qs ws Prints r h = absurd h
+untyped WasShown request asks qs ws Prints r h = (refl, refl, h)
 
 -- what is done of the request that this one is
 pub as_known : (asked now : List Asked) (files written : List Written) (Prints : List ℕ → Type 0) (r : Result Done Kind) (request known : CommandRequest) → request ≡ known
@@ -78,32 +80,24 @@ as_known asked now files written Prints r request known same done =
     subst (λ (x : CommandRequest). AsksAndWrites asked now files written (λ qs ws. PerformsUntyped x qs ws Prints r)) (sym same) done
 
 -- what is done of it, if no lines are typed and no progress is shown
-pub as_asked : {given : List (Option (List ℕ))} {shown : List Part} (asks : Bool) (asked now : List Asked) (files written : List Written) (Prints : List ℕ → Type 0) (r : Result Done Kind) (request : CommandRequest)
+pub as_asked : (WasShown : Part → Type 0) {given : List (Option (List ℕ))} {shown : List Part} (asks : Bool) (asked now : List Asked) (files written : List Written) (Prints : List ℕ → Type 0) (r : Result Done Kind) (request : CommandRequest)
     → AsksAndWrites asked now files written (λ qs ws. PerformsUntyped request qs ws Prints r)
-    → Grows asked now files written given given shown shown (λ did. Performs request asks did Prints r)
-as_asked {given} {shown} asks asked now files written Prints r request done = (
+    → Grows asked now files written given given shown shown (λ did. Performs WasShown request asks did Prints r)
+as_asked WasShown {given} {shown} asks asked now files written Prints r request done = (
   record { asked = done.0; written = done.1; typed = []; shown = [] },
   done.2,
   done.3,
   sym (append-nil given),
   sym (append-nil shown),
-  untyped request asks done.0 done.1 Prints r done.4,
+  untyped WasShown request asks done.0 done.1 Prints r done.4,
 )
 
--- the same, if the list of what was shown stays
-pub as_run : (asked now : List Asked) (files written : List Written) (given : List (Option (List ℕ))) (shown later : List Part) (asks : Bool) (Prints : List ℕ → Type 0) (r : Result Done Kind) (request known : CommandRequest) → later ≡ shown → request ≡ known
-    → AsksAndWrites asked now files written (λ qs ws. PerformsUntyped known qs ws Prints r)
-    → Grows asked now files written given given shown later (λ did. Performs request asks did Prints r)
-as_run asked now files written given shown later asks Prints r request known same is done =
-    subst (λ (l : List Part). Grows asked now files written given given shown l (λ did. Performs request asks did Prints r)) (sym same)
-    (as_asked {given = given} {shown = shown} asks asked now files written Prints r request (as_known asked now files written Prints r request known is done))
-
--- and of one that takes lines or shows progress
-pub as_typed : (asked now : List Asked) (files written : List Written) (given typed : List (Option (List ℕ))) (shown later : List Part) (asks : Bool) (Prints : List ℕ → Type 0) (r : Result Done Kind) (request known : CommandRequest) → request ≡ known
-    → Grows asked now files written given typed shown later (λ did. Performs known asks did Prints r)
-    → Grows asked now files written given typed shown later (λ did. Performs request asks did Prints r)
-as_typed asked now files written given typed shown later asks Prints r request known same done =
-    subst (λ (x : CommandRequest). Grows asked now files written given typed shown later (λ did. Performs x asks did Prints r)) (sym same) done
+-- what is done of the request that this one is, if it takes lines, shows progress or has threads
+pub as_typed : (WasShown : Part → Type 0) (asked now : List Asked) (files written : List Written) (given typed : List (Option (List ℕ))) (shown later : List Part) (asks : Bool) (Prints : List ℕ → Type 0) (r : Result Done Kind) (request known : CommandRequest) → request ≡ known
+    → Grows asked now files written given typed shown later (λ did. Performs WasShown known asks did Prints r)
+    → Grows asked now files written given typed shown later (λ did. Performs WasShown request asks did Prints r)
+as_typed WasShown asked now files written given typed shown later asks Prints r request known same done =
+    subst (λ (x : CommandRequest). Grows asked now files written given typed shown later (λ did. Performs WasShown x asks did Prints r)) (sym same) done
 
 -- a session was held, or its machine wasn't started
 pub looks : (asked now : List Asked) (files files_now : List Written) (given given_now : List (Option (List ℕ))) (shown later : List Part) (config log : List ℕ) (asks : Bool) (x y : Option (List ℕ)) (d : Result (Unit {0}) Kind) (r : Result Done Kind)
@@ -125,10 +119,13 @@ pub assembled : (asked now : List Asked) (files written : List Written) (known :
 assembled asked now files written known text file d r p e = (p.0, p.1, p.2, p.3, (d, p.4, appends_nothing known, e))
 
 -- a machine was run, or it wasn't
-pub runs : (asked now : List Asked) (files written : List Written) (config log : List ℕ) (events : Option (List ℕ)) (ticks : ℕ) (x y : Option (List ℕ)) (d : Result Ending Kind) (r : Result Done Kind)
-    → (qs : List Asked) × (ws : List Written) × (now ≡ asked ++ qs) × (written ≡ files ++ ws) × Runs config events log ticks qs ws (λ text. Appends x y text) d → r ≡ done_after_turns d
-    → AsksAndWrites asked now files written (λ qs ws. (e : Result Ending Kind) × Runs config events log ticks qs ws (λ text. Appends x y text) e × (r ≡ done_after_turns e))
-runs asked now files written config log events ticks x y d r p e = (p.0, p.1, p.2, p.3, (d, p.4, e))
+pub runs : (WasShown : Part → Type 0) {given : List (Option (List ℕ))} (asked now : List Asked) (files written : List Written) (shown later : List Part) (config log : List ℕ) (events : Option (List ℕ)) (ticks : ℕ) (x y : Option (List ℕ)) (d : Result RunEnding Kind) (r : Result Done Kind)
+    → (qs : List Asked) × (ws : List Written) × (now ≡ asked ++ qs) × (written ≡ files ++ ws) × Runs WasShown config events log ticks qs ws (λ text. Appends x y text) d
+    → later ≡ shown → r ≡ done_after_run d
+    → Grows asked now files written given given shown later (λ did. (did.typed ≡ []) × (did.shown ≡ []) × (e : Result RunEnding Kind)
+    × Runs WasShown config events log ticks did.asked did.written (λ text. Appends x y text) e × (r ≡ done_after_run e))
+runs WasShown {given} asked now files written shown later config log events ticks x y d r p same e =
+    (record nothing_done { asked = p.0; written = p.1 }, p.2, p.3, sym (append-nil given), same ∙ sym (append-nil shown), (refl, refl, d, p.4, e))
 
 -- turns were made, or they weren't
 pub turned : {given : List (Option (List ℕ))} (asked now : List Asked) (files written : List Written) (shown later : List Part) (config log : List ℕ) (events : Option (List ℕ)) (ticks bound : ℕ) (x y : Option (List ℕ)) (d : Result Ending Kind) (r : Result Done Kind)

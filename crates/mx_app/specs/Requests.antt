@@ -38,6 +38,8 @@ use Rattle.mx_app_turns.specs.Sweeping.{Sweeps}
 use Rattle.mx_app_turns.specs.declared.sweeping.Swept.{Swept}
 use Rattle.mx_app_turns.specs.declared.sweeping.Swept.TheVariants as swept
 use Rattle.mx_app_turns.specs.Turned.{MakesTurns}
+use Rattle.mx_app_run.specs.declared.running.RunEnding.{RunEnding}
+use Rattle.mx_app_run.specs.declared.running.RunEnding.TheVariants as runs
 use Rattle.mx_turns.specs.declared.turns.Ending.{Ending}
 use Rattle.mx_walk.specs.Parts.{walk_shown}
 use Rattle.mx_walker.specs.Walks.{Walk}
@@ -46,6 +48,7 @@ use Rattle.mx_app_db.specs.LineTexts.{debug_lines_text}
 use Rattle.mx_app.specs.Deeds.{Deeds}
 use Rattle.mx_app.specs.Explained.{ExplainsConfig}
 use Rattle.mx_app.specs.Named.{Assembles, ShowsFile}
+use Rattle.mx_app.specs.declared.ending.DrivenEnding.TheVariants as driven
 use Rattle.mx_app.specs.declared.performing.Done.{Done}
 
 -- ---- what is done
@@ -64,10 +67,20 @@ done_after_replay (Ok replayed.Whole) = Ok (with_status 0)
 done_after_replay (Ok replayed.Refused) = Ok (with_status 1)
 done_after_replay (Err f) = Err f
 
--- turns are done, and so is a run, however they ended
+-- turns are done, however they ended
 abbrev pub done_after_turns : Result Ending Kind → Result Done Kind
-done_after_turns (Ok ending) = Ok (record { status = 0; ending = Some ending; untested = None })
+done_after_turns (Ok ending) = Ok (record { status = 0; ending = Some (driven.Turns ending); untested = None })
 done_after_turns (Err f) = Err f
+
+-- the status of a run is 5 if it was stopped
+abbrev pub run_status : RunEnding → ℕ
+run_status runs.Rest = 0
+run_status runs.Full = 0
+run_status runs.Stopped = 5
+
+abbrev pub done_after_run : Result RunEnding Kind → Result Done Kind
+done_after_run (Ok ending) = Ok (record { status = run_status ending; ending = Some (driven.Run ending); untested = None })
+done_after_run (Err f) = Err f
 
 -- a sweep is done; its status is 1 if the history is refused, and, if it is strict, if an outcome differs or nothing was
 -- tested, which is told in any case
@@ -209,8 +222,7 @@ PerformsUntyped (Step config script None numbered) qs ws Prints r =
     (d : Result (Unit {0}) Kind) × (ws ≡ []) × Steps config.now script.now numbered qs Prints d × (r ≡ done_after_work d)
 PerformsUntyped (Step config script (Some log) numbered) qs ws Prints r =
     (d : Result (Unit {0}) Kind) × SavesApart config.now script.now log.now numbered qs ws Prints d × (r ≡ done_after_work d)
-PerformsUntyped (Run config log ticks events) qs ws Prints r =
-    (d : Result Ending Kind) × Runs config.now (option_map (λ s. s.now) events) log.now ticks qs ws Prints d × (r ≡ done_after_turns d)
+PerformsUntyped (Run config log ticks events) qs ws Prints r = ⊥
 PerformsUntyped (Turns config log ticks events bound) qs ws Prints r = ⊥
 PerformsUntyped (Sweep config log fault bound from to strict save) qs ws Prints r = ⊥
 PerformsUntyped (Replay config log) qs ws Prints r =
@@ -224,16 +236,21 @@ PerformsUntyped (Db config script) qs ws Prints r =
     (d : Result (Unit {0}) Kind) × (ws ≡ []) × Debugs config.now script.now qs Prints d × (r ≡ done_after_work d)
 
 -- WHAT IS DONE OF A REQUEST, by what a command did, by what is printed, and by how it ends. Only a session takes lines;
--- it, turns and a sweep show progress. (What the threads of a run show is no list, since they have no order.)
-abbrev pub Performs : CommandRequest → Bool → Deeds → (List ℕ → Type 0) → Result Done Kind → Type 0
-Performs (Look config log) asks did Prints r =
+-- it, turns and a sweep show progress. What the threads of a run show is no list, since they have no order: WasShown
+-- holds of it.
+abbrev pub Performs : (Part → Type 0) → CommandRequest → Bool → Deeds → (List ℕ → Type 0) → Result Done Kind → Type 0
+Performs WasShown (Look config log) asks did Prints r =
     (d : Result (Unit {0}) Kind) × (did.written ≡ []) × Looks config.now log.now asks did.asked did.typed did.shown Prints d × (r ≡ done_after_work d)
-Performs (Turns config log ticks events bound) asks did Prints r =
+Performs WasShown (Run config log ticks events) asks did Prints r =
+    (did.typed ≡ []) × (did.shown ≡ []) × (d : Result RunEnding Kind)
+    × Runs WasShown config.now (option_map (λ s. s.now) events) log.now ticks did.asked did.written Prints d
+    × (r ≡ done_after_run d)
+Performs WasShown (Turns config log ticks events bound) asks did Prints r =
     (did.typed ≡ []) × (d : Result Ending Kind)
     × MakesTurns config.now (option_map (λ s. s.now) events) log.now ticks bound did.asked did.written did.shown Prints d
     × (r ≡ done_after_turns d)
-Performs (Sweep config log fault bound from to strict save) asks did Prints r =
+Performs WasShown (Sweep config log fault bound from to strict save) asks did Prints r =
     (did.typed ≡ []) × (d : Result Swept Kind)
     × Sweeps config.now log.now fault.now (option_map (λ s. s.now) save) from to bound did.asked did.written did.shown Prints d
     × (r ≡ done_after_sweep strict d)
-Performs request asks did Prints r = (did.typed ≡ []) × (did.shown ≡ []) × PerformsUntyped request did.asked did.written Prints r
+Performs WasShown request asks did Prints r = (did.typed ≡ []) × (did.shown ≡ []) × PerformsUntyped request did.asked did.written Prints r

@@ -23,6 +23,7 @@ use Rattle.mx_app.specs.Summing.{PerformsLine, line_failure_line, line_failure_s
 use Rattle.mx_app.specs.declared.summing.LineFailure.{LineFailure}
 use Rattle.mx_app.specs.declared.summing.LineFailure.TheVariants.{Request, Sums}
 use Rattle.mx_app_explain.specs.SumsFaults.{fault_explained}
+use Rattle.mx_walk.specs.declared.progress.Part.{Part}
 use Rattle.mx_app.specs.declared.performing.Done.{Done}
 use Rattle.mx_app.specs.declared.complaint.Complaint.{Complaint}
 use Rattle.mx_app.specs.declared.complaint.Complaint.TheVariants.{Mistaken, TicksAndEvents, Failed, Explained, Unexplained}
@@ -106,9 +107,9 @@ IsAnswered line shows (Err f) noted r = (c : Complaint) × (r ≡ Err c) × IsCo
 
 -- WHAT IS DONE OF WORDS: what the request does that they ask for; or, if something is wrong with them, nothing is asked
 -- for, written, typed or shown, and the mistake is answered
-abbrev pub IsPerformed : List (List ℕ) → Bool → Bool → Deeds → Noted → (List ℕ → Type 0) → Result Done Complaint → Type 0
-IsPerformed texts asks shows did noted Prints r =
+abbrev pub IsPerformed : (Part → Type 0) → List (List ℕ) → Bool → Bool → Deeds → Noted → (List ℕ → Type 0) → Result Done Complaint → Type 0
+IsPerformed WasShown texts asks shows did noted Prints r =
     ((line : CommandLine) × (d : Result Done LineFailure) × Asks line.request (subcommand_of mx_grammar texts) × AsksToExplain line.explains (subcommand_of mx_grammar texts)
     × AsksForSilence line.silent (subcommand_of mx_grammar texts) × AsksForSums (option_map (λ s. s.now) line.sums) (subcommand_of mx_grammar texts) × (both_given (subcommand_of mx_grammar texts) ≡ false)
-    × PerformsLine line asks did Prints d × IsAnswered line shows d noted r)
+    × PerformsLine WasShown line asks did Prints d × IsAnswered line shows d noted r)
     ⊎ ((m : Mistake) × IsMistake texts m × (did.asked ≡ []) × (did.written ≡ []) × (did.typed ≡ []) × (did.shown ≡ []) × AnswersMistake m r)

@@ -3,11 +3,35 @@
 ghost use Rattle.std.specs.Prelude.{◌≡◌, IfErr, IfOk, None};
 ghost use Rattle.std.specs.Io.{WritesAtMost};
 ghost use Rattle.std.specs.Io.KnownBytes.{WriteAppends};
-ghost use Rattle.mx_app.specs.Ending.{last_taken, note, text_end};
+ghost use Rattle.mx_app.specs.Ending.{ending_text, is_stopped, last_taken, note, text_end};
 
+use mx_app_run::RunEnding;
 use mx_turns::Ending;
 use std::io;
 use std::io::Write;
+
+/// How turns or a run ended.
+#[derive(Clone, Copy, Debug, PartialEq, Eq)]
+pub enum DrivenEnding {
+    Turns(Ending),
+    Run(RunEnding),
+}
+
+impl DrivenEnding {
+    /// The line that says it.
+    fn text(self) -> &'static str
+        ensures { result.now ≡ ending_text self }
+    {
+        match self {
+            DrivenEnding::Turns(Ending::Rest) => "mx: rest\n",
+            DrivenEnding::Turns(Ending::Turns) => "mx: turns\n",
+            DrivenEnding::Turns(Ending::Full) => "mx: full\n",
+            DrivenEnding::Run(RunEnding::Rest) => "mx: rest\n",
+            DrivenEnding::Run(RunEnding::Full) => "mx: full\n",
+            DrivenEnding::Run(RunEnding::Stopped) => "mx: stopped\n",
+        }
+    }
+}
 
 /// What a command that is done has printed.
 #[derive(Clone, Copy)]
@@ -15,9 +39,21 @@ pub enum PrintedText {
     /// A program's symbols, one a line, or nothing if it has none.
     Symbols,
     /// The report on a machine whose turns, or whose run, ended so.
-    Turns(Ending),
+    Report(DrivenEnding),
     /// Any other text.
     Other,
+}
+
+impl PrintedText {
+    /// Whether it is the report of a run that was stopped.
+    fn is_stopped(self) -> bool
+        ensures { result ≡ is_stopped self }
+    {
+        match self {
+            PrintedText::Report(DrivenEnding::Run(RunEnding::Stopped)) => true,
+            _ => false,
+        }
+    }
 }
 
 /// Which of the streams are terminals.
@@ -41,11 +77,12 @@ impl Terminals {
     }
 
     /// What standard error gets after a command that is done: that a program has no symbols, if they
-    /// were asked for and nothing was printed; how turns or a run ended, if there were any.
+    /// were asked for and nothing was printed; how turns or a run ended, if there were any. Only that a run was
+    /// stopped is said where standard error is no terminal too, since its status isn't 0.
     pub fn note(self, printed: PrintedText, last: Option<u8>) -> &'static str
         ensures { result.now ≡ note self printed last }
     {
-        if !self.err {
+        if !self.err && !printed.is_stopped() {
             return "";
         }
         match printed {
@@ -54,9 +91,7 @@ impl Terminals {
             } else {
                 ""
             },
-            PrintedText::Turns(Ending::Rest) => "mx: rest\n",
-            PrintedText::Turns(Ending::Turns) => "mx: turns\n",
-            PrintedText::Turns(Ending::Full) => "mx: full\n",
+            PrintedText::Report(ending) => ending.text(),
             PrintedText::Other => "",
         }
     }

@@ -2,9 +2,10 @@
 
 ghost use Rattle.std.specs.Prelude.{◌≡◌, true};
 ghost use Rattle.mx_app.specs.Deeds.{Does, DoesUntyped};
-ghost use Rattle.mx_app.specs.Requests.{Performs, PerformsUntyped, done_after_replay, done_after_sweep, done_after_turns, done_after_work, is_by_script, is_of_history, is_on_files, is_untyped, makes_turns, with_status};
+ghost use Rattle.mx_app.specs.Requests.{Performs, PerformsUntyped, done_after_replay, done_after_run, done_after_sweep, done_after_turns, done_after_work, is_by_script, is_of_history, is_on_files, is_untyped, makes_turns, with_status};
 
 use crate::command_io::CommandIo;
+use crate::ending::DrivenEnding;
 use crate::explain::explain_named;
 use crate::named::{as_named, dis_named, nm_named, one_named, step_apart};
 use mx_app_command::{CommandRequest, RecordRange};
@@ -12,7 +13,7 @@ use mx_app_db::{HistoryPart, NamedScript, Replayed, db, replay, step, trace};
 use mx_app_draw::draw;
 use mx_app_failure::Failure;
 use mx_app_look::{SessionWanted, look};
-use mx_app_run::{RunWanted, run};
+use mx_app_run::{RunEnding, RunWanted, run};
 use mx_app_start::{Channels, FileWriter, LineReader, Reader, SharedProgress};
 use mx_app_turns::{
     SweepNames, SweepWanted, Swept, TurnsNames, TurnsWanted, Untested, sweep, turns,
@@ -31,7 +32,7 @@ pub struct Done {
     /// The status to end with.
     pub status: u8,
     /// How turns ended, or a run, if the command made one of them.
-    pub ending: Option<Ending>,
+    pub ending: Option<DrivenEnding>,
     /// Why a sweep tested nothing, if the command made one that did.
     pub untested: Option<Untested>,
 }
@@ -70,14 +71,34 @@ fn done_after_replay(replayed: Result<Replayed, Failure>) -> Result<Done, Failur
     }
 }
 
-/// What is done after turns, or after a run: the status is 0, however they ended.
+/// The status of a run that was stopped.
+const STOPPED: u8 = 5;
+
+/// What is done after a run: the status is 0 if it came to rest or its history is full.
+fn done_after_run(done: Result<RunEnding, Failure>) -> Result<Done, Failure>
+    ensures { result ≡ done_after_run done }
+{
+    match done {
+        Ok(ending) => Ok(Done {
+            status: match ending {
+                RunEnding::Rest | RunEnding::Full => 0,
+                RunEnding::Stopped => STOPPED,
+            },
+            ending: Some(DrivenEnding::Run(ending)),
+            untested: None,
+        }),
+        Err(failure) => Err(failure),
+    }
+}
+
+/// What is done after turns: the status is 0, however they ended.
 fn done_after_turns(done: Result<Ending, Failure>) -> Result<Done, Failure>
     ensures { result ≡ done_after_turns done }
 {
     match done {
         Ok(ending) => Ok(Done {
             status: 0,
-            ending: Some(ending),
+            ending: Some(DrivenEnding::Turns(ending)),
             untested: None,
         }),
         Err(failure) => Err(failure),
@@ -212,7 +233,7 @@ fn perform_turns<
     F: FileWriter + Drop,
     W: Write + Drop,
     L: LineReader + Drop,
-    P: Progress + Drop,
+    P: Progress + SharedProgress + Drop,
 >(
     alloc: Global,
     io: &mut CommandIo<R, F, W, L, P>,
@@ -221,7 +242,8 @@ fn perform_turns<
     requires { makes_turns request ≡ true }
     ensures asks { io.new.asks ≡ io.old.asks }
     ensures done { Does io.old io.new R.asked F.written W.contents L.given P.shown
-        (λ did Prints. Performs request.entry io.old.asks did Prints result) }
+        (λ did Prints. Performs (P.was_shown io.old.progress)
+        request.entry io.old.asks did Prints result) }
 {
     let channels = &mut io.channels;
     let progress = &mut io.progress;
@@ -306,7 +328,8 @@ pub fn perform<
 ) -> Result<Done, Failure>
     ensures asks { io.new.asks ≡ io.old.asks }
     ensures done { Does io.old io.new R.asked F.written W.contents L.given P.shown
-        (λ did Prints. Performs request.entry io.old.asks did Prints result) }
+        (λ did Prints. Performs (P.was_shown io.old.progress)
+        request.entry io.old.asks did Prints result) }
 {
     let channels = &mut io.channels;
     match request {
@@ -322,7 +345,7 @@ pub fn perform<
                 events,
                 ticks,
             };
-            done_after_turns(run(rt, alloc, channels, wanted, &mut io.progress))
+            done_after_run(run(rt, alloc, channels, wanted, &mut io.progress))
         }
         CommandRequest::Turns { .. } | CommandRequest::Sweep { .. } => {
             perform_turns(alloc, io, request)

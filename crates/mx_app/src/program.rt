@@ -48,7 +48,7 @@ fn arguments(rt: &(impl Env + AllocGlobal)) -> Result<Vec<String>, Failure>
 /// What a command has printed that is done.
 fn printed_text(words: &[&str], done: Done) -> PrintedText {
     match done.ending {
-        Some(ending) => PrintedText::Turns(ending),
+        Some(ending) => PrintedText::Report(ending),
         None => if begin_with(words, "nm") {
             PrintedText::Symbols
         } else {

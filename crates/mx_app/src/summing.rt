@@ -217,7 +217,8 @@ fn perform_summed<
 ) -> Result<Done, LineFailure>
     ensures asks { io.new.asks ≡ io.old.asks }
     ensures done { Does io.old io.new R.asked F.written W.contents L.given P.shown
-        (λ did Prints. PerformsSummed request.entry name.now io.old.asks did Prints result) }
+        (λ did Prints. PerformsSummed (P.was_shown io.old.progress)
+        request.entry name.now io.old.asks did Prints result) }
 {
     let text = sums_text_named(alloc, &mut io.channels.reader, first_name(request))?;
     let done = perform(rt, alloc, io, request)?;
@@ -242,7 +243,8 @@ fn perform_compared<
 ) -> Result<Done, LineFailure>
     ensures asks { io.new.asks ≡ io.old.asks }
     ensures done { Does io.old io.new R.asked F.written W.contents L.given P.shown
-        (λ did Prints. PerformsCompared request.entry name.now io.old.asks did Prints result) }
+        (λ did Prints. PerformsCompared (P.was_shown io.old.progress)
+        request.entry name.now io.old.asks did Prints result) }
 {
     compare_named(alloc, &mut io.channels.reader, first_name(request), name)?;
     let compared = perform(rt, alloc, io, request)?;
@@ -267,7 +269,8 @@ fn perform_with_sums<
 ) -> Result<Done, LineFailure>
     ensures asks { io.new.asks ≡ io.old.asks }
     ensures done { Does io.old io.new R.asked F.written W.contents L.given P.shown
-        (λ did Prints. PerformsWith request.entry name.now io.old.asks did Prints result) }
+        (λ did Prints. PerformsWith (P.was_shown io.old.progress)
+        request.entry name.now io.old.asks did Prints result) }
 {
     if names_file(request, name) {
         return Err(LineFailure::Sums(SumsFault::NameTaken));
@@ -296,7 +299,8 @@ pub fn perform_line<
 ) -> Result<Done, LineFailure>
     ensures asks { io.new.asks ≡ io.old.asks }
     ensures done { Does io.old io.new R.asked F.written W.contents L.given P.shown
-        (λ did Prints. PerformsLine line.entry io.old.asks did Prints result) }
+        (λ did Prints. PerformsLine (P.was_shown io.old.progress)
+        line.entry io.old.asks did Prints result) }
 {
     match line.sums {
         None => {

@@ -139,7 +139,8 @@ pub fn perform_words<
 ) -> Result<Done, Complaint>
     ensures asks { io.new.asks ≡ io.old.asks }
     ensures done { Does io.old io.new (λ r. R.asked r.reader) (λ f. F.written f.files) W.contents
-        L.given P.shown (λ did Prints. IsPerformed (map (λ s. s.now) words.now) io.old.asks shows did
+        L.given P.shown (λ did Prints. IsPerformed (P.was_shown io.old.progress)
+        (map (λ s. s.now) words.now) io.old.asks shows did
         (noted_by io.new.channels.reader.last io.new.channels.reader.is_missed
         io.new.channels.files.is_unwritten io.new.channels.reader.text) Prints result) }
 {

@@ -212,7 +212,7 @@ ends after N records more, or if the machine is at rest. The run ends after the 
 
 Status: 0 done, also if the history was full; 1 a text or a program's file is refused;
 2 a mistake in the words; 3 a file can't be read or written, or LOG is CONFIG; 4 no
-memory. Formats: docs/use/REFERENCE.md.";
+memory; 5 the run was stopped. Formats: docs/use/REFERENCE.md.";
 
 /// Turns on one thread, and their history.
 const TURNS_EXAMPLE: &str = "In the folder examples/machines/pair:

@@ -1,5 +1,5 @@
 -- From loops to a run, and from its text to its replay.
-use Rattle.std.proofs.Common.{◌≡◌, ◌∙◌, ◌+◌, ◌<◌, ◌≤◌, ℕ, suc, List, [], ◌∷◌, ◌++◌, length, take, get_or, Option, Some, None, Result, All, refl, sym, ap, subst, arith, inl, inr, append_assoc}
+use Rattle.std.proofs.Common.{◌≡◌, ◌∙◌, ◌+◌, ◌<◌, ◌≤◌, ℕ, suc, Bool, List, [], ◌∷◌, ◌++◌, length, take, get_or, Option, Some, None, Result, All, refl, sym, ap, subst, arith, inl, inr, append_assoc}
 use Rattle.std.specs.Io.KnownBytes.{Appends}
 use Rattle.std.proofs.lemmas.List.{length-replicate, take_more}
 use Rattle.atomic_table.specs.Seated.{TableId}
@@ -29,26 +29,28 @@ use Rattle.mx_boot.specs.Text.{saved_text}
 use Rattle.mx_app_step.specs.Records.{IsFirstRefusal, IsRefusedAt, IsReplayPrinted}
 use Rattle.mx_app_step.specs.declared.records.Replayed.{Replayed}
 use Rattle.mx_app_step.specs.declared.records.Replayed.TheVariants as replayed
-use Rattle.mx_turns.specs.declared.turns.Ending.{Ending}
+use Rattle.mx_app_run.specs.declared.running.RunEnding.{RunEnding}
 use Rattle.mx_cpus.specs.declared.outside.OutsideCall.{OutsideCall}
 use Rattle.mx_app_run.specs.Calls.{AreCallsGiven, IsCallsFault, call_line, tick_of, ticks_of}
 use Rattle.mx_text.specs.Lines.{lines}
 use Rattle.mx_text.specs.declared.error.BootError.{BootError}
 use Rattle.mx_boot.specs.Reading.{AreLinesRead, TellsUnread}
-use Rattle.mx_app_run.specs.Run.{ComesTo, EndsDriven, IsCalled, IsNotCalled, IsRun, ReportsRun, run_ending}
+use Rattle.mx_walk.specs.declared.progress.Part.{Part}
+use Rattle.mx_app_run.specs.Shows.{shows}
+use Rattle.mx_app_run.specs.Run.{ComesTo, EndsDriven, IsCalled, IsNotCalled, IsRun, IsRunHistory, ReportsRun, run_ending}
 
 -- a run ends at a kernel whose loops have ended
-pub run_of : (c : Config) (vs : List Service) (ticks : ℕ) (xs : List OutsideCall) (k : BootAndHistory) (boot : World) (z : TableId) (seats : List SeatView)
-    → boot ≡ world_at_boot c vs → seats ≡ all_seats c z → k.boot ≡ boot → EndsDriven (length boot.cpus) ticks xs seats k.history
-    → AreAccepted k.boot (events_of_history k.history) → All (IsWritable (actors (replay k))) k.history → IsRun c vs ticks xs k
-run_of c vs ticks xs k boot z seats booted all is ends accepted written =
+pub run_of : (WasShown : Part → Type 0) (c : Config) (vs : List Service) (ticks : ℕ) (xs : List OutsideCall) (whole : Bool) (k : BootAndHistory) (boot : World) (z : TableId) (seats : List SeatView)
+    → boot ≡ world_at_boot c vs → seats ≡ all_seats c z → k.boot ≡ boot → EndsDriven boot (shows WasShown c.log) (length boot.cpus) ticks xs whole seats k.history
+    → AreAccepted k.boot (events_of_history k.history) → All (IsWritable (actors (replay k))) k.history → IsRun WasShown c vs ticks xs whole k
+run_of WasShown c vs ticks xs whole k boot z seats booted all is ends accepted written =
     let many : length boot.cpus ≡ c.cpus = ap (λ (w : World). length w.cpus) booted ∙ length-replicate c.cpus None in
     record {
-      boot = is ∙ booted;
-      accepted = accepted;
-      written = written;
+      history = record { boot = is ∙ booted; accepted = accepted; written = written };
       table = z;
-      loops = subst (λ n. EndsDriven n ticks xs (all_seats c z) k.history) many (subst (λ (l : List SeatView). EndsDriven (length boot.cpus) ticks xs l k.history) all ends);
+      loops = subst (λ (w : World). EndsDriven w (shows WasShown c.log) c.cpus ticks xs whole (all_seats c z) k.history) booted
+          (subst (λ n. EndsDriven boot (shows WasShown c.log) n ticks xs whole (all_seats c z) k.history) many
+          (subst (λ (l : List SeatView). EndsDriven boot (shows WasShown c.log) (length boot.cpus) ticks xs whole l k.history) all ends));
     }
 
 -- one service for each line
@@ -108,27 +110,28 @@ some_called config o qs c vs xs h =
 -- ---- what `mx run` does, by how far it comes
 
 -- the text of a run's history is by the rules of its configuration
-by_rules : (c : Config) (vs : List Service) (ticks : ℕ) (xs : List OutsideCall) (k : BootAndHistory) → IsRun c vs ticks xs k → text_kept k ≡ saved_text c.rules k.history
-by_rules c vs ticks xs k run = ap (λ (r : Rules). saved_text r k.history) (ap (λ (w : World). w.table.rules) run.boot ∙ rules_at_boot c vs)
+by_rules : (c : Config) (vs : List Service) (k : BootAndHistory) → IsRunHistory c vs k → text_kept k ≡ saved_text c.rules k.history
+by_rules c vs k run = ap (λ (r : Rules). saved_text r k.history) (ap (λ (w : World). w.table.rules) run.boot ∙ rules_at_boot c vs)
 
 -- a run whose kernel is reported
-pub run_reported : (c : Config) (vs : List Service) (ticks : ℕ) (xs : List OutsideCall) (k : BootAndHistory) → IsRun c vs ticks xs k → (log : List ℕ) (ws : List Written) (Prints : List ℕ → Type 0) (ending : Ending) (r : Result Ending Kind)
-    → ending ≡ run_ending c.log ticks xs k → ReportsRun log (text_kept k) ws (Prints (report_text (replay k).table (replay k).services)) ending r → ComesTo c vs xs log ticks ws Prints r
-run_reported c vs ticks xs k run log ws Prints ending r is h =
+pub run_reported : (WasShown : Part → Type 0) (c : Config) (vs : List Service) (ticks : ℕ) (xs : List OutsideCall) (whole : Bool) (k : BootAndHistory) → IsRun WasShown c vs ticks xs whole k → (log : List ℕ) (ws : List Written) (Prints : List ℕ → Type 0) (ending : RunEnding) (r : Result RunEnding Kind)
+    → ending ≡ run_ending c.log ticks xs whole k → ReportsRun log (text_kept k) ws (Prints (report_text (replay k).table (replay k).services)) ending r → ComesTo WasShown c vs xs log ticks ws Prints r
+run_reported WasShown c vs ticks xs whole k run log ws Prints ending r is h =
     let Printed = Prints (report_text (replay k).table (replay k).services) in
     inr (
       k,
+      whole,
       run,
       subst (λ e. ReportsRun log (saved_text c.rules k.history) ws Printed e r) is
-          (subst (λ t. ReportsRun log t ws Printed ending r) (by_rules c vs ticks xs k run) h),
+          (subst (λ t. ReportsRun log t ws Printed ending r) (by_rules c vs k run.history) h),
     )
 
 -- ---- its replay
 
-pub actors_of_run : (c : Config) (vs : List Service) (ticks : ℕ) (xs : List OutsideCall) (k : BootAndHistory)
-    → IsRun c vs ticks xs k → actors (replay k) ≡ c.cpus + c.others
+pub actors_of_run : (c : Config) (vs : List Service) (k : BootAndHistory)
+    → IsRunHistory c vs k → actors (replay k) ≡ c.cpus + c.others
 unfolding replay
-actors_of_run c vs ticks xs k r = actors_after_events k.boot (events_of_history k.history) ∙ ap actors r.boot ∙ ap (λ n. n + c.others) (length-replicate c.cpus None)
+actors_of_run c vs k r = actors_after_events k.boot (events_of_history k.history) ∙ ap actors r.boot ∙ ap (λ n. n + c.others) (length-replicate c.cpus None)
 
 events_both : (xs ys : List Record) → events_of_history (xs ++ ys) ≡ events_of_history xs ++ events_of_history ys
 events_both [] ys = refl
@@ -155,15 +158,15 @@ not_refused w records n r h q =
     never_refused (world_after_events w (events_of_history above)) (events_of x.actor x.event) (events_of_history below) r
     (accepted_after w (events_of_history above) (events_of_history (x ∷ below)) (subst (AreAccepted w) parts h)) q.5
 
-pub printed_whole : (c : Config) (vs : List Service) (ticks : ℕ) (xs : List OutsideCall) (k : BootAndHistory) (records : List Record) (how : Replayed) (before after : Option (List ℕ))
-    → IsRun c vs ticks xs k → records ≡ k.history → IsReplayPrinted (world_at_boot c vs) records how (λ text. Appends before after text)
+pub printed_whole : (c : Config) (vs : List Service) (k : BootAndHistory) (records : List Record) (how : Replayed) (before after : Option (List ℕ))
+    → IsRunHistory c vs k → records ≡ k.history → IsReplayPrinted (world_at_boot c vs) records how (λ text. Appends before after text)
     → (how ≡ replayed.Whole) × Appends before after (report_text (replay k).table (replay k).services)
 unfolding replay
-printed_whole c vs ticks xs k records replayed.Whole before after run same h =
+printed_whole c vs k records replayed.Whole before after run same h =
     let there : world_after_events (world_at_boot c vs) (events_of_history records) ≡ world_after_events k.boot (events_of_history k.history) =
     ap (λ (l : List Record). world_after_events (world_at_boot c vs) (events_of_history l)) same ∙ ap (λ w. world_after_events w (events_of_history k.history)) (sym run.boot) in
     (refl, subst (λ (u : World). Appends before after (report_text u.table u.services)) there h.1)
-printed_whole c vs ticks xs k records replayed.Refused before after run same h =
+printed_whole c vs k records replayed.Refused before after run same h =
     let accepted = subst (λ w. AreAccepted w (events_of_history records)) run.boot (subst (λ (l : List Record). AreAccepted k.boot (events_of_history l)) (sym same) run.accepted) in
     absurd (not_refused (world_at_boot c vs) records h.0 h.1 accepted h.2)
 

@@ -1,5 +1,5 @@
 -- Machines whose processors are threads, and what their runs leave (our own).
-use Rattle.std.specs.Prelude.{◌≡◌, ◌⊎◌, ◌==◌, ◌&&◌, ◌||◌, ◌+◌, ◌++◌, if◌then◌else◌, ℕ, Bool, true, false, nat_lt, List, [], ◌∷◌, length, All, Option, Some, None, Result, Ok, Err, IsErrAnd}
+use Rattle.std.specs.Prelude.{◌≡◌, ◌⊎◌, ◌==◌, ◌&&◌, ◌||◌, ◌+◌, ◌-◌, ◌++◌, if◌then◌else◌, ℕ, Bool, true, false, nat_lt, List, [], ◌∷◌, length, All, Option, Some, None, Result, Ok, Err, IsErrAnd}
 use Rattle.std.specs.Io.KnownBytes.{Appends}
 use Rattle.atomic_table.specs.Seated.{TableId}
 use Rattle.mx_machine.specs.declared.config.Config.{Config}
@@ -7,17 +7,20 @@ use Rattle.mx_machine.specs.declared.history.Record.{Record}
 use Rattle.mx_machine.specs.Boot.{world_at_boot}
 use Rattle.mx_machine.specs.History.{AreAccepted, BootAndHistory, IsWritable, events_of_history, replay}
 use Rattle.mx_machine.specs.Rest.{at_rest}
-use Rattle.mx_machine.specs.World.{actors}
+use Rattle.mx_machine.specs.World.{World, actors}
 use Rattle.mx_machine.specs.Service.{Service}
 use Rattle.mx_cpus.specs.Seats.{SeatView}
 use Rattle.mx_cpus.specs.Calls.{StandsIn}
 use Rattle.mx_cpus.specs.Boots.{all_seats}
-use Rattle.mx_cpus.specs.Outsiders.{AreDrivenWith}
+use Rattle.mx_cpus.specs.Outsiders.{AreDrivenWith, AreServedWith, AreWholeWith}
+use Rattle.mx_cpus.specs.Gates.{GateCall}
+use Rattle.mx_walk.specs.declared.progress.Part.{Part}
+use Rattle.mx_app_run.specs.Shows.{is_full_at, shows}
 use Rattle.mx_cpus.specs.declared.outside.OutsideCall.{OutsideCall}
 use Rattle.mx_app_step.specs.Report.{report_text}
 use Rattle.mx_boot.specs.Text.{saved_text}
-use Rattle.mx_turns.specs.declared.turns.Ending.{Ending}
-use Rattle.mx_turns.specs.declared.turns.Ending.TheVariants.{Full, Rest}
+use Rattle.mx_app_run.specs.declared.running.RunEnding.{RunEnding}
+use Rattle.mx_app_run.specs.declared.running.RunEnding.TheVariants.{Full, Rest, Stopped}
 use Rattle.mx_app_failure.specs.declared.failure.Failure.{Failure as Kind}
 use Rattle.mx_app_failure.specs.declared.failure.Failure.TheVariants.{File, NoMemory}
 use Rattle.mx_app_failure.specs.Failure.{IsWanting}
@@ -35,29 +38,39 @@ use Rattle.mx_app_step.specs.declared.records.Replayed.TheVariants.{Whole}
 
 -- ---- a run
 
--- the loops of these seats have ended, and what each seat shows then is in the history
-abbrev pub EndsDriven : ℕ → ℕ → List OutsideCall → List SeatView → List Record → Type 0
-EndsDriven cpus ticks xs seats history = (ended : List SeatView) × AreDrivenWith cpus ticks xs seats ended × All (StandsIn history) ended
+-- the loops of these seats have ended, each of them for a reason that its course says, by whether all calls were made; and
+-- what each seat shows then is in the history
+abbrev pub EndsDriven : World → (GateCall → Type 0) → ℕ → ℕ → List OutsideCall → Bool → List SeatView → List Record → Type 0
+EndsDriven boot WasCalled cpus ticks xs whole seats history =
+    (ended : List SeatView) × AreDrivenWith cpus ticks xs seats ended × AreServedWith boot WasCalled cpus ticks xs seats ended
+    × AreWholeWith boot WasCalled cpus xs seats ended whole × All (StandsIn history) ended
 
--- A RUN of a configuration and its services with at most some ticks, and with some calls of the outsider, ends at a
--- kernel. It was booted so, each event of its history is accepted, and the records of each actor there are those of its
--- loop.
-pub record IsRun (c : Config) (vs : List Service) (ticks : ℕ) (xs : List OutsideCall) (k : BootAndHistory) : Type 0 where
+-- what a run leaves, whatever its loops did: a kernel that was booted so, and each event of its history is accepted
+pub record IsRunHistory (c : Config) (vs : List Service) (k : BootAndHistory) : Type 0 where
   pub boot : k.boot ≡ world_at_boot c vs
   pub accepted : AreAccepted k.boot (events_of_history k.history)
   pub written : All (IsWritable (actors (replay k))) k.history
+
+-- A RUN of a configuration and its services with at most some ticks, and with some calls of the outsider, ends at a
+-- kernel. It was booted so, each event of its history is accepted, and the records of each actor there are those of its
+-- loop, which went on until the history was full or the gate ended it. WasShown holds of what the progress was shown.
+pub record IsRun (WasShown : Part → Type 0) (c : Config) (vs : List Service) (ticks : ℕ) (xs : List OutsideCall) (whole : Bool) (k : BootAndHistory) : Type 0 where
+  pub history : IsRunHistory c vs k
   pub table : TableId
-  pub loops : EndsDriven c.cpus ticks xs (all_seats c table) k.history
+  pub loops : EndsDriven (world_at_boot c vs) (shows WasShown c.log) c.cpus ticks xs whole (all_seats c table) k.history
 
--- there is room for a record more, or there are no calls
-abbrev pub has_room : ℕ → List OutsideCall → BootAndHistory → Bool
-has_room log xs k = (length xs == 0) || nat_lt (length k.history) log
+-- fewer records are free than the two that a turn needs
+abbrev pub is_full : ℕ → BootAndHistory → Bool
+is_full log k = is_full_at log (length k.history)
 
--- HOW IT ENDS: at rest after all ticks and calls; else with a full history. The uptime counts the ticks that are made. If
--- there are calls, the history has room left at rest: without any, the last call may have been refused
-abbrev pub run_ending : ℕ → ℕ → List OutsideCall → BootAndHistory → Ending
-run_ending log ticks xs k =
-    if (at_rest (replay k) && ((replay k).table.uptime == ticks + ticks_of xs)) && has_room log xs k then Rest else Full
+-- the machine is at rest, and as many ticks were made as were asked for
+abbrev pub has_rested : ℕ → List OutsideCall → BootAndHistory → Bool
+has_rested ticks xs k = at_rest (replay k) && ((replay k).table.uptime == ticks + ticks_of xs)
+
+-- HOW IT ENDS, by whether all calls were made: at rest after all ticks and calls; else with a full history; else it was
+-- stopped before. The uptime counts the ticks that are made
+abbrev pub run_ending : ℕ → ℕ → List OutsideCall → Bool → BootAndHistory → RunEnding
+run_ending log ticks xs whole k = if whole && has_rested ticks xs k then Rest else if is_full log k then Full else Stopped
 
 -- ---- `mx run`
 
@@ -83,35 +96,35 @@ IsNotRun config events log qs f =
 
 -- WHAT REPORTING A RUN DOES: it writes the history's text, whole, prints the report, and answers how the run ended; or it
 -- answers why not all of this was done
-abbrev pub ReportsRun : List ℕ → List ℕ → List Written → Type 0 → Ending → Result Ending Kind → Type 0
+abbrev pub ReportsRun : List ℕ → List ℕ → List Written → Type 0 → RunEnding → Result RunEnding Kind → Type 0
 ReportsRun log text ws Printed ending (Ok answered) = (ws ≡ kept log text ∷ []) × Printed × (answered ≡ ending)
 ReportsRun log text ws Printed ending (Err f) = IsUnwritten log text ws f ⊎ ((ws ≡ kept log text ∷ []) × IsWanting f)
 
 -- WHAT A RUN OF WHAT WAS READ COMES TO: it answers that there is no memory for it; or the run is reported, with the report
 -- on the replay of its history
-abbrev pub ComesTo : Config → List Service → List OutsideCall → List ℕ → ℕ → List Written → (List ℕ → Type 0) → Result Ending Kind → Type 0
-ComesTo c vs xs log ticks ws Prints r =
+abbrev pub ComesTo : (Part → Type 0) → Config → List Service → List OutsideCall → List ℕ → ℕ → List Written → (List ℕ → Type 0) → Result RunEnding Kind → Type 0
+ComesTo WasShown c vs xs log ticks ws Prints r =
     ((ws ≡ []) × IsErrAnd r (λ f. f ≡ NoMemory))
-    ⊎ ((k : BootAndHistory) × IsRun c vs ticks xs k
-    × ReportsRun log (saved_text c.rules k.history) ws (Prints (report_text (replay k).table (replay k).services)) (run_ending c.log ticks xs k) r)
+    ⊎ ((k : BootAndHistory) × (whole : Bool) × IsRun WasShown c vs ticks xs whole k
+    × ReportsRun log (saved_text c.rules k.history) ws (Prints (report_text (replay k).table (replay k).services)) (run_ending c.log ticks xs whole k) r)
 
 -- WHAT `mx run` DOES: it answers why no run is begun; or, after its files were read, it spares a service's program that the
 -- history would be written over; or it runs what was read, and this comes of it
-abbrev pub Runs : List ℕ → Option (List ℕ) → List ℕ → ℕ → List Asked → List Written → (List ℕ → Type 0) → Result Ending Kind → Type 0
-Runs config events log ticks qs ws Prints r =
+abbrev pub Runs : (Part → Type 0) → List ℕ → Option (List ℕ) → List ℕ → ℕ → List Asked → List Written → (List ℕ → Type 0) → Result RunEnding Kind → Type 0
+Runs WasShown config events log ticks qs ws Prints r =
     IsErrAnd r (λ f. (ws ≡ []) × IsNotRun config events log qs f)
     ⊎ ((c : Config) × (vs : List Service) × (xs : List OutsideCall) × (writes_over config events log ≡ false) × IsCalled config events qs c vs xs
-    × (IsErrAnd r (SparesProgram c log ws Prints) ⊎ ((names_program c log ≡ false) × ComesTo c vs xs log ticks ws Prints r)))
+    × (IsErrAnd r (SparesProgram c log ws Prints) ⊎ ((names_program c log ≡ false) × ComesTo WasShown c vs xs log ticks ws Prints r)))
 
 -- ---- its replay
 
 -- by the run's configuration, and by the rules of the run
 abbrev pub RunsAreHistories : Type 0
-RunsAreHistories = (c : Config) (vs : List Service) (ticks : ℕ) (xs : List OutsideCall) (k : BootAndHistory) → IsRun c vs ticks xs k → IsSaved (saved_text c.rules k.history) c c k.history
+RunsAreHistories = (c : Config) (vs : List Service) (k : BootAndHistory) → IsRunHistory c vs k → IsSaved (saved_text c.rules k.history) c c k.history
 
 -- `mx replay` of this configuration, these services and the text that was written prints the report that the run
 -- printed
 abbrev pub RunsReplay : Type 0
-RunsReplay = (c d : Config) (vs : List Service) (ticks : ℕ) (xs : List OutsideCall) (k : BootAndHistory) (records : List Record) (how : Replayed) (before after : Option (List ℕ))
-    → IsRun c vs ticks xs k → IsSaved (saved_text c.rules k.history) c d records → IsReplayPrinted (world_at_boot d vs) records how (λ text. Appends before after text)
+RunsReplay = (c d : Config) (vs : List Service) (k : BootAndHistory) (records : List Record) (how : Replayed) (before after : Option (List ℕ))
+    → IsRunHistory c vs k → IsSaved (saved_text c.rules k.history) c d records → IsReplayPrinted (world_at_boot d vs) records how (λ text. Appends before after text)
     → (how ≡ Whole) × Appends before after (report_text (replay k).table (replay k).services)

@@ -6,13 +6,17 @@
 //! a millisecond too. The respawner sleeps a millisecond after each round. So an idle loop costs
 //! little.
 //!
-//! # When a run with outside events ends
+//! # When a loop ends
 //!
-//! The outsider asks once after its last call, and then its loop ends. So the end of a loop that has asked is the end of
-//! the calls, and the end of one that hasn't is the end of the run: no thread could be made, or the history is full.
+//! A loop that finds the history full for its next event ends by itself. Of the others each ends by what it has seen
+//! itself, and by what it has asked before; that another loop has ended doesn't matter. So nothing ends too early: the
+//! last one that recorded something has seen the whole history.
+
+ghost use Rattle.std.specs.Prelude.{◌≡◌, ◌==◌, not, true, length};
+ghost use Rattle.mx_app_run.specs.Shows.{is_full_at, is_settled, may_end, nap_after};
 
 use mx_app_start::SharedProgress;
-use mx_cpus::{Gate, WatchingGate};
+use mx_cpus::{HowFar, Outside, WatchingGate};
 use mx_walk::Part;
 use std::sync::atomic::{AtomicBool, AtomicU32, Ordering};
 use std::time::{Clock, Duration};
@@ -28,91 +32,176 @@ const YIELDS: u32 = 16;
 /// another.
 const NAP: u64 = 1;
 
+/// How many records a turn needs: a take, and its return.
+const TURN: usize = 2;
+
 /// What the gate knows of one loop.
 #[derive(Drop)]
 struct LoopState {
     /// Whether an earlier question of it came after the last tick and after the outsider's last call.
     is_past_all: AtomicBool,
+    /// Whether an earlier question of it came with a full history.
+    has_seen_full: AtomicBool,
     /// How many questions it has asked since it last held a process.
     questions: AtomicU32,
+}
+
+/// What an actor's earlier questions have shown.
+#[derive(Clone, Copy)]
+struct Earlier {
+    is_past_all: bool,
+    has_seen_full: bool,
 }
 
 /// What the gate of a run has to know of it.
 #[derive(Clone, Copy)]
 pub struct RunPlan {
     /// The first actor that is no processor. The next one is the outsider, if there are calls for it to make.
-    pub respawner: u8,
-    pub ticks: u32,
-    pub has_calls: bool,
+    respawner: u8,
+    has_calls: bool,
     /// How many records the history may have.
-    pub log: usize,
+    log: usize,
+}
+
+impl RunPlan {
+    /// The plan of a run with so many processors, what comes from outside, and room for so many records.
+    pub fn new(cpus: u8, outside: Outside<'_>, log: usize) -> RunPlan
+        ensures respawner { result.respawner ≡ cpus }
+        ensures calls { result.has_calls ≡ not (length outside.entry.calls.now == 0) }
+        ensures log { result.log ≡ log }
+    {
+        RunPlan {
+            respawner: cpus,
+            has_calls: !outside.calls.is_empty(),
+            log,
+        }
+    }
+}
+
+/// Whether a history of so many records has no room for a turn.
+pub(crate) fn is_full_at(log: usize, records: usize) -> bool
+    ensures { result ≡ is_full_at log records }
+{
+    log.saturating_sub(records) < TURN
+}
+
+/// Whether a loop ends. The machine is at rest, its work is done, and an earlier question of it came after all ticks and
+/// calls: nothing can become ready then. Or the history is full, as at an earlier question of it; the outsider's wait
+/// ends then too.
+fn is_settled(plan: RunPlan, actor: u8, far: HowFar, is_done: bool, earlier: Earlier) -> bool
+    ensures value { result ≡ is_settled plan.respawner plan.log
+        actor far is_done earlier.is_past_all earlier.has_seen_full }
+    ensures may { result ≡ true → may_end plan.log far.records far.at_rest is_done ≡ true }
+{
+    if is_full_at(plan.log, far.records) {
+        earlier.has_seen_full && (is_done || actor > plan.respawner)
+    } else {
+        far.at_rest && is_done && earlier.is_past_all
+    }
+}
+
+/// How many milliseconds a loop sleeps after so many questions in a row.
+fn nap_after(questions: u32, is_respawner: bool) -> u64
+    ensures { result ≡ nap_after questions is_respawner }
+{
+    if is_respawner || questions > YIELDS {
+        NAP
+    } else {
+        0
+    }
 }
 
 /// The gate of a run: it ends all loops if the machine is at rest after the last tick and the outsider's
-/// last call, and if another loop than the outsider's has ended. It shows how long the history is.
+/// last call, and if the history is full. It shows how long the history is.
 #[derive(Drop)]
 pub struct RunGate<'a, R, P: SharedProgress> {
     clock: &'a R,
     progress: &'a P,
     plan: RunPlan,
-    /// The respawner's rounds. After `n` of them `n` ticks are made, or all.
-    rounds: AtomicU32,
-    /// Whether the outsider has calls to make.
-    has_calls: AtomicBool,
-    has_ended: AtomicBool,
+    are_ticks_made: AtomicBool,
+    are_calls_made: AtomicBool,
     loops: [LoopState; LOOPS],
 }
 
 impl<'a, R, P: SharedProgress> RunGate<'a, R, P> {
     /// The gate of a run, by its clock, by what shows its progress, and by its plan.
-    pub fn new(clock: &'a R, progress: &'a P, plan: RunPlan) -> RunGate<'a, R, P> {
+    pub fn new(clock: &'a R, progress: &'a P, plan: RunPlan) -> RunGate<'a, R, P>
+        ensures plan { result.plan ≡ plan }
+        ensures progress { result.progress.now ≡ progress.now }
+    {
         RunGate {
             clock,
             progress,
             plan,
-            rounds: AtomicU32::new(0),
-            has_calls: AtomicBool::new(plan.has_calls),
-            has_ended: AtomicBool::new(false),
+            are_ticks_made: AtomicBool::new(false),
+            are_calls_made: AtomicBool::new(!plan.has_calls),
             loops: array::from_fn(|_| LoopState {
                 is_past_all: AtomicBool::new(false),
+                has_seen_full: AtomicBool::new(false),
                 questions: AtomicU32::new(0),
             }),
         }
     }
 
-    /// Notes that the respawner has made a round.
-    fn note_round(&self) {
-        let rounds = self.rounds.load(Ordering::SeqCst);
-        self.rounds
-            .store(rounds.saturating_add(1), Ordering::SeqCst);
+    /// Notes that an actor's own work is done.
+    fn note_done(&self, actor: u8) {
+        if actor == self.plan.respawner {
+            self.are_ticks_made.store(true, Ordering::SeqCst);
+        } else if actor > self.plan.respawner {
+            self.are_calls_made.store(true, Ordering::SeqCst);
+        }
     }
 
     /// Whether nothing is to come from outside: all ticks and all calls are made.
     fn is_past_all(&self) -> bool {
-        self.rounds.load(Ordering::SeqCst) >= self.plan.ticks
-            && !self.has_calls.load(Ordering::SeqCst)
+        self.are_ticks_made.load(Ordering::SeqCst) && self.are_calls_made.load(Ordering::SeqCst)
     }
 
-    /// Whether an actor is the outsider, and has asked.
-    fn has_made_calls(&self, actor: u8) -> bool {
-        if actor != self.plan.respawner.saturating_add(1) {
-            return false;
+    /// What an actor's earlier questions have shown. Notes what this one does.
+    fn note_question(&self, actor: u8, far: HowFar) -> Earlier {
+        let Some(state) = self.loops.get(usize::from(actor)) else {
+            return Earlier {
+                is_past_all: false,
+                has_seen_full: false,
+            };
+        };
+        let earlier = Earlier {
+            is_past_all: state.is_past_all.load(Ordering::SeqCst),
+            has_seen_full: state.has_seen_full.load(Ordering::SeqCst),
+        };
+        if self.is_past_all() {
+            state.is_past_all.store(true, Ordering::SeqCst);
         }
-        match self.loops.get(usize::from(actor)) {
-            Some(state) => state.questions.load(Ordering::SeqCst) > 0,
-            None => false,
+        if is_full_at(self.plan.log, far.records) {
+            state.has_seen_full.store(true, Ordering::SeqCst);
         }
+        earlier
     }
 
     /// How many questions a loop has asked in a row, this one too.
-    fn note_question(&self, state: &LoopState) -> u32 {
+    fn count_question(&self, actor: u8) -> u32 {
+        let Some(state) = self.loops.get(usize::from(actor)) else {
+            return 0;
+        };
         let questions = state.questions.load(Ordering::SeqCst).saturating_add(1);
         state.questions.store(questions, Ordering::SeqCst);
         questions
     }
 }
 
-impl<'a, R: Clock, P: SharedProgress> Gate for RunGate<'a, R, P> {
+impl<'a, R: Clock, P: SharedProgress> RunGate<'a, R, P> {
+    /// Lets others run, and sleeps if the loop is idle for long.
+    fn wait(&self, actor: u8) {
+        let questions = self.count_question(actor);
+        thread::yield_now();
+        let nap = nap_after(questions, actor == self.plan.respawner);
+        if nap > 0 {
+            thread::sleep(self.clock, Duration::from_millis(nap));
+        }
+    }
+}
+
+impl<'a, R: Clock, P: SharedProgress> WatchingGate for RunGate<'a, R, P> {
     ghost use Rattle.mx_app_run.specs.Shows.{shows};
 
     ghost was_called = { λ gate call. shows (P.was_shown gate.progress.now) gate.plan.log call };
@@ -125,47 +214,24 @@ impl<'a, R: Clock, P: SharedProgress> Gate for RunGate<'a, R, P> {
 
     fn given(&self, _cpu: u8) {}
 
-    /// Ends the loop if another loop than the outsider's has ended, or if an earlier question of this actor came after
-    /// the last tick and the outsider's last call, and the machine is at rest now.
-    fn again(&self, actor: u8, at_rest: bool) -> bool {
-        if self.has_ended.load(Ordering::SeqCst) {
-            return false;
-        }
-        let Some(state) = self.loops.get(usize::from(actor)) else {
-            return false;
-        };
-        if actor == self.plan.respawner {
-            self.note_round();
-        }
-        // No tick and no call comes any more, so nothing can become ready.
-        if at_rest && state.is_past_all.load(Ordering::SeqCst) {
-            return false;
-        }
-        if self.is_past_all() {
-            state.is_past_all.store(true, Ordering::SeqCst);
-        }
-        let questions = self.note_question(state);
-        thread::yield_now();
-        if actor == self.plan.respawner || questions > YIELDS {
-            thread::sleep(self.clock, Duration::from_millis(NAP));
-        }
-        true
-    }
-
-    fn ended(&self, actor: u8) {
-        if self.has_made_calls(actor) {
-            self.has_calls.store(false, Ordering::SeqCst);
-        } else {
-            self.has_ended.store(true, Ordering::SeqCst);
-        }
-    }
-}
-
-impl<'a, R: Clock, P: SharedProgress> WatchingGate for RunGate<'a, R, P> {
     fn seen(&self, _actor: u8, records: usize) {
         self.progress.show_shared(Part {
             done: records,
             all: self.plan.log,
         });
     }
+
+    fn goes_on(&self, actor: u8, far: HowFar, is_done: bool) -> bool {
+        if is_done {
+            self.note_done(actor);
+        }
+        let earlier = self.note_question(actor, far);
+        if is_settled(self.plan, actor, far, is_done, earlier) {
+            return false;
+        }
+        self.wait(actor);
+        true
+    }
+
+    fn ended(&self, _actor: u8) {}
 }

@@ -1,4 +1,4 @@
-//! `mx run`: a machine whose processors are threads, by a plan of rounds, ticks and outside calls at a gate;
+//! `mx run`: a machine whose processors are threads, by a gate that ends their loops;
 //! and its history, saved at the end.
 #![tactic(auto)]
 
@@ -13,5 +13,4 @@ pub use laws::replay_again;
 pub use mx_app_start::{Channels, MemoryWriter, NamedFile, NamedFiles, NoProgress, setup_of};
 pub use mx_app_step::{Replayed, replay};
 pub use mx_boot::{report, saved_text};
-pub use mx_turns::Ending;
-pub use running::{RunWanted, run};
+pub use running::{RunEnding, RunWanted, run};

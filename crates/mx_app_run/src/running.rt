@@ -7,12 +7,13 @@ ghost use Rattle.mx_app_step.specs.Asked.{Asked};
 ghost use Rattle.mx_app_step.specs.Kept.{text_kept};
 ghost use Rattle.mx_app_step.specs.Report.{report_text};
 ghost use Rattle.mx_app_step.specs.Written.{Written};
-ghost use Rattle.mx_cpus.specs.Outsiders.{AreDrivenWith};
+ghost use Rattle.mx_cpus.specs.Outsiders.{AreDrivenWith, AreServedWith, AreWholeWith};
+ghost use Rattle.mx_app_run.specs.Shows.{shows};
 ghost use Rattle.mx_app_run.specs.Calls.{AreCallsGiven, IsCallsFault};
-ghost use Rattle.mx_app_run.specs.Run.{ComesTo, EndsDriven, IsCalled, IsNotCalled, IsRun, ReportsRun, Runs, run_ending};
+ghost use Rattle.mx_app_run.specs.Run.{ComesTo, EndsDriven, IsCalled, IsNotCalled, IsRun, ReportsRun, Runs, has_rested, is_full, run_ending};
 
 use crate::calls::{outside_calls, ticks_of};
-use crate::gate::{RunGate, RunPlan};
+use crate::gate::{RunGate, RunPlan, is_full_at};
 use mx_app_failure::Failure;
 use mx_app_start::{
     Channels, FileWriter, Reader, SharedProgress, names_program, setup_of, text_of,
@@ -21,7 +22,6 @@ use mx_app_step::{print_kernel_report, write_history};
 use mx_app_turns::writes_over;
 use mx_cpus::{ActorSeat, Blank, Naming, Outside, OutsideCall, Shared, boot, drive_with};
 use mx_machine::{Config, Kernel, Service};
-use mx_turns::Ending;
 use mx_walk::Progress;
 use mx_word::NoMemory;
 use std::alloc::Global;
@@ -31,6 +31,17 @@ use std::sync::Wait;
 use std::thread::Threads;
 use std::time::Clock;
 
+/// How a run ended.
+#[derive(Clone, Copy, Debug, PartialEq, Eq)]
+pub enum RunEnding {
+    /// The machine is at rest after all ticks and calls.
+    Rest,
+    /// The history has no room for the next event.
+    Full,
+    /// Neither: the gate ended the loops before.
+    Stopped,
+}
+
 /// Where a machine runs: the threads and the clock, the memory, and what shows how far it is.
 #[derive(Clone, Copy)]
 struct RunPlace<'a, T, P> {
@@ -39,26 +50,28 @@ struct RunPlace<'a, T, P> {
     progress: &'a P,
 }
 
-/// Runs the loops of a machine's seats by the gate of a run. The seats after that, if there was memory for all threads.
+/// Runs the loops of a machine's seats by the gate of a run. The seats after that, and whether all calls were made, if
+/// there was memory for all threads.
 fn drive_seats<M: Naming + Send + Sync, T: Threads + Wait + Clock + Sync, P: SharedProgress + Sync>(
     place: &RunPlace<'_, T, P>,
     shared: &Shared<M>,
     seats: Vec<ActorSeat>,
     log: u32,
     outside: Outside<'_>,
-) -> Result<Vec<ActorSeat>, NoMemory>
+) -> Result<(Vec<ActorSeat>, bool), NoMemory>
     requires tables { All (λ s. s.table ≡ M.table) seats.items }
     requires empties { All (λ s. s.held ≡ None) seats.items }
     ensures driven { IfOk result (λ v. AreDrivenWith (length M.boot.cpus) outside.entry.ticks
-        outside.entry.calls.now seats.items v.items) }
-    ensures tables { IfOk result (λ v. All (λ s. s.table ≡ M.table) v.items) }
+        outside.entry.calls.now seats.items v.0.items) }
+    ensures served { IfOk result (λ v. AreServedWith M.boot
+        (shows (P.was_shown place.now.progress.now) log) (length M.boot.cpus)
+        outside.entry.ticks outside.entry.calls.now seats.items v.0.items) }
+    ensures whole { IfOk result (λ v. AreWholeWith M.boot
+        (shows (P.was_shown place.now.progress.now) log) (length M.boot.cpus)
+        outside.entry.calls.now seats.items v.0.items v.1) }
+    ensures tables { IfOk result (λ v. All (λ s. s.table ≡ M.table) v.0.items) }
 {
-    let plan = RunPlan {
-        respawner: shared.cpus(),
-        ticks: outside.ticks,
-        has_calls: !outside.calls.is_empty(),
-        log: log as usize,
-    };
+    let plan = RunPlan::new(shared.cpus(), outside, log as usize);
     let gate = RunGate::new(place.rt, place.progress, plan);
     drive_with(place.rt, shared, seats, &gate, outside)
 }
@@ -70,19 +83,20 @@ fn drive_blank<M: Naming + Send + Sync, T: Threads + Wait + Clock + Sync, P: Sha
     seats: Vec<ActorSeat>,
     log: u32,
     outside: Outside<'_>,
-) -> Result<Kernel, NoMemory>
+) -> Result<(Kernel, bool), NoMemory>
     requires table { blank.table ≡ M.table }
     requires boot { blank.boot ≡ M.boot }
     requires tables { All (λ s. s.table ≡ M.table) seats.items }
     requires empties { All (λ s. s.held ≡ None) seats.items }
-    ensures boot { IfOk result (λ kernel. kernel.boot ≡ blank.boot) }
-    ensures driven { IfOk result (λ kernel.
-        EndsDriven (length blank.boot.cpus) outside.entry.ticks outside.entry.calls.now
-        seats.items kernel.history) }
+    ensures boot { IfOk result (λ r. r.0.boot ≡ blank.boot) }
+    ensures driven { IfOk result (λ r.
+        EndsDriven blank.boot (shows (P.was_shown place.now.progress.now) log)
+        (length blank.boot.cpus) outside.entry.ticks outside.entry.calls.now
+        r.1 seats.items r.0.history) }
 {
     let shared: Shared<M> = blank.open();
     match drive_seats(place, &shared, seats, log, outside) {
-        Ok(seats) => Ok(shared.into_kernel(seats)),
+        Ok((seats, whole)) => Ok((shared.into_kernel(seats), whole)),
         Err(NoMemory) => {
             let _kernel = shared.into_kernel(Vec::new(place.alloc));
             Err(NoMemory)
@@ -96,31 +110,46 @@ fn run_machine<T: Threads + Wait + Clock + Sync, P: SharedProgress + Sync>(
     config: &Config,
     mut services: Vec<Service>,
     outside: Outside<'_>,
-) -> Result<Kernel, NoMemory>
+) -> Result<(Kernel, bool), NoMemory>
     requires some { 0 < length services.items }
     requires few { length services.items ≤ 32 }
-    ensures { IfOk result (λ kernel. IsRun config.entry.now services.items outside.entry.ticks
-        outside.entry.calls.now kernel) }
+    ensures { IfOk result (λ r. IsRun (P.was_shown place.now.progress.now)
+        config.entry.now services.items outside.entry.ticks
+        outside.entry.calls.now r.1 r.0) }
 {
     let (blank, seats) = boot(place.alloc, config, &mut services)?;
-    let kernel = drive_blank::<Brand, T, P>(place, blank, seats, config.log, outside)?;
+    let (kernel, whole) = drive_blank::<Brand, T, P>(place, blank, seats, config.log, outside)?;
     kernel.facts();
-    Ok(kernel)
+    Ok((kernel, whole))
 }
 
-/// How a run ended: at rest after all ticks and calls, or with a full history. With calls the history must have room
-/// left for rest to be known: without any, the last call may have been refused.
-fn ending_of(kernel: &Kernel, log: u32, outside: Outside<'_>) -> Ending
-    ensures { result ≡ run_ending log outside.entry.ticks outside.entry.calls.now kernel.now }
+/// Whether the machine is at rest, and as many ticks were made as were asked for.
+fn has_rested(kernel: &Kernel, outside: Outside<'_>) -> bool
+    ensures { result ≡ has_rested outside.entry.ticks outside.entry.calls.now kernel.now }
 {
     let Outside { ticks, calls } = outside;
-    let has_room = calls.is_empty() || kernel.history().len() < log as usize;
     let wanted = u128::from(ticks) + ticks_of(calls) as u128;
-    let rests = kernel.at_rest() && u128::from(kernel.table().uptime()) == wanted;
-    if rests && has_room {
-        Ending::Rest
+    kernel.at_rest() && u128::from(kernel.table().uptime()) == wanted
+}
+
+/// Whether fewer records are free than the two that a turn needs.
+fn is_full(kernel: &Kernel, log: u32) -> bool
+    ensures { result ≡ is_full log kernel.now }
+{
+    is_full_at(log as usize, kernel.history().len())
+}
+
+/// How a run ended: at rest after all ticks and calls, or with a full history, or stopped before.
+fn ending_of(kernel: &Kernel, log: u32, outside: Outside<'_>, whole: bool) -> RunEnding
+    ensures { result
+        ≡ run_ending log outside.entry.ticks outside.entry.calls.now whole kernel.now }
+{
+    if whole && has_rested(kernel, outside) {
+        RunEnding::Rest
+    } else if is_full(kernel, log) {
+        RunEnding::Full
     } else {
-        Ending::Full
+        RunEnding::Stopped
     }
 }
 
@@ -200,8 +229,8 @@ fn report_run<R: Drop, F: FileWriter + Drop, W: Write + Drop>(
     channels: &mut Channels<R, F, W>,
     log: &str,
     kernel: &Kernel,
-    ending: Ending,
-) -> Result<Ending, Failure>
+    ending: RunEnding,
+) -> Result<RunEnding, Failure>
     ensures reader { channels.new.reader ≡ channels.old.reader }
     ensures reported { (ws : List Written)
         × (F.written channels.new.files ≡ F.written channels.old.files ++ ws)
@@ -214,18 +243,20 @@ fn report_run<R: Drop, F: FileWriter + Drop, W: Write + Drop>(
     Ok(ending)
 }
 
-/// Boots the machine of what was read, and drives it. The kernel after that, and how the run ended.
+/// Boots the machine of what was read, and drives it. The kernel after that, how the run ended, and whether all calls
+/// were made.
 fn drive_begun<T: Threads + Wait + Clock + Sync, P: SharedProgress + Sync>(
     place: &RunPlace<'_, T, P>,
     begun: Begun,
     ticks: u32,
-) -> Result<(Kernel, Ending), NoMemory>
+) -> Result<(Kernel, RunEnding, bool), NoMemory>
     requires some { 0 < length begun.services.items }
     requires few { length begun.services.items ≤ 32 }
-    ensures run { IfOk result (λ r. IsRun begun.config begun.services.items ticks
-        begun.calls.items r.0) }
+    ensures run { IfOk result (λ r. IsRun (P.was_shown place.now.progress.now)
+        begun.config begun.services.items ticks
+        begun.calls.items r.2 r.0) }
     ensures ending { IfOk result (λ r. r.1
-        ≡ run_ending begun.config.log ticks begun.calls.items r.0) }
+        ≡ run_ending begun.config.log ticks begun.calls.items r.2 r.0) }
 {
     let Begun {
         config,
@@ -236,9 +267,9 @@ fn drive_begun<T: Threads + Wait + Clock + Sync, P: SharedProgress + Sync>(
         ticks,
         calls: calls.as_slice(),
     };
-    let kernel = run_machine(place, &config, services, outside)?;
-    let ending = ending_of(&kernel, config.log, outside);
-    Ok((kernel, ending))
+    let (kernel, whole) = run_machine(place, &config, services, outside)?;
+    let ending = ending_of(&kernel, config.log, outside, whole);
+    Ok((kernel, ending, whole))
 }
 
 /// Runs the machine of what was read, writes its history, prints the report, and answers how the run ended.
@@ -255,13 +286,13 @@ fn run_begun<
     wanted: RunWanted<'_>,
     begun: Begun,
     progress: &mut P,
-) -> Result<Ending, Failure>
+) -> Result<RunEnding, Failure>
     requires some { 0 < length begun.services.items }
     requires few { length begun.services.items ≤ 32 }
     ensures reader { channels.new.reader ≡ channels.old.reader }
     ensures reported { (ws : List Written)
         × (F.written channels.new.files ≡ F.written channels.old.files ++ ws)
-        × ComesTo begun.config begun.services.items begun.calls.items wanted.entry.log.now
+        × ComesTo (P.was_shown progress.old) begun.config begun.services.items begun.calls.items wanted.entry.log.now
         wanted.entry.ticks ws (λ text. Appends (W.contents channels.old.out)
         (W.contents channels.new.out) text) result }
     ensures shown { P.shown progress.new ≡ P.shown progress.old }
@@ -271,7 +302,7 @@ fn run_begun<
         alloc,
         progress: &*progress,
     };
-    let (kernel, ending) = drive_begun(&place, begun, wanted.ticks)?;
+    let (kernel, ending, _whole) = drive_begun(&place, begun, wanted.ticks)?;
     progress.clear();
     report_run(alloc, channels, wanted.log, &kernel, ending)
 }
@@ -293,11 +324,11 @@ pub fn run<
     channels: &mut Channels<R, F, W>,
     wanted: RunWanted<'_>,
     progress: &mut P,
-) -> Result<Ending, Failure>
+) -> Result<RunEnding, Failure>
     ensures done { (qs : List Asked) × (ws : List Written)
         × (R.asked channels.new.reader ≡ R.asked channels.old.reader ++ qs)
         × (F.written channels.new.files ≡ F.written channels.old.files ++ ws)
-        × Runs wanted.entry.config.now (option_map (λ s. s.now) wanted.entry.events)
+        × Runs (P.was_shown progress.old) wanted.entry.config.now (option_map (λ s. s.now) wanted.entry.events)
         wanted.entry.log.now wanted.entry.ticks qs ws
         (λ text. Appends (W.contents channels.old.out) (W.contents channels.new.out) text) result }
     ensures shown { P.shown progress.new ≡ P.shown progress.old }

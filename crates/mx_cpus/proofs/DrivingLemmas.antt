@@ -1,5 +1,5 @@
 -- What the loops of all seats leave.
-use Rattle.std.proofs.Common.{◌≡◌, ◌∙◌, ℕ, zero, suc, true, false, ◌==◌, length, get_or, inl, inr, All, ◌<◌, ◌≤◌, List, [], ◌∷◌, ◌++◌, Option, Some, None, refl, sym, ap, subst, arith, rules, Result, Ok, Err, IfOk}
+use Rattle.std.proofs.Common.{◌≡◌, ◌∙◌, ◌&&◌, ℕ, zero, suc, Bool, true, false, ◌==◌, length, get_or, inl, inr, All, ◌<◌, ◌≤◌, List, [], ◌∷◌, ◌++◌, Option, Some, None, refl, sym, ap, subst, arith, rules, Result, Ok, Err, IfOk}
 use Rattle.std.proofs.lemmas.Bool.{cases_lt}
 use Rattle.std.proofs.lemmas.List.Elements.{All-push}
 use Rattle.atomic_table.specs.Seated.{TableId}
@@ -11,7 +11,7 @@ use Rattle.mx_cpus.specs.Seats.{SeatView}
 use Rattle.mx_cpus.specs.Courses.{AreServed, IsServed}
 use Rattle.mx_cpus.specs.Gates.{GateCall, ended_call}
 use Rattle.mx_cpus.specs.Loops.{AreDriven, IsDriven}
-use Rattle.mx_cpus.specs.Outsiders.{AreDrivenWith, AreEach, AreServedWith, IsDrivenAs, IsDrivenIf, IsEndTold, IsServedAs, IsServedIf, role_of}
+use Rattle.mx_cpus.specs.Outsiders.{AreDrivenWith, AreEach, AreServedWith, AreWholeWith, IsDrivenAs, IsDrivenIf, IsEndTold, IsServedAs, IsServedIf, IsWholeAs, IsWholeIf, role_of}
 
 -- ---- lists of seats
 
@@ -43,6 +43,49 @@ served_by boot W g h r q n m xs ys s u t gate role most calls is p =
     subst (λ i. IsServedAs q boot (W i) m ys u t) gate
     (subst (λ (i : Role). IsServedAs i boot (W g) m ys u t) role (subst (λ k. IsServedAs r boot (W g) k ys u t) most
     (subst (λ (l : List OutsideCall). IsServedAs r boot (W g) n l u t) calls (subst (λ (x : SeatView). IsServedAs r boot (W g) n xs x t) is p))))
+
+pub whole_by : {G : Type 0} (boot : World) (W : G → GateCall → Type 0) (g h : G) (r q : Role) (xs ys : List OutsideCall) (s u t : SeatView) (whole : Bool) → g ≡ h → r ≡ q → xs ≡ ys → s ≡ u
+    → IsWholeAs r boot (W g) xs s t whole → IsWholeAs q boot (W h) ys u t whole
+whole_by boot W g h r q xs ys s u t whole gate role calls is p =
+    subst (λ i. IsWholeAs q boot (W i) ys u t whole) gate
+    (subst (λ (i : Role). IsWholeAs i boot (W g) ys u t whole) role
+    (subst (λ (l : List OutsideCall). IsWholeAs r boot (W g) l u t whole) calls (subst (λ (x : SeatView). IsWholeAs r boot (W g) xs x t whole) is p)))
+
+pub told_by : {G : Type 0} (W : G → GateCall → Type 0) (g h : G) (s u : SeatView) → g ≡ h → s ≡ u → W g (ended_call s.actor) → W h (ended_call u.actor)
+told_by W g h s u gate is p = subst (λ i. W i (ended_call u.actor)) gate (subst (λ (x : SeatView). W g (ended_call x.actor)) is p)
+
+-- ---- whether all calls were made
+
+both_true : (b : Bool) → (b && true) ≡ b
+both_true true = refl
+both_true false = refl
+
+both_turn : (a b c : Bool) → (a && (b && c)) ≡ (b && (a && c))
+both_turn true true c = refl
+both_turn true false c = refl
+both_turn false true c = refl
+both_turn false false c = refl
+
+module _ (boot : World) (WasCalled : GateCall → Type 0) (cpus : ℕ) (xs : List OutsideCall) where
+  whole_last : (ss ts : List SeatView) (x y : SeatView) (own others : Bool) → AreWholeWith boot WasCalled cpus xs ss ts others → IsWholeIf (role_of x.actor cpus xs) boot WasCalled xs x y own
+      → AreWholeWith boot WasCalled cpus xs (ss ++ x ∷ []) (ts ++ y ∷ []) (own && others)
+  whole_last [] [] x y own others p q = (own, others, refl, q, p)
+  whole_last (a ∷ ss) (b ∷ ts) x y own others p q = (p.0, own && p.1, ap (λ v. own && v) p.2 ∙ both_turn own p.0 p.1, p.3, whole_last ss ts x y own p.1 p.4 q)
+  whole_last [] (b ∷ ts) x y own others p q = absurd p
+  whole_last (a ∷ ss) [] x y own others p q = absurd p
+
+  pub whole_push : (ss ts before after : List SeatView) (x y : SeatView) (own others whole : Bool) → before ≡ ss ++ x ∷ [] → after ≡ ts ++ y ∷ [] → whole ≡ (own && others)
+      → AreWholeWith boot WasCalled cpus xs ss ts others → IsWholeIf (role_of x.actor cpus xs) boot WasCalled xs x y own → AreWholeWith boot WasCalled cpus xs before after whole
+  whole_push ss ts before after x y own others whole was is both p q =
+      subst (λ (l : List SeatView). AreWholeWith boot WasCalled cpus xs l after whole) (sym was)
+      (subst (λ (l : List SeatView). AreWholeWith boot WasCalled cpus xs (ss ++ x ∷ []) l whole) (sym is)
+      (subst (λ b. AreWholeWith boot WasCalled cpus xs (ss ++ x ∷ []) (ts ++ y ∷ []) b) (sym both) (whole_last ss ts x y own others p q)))
+
+  pub whole_as : (o : Option Role) (r : Role) (s t : SeatView) (whole : Bool) → o ≡ Some r → IsWholeAs r boot WasCalled xs s t whole → IsWholeIf o boot WasCalled xs s t whole
+  whole_as o r s t whole is p = subst (λ (i : Option Role). IsWholeIf i boot WasCalled xs s t whole) (sym is) p
+
+  pub whole_idle : (o : Option Role) (s t : SeatView) → o ≡ None → IsWholeIf o boot WasCalled xs s t true
+  whole_idle o s t is = subst (λ (i : Option Role). IsWholeIf i boot WasCalled xs s t true) (sym is) refl
 
 -- ---- the role of an actor
 

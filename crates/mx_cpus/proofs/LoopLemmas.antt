@@ -15,7 +15,7 @@ use Rattle.mx_machine.specs.World.{World, free_records}
 use Rattle.mx_loan.proofs.Fronts.{prefix_self, prefix_trans}
 use Rattle.mx_cpus.specs.Seats.{SeatView, LoanView, back_record, record_of, take_record}
 use Rattle.mx_cpus.specs.Calls.{Follows, IsAnsweredCall, IsGiveCall, IsRefusedCall, IsRestCall, IsTakeCall}
-use Rattle.mx_cpus.specs.Gates.{GateCall, again_call, seen_call}
+use Rattle.mx_cpus.specs.Gates.{GateCall, asked_call, seen_call}
 use Rattle.mx_cpus.specs.declared.locked.HowFar.{HowFar}
 use Rattle.mx_cpus.specs.declared.side.FreeSide.{FreeSide}
 use Rattle.mx_cpus.specs.declared.progress.Progress.{Progress}
@@ -37,13 +37,13 @@ pub seen_by : (WasCalled : GateCall → Type 0) (v : SeatView) (a b n : ℕ) →
 seen_by WasCalled v a b n who many seen = subst (λ i. WasCalled (seen_call i (length v.seen))) who (subst (λ k. WasCalled (seen_call a k)) many seen)
 
 -- a look of the seat u found the seat v; actor a showed the gate how far it is, and asked
-pub asked_by : (boot : World) (WasCalled : GateCall → Type 0) (u v : SeatView) (a : ℕ) (far : HowFar) (answer : Bool) → a ≡ u.actor → IsRestCall boot u v far.at_rest → far.records ≡ length v.seen
-    → WasCalled (seen_call a far.records) → WasCalled (again_call a far.at_rest answer) → IsAsked boot WasCalled u v answer
-asked_by boot WasCalled u v a far answer who rests many seen asked = record {
+pub asked_by : (boot : World) (WasCalled : GateCall → Type 0) (done : Bool) (u v : SeatView) (a : ℕ) (far : HowFar) (answer : Bool) → a ≡ u.actor → IsRestCall boot u v far.at_rest → far.records ≡ length v.seen
+    → WasCalled (seen_call a far.records) → WasCalled (asked_call a far.records far.at_rest done answer) → IsAsked boot WasCalled done u v answer
+asked_by boot WasCalled done u v a far answer who rests many seen asked = record {
   rest = far.at_rest;
   rests = rests;
   seen = seen_by WasCalled v a u.actor far.records who many seen;
-  asked = subst (λ i. WasCalled (again_call i far.at_rest answer)) who asked;
+  asked = subst (λ i. WasCalled (asked_call i (length v.seen) far.at_rest done answer)) who (subst (λ k. WasCalled (asked_call a k far.at_rest done answer)) many asked);
 }
 
 -- ---- a processor
@@ -170,11 +170,11 @@ pub one_turn : (boot : World) (WasCalled : GateCall → Type 0) (s t : SeatView)
 one_turn boot WasCalled s t k m n turn_by next number = (n + 1, inl (refl, turn_by n number), next_turn boot WasCalled n k m number next)
 
 -- the gate was asked after a refusal
-pub wait_by : (boot : World) (WasCalled : GateCall → Type 0) (s u t : SeatView) (r : Refusal) (answer goes_on : Bool) → IsRefusedCall boot s u events.Take r → r ≢ LogFull → IsAsked boot WasCalled u t answer → answer ≡ goes_on → IsWait boot WasCalled s t goes_on
-wait_by boot WasCalled s u t r answer goes_on took other asked is = record { seat = u; refusal = r; takes = took; other = other; asks = subst (IsAsked boot WasCalled u t) is asked }
+pub wait_by : (boot : World) (WasCalled : GateCall → Type 0) (s u t : SeatView) (r : Refusal) (answer goes_on : Bool) → IsRefusedCall boot s u events.Take r → r ≢ LogFull → IsAsked boot WasCalled true u t answer → answer ≡ goes_on → IsWait boot WasCalled s t goes_on
+wait_by boot WasCalled s u t r answer goes_on took other asked is = record { seat = u; refusal = r; takes = took; other = other; asks = subst (IsAsked boot WasCalled true u t) is asked }
 
 -- and the loop goes on
-pub one_wait : (boot : World) (WasCalled : GateCall → Type 0) (s u t : SeatView) (r : Refusal) (answer : Bool) (m n : ℕ) → IsRefusedCall boot s u events.Take r → r ≢ LogFull → IsAsked boot WasCalled u t answer → answer ≡ true → m ≡ turn_number n → IsOneMoreBy boot WasCalled n s t m
+pub one_wait : (boot : World) (WasCalled : GateCall → Type 0) (s u t : SeatView) (r : Refusal) (answer : Bool) (m n : ℕ) → IsRefusedCall boot s u events.Take r → r ≢ LogFull → IsAsked boot WasCalled true u t answer → answer ≡ true → m ≡ turn_number n → IsOneMoreBy boot WasCalled n s t m
 one_wait boot WasCalled s u t r answer m n took other asked on number = (n, inr (refl, wait_by boot WasCalled s u t r answer true took other asked on), number)
 
 -- ---- the respawner

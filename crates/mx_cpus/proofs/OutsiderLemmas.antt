@@ -21,8 +21,8 @@ use Rattle.mx_cpus.specs.Seats.{SeatView, record_of}
 use Rattle.mx_cpus.specs.Calls.{Follows, IsAnsweredCall, IsRefusedCall, IsRestCall}
 use Rattle.mx_cpus.specs.CallEnds.{IsCallTo, goes_on_after}
 use Rattle.mx_cpus.specs.Courses.{IsAsked, IsTriedEvent}
-use Rattle.mx_cpus.specs.Gates.{GateCall, again_call, seen_call}
-use Rattle.mx_cpus.specs.Outsiders.{AreLooks, AreMade, AreSomeOf, HasMadeCalls, IsEarly, IsEnough, IsLast, IsLook, IsMade, IsOutsiderRun, IsStopped, IsWaited, IsWaiting, event_of_call, is_resting}
+use Rattle.mx_cpus.specs.Gates.{GateCall, asked_call, seen_call}
+use Rattle.mx_cpus.specs.Outsiders.{AreAsked, AreLooks, AreMade, AreSomeOf, HasBrokenOff, HasMadeAll, HasMadeCalls, IsAskedToEnd, IsEarly, IsEnough, IsLast, IsLook, IsMade, IsOutsiderRun, IsStopped, IsWaited, IsWaiting, event_of_call, is_resting}
 use Rattle.mx_cpus.proofs.LoopLemmas.{follows_self, follows_trans, map_both, seen_by}
 
 -- ---- records
@@ -133,19 +133,21 @@ module _ (boot : World) (WasCalled : GateCall → Type 0) where
 
   -- too little was seen
   early : (n : ℕ) (s t : SeatView) (side next : FreeSide) (first seen : HowFar) → WaitSoFar n s t side seen → first.records ≡ length s.seen → seen.at_rest ≡ false → seen.records - first.records < n
-      → WasCalled (seen_call side.actor seen.records) → WasCalled (again_call side.actor seen.at_rest next.goes_on) → IsEarly boot WasCalled n s t next.goes_on
+      → WasCalled (seen_call side.actor seen.records) → WasCalled (asked_call side.actor seen.records seen.at_rest false next.goes_on) → IsEarly boot WasCalled n s t next.goes_on
   early n s t side next first seen so_far many busy few shown asked =
       let who : side.actor ≡ t.actor = so_far.actor ∙ sym so_far.follows.actor in
       record {
         few = omega (arith, so_far.records, many, few);
         busy = sym so_far.rests ∙ busy;
         seen = seen_by WasCalled t side.actor t.actor seen.records who so_far.records shown;
-        asked = subst (λ i. WasCalled (again_call i false next.goes_on)) who (subst (λ b. WasCalled (again_call side.actor b next.goes_on)) busy asked);
+        asked = subst (λ i. WasCalled (asked_call i (length t.seen) false false next.goes_on)) who
+            (subst (λ k. WasCalled (asked_call side.actor k false false next.goes_on)) so_far.records
+            (subst (λ b. WasCalled (asked_call side.actor seen.records b false next.goes_on)) busy asked));
       }
 
   -- the loop goes on, and the seat looks again
   pub looks_go_on : (n : ℕ) (s t u : SeatView) (side next : FreeSide) (first seen now : HowFar) → WaitSoFar n s t side seen → first.records ≡ length s.seen → seen.at_rest ≡ false → seen.records - first.records < n
-      → WasCalled (seen_call side.actor seen.records) → WasCalled (again_call side.actor seen.at_rest next.goes_on) → next.actor ≡ side.actor → next.goes_on ≡ true → IsRestCall boot t u now.at_rest → now.records ≡ length u.seen → WaitSoFar n s u next now
+      → WasCalled (seen_call side.actor seen.records) → WasCalled (asked_call side.actor seen.records seen.at_rest false next.goes_on) → next.actor ≡ side.actor → next.goes_on ≡ true → IsRestCall boot t u now.at_rest → now.records ≡ length u.seen → WaitSoFar n s u next now
   looks_go_on n s t u side next first seen now so_far many busy few shown asked who on rests many_now = record {
     so_many = suc so_far.so_many;
     looks = (t, so_far.looks, subst (IsEarly boot WasCalled n s t) on (early n s t side next first seen so_far many busy few shown asked), look_of t u now.at_rest rests);
@@ -158,7 +160,7 @@ module _ (boot : World) (WasCalled : GateCall → Type 0) where
 
   -- the gate ends the loop
   pub looks_stop : (n : ℕ) (s f t : SeatView) (side next : FreeSide) (first seen : HowFar) → WaitSoFar n f t side seen → IsRestCall boot s f first.at_rest → first.records ≡ length f.seen → seen.at_rest ≡ false → seen.records - first.records < n
-      → WasCalled (seen_call side.actor seen.records) → WasCalled (again_call side.actor seen.at_rest next.goes_on) → next.goes_on ≡ false → IsStopped boot WasCalled n s t
+      → WasCalled (seen_call side.actor seen.records) → WasCalled (asked_call side.actor seen.records seen.at_rest false next.goes_on) → next.goes_on ≡ false → IsStopped boot WasCalled n s t
   looks_stop n s f t side next first seen so_far begins many busy few shown asked off = record {
     first = f;
     begins = look_of s f first.at_rest begins;
@@ -198,13 +200,44 @@ module _ (boot : World) (WasCalled : GateCall → Type 0) where
       let first = call_made x s more.0 more.1 in
       calls_both (x ∷ []) xs s more.0 t first (calls_made xs more.0 t first.follows.own more.2)
 
+  -- ---- questions after the last call
+
+  saw_asked : (s : SeatView) → s.mine ≡ part_of s.seen s.actor → (so_many : ℕ) (t : SeatView) → AreAsked boot WasCalled s so_many t → OnlySaw s t
+  saw_asked s own zero t same = saw_self s t own same
+  saw_asked s own (suc so_many) t more = saw_trans s more.0 t (saw_asked s own so_many more.0 more.1) (saw_rest boot more.0 t more.2.rest more.2.rests)
+
+  saw_to_end : (s t : SeatView) → s.mine ≡ part_of s.seen s.actor → IsAskedToEnd boot WasCalled s t → OnlySaw s t
+  saw_to_end s t own h = saw_trans s h.1 t (saw_asked s own h.0 h.1 h.2) (saw_rest boot h.1 t h.3.rest h.3.rests)
+
+  -- what is known between two of them
+  pub record AskedSoFar (s t : SeatView) (side : FreeSide) : Type 0 where
+    pub so_many : ℕ
+    pub questions : AreAsked boot WasCalled s so_many t
+    pub follows : Follows s t
+    pub actor : side.actor ≡ s.actor
+    pub goes_on : side.goes_on ≡ true
+
+  -- it goes on after a yes
+  pub asked_go_on : (s t u : SeatView) (side next : FreeSide) → AskedSoFar s t side → IsAsked boot WasCalled true t u next.goes_on → next.actor ≡ side.actor → next.goes_on ≡ true → AskedSoFar s u next
+  asked_go_on s t u side next so_far asked who on = record {
+    so_many = suc so_far.so_many;
+    questions = (t, so_far.questions, subst (IsAsked boot WasCalled true t u) on asked);
+    follows = follows_trans s t u so_far.follows asked.rests.follows;
+    actor = who ∙ so_far.actor;
+    goes_on = on;
+  }
+
+  -- and ends after a no
+  pub asked_end : (s t u : SeatView) (side next : FreeSide) → AskedSoFar s t side → IsAsked boot WasCalled true t u next.goes_on → next.goes_on ≡ false → IsAskedToEnd boot WasCalled s u
+  asked_end s t u side next so_far asked off = (so_far.so_many, t, so_far.questions, subst (IsAsked boot WasCalled true t u) off asked)
+
   -- what the outsider's loop leaves
   pub outsider_made : (xs : List OutsideCall) (s t : SeatView) → s.mine ≡ part_of s.seen s.actor → IsOutsiderRun boot WasCalled xs s t → HasMadeCalls xs s t
   outsider_made xs s t own run =
       let before = calls_made run.above s run.last own run.made in
       elim run.ends [
         | inl all ↦
-            let both = calls_both run.above [] s run.last t before (only_saw [] run.last t (saw_rest boot run.last t all.2.rest all.2.rests)) in
+            let both = calls_both run.above [] s run.last t before (only_saw [] run.last t (saw_to_end run.last t before.follows.own all.1)) in
             subst (λ (ys : List OutsideCall). HasMadeCalls ys s t) (append-nil run.above ∙ all.0) both
         | inr last ↦
             let both = calls_both run.above (last.0 ∷ last.1) s run.last t before (only_saw (last.0 ∷ last.1) run.last t (saw_last last.0 run.last t last.3)) in
@@ -263,11 +296,37 @@ module _ (boot : World) (WasCalled : GateCall → Type 0) where
   calls_stopped xs k d s t u side end so_far below called is =
       calls_end xs k d s t u side so_far below (subst (IsCallTo boot WasCalled (get_or xs k d) t u) is called)
 
+  -- the same, by whether all were made
+  calls_broken : (xs : List OutsideCall) (k : ℕ) (d : OutsideCall) (s t u : SeatView) (side : FreeSide) → CallsSoFar xs k s t side → k < length xs → IsLast boot WasCalled (get_or xs k d) t u → HasBrokenOff boot WasCalled xs s u
+  calls_broken xs k d s t u side so_far below last = (
+    take k xs,
+    get_or xs k d,
+    drop (k + 1) xs,
+    t,
+    sym (take-append-drop (k + 1) xs) ∙ ap (λ (ys : List OutsideCall). ys ++ drop (k + 1) xs) (take_more xs k d below)
+        ∙ append_assoc (take k xs) (get_or xs k d ∷ []) (drop (k + 1) xs),
+    so_far.made,
+    last,
+  )
+
+  pub broken_full : (xs : List OutsideCall) (k : ℕ) (d : OutsideCall) (s t u : SeatView) (side : FreeSide) (end : CallEnd) → CallsSoFar xs k s t side → k < length xs → IsCallTo boot WasCalled (get_or xs k d) t u end → end ≡ Full
+      → HasBrokenOff boot WasCalled xs s u
+  broken_full xs k d s t u side end so_far below called is =
+      calls_broken xs k d s t u side so_far below (subst (IsCallTo boot WasCalled (get_or xs k d) t u) is called)
+
+  pub broken_stopped : (xs : List OutsideCall) (k : ℕ) (d : OutsideCall) (s t u : SeatView) (side : FreeSide) (end : CallEnd) → CallsSoFar xs k s t side → k < length xs → IsCallTo boot WasCalled (get_or xs k d) t u end → end ≡ Stopped
+      → HasBrokenOff boot WasCalled xs s u
+  broken_stopped xs k d s t u side end so_far below called is =
+      calls_broken xs k d s t u side so_far below (subst (IsCallTo boot WasCalled (get_or xs k d) t u) is called)
+
+  pub made_all : (xs : List OutsideCall) (k : ℕ) (s t u : SeatView) (side : FreeSide) → CallsSoFar xs k s t side → take k xs ≡ xs → IsAskedToEnd boot WasCalled t u → HasMadeAll boot WasCalled xs s u
+  made_all xs k s t u side so_far all asked = (t, subst (λ (ys : List OutsideCall). AreMade boot WasCalled s ys t) all so_far.made, asked)
+
   -- all are made
-  pub calls_all : (xs : List OutsideCall) (k : ℕ) (s t u : SeatView) (side : FreeSide) (goes_on : Bool) → CallsSoFar xs k s t side → take k xs ≡ xs → IsAsked boot WasCalled t u goes_on → IsOutsiderRun boot WasCalled xs s u
-  calls_all xs k s t u side goes_on so_far all asked = record {
+  pub calls_all : (xs : List OutsideCall) (k : ℕ) (s t u : SeatView) (side : FreeSide) → CallsSoFar xs k s t side → take k xs ≡ xs → IsAskedToEnd boot WasCalled t u → IsOutsiderRun boot WasCalled xs s u
+  calls_all xs k s t u side so_far all asked = record {
     above = take k xs;
     last = t;
     made = so_far.made;
-    ends = inl (all, goes_on, asked);
+    ends = inl (all, asked);
   }

@@ -1,5 +1,5 @@
 -- What the loops of actors do, call by call. WasCalled holds of the calls of the gate that were made.
-use Rattle.std.specs.Prelude.{◌≡◌, ◌≢◌, ◌<◌, ◌≤◌, ◌+◌, ◌-◌, ◌⊎◌, ◌^◌, ℕ, zero, suc, min, Bool, true, false, List, [], ◌∷◌, length}
+use Rattle.std.specs.Prelude.{◌≡◌, ◌≢◌, ◌<◌, ◌≤◌, ◌+◌, ◌-◌, ◌⊎◌, ◌^◌, ℕ, zero, suc, min, nat_lt, Bool, true, false, List, [], ◌∷◌, length}
 use Rattle.mx_machine.specs.declared.events.Answer.{Answer}
 use Rattle.mx_machine.specs.declared.events.Event.{Event}
 use Rattle.mx_machine.specs.declared.events.Event.TheVariants as events
@@ -9,17 +9,17 @@ use Rattle.mx_machine.specs.Held.{held_run}
 use Rattle.mx_machine.specs.World.{World}
 use Rattle.mx_cpus.specs.Seats.{SeatView, LoanView}
 use Rattle.mx_cpus.specs.Calls.{IsAnsweredCall, IsGiveCall, IsRefusedCall, IsRestCall, IsTakeCall}
-use Rattle.mx_cpus.specs.Gates.{GateCall, held_call, given_call, again_call, ended_call, seen_call}
+use Rattle.mx_cpus.specs.Gates.{GateCall, held_call, given_call, asked_call, ended_call, seen_call}
 
 -- ---- a question
 
 -- The machine was asked whether it is at rest. Then the gate was shown how many records the seat has seen, and asked, with
--- that answer, whether the actor's loop goes on.
-pub record IsAsked (boot : World) (WasCalled : GateCall → Type 0) (s t : SeatView) (goes_on : Bool) : Type 0 where
+-- that answer and with whether the actor's own work is done, whether its loop goes on.
+pub record IsAsked (boot : World) (WasCalled : GateCall → Type 0) (is_done : Bool) (s t : SeatView) (goes_on : Bool) : Type 0 where
   pub rest : Bool
   pub rests : IsRestCall boot s t rest
   pub seen : WasCalled (seen_call s.actor (length t.seen))
-  pub asked : WasCalled (again_call s.actor rest goes_on)
+  pub asked : WasCalled (asked_call s.actor (length t.seen) rest is_done goes_on)
 
 -- ---- a processor
 
@@ -44,13 +44,13 @@ pub record IsTurn (boot : World) (WasCalled : GateCall → Type 0) (n : ℕ) (s 
   pub given : WasCalled (given_call s.actor)
   pub seen : WasCalled (seen_call s.actor (length t.seen))
 
--- A take was refused, and not for a full history; so the gate was asked.
+-- A take was refused, and not for a full history; so the gate was asked. A processor has no work of its own.
 pub record IsWait (boot : World) (WasCalled : GateCall → Type 0) (s t : SeatView) (goes_on : Bool) : Type 0 where
   pub seat : SeatView
   pub refusal : Refusal
   pub takes : IsRefusedCall boot s seat events.Take refusal
   pub other : refusal ≢ LogFull
-  pub asks : IsAsked boot WasCalled seat t goes_on
+  pub asks : IsAsked boot WasCalled true seat t goes_on
 
 -- one thing more in a processor's loop, after n turns: a turn; or a wait, after which the loop went on
 abbrev pub IsOneMore : World → (GateCall → Type 0) → ℕ → SeatView → ℕ → SeatView → Type 0
@@ -126,9 +126,9 @@ IsRound boot left s t = (u : SeatView) × IsTicked boot left s u × IsSweep boot
 abbrev pub IsRoundToFull : World → ℕ → SeatView → SeatView → Type 0
 IsRoundToFull boot left s t = IsTickToFull boot left s t ⊎ ((u : SeatView) × IsTicked boot left s u × IsSweepToFull boot u t)
 
--- a round, and a question to the gate after it
+-- a round, and a question to the gate after it. The respawner's work is done once no tick is left
 abbrev pub IsRoundAsked : World → (GateCall → Type 0) → ℕ → SeatView → SeatView → Bool → Type 0
-IsRoundAsked boot WasCalled left s t goes_on = (u : SeatView) × IsRound boot left s u × IsAsked boot WasCalled u t goes_on
+IsRoundAsked boot WasCalled left s t goes_on = (u : SeatView) × IsRound boot left s u × IsAsked boot WasCalled (nat_lt left 2) u t goes_on
 
 -- what ends a respawner's loop: a round finds the history full, or the gate ends it
 abbrev pub IsLastRound : World → (GateCall → Type 0) → ℕ → SeatView → SeatView → Type 0

@@ -8,8 +8,11 @@ pub data GateCall : Type 0 where
   again_call : (actor : ℕ) (at_rest goes_on : Bool) → GateCall
   ended_call : (actor : ℕ) → GateCall
   seen_call : (actor records : ℕ) → GateCall
+  -- a question, with how many records the actor has seen, and whether its own work is done
+  asked_call : (actor records : ℕ) (at_rest is_done goes_on : Bool) → GateCall
 
--- the calls of a gate that no actor shows what it has seen
+-- the calls of a gate that no actor shows what it has seen, nor whether its own work is done
 abbrev pub unwatched : (GateCall → Type 0) → GateCall → Type 0
 unwatched WasCalled (seen_call actor records) = Unit {0}
+unwatched WasCalled (asked_call actor records at_rest is_done goes_on) = WasCalled (again_call actor at_rest goes_on)
 unwatched WasCalled call = WasCalled call

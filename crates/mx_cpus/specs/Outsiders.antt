@@ -14,7 +14,7 @@ use Rattle.mx_cpus.specs.declared.outside.Role.TheVariants as roles
 use Rattle.mx_cpus.specs.Seats.{SeatView, record_of}
 use Rattle.mx_cpus.specs.Calls.{Follows, IsRefusedCall, IsRestCall, world_after}
 use Rattle.mx_cpus.specs.Courses.{IsAsked, IsProcessorRun, IsRespawnerRun, IsTriedEvent}
-use Rattle.mx_cpus.specs.Gates.{GateCall, again_call, ended_call, seen_call}
+use Rattle.mx_cpus.specs.Gates.{GateCall, asked_call, ended_call, seen_call}
 use Rattle.mx_cpus.specs.Loops.{HasMadeTurns, HasTickedAndRespawned}
 
 -- ---- a wait
@@ -33,7 +33,7 @@ pub record IsEarly (boot : World) (WasCalled : GateCall → Type 0) (n : ℕ) (s
   pub few : length t.seen - length s.seen < n
   pub busy : is_resting boot t ≡ false
   pub seen : WasCalled (seen_call t.actor (length t.seen))
-  pub asked : WasCalled (again_call t.actor false goes_on)
+  pub asked : WasCalled (asked_call t.actor (length t.seen) false false goes_on)
 
 -- looks in a row, from the seat s on, which has looked: so many times it was early, the loop went on, and the seat
 -- looked again
@@ -92,15 +92,38 @@ abbrev pub AreMade : World → (GateCall → Type 0) → SeatView → List Outsi
 AreMade boot WasCalled s [] t = t ≡ s
 AreMade boot WasCalled s (x ∷ xs) t = (u : SeatView) × IsMade boot WasCalled x s u × AreMade boot WasCalled u xs t
 
--- THE OUTSIDER'S LOOP from the seat s to the seat t: all calls were made, in order, and then the gate was asked once; or
--- those above one that ends the loop.
+-- questions in a row: so many times the gate was asked, since all calls are made, and the loop went on
+abbrev pub AreAsked : World → (GateCall → Type 0) → SeatView → ℕ → SeatView → Type 0
+AreAsked boot WasCalled s zero t = t ≡ s
+AreAsked boot WasCalled s (suc so_many) t = (u : SeatView) × AreAsked boot WasCalled s so_many u × IsAsked boot WasCalled true u t true
+
+-- the gate was asked again and again, until it ended the loop
+abbrev pub IsAskedToEnd : World → (GateCall → Type 0) → SeatView → SeatView → Type 0
+IsAskedToEnd boot WasCalled s t = (so_many : ℕ) × (u : SeatView) × AreAsked boot WasCalled s so_many u × IsAsked boot WasCalled true u t false
+
+-- THE OUTSIDER'S LOOP from the seat s to the seat t: all calls were made, in order, and then the gate was asked until it
+-- ended the loop; or those above one that ends the loop.
 pub record IsOutsiderRun (boot : World) (WasCalled : GateCall → Type 0) (xs : List OutsideCall) (s t : SeatView) : Type 0 where
   pub above : List OutsideCall
   pub last : SeatView
   pub made : AreMade boot WasCalled s above last
   pub ends :
-      ((above ≡ xs) × (goes_on : Bool) × IsAsked boot WasCalled last t goes_on)
+      ((above ≡ xs) × IsAskedToEnd boot WasCalled last t)
       ⊎ ((x : OutsideCall) × (below : List OutsideCall) × (xs ≡ above ++ x ∷ below) × IsLast boot WasCalled x last t)
+
+-- all calls were made, in order, and then the gate was asked until it ended the loop
+abbrev pub HasMadeAll : World → (GateCall → Type 0) → List OutsideCall → SeatView → SeatView → Type 0
+HasMadeAll boot WasCalled xs s t = (last : SeatView) × AreMade boot WasCalled s xs last × IsAskedToEnd boot WasCalled last t
+
+-- one of the calls ended the loop, after those above it were made
+abbrev pub HasBrokenOff : World → (GateCall → Type 0) → List OutsideCall → SeatView → SeatView → Type 0
+HasBrokenOff boot WasCalled xs s t =
+    (above : List OutsideCall) × (x : OutsideCall) × (below : List OutsideCall) × (last : SeatView) × (xs ≡ above ++ x ∷ below) × AreMade boot WasCalled s above last × IsLast boot WasCalled x last t
+
+-- THE OUTSIDER'S LOOP, by whether it is whole
+abbrev pub IsOutsiderRunTo : World → (GateCall → Type 0) → List OutsideCall → SeatView → SeatView → Bool → Type 0
+IsOutsiderRunTo boot WasCalled xs s t true = HasMadeAll boot WasCalled xs s t
+IsOutsiderRunTo boot WasCalled xs s t false = HasBrokenOff boot WasCalled xs s t
 
 -- records of some of these calls' events, each at most once, in the calls' order
 abbrev pub AreSomeOf : List OutsideCall → List Recorded → Type 0
@@ -144,6 +167,15 @@ IsRunAs roles.Outsider boot WasCalled ticks xs s t = IsOutsiderRun boot WasCalle
 abbrev pub IsServedAs : Role → World → (GateCall → Type 0) → ℕ → List OutsideCall → SeatView → SeatView → Type 0
 IsServedAs r boot WasCalled ticks xs s t = IsRunAs r boot WasCalled ticks xs s t × WasCalled (ended_call s.actor)
 
+-- whether a loop made all calls that it was to make: only an outsider's has any
+abbrev pub IsWholeAs : Role → World → (GateCall → Type 0) → List OutsideCall → SeatView → SeatView → Bool → Type 0
+IsWholeAs roles.Outsider boot WasCalled xs s t whole = IsOutsiderRunTo boot WasCalled xs s t whole
+IsWholeAs _ boot WasCalled xs s t whole = whole ≡ true
+
+abbrev pub IsWholeIf : Option Role → World → (GateCall → Type 0) → List OutsideCall → SeatView → SeatView → Bool → Type 0
+IsWholeIf None boot WasCalled xs s t whole = whole ≡ true
+IsWholeIf (Some r) boot WasCalled xs s t whole = IsWholeAs r boot WasCalled xs s t whole
+
 -- a seat that has no loop stays as it is
 abbrev pub IsDrivenIf : Option Role → ℕ → List OutsideCall → SeatView → SeatView → Type 0
 IsDrivenIf None ticks xs s t = t ≡ s
@@ -172,3 +204,10 @@ AreDrivenWith cpus ticks xs ss ts = AreEach (λ s t. IsDrivenIf (role_of s.actor
 abbrev pub AreServedWith : World → (GateCall → Type 0) → ℕ → ℕ → List OutsideCall → List SeatView → List SeatView → Type 0
 AreServedWith boot WasCalled cpus ticks xs ss ts =
     AreEach (λ s t. IsServedIf (role_of s.actor cpus xs) boot WasCalled ticks xs s t) ss ts
+
+-- WHETHER ALL CALLS OF ALL LOOPS WERE MADE
+abbrev pub AreWholeWith : World → (GateCall → Type 0) → ℕ → List OutsideCall → List SeatView → List SeatView → Bool → Type 0
+AreWholeWith boot WasCalled cpus xs [] [] whole = whole ≡ true
+AreWholeWith boot WasCalled cpus xs (s ∷ ss) (t ∷ ts) whole =
+    (own : Bool) × (others : Bool) × (whole ≡ (own && others)) × IsWholeIf (role_of s.actor cpus xs) boot WasCalled xs s t own × AreWholeWith boot WasCalled cpus xs ss ts others
+AreWholeWith _ _ _ _ _ _ _ = ⊥

@@ -4,8 +4,8 @@ ghost use Rattle.std.specs.Prelude.{◌≡◌, true, false, IfNone, IfSome, leng
 ghost use Rattle.mx_machine.specs.KernelState.{is_for_all};
 ghost use Rattle.mx_cpus.specs.CallEnds.{IsCallTo, IsEventTo, IsWaitTo, goes_on_after};
 ghost use Rattle.mx_cpus.specs.Calls.{IsRestCall};
-ghost use Rattle.mx_cpus.specs.Gates.{again_call, seen_call, unwatched};
-ghost use Rattle.mx_cpus.specs.Outsiders.{HasMadeCalls, IsOutsiderRun};
+ghost use Rattle.mx_cpus.specs.Gates.{asked_call, seen_call, unwatched};
+ghost use Rattle.mx_cpus.specs.Outsiders.{HasMadeCalls, IsAskedToEnd, IsOutsiderRun, IsOutsiderRunTo};
 
 use crate::gate::{Gate, Unwatched, WatchingGate};
 use crate::outside::OutsideCall;
@@ -55,13 +55,13 @@ fn ask_and_look<M: Naming, G: WatchingGate, R: Wait>(
     requires goes_on { side.goes_on ≡ true }
     ensures seen { G.was_called context.now.door.gate.now (seen_call side.actor seen.records) }
     ensures called { G.was_called context.now.door.gate.now
-        (again_call side.actor seen.at_rest result.1.goes_on) }
+        (asked_call side.actor seen.records seen.at_rest false result.1.goes_on) }
     ensures actor { result.1.actor ≡ side.actor }
     ensures ends { IfNone result.2 ((result.1.goes_on ≡ false) × (result.0 ≡ seat)) }
     ensures looks { IfSome result.2 (λ far. (result.1.goes_on ≡ true)
         × IsRestCall M.boot seat result.0 far.at_rest × (far.records ≡ length result.0.seen)) }
 {
-    let side = side.ask(&context.door, seen);
+    let side = side.ask(&context.door, seen, false);
     if !side.goes_on() {
         return (seat, side, None);
     }
@@ -127,19 +127,47 @@ fn make_call<M: Naming, G: WatchingGate, R: Wait>(
     }
 }
 
-/// The outsider's calls, and its question of the gate after the last.
+/// Asks the gate again and again, since all calls are made, until it ends the loop.
+fn ask_to_end<M: Naming, G: WatchingGate, R: Wait>(
+    context: &LoopContext<'_, M, G, R>,
+    seat: ActorSeat,
+    side: FreeSide,
+) -> (ActorSeat, FreeSide)
+    requires table { seat.table ≡ M.table }
+    requires actor { side.actor ≡ seat.actor }
+    requires goes_on { side.goes_on ≡ true }
+    ensures asked { IsAskedToEnd M.boot (G.was_called context.now.door.gate.now) seat result.0 }
+    ensures actor { result.1.actor ≡ seat.actor }
+{
+    seat.facts();
+    let mut seat = seat;
+    let mut side = side;
+    for _ in context.rt.forever() {
+        let (next, asked) = context.ask(seat, side, true);
+        seat = next;
+        side = asked;
+        if !side.goes_on() {
+            return (seat, side);
+        }
+    }
+    unreachable!()
+}
+
+/// The outsider's calls, and its questions of the gate after the last. Answers whether all calls were made.
 pub(crate) fn make_calls<M: Naming, G: WatchingGate, R: Wait>(
     context: &LoopContext<'_, M, G, R>,
     seat: ActorSeat,
     side: FreeSide,
     calls: &[OutsideCall],
-) -> (ActorSeat, FreeSide)
+) -> (ActorSeat, FreeSide, bool)
     requires table { seat.table ≡ M.table }
     requires actor { side.actor ≡ seat.actor }
     requires goes_on { side.goes_on ≡ true }
     ensures made { HasMadeCalls calls.now seat result.0 }
     ensures course { IsOutsiderRun M.boot (G.was_called context.now.door.gate.now) calls.now
         seat result.0 }
+    ensures whole { IsOutsiderRunTo M.boot (G.was_called context.now.door.gate.now) calls.now
+        seat result.0 result.2 }
     ensures side { result.1.actor ≡ seat.actor }
 {
     seat.facts();
@@ -151,16 +179,17 @@ pub(crate) fn make_calls<M: Naming, G: WatchingGate, R: Wait>(
         side = after;
         match end {
             CallEnd::Made => {}
-            CallEnd::Full => return (seat, side),
-            CallEnd::Stopped => return (seat, side),
+            CallEnd::Full => return (seat, side, false),
+            CallEnd::Stopped => return (seat, side, false),
         }
     }
-    context.ask(seat, side)
+    let (seat, side) = ask_to_end(context, seat, side);
+    (seat, side, true)
 }
 
 /// Makes calls in order: outside events, and waits. A wait ends once the history has as many records
 /// more as it names, counted from its first look at the machine, or the machine is at rest; the gate is
-/// asked between its looks. After the last call the gate is asked again, and the loop ends. It ends at a
+/// asked between its looks. After the last call the gate is asked until it ends the loop. The loop ends at a
 /// full history too, and if the gate says so while it waits. Another refusal doesn't end it. Takes no memory.
 pub fn outsider<M: Naming, G: Gate, R: Wait>(
     rt: &R,
@@ -177,7 +206,7 @@ pub fn outsider<M: Naming, G: Gate, R: Wait>(
     let gate = Unwatched { gate };
     let context = LoopContext::new(rt, shared, &gate);
     let side = FreeSide::new(seat.actor());
-    let (seat, side) = make_calls(&context, seat, side, calls);
+    let (seat, side, _whole) = make_calls(&context, seat, side, calls);
     side.leave();
     seat
 }

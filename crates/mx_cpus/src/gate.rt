@@ -1,5 +1,7 @@
 //! What a loop calls between its calls of the machine.
 
+use crate::HowFar;
+
 /// What a loop calls between its calls of the machine, and what decides when the loop ends. No call
 /// of it is made under the lock. One gate serves all threads.
 pub trait Gate {
@@ -26,23 +28,44 @@ pub trait Gate {
         ensures { was_called self.now (ended_call actor) };
 }
 
-/// A gate that the actors also show how long the history is.
-pub trait WatchingGate: Gate {
-    ghost use Rattle.mx_cpus.specs.Gates.{seen_call};
+/// A gate that the actors also show how far the machine is, and whether their own work is done.
+pub trait WatchingGate {
+    ghost use Rattle.mx_cpus.specs.Gates.{GateCall, held_call, given_call, asked_call, ended_call, seen_call};
+
+    /// Which calls were made. A call promises this of itself when it returns.
+    ghost was_called: { Self → GateCall → Type 0 } = { λ _ _. Unit {0} };
+
+    /// A processor has taken a process, and hasn't run it yet. `turn` counts its accepted takes from 0.
+    fn held(&self, cpu: u8, turn: u64)
+        ensures { was_called self.now (held_call cpu turn) };
+
+    /// A processor has given its process back.
+    fn given(&self, cpu: u8)
+        ensures { was_called self.now (given_call cpu) };
 
     /// An actor has seen so many records, which was the whole history: after a turn, and before each question of
     /// it. No call of it is made under the lock, so the calls of several actors can come in another order.
     fn seen(&self, actor: u8, records: usize)
-        ensures { Self.was_called self.now (seen_call actor records) };
+        ensures { was_called self.now (seen_call actor records) };
+
+    /// Whether an actor's loop goes on, by how far the machine was just before, and by whether the actor's own work is
+    /// done: the respawner has made all ticks, or the outsider all calls. A processor has no work of its own.
+    fn goes_on(&self, actor: u8, far: HowFar, is_done: bool) -> bool
+        ensures { was_called self.now
+            (asked_call actor far.records far.at_rest is_done result) };
+
+    /// An actor's loop has ended, or it never began, since not each loop could have a thread.
+    fn ended(&self, actor: u8)
+        ensures { was_called self.now (ended_call actor) };
 }
 
-/// A gate that no actor shows how long the history is.
+/// A gate that no actor shows how far the machine is.
 #[derive(Drop)]
 pub(crate) struct Unwatched<'g, G: Gate> {
     pub gate: &'g G,
 }
 
-impl<'g, G: Gate> Gate for Unwatched<'g, G> {
+impl<'g, G: Gate> WatchingGate for Unwatched<'g, G> {
     ghost use Rattle.mx_cpus.specs.Gates.{unwatched};
 
     ghost was_called = { λ unwatching call. unwatched (G.was_called unwatching.gate.now) call };
@@ -55,15 +78,13 @@ impl<'g, G: Gate> Gate for Unwatched<'g, G> {
         self.gate.given(cpu);
     }
 
-    fn again(&self, actor: u8, at_rest: bool) -> bool {
-        self.gate.again(actor, at_rest)
+    fn seen(&self, _actor: u8, _records: usize) {}
+
+    fn goes_on(&self, actor: u8, far: HowFar, _is_done: bool) -> bool {
+        self.gate.again(actor, far.at_rest)
     }
 
     fn ended(&self, actor: u8) {
         self.gate.ended(actor);
     }
-}
-
-impl<'g, G: Gate> WatchingGate for Unwatched<'g, G> {
-    fn seen(&self, _actor: u8, _records: usize) {}
 }

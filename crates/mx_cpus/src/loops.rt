@@ -69,7 +69,7 @@ fn turn_or_wait<M: Naming, G: WatchingGate, R: Wait>(
         Ok(()) => (seat, side, true),
         Err(Refusal::LogFull) => (seat, side, false),
         Err(_) => {
-            let (seat, side) = context.ask(seat, side);
+            let (seat, side) = context.ask(seat, side, true);
             let goes_on = side.goes_on();
             (seat, side, goes_on)
         }
@@ -193,7 +193,7 @@ fn round_and_question<M: Naming, G: WatchingGate, R: Wait>(
     match progress {
         Progress::Full => (seat, side, false),
         Progress::GoesOn => {
-            let (seat, side) = context.ask(seat, side);
+            let (seat, side) = context.ask(seat, side, left < 2);
             let goes_on = side.goes_on();
             (seat, side, goes_on)
         }

@@ -2,7 +2,7 @@
 
 ghost use Rattle.std.specs.Prelude.{◌≡◌, ◌+◌, ◌-◌, ◌^◌, true, None, length, min};
 ghost use Rattle.mx_cpus.specs.Courses.{IsAsked};
-ghost use Rattle.mx_cpus.specs.Gates.{held_call, given_call, again_call, ended_call, seen_call};
+ghost use Rattle.mx_cpus.specs.Gates.{held_call, given_call, asked_call, ended_call, seen_call};
 
 use crate::gate::WatchingGate;
 use crate::{ActorSeat, HowFar, Loan, Naming, Shared};
@@ -43,17 +43,23 @@ impl<'s, M: Naming, G: WatchingGate, R> LoopContext<'s, M, G, R> {
 }
 
 impl<'s, M: Naming, G: WatchingGate, R: Wait> LoopContext<'s, M, G, R> {
-    /// Looks how far the machine is, shows it to the gate, and asks the gate whether the actor's loop goes on.
-    pub(crate) fn ask(&self, seat: ActorSeat, side: FreeSide) -> (ActorSeat, FreeSide)
+    /// Looks how far the machine is, shows it to the gate, and asks the gate whether the actor's loop goes on, by whether
+    /// the actor's own work is done.
+    pub(crate) fn ask(
+        &self,
+        seat: ActorSeat,
+        side: FreeSide,
+        is_done: bool,
+    ) -> (ActorSeat, FreeSide)
         requires table { seat.table ≡ M.table }
         requires actor { side.actor ≡ seat.actor }
         requires goes_on { side.goes_on ≡ true }
-        ensures asked { IsAsked M.boot (G.was_called self.now.door.gate.now)
+        ensures asked { IsAsked M.boot (G.was_called self.now.door.gate.now) is_done
             seat result.0 result.1.goes_on }
         ensures side { (result.1.actor ≡ side.actor) × (result.1.turn ≡ side.turn) }
     {
         let (seat, far) = self.shared.how_far(self.rt, seat);
-        (seat, side.ask(&self.door, far))
+        (seat, side.ask(&self.door, far, is_done))
     }
 }
 
@@ -102,12 +108,18 @@ impl FreeSide {
         HoldingSide { actor, turn }
     }
 
-    /// Shows the gate how far the machine is, and asks it whether the loop goes on.
-    pub(crate) fn ask<G: WatchingGate>(self, door: &Door<'_, G>, far: HowFar) -> FreeSide
+    /// Shows the gate how far the machine is, and asks it whether the loop goes on, by whether the actor's own work is
+    /// done.
+    pub(crate) fn ask<G: WatchingGate>(
+        self,
+        door: &Door<'_, G>,
+        far: HowFar,
+        is_done: bool,
+    ) -> FreeSide
         requires goes_on { self.goes_on ≡ true }
         ensures seen { G.was_called door.now.gate.now (seen_call self.actor far.records) }
         ensures called { G.was_called door.now.gate.now
-            (again_call self.actor far.at_rest result.goes_on) }
+            (asked_call self.actor far.records far.at_rest is_done result.goes_on) }
         ensures side { (result.actor ≡ self.actor) × (result.turn ≡ self.turn) }
     {
         let FreeSide {
@@ -116,7 +128,7 @@ impl FreeSide {
             goes_on: _,
         } = self;
         door.gate.seen(actor, far.records);
-        let goes_on = door.gate.again(actor, far.at_rest);
+        let goes_on = door.gate.goes_on(actor, far, is_done);
         FreeSide {
             actor,
             turn,

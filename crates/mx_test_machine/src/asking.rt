@@ -1,6 +1,6 @@
 //! Help that is asked for by its own word, and what a reader at a terminal gets.
 
-use mx_app::{Ending, NotingOutput, PrintedText, Terminals, texts_asked};
+use mx_app::{DrivenEnding, Ending, NotingOutput, PrintedText, RunEnding, Terminals, texts_asked};
 use std::alloc::Global;
 use std::io::Write;
 use std::test::Fail;
@@ -95,15 +95,38 @@ fn ends_of_texts(rt: HostRuntime) {
 const NOTES: &[(PrintedText, Option<u8>, &str)] = &[
     (PrintedText::Symbols, None, "mx: no symbols\n"),
     (PrintedText::Symbols, Some(b'\n'), ""),
-    (PrintedText::Turns(Ending::Rest), Some(b'\n'), "mx: rest\n"),
-    (PrintedText::Turns(Ending::Turns), Some(b'4'), "mx: turns\n"),
-    (PrintedText::Turns(Ending::Full), Some(b'\n'), "mx: full\n"),
+    (
+        PrintedText::Report(DrivenEnding::Turns(Ending::Rest)),
+        Some(b'\n'),
+        "mx: rest\n",
+    ),
+    (
+        PrintedText::Report(DrivenEnding::Turns(Ending::Turns)),
+        Some(b'4'),
+        "mx: turns\n",
+    ),
+    (
+        PrintedText::Report(DrivenEnding::Turns(Ending::Full)),
+        Some(b'\n'),
+        "mx: full\n",
+    ),
+    (
+        PrintedText::Report(DrivenEnding::Run(RunEnding::Rest)),
+        Some(b'\n'),
+        "mx: rest\n",
+    ),
+    (
+        PrintedText::Report(DrivenEnding::Run(RunEnding::Full)),
+        Some(b'4'),
+        "mx: full\n",
+    ),
     (PrintedText::Other, None, ""),
 ];
 
-/// A reader at a terminal is helped on standard error, and nobody else is.
+/// A reader at a terminal is helped on standard error, and nobody else is; but each is told of a run that was stopped.
 #[test]
 fn notes(rt: HostRuntime) {
+    let stopped = PrintedText::Report(DrivenEnding::Run(RunEnding::Stopped));
     for out in [false, true] {
         let shown = Terminals {
             input: false,
@@ -119,6 +142,8 @@ fn notes(rt: HostRuntime) {
             assert!(rt; shown.note(*printed, *last) == *note);
             assert!(rt; hidden.note(*printed, *last).is_empty());
         }
+        assert!(rt; shown.note(stopped, Some(b'\n')) == "mx: stopped\n");
+        assert!(rt; hidden.note(stopped, Some(b'\n')) == "mx: stopped\n");
     }
 }
 

@@ -3,8 +3,8 @@
 
 use crate::files::{SUM, reader};
 use mx_app::{
-    CommandIo, Complaint, Ending, Failure, LineFailure, NoProgress, NotingFiles, NotingReader,
-    perform_words,
+    CommandIo, Complaint, DrivenEnding, Ending, Failure, LineFailure, NoProgress, NotingFiles,
+    NotingReader, RunEnding, perform_words,
 };
 use mx_app_db::{Channels, InputLines, KeptFile, MemoryWriter, NamedFiles};
 use std::alloc::Global;
@@ -193,7 +193,7 @@ fn programs(rt: HostRuntime) {
 struct Turned {
     name: &'static str,
     words: &'static [&'static str],
-    ending: Ending,
+    ending: DrivenEnding,
 }
 
 /// Whether the turns or the run that words ask for end so.
@@ -210,52 +210,52 @@ static ENDS: &[Turned] = &[
     Turned {
         name: "up to rest",
         words: &["mx", "turns", "pair", "new.log"],
-        ending: Ending::Rest,
+        ending: DrivenEnding::Turns(Ending::Rest),
     },
     Turned {
         name: "none",
         words: &["mx", "turns", "pair", "new.log", "--turns", "0"],
-        ending: Ending::Turns,
+        ending: DrivenEnding::Turns(Ending::Turns),
     },
     Turned {
         name: "as many as up to rest",
         words: &["mx", "turns", "pair", "new.log", "--turns", "5"],
-        ending: Ending::Rest,
+        ending: DrivenEnding::Turns(Ending::Rest),
     },
     Turned {
         name: "so many",
         words: &["mx", "turns", "restart", "new.log", "--turns", "20"],
-        ending: Ending::Turns,
+        ending: DrivenEnding::Turns(Ending::Turns),
     },
     Turned {
         name: "as many as the history has room for",
         words: &["mx", "turns", "restart", "new.log", "--turns", "32"],
-        ending: Ending::Turns,
+        ending: DrivenEnding::Turns(Ending::Turns),
     },
     Turned {
         name: "up to a full history",
         words: &["mx", "turns", "restart", "new.log", "--turns", "40"],
-        ending: Ending::Full,
+        ending: DrivenEnding::Turns(Ending::Full),
     },
     Turned {
         name: "a history too full for a take, and so for a tick",
         words: &["mx", "turns", "two_full", "new.log", "--ticks", "1"],
-        ending: Ending::Full,
+        ending: DrivenEnding::Turns(Ending::Full),
     },
     Turned {
         name: "a run up to a full history",
         words: &["mx", "run", "full", "new.log"],
-        ending: Ending::Full,
+        ending: DrivenEnding::Run(RunEnding::Full),
     },
     Turned {
         name: "a run up to rest",
         words: &["mx", "run", "one", "new.log"],
-        ending: Ending::Rest,
+        ending: DrivenEnding::Run(RunEnding::Rest),
     },
     Turned {
         name: "a run up to rest after ticks",
         words: &["mx", "run", "one", "new.log", "--ticks", "2"],
-        ending: Ending::Rest,
+        ending: DrivenEnding::Run(RunEnding::Rest),
     },
 ];
 

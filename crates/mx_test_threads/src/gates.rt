@@ -1,6 +1,6 @@
 //! A gate for tests, which notes each call that a loop makes of it.
 
-use mx_cpus::{Gate, WatchingGate};
+use mx_cpus::{Gate, HowFar, WatchingGate};
 use std::array;
 use std::sync::atomic::{AtomicU32, AtomicU64, Ordering};
 
@@ -15,6 +15,8 @@ pub enum GateCall {
     Again { actor: u8, at_rest: bool },
     Ended(u8),
     Seen { actor: u8, records: usize },
+    /// A question with whether the actor's own work is done.
+    Asked { actor: u8, is_done: bool },
 }
 
 /// A call as a number: which kind of call, then a number below 100, then the actor.
@@ -25,6 +27,7 @@ fn number_of(call: GateCall) -> u64 {
         GateCall::Again { actor, at_rest } => (3, actor, u64::from(at_rest)),
         GateCall::Ended(actor) => (4, actor, 0),
         GateCall::Seen { actor, records } => (5, actor, records.min(99) as u64),
+        GateCall::Asked { actor, is_done } => (6, actor, u64::from(is_done)),
     };
     kind.min(9) * 100_000 + number.min(99) * 1000 + u64::from(actor)
 }
@@ -100,7 +103,24 @@ impl Gate for NotingGate {
 }
 
 impl WatchingGate for NotingGate {
+    fn held(&self, cpu: u8, turn: u64) {
+        self.note(GateCall::Held { cpu, turn });
+    }
+
+    fn given(&self, cpu: u8) {
+        self.note(GateCall::Given(cpu));
+    }
+
     fn seen(&self, actor: u8, records: usize) {
         self.note(GateCall::Seen { actor, records });
+    }
+
+    fn goes_on(&self, actor: u8, _far: HowFar, is_done: bool) -> bool {
+        self.note(GateCall::Asked { actor, is_done });
+        self.questions.fetch_add(1, Ordering::SeqCst) < self.yes
+    }
+
+    fn ended(&self, actor: u8) {
+        self.note(GateCall::Ended(actor));
     }
 }

@@ -174,7 +174,7 @@ static ROWS: &[Row] = &[
                 OutsideCall::Tick,
             ],
         },
-        yes: 9,
+        yes: 0,
         calls: &[ALL_MADE],
         history: &[
             (1, Recorded::Tick),
@@ -196,8 +196,21 @@ static ROWS: &[Row] = &[
                 OutsideCall::Tick,
             ],
         },
-        yes: 9,
+        yes: 0,
         calls: &[ALL_MADE],
+        history: &[(1, Recorded::Kill(0)), (1, Recorded::Tick)],
+    },
+    Row {
+        name: "after its last call the outsider asks until the gate ends its loop",
+        services: 1,
+        log: 64,
+        restarts: 0,
+        killed: &[0],
+        by: Loop::Outsider {
+            calls: &[OutsideCall::Tick],
+        },
+        yes: 2,
+        calls: &[ALL_MADE, ALL_MADE, ALL_MADE],
         history: &[(1, Recorded::Kill(0)), (1, Recorded::Tick)],
     },
     Row {
@@ -411,7 +424,7 @@ fn each_slot_is_respawned_in_turn(rt: HostRuntime) -> Result<(), Fail> {
     Ok(())
 }
 
-/// A machine once its loops have ended.
+/// A machine once its loops have ended, if all calls were made.
 fn drive_to_end<M: Naming + Send + Sync, R: Threads + Wait + Sync>(
     rt: &R,
     blank: Blank,
@@ -427,7 +440,10 @@ fn drive_to_end<M: Naming + Send + Sync, R: Threads + Wait + Sync>(
     let alloc = *seats.allocator();
     let shared: Shared<M> = blank.open();
     match drive_with(rt, &shared, seats, gate, Outside { ticks: 0, calls }) {
-        Ok(seats) => Some(shared.into_kernel(seats)),
+        Ok((seats, are_all_made)) => {
+            let kernel = shared.into_kernel(seats);
+            if are_all_made { Some(kernel) } else { None }
+        }
         Err(_) => {
             let _kernel = shared.into_kernel(Vec::new(alloc));
             None

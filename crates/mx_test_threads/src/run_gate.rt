@@ -1,150 +1,171 @@
-//! The gate of a run, called from one thread: when it ends a loop.
+//! The gate of a run, asked from one thread: when it ends a loop.
 
 use mx_app_run::{NoProgress, RunGate, RunPlan};
-use mx_cpus::Gate;
+use mx_cpus::{HowFar, Outside, OutsideCall, WatchingGate};
 use std::test::Fail;
 
-/// A call of the gate. A question has the answer that is wanted.
+/// How many records the history may have.
+const LOG: usize = 64;
+
+/// What an actor has seen of the machine before its question.
+#[derive(Clone, Copy)]
+enum Look {
+    Busy,
+    Rest,
+    /// Somebody is ready, and the history has no room for a turn.
+    Full,
+    /// The machine is at rest, and the history has room for just one turn.
+    LastTurn,
+}
+
+impl Look {
+    fn far(self) -> HowFar {
+        let (records, at_rest) = match self {
+            Look::Busy => (9, false),
+            Look::Rest => (9, true),
+            Look::Full => (LOG - 1, false),
+            Look::LastTurn => (LOG - 2, true),
+        };
+        HowFar { records, at_rest }
+    }
+}
+
+/// A call of the gate.
 #[derive(Clone, Copy)]
 enum Call {
-    /// A question of an actor, whether the machine is at rest then, and the wanted answer.
-    Again(u8, bool, bool),
+    /// A question of an actor, what it has seen, whether its own work is done, and the wanted answer.
+    Asks(u8, Look, bool, bool),
     Held(u8),
     Given(u8),
     Ended(u8),
 }
 
-/// A run with some ticks on two processors, whose respawner is actor 2 and whose outsider is actor 3, and calls of its
-/// gate.
+/// A run on two processors, whose respawner is actor 2 and whose outsider is actor 3, and calls of its gate.
 struct Row {
     name: &'static str,
-    ticks: u32,
-    /// Whether the outsider has calls to make.
-    has_calls: bool,
+    /// The calls that the outsider has to make.
+    outside: &'static [OutsideCall],
     calls: &'static [Call],
 }
 
 static ROWS: &[Row] = &[
     Row {
-        name: "the first question finds the last tick made, and the second ends the loop",
-        ticks: 0,
-        has_calls: false,
-        calls: &[Call::Again(0, true, true), Call::Again(0, true, false)],
+        name: "a question after the last tick ends nothing, and the next one of its actor ends the loop",
+        outside: &[],
+        calls: &[
+            Call::Asks(2, Look::Rest, true, true),
+            Call::Asks(0, Look::Rest, true, true),
+            Call::Asks(0, Look::Rest, true, false),
+            Call::Asks(2, Look::Rest, true, false),
+        ],
     },
     Row {
         name: "no question ends a loop while the machine isn't at rest",
-        ticks: 0,
-        has_calls: false,
+        outside: &[],
         calls: &[
-            Call::Again(0, false, true),
-            Call::Again(0, false, true),
-            Call::Again(2, false, true),
-            Call::Again(2, false, true),
-            Call::Again(0, true, false),
+            Call::Asks(2, Look::Busy, true, true),
+            Call::Asks(2, Look::Busy, true, true),
+            Call::Asks(0, Look::Busy, true, true),
+            Call::Asks(0, Look::Busy, true, true),
+            Call::Asks(0, Look::LastTurn, true, false),
         ],
     },
     Row {
         name: "each actor has to have asked before",
-        ticks: 0,
-        has_calls: false,
+        outside: &[],
         calls: &[
-            Call::Again(0, true, true),
-            Call::Again(1, true, true),
-            Call::Again(2, true, true),
-            Call::Again(1, true, false),
-            Call::Again(2, true, false),
-            Call::Again(0, true, false),
+            Call::Asks(2, Look::Rest, true, true),
+            Call::Asks(0, Look::Rest, true, true),
+            Call::Asks(1, Look::Rest, true, true),
+            Call::Asks(1, Look::Rest, true, false),
+            Call::Asks(0, Look::Rest, true, false),
+            Call::Asks(2, Look::Rest, true, false),
         ],
     },
     Row {
         name: "a question before the last tick counts for nothing",
-        ticks: 2,
-        has_calls: false,
+        outside: &[],
         calls: &[
-            Call::Again(0, true, true),
-            Call::Again(0, true, true),
-            Call::Again(2, true, true),
-            Call::Again(0, true, true),
-            Call::Again(0, true, true),
-            Call::Again(2, true, true),
-            Call::Again(0, true, true),
-            Call::Again(1, true, true),
-            Call::Again(0, true, false),
-            Call::Again(2, true, false),
-            Call::Again(1, true, false),
+            Call::Asks(0, Look::Rest, true, true),
+            Call::Asks(0, Look::Rest, true, true),
+            Call::Asks(2, Look::Rest, false, true),
+            Call::Asks(2, Look::Rest, false, true),
+            Call::Asks(0, Look::Rest, true, true),
+            Call::Asks(2, Look::Rest, true, true),
+            Call::Asks(0, Look::Rest, true, true),
+            Call::Asks(0, Look::Rest, true, false),
+            Call::Asks(2, Look::Rest, true, false),
         ],
     },
     Row {
         name: "turns between two questions change nothing",
-        ticks: 0,
-        has_calls: false,
+        outside: &[],
         calls: &[
-            Call::Again(0, false, true),
+            Call::Asks(2, Look::Busy, true, true),
+            Call::Asks(0, Look::Busy, true, true),
             Call::Held(0),
             Call::Given(0),
-            Call::Again(0, true, false),
+            Call::Asks(0, Look::Rest, true, false),
         ],
     },
     Row {
         name: "while the outsider has calls to make a question counts for nothing",
-        ticks: 0,
-        has_calls: true,
+        outside: &[OutsideCall::Tick],
         calls: &[
-            Call::Again(0, true, true),
-            Call::Again(0, true, true),
-            Call::Again(3, false, true),
-            Call::Again(0, true, true),
-            Call::Again(3, true, true),
-            Call::Again(0, true, true),
-            Call::Ended(3),
-            Call::Again(0, true, true),
-            Call::Again(2, true, true),
-            Call::Again(1, true, true),
-            Call::Again(0, true, false),
-            Call::Again(1, true, false),
-            Call::Again(2, true, false),
+            Call::Asks(2, Look::Rest, true, true),
+            Call::Asks(0, Look::Rest, true, true),
+            Call::Asks(0, Look::Rest, true, true),
+            Call::Asks(3, Look::Busy, false, true),
+            Call::Asks(3, Look::Rest, false, true),
+            Call::Asks(3, Look::Rest, false, true),
+            Call::Asks(0, Look::Rest, true, true),
+            Call::Asks(3, Look::Rest, true, true),
+            Call::Asks(0, Look::Rest, true, true),
+            Call::Asks(2, Look::Rest, true, true),
+            Call::Asks(0, Look::Rest, true, false),
+            Call::Asks(2, Look::Rest, true, false),
+            Call::Asks(3, Look::Rest, true, false),
         ],
     },
     Row {
-        name: "an outsider that ends before it asks ends all loops",
-        ticks: 0,
-        has_calls: true,
+        name: "a full history ends a loop at its second question",
+        outside: &[OutsideCall::Tick],
         calls: &[
-            Call::Again(0, true, true),
-            Call::Ended(3),
-            Call::Again(0, false, false),
-            Call::Again(2, false, false),
+            Call::Asks(0, Look::Full, true, true),
+            Call::Asks(0, Look::Full, true, false),
+            Call::Asks(2, Look::Full, true, true),
+            Call::Asks(2, Look::Full, true, false),
         ],
     },
     Row {
-        name: "a loop that has ended ends the outsider's",
-        ticks: 0,
-        has_calls: true,
+        name: "a full history ends the outsider's wait, and not the respawner's ticks",
+        outside: &[OutsideCall::Tick],
         calls: &[
-            Call::Again(3, false, true),
-            Call::Ended(0),
-            Call::Again(3, false, false),
+            Call::Asks(2, Look::Full, false, true),
+            Call::Asks(2, Look::Full, false, true),
+            Call::Asks(2, Look::Full, false, true),
+            Call::Asks(3, Look::Full, false, true),
+            Call::Asks(3, Look::Full, false, false),
         ],
     },
     Row {
-        name: "where one loop has ended each question ends its loop",
-        ticks: 9,
-        has_calls: false,
+        name: "that another loop has ended doesn't matter",
+        outside: &[],
         calls: &[
-            Call::Again(0, false, true),
             Call::Ended(1),
-            Call::Again(0, false, false),
-            Call::Again(2, false, false),
-            Call::Again(2, true, false),
+            Call::Asks(0, Look::Busy, true, true),
+            Call::Asks(2, Look::Busy, false, true),
         ],
     },
 ];
 
 /// Which call is the first that isn't answered as wanted.
-fn first_other<G: Gate>(gate: &G, calls: &[Call]) -> Option<usize> {
+fn first_other<G: WatchingGate>(gate: &G, calls: &[Call]) -> Option<usize> {
     for (place, call) in calls.iter().enumerate() {
         let is_wanted = match *call {
-            Call::Again(actor, at_rest, goes_on) => gate.again(actor, at_rest) == goes_on,
+            Call::Asks(actor, look, is_done, goes_on) => {
+                gate.goes_on(actor, look.far(), is_done) == goes_on
+            }
             Call::Held(cpu) => {
                 gate.held(cpu, 0);
                 true
@@ -169,12 +190,11 @@ fn first_other<G: Gate>(gate: &G, calls: &[Call]) -> Option<usize> {
 fn questions_of_a_run(rt: HostRuntime) -> Result<(), Fail> {
     for row in ROWS {
         let name = row.name;
-        let plan = RunPlan {
-            respawner: 2,
-            ticks: row.ticks,
-            has_calls: row.has_calls,
-            log: 64,
+        let outside = Outside {
+            ticks: 3,
+            calls: row.outside,
         };
+        let plan = RunPlan::new(2, outside, LOG);
         let progress = NoProgress::new();
         let gate = RunGate::new(&rt, &progress, plan);
         let fault = first_other(&gate, row.calls);

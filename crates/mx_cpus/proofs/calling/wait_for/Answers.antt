@@ -7,7 +7,7 @@ use Rattle.mx_cpus.proofs.calling.wait_for.Goals as goal
 pub returns-in-None-far-clause-waits : goal.returns-in-None-far-clause-waits
 returns-in-None-far-clause-waits g c =
     let boot = g.M.Naming.boot in
-    let called = g.G.Gate.was_called c.args.context.now.door.gate.now in
+    let called = g.G.WatchingGate.was_called c.args.context.now.door.gate.now in
     let busy : c.loop.seen.at_rest ≡ false = search rules in
     let few : c.loop.seen.records - c.how_far-seat.result.1.records < c.args.more = omega (arith, c.saturating_sub.ensures) in
     let next = c.ask_and_look-next in
@@ -22,5 +22,5 @@ loop-preserved g c =
     let few : c.loop.seen.records - c.how_far-seat.result.1.records < c.args.more = omega (arith, c.saturating_sub.ensures) in
     let next = c.ask_and_look-next in
     let looks = MatchOption-at_some _ _ c.in-Some-far.far c.in-Some-far.is next.ensures.looks in
-    looks_go_on g.M.Naming.boot (g.G.Gate.was_called c.args.context.now.door.gate.now) c.args.more c.how_far-seat.result.0 c.loop.seat next.result.0 c.loop.side next.result.1 c.how_far-seat.result.1 c.loop.seen c.in-Some-far.far
+    looks_go_on g.M.Naming.boot (g.G.WatchingGate.was_called c.args.context.now.door.gate.now) c.args.more c.how_far-seat.result.0 c.loop.seat next.result.0 c.loop.side next.result.1 c.how_far-seat.result.1 c.loop.seen c.in-Some-far.far
     c.loop.invariant c.how_far-seat.ensures.records busy few next.ensures.seen next.ensures.called next.ensures.actor looks.0 looks.1 looks.2

@@ -11,7 +11,7 @@ use Rattle.mx_cpus.proofs.loops.make_turn.Goals as goal
 
 pub returns-in-Ok-clause-turn : goal.returns-in-Ok-clause-turn
 returns-in-Ok-clause-turn g c = λ n number.
-    let called = g.G.Gate.was_called c.args.context.now.door.gate.now in
+    let called = g.G.WatchingGate.was_called c.args.context.now.door.gate.now in
     let next = c.take-next.result.0 in
     let back = c.give_counted-back.result in
     let who : c.report_loan-holding.result.actor ≡ c.args.seat.actor = c.report_loan-holding.ensures.side.0 ∙ c.requires.actor in

@@ -15,11 +15,11 @@ pub returns-then-not-goes_on-clause-course : goal.returns-then-not-goes_on-claus
 returns-then-not-goes_on-clause-course g c =
     let next = c.turn_or_wait-next in
     let off : next.result.2 ≡ false = search rules in
-    turns_end g.M.Naming.boot (g.G.Gate.was_called c.args.context.now.door.gate.now) c.args.seat c.loop.seat next.result.0 c.loop.side next.result.1 c.loop.invariant (next.ensures.ends off)
+    turns_end g.M.Naming.boot (g.G.WatchingGate.was_called c.args.context.now.door.gate.now) c.args.seat c.loop.seat next.result.0 c.loop.side next.result.1 c.loop.invariant (next.ensures.ends off)
 
 pub returns-then-not-goes_on-clause-made : goal.returns-then-not-goes_on-clause-made
 returns-then-not-goes_on-clause-made g c =
-    processor_made g.M.Naming.boot (g.G.Gate.was_called c.args.context.now.door.gate.now) c.args.seat c.turn_or_wait-next.result.0 c.facts.ensures.mine c.requires.empty (returns-then-not-goes_on-clause-course g c)
+    processor_made g.M.Naming.boot (g.G.WatchingGate.was_called c.args.context.now.door.gate.now) c.args.seat c.turn_or_wait-next.result.0 c.facts.ensures.mine c.requires.empty (returns-then-not-goes_on-clause-course g c)
 
 pub returns-then-not-goes_on-clause-side : goal.returns-then-not-goes_on-clause-side
 returns-then-not-goes_on-clause-side g c = c.turn_or_wait-next.ensures.actor ∙ c.loop.invariant.actor
@@ -28,4 +28,4 @@ pub loop-preserved : goal.loop-preserved
 loop-preserved g c =
     let next = c.turn_or_wait-next in
     let on : next.result.2 ≡ true = search rules in
-    turns_go_on g.M.Naming.boot (g.G.Gate.was_called c.args.context.now.door.gate.now) c.args.seat c.loop.seat next.result.0 c.loop.side next.result.1 c.loop.invariant (next.ensures.more on) next.ensures.actor (next.ensures.goes_on on)
+    turns_go_on g.M.Naming.boot (g.G.WatchingGate.was_called c.args.context.now.door.gate.now) c.args.seat c.loop.seat next.result.0 c.loop.side next.result.1 c.loop.invariant (next.ensures.more on) next.ensures.actor (next.ensures.goes_on on)

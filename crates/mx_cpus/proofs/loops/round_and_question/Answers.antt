@@ -1,4 +1,4 @@
-use Rattle.std.proofs.Common.{◌∙◌, inl, inr, subst, sym}
+use Rattle.std.proofs.Common.{◌∙◌, inl, inr, nat_lt, subst, sym}
 use Rattle.mx_cpus.specs.Courses.{IsAsked}
 use Rattle.mx_cpus.specs.Progresses.{IsRoundTo}
 use Rattle.mx_cpus.proofs.LoopLemmas.{round_made}
@@ -23,15 +23,15 @@ returns-in-Full-clause-ends g c = λ off.
 pub returns-in-GoesOn-clause-more : goal.returns-in-GoesOn-clause-more
 returns-in-GoesOn-clause-more g c = λ on.
     let boot = g.M.Naming.boot in
-    let called = g.G.Gate.was_called c.args.context.now.door.gate.now in
+    let called = g.G.WatchingGate.was_called c.args.context.now.door.gate.now in
     let next = c.make_round-seat.result.0 in
     let round = subst (IsRoundTo boot c.args.left c.args.seat next) c.in-GoesOn.is c.make_round-seat.ensures in
-    (next, round, subst (IsAsked boot called next c.ask-seat.result.0) (sym c.goes_on-goes_on.ensures ∙ on) c.ask-seat.ensures.asked)
+    (next, round, subst (IsAsked boot called (nat_lt c.args.left 2) next c.ask-seat.result.0) (sym c.goes_on-goes_on.ensures ∙ on) c.ask-seat.ensures.asked)
 
 pub returns-in-GoesOn-clause-ends : goal.returns-in-GoesOn-clause-ends
 returns-in-GoesOn-clause-ends g c = λ off.
     let boot = g.M.Naming.boot in
-    let called = g.G.Gate.was_called c.args.context.now.door.gate.now in
+    let called = g.G.WatchingGate.was_called c.args.context.now.door.gate.now in
     let next = c.make_round-seat.result.0 in
     let round = subst (IsRoundTo boot c.args.left c.args.seat next) c.in-GoesOn.is c.make_round-seat.ensures in
-    inr (next, round, subst (IsAsked boot called next c.ask-seat.result.0) (sym c.goes_on-goes_on.ensures ∙ off) c.ask-seat.ensures.asked)
+    inr (next, round, subst (IsAsked boot called (nat_lt c.args.left 2) next c.ask-seat.result.0) (sym c.goes_on-goes_on.ensures ∙ off) c.ask-seat.ensures.asked)

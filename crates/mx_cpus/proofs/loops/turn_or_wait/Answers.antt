@@ -9,7 +9,7 @@ pub returns-in-Ok-clause-more : goal.returns-in-Ok-clause-more
 returns-in-Ok-clause-more g c = λ on n number.
     let s = c.args.seat in
     let made = c.make_turn-seat in
-    let called = g.G.Gate.was_called c.args.context.now.door.gate.now in
+    let called = g.G.WatchingGate.was_called c.args.context.now.door.gate.now in
     let turn = subst (λ (r : Result (Unit {0}) Refusal). OnOk r ((i : ℕ) → c.args.side.turn ≡ turn_number i → IsTurn g.M.Naming.boot called i s made.result.0)) c.in-Ok.is made.ensures.turn in
     let counted = subst (λ (r : Result (Unit {0}) Refusal). OnOk r (IsCounted c.args.side made.result.1)) c.in-Ok.is made.ensures.counted in
     one_turn g.M.Naming.boot called s made.result.0 c.args.side.turn made.result.1.turn n turn counted.1 number
