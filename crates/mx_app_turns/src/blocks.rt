@@ -50,11 +50,7 @@ fn head(alloc: Global, first: usize, last: usize) -> Result<String, AllocError>
 
 /// Appends the mark of a block, if a position of it differs. It is the block's last line, with two spaces before
 /// it: who reads heads, answers or the console finds them where they are without it.
-fn push_mark(
-    alloc: Global,
-    text: &mut Vec<u8>,
-    differs: Option<usize>,
-) -> Result<(), AllocError>
+fn push_mark(alloc: Global, text: &mut Vec<u8>, differs: Option<usize>) -> Result<(), AllocError>
     ensures { OnOk result (text.new.items ≡ text.old.items ++ mark_text differs) }
 {
     match differs {

@@ -8,13 +8,13 @@ mod blocks;
 mod events;
 mod fault_files;
 mod laws;
+mod nothing_tested;
 mod sweeping;
 mod turning;
-mod nothing_tested;
 
 pub use events::{OutsideEvents, outside_event_of, outside_events};
 pub use fault_files::fault_lines;
 pub use laws::{bound_is_not_met, turns_again};
+pub use nothing_tested::Untested;
 pub use sweeping::{SweepNames, SweepWanted, Swept, sweep};
 pub use turning::{TurnsNames, TurnsWanted, turns, writes_over};
-pub use nothing_tested::Untested;

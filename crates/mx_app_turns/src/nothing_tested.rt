@@ -30,9 +30,7 @@ impl fmt::Display for Untested {
 
     fn fmt<W: fmt::Write>(&self, f: &mut fmt::Formatter<W>) -> fmt::Result {
         match *self {
-            Untested::NoLine => f.write_str(
-                "mx: no position was tested: FAULT has no line",
-            ),
+            Untested::NoLine => f.write_str("mx: no position was tested: FAULT has no line"),
             Untested::NoPosition(from, to) => write!(
                 f,
                 "mx: no position was tested: the history has none from {from} to {to}"
