@@ -31,9 +31,10 @@ def machine(cpus, *services):
     return [f"cpus {cpus}", "log 20000", *services]
 
 
-def bystanders(draw, most=3):
-    """Processes that do nothing for anybody, for the slots behind the others: how many, and their plans."""
-    names = [f"other{i}" for i in range(draw.randint(1, most))]
+def bystanders(draw, least=0):
+    """Processes that do nothing for anybody, for the slots behind the others: how many, and their plans. So a process can't
+    tell by who is there whether its machine is the one that is handed out."""
+    names = [f"other{i}" for i in range(draw.randint(least, 3))]
     lines = [service(it, "actor.out", send="0", calls="1", level=draw.randint(5, 9)) for it in names]
     return lines, {it: plan((WORK, draw.randint(0, 4))) for it in names}
 
@@ -227,13 +228,26 @@ DRIVER = service("driver", "driver.out", send="0", calls="1c", level=4, traps="c
 HOG = service("hog", "hog.out", send="0", calls="6", level=1, traps="c")
 
 
+# So many turns are enough for a driver to take an interrupt and write its letters; another process may come before it.
+ENOUGH, ENOUGH_WITH_HOG = 8, 20
+
+
+def taken(made, enough):
+    """The facts that a driver has both lines, and takes an interrupt soon: at least one notification for those that come
+    without a pause."""
+    at = [i for i, it in enumerate(made) if it in ("line 3", "line 5")]
+    pauses = sum(later - earlier > enough for earlier, later in zip(at, at[1:]))
+    return [f"{made.count('line 3')} line 3 driver", f"{made.count('line 5')} line 5 driver",
+            f"{1 + pauses}+ notify HARDWARE to driver .."]
+
+
 def button_case(name, events, with_hog=False):
     made = []
     for it in events.split():
         made += ["line 9"] * int(it) if it.isdigit() else [EVENTS[it]]
     return {"name": f"{name}: {events}", "config": machine(1, DRIVER, *([HOG] if with_hog else [])), "events": made,
             "model": ["button", "driver"], "want": {"states": {"driver": "receiving any"}},
-            "facts": ["1+ call driver IRQCTL 1 3 answer 0 ..", "1+ call driver IRQCTL 1 5 answer 0 .."]}
+            "facts": taken(made, ENOUGH_WITH_HOG if with_hog else ENOUGH)}
 
 
 def lines_taken(draw):
@@ -301,7 +315,8 @@ def answering(draw, restarts, lives=()):
 
 def squares(draw, name, noise, lives=(), more=None):
     driver, made, digits = answering(draw, 20, lives)
-    others, plans = bystanders(draw)
+    # In the machine that is handed out slot 2 is there.
+    others, plans = bystanders(draw, 0 if noise else 1)
     lines = [driver, service("client", "client.out", calls="91")]
     if noise:
         lines.append(service("noise", "noise.out", send="2", calls="1", level=6))
@@ -311,7 +326,11 @@ def squares(draw, name, noise, lives=(), more=None):
 
 
 def quiet_squares(draw):
-    yield squares(draw, "driver and client", False)
+    """Each digit is written before the next number is asked for."""
+    turn = [f"message client to driver type 1 words {i} ..; message driver to client type 0 ..; console client *"
+            for i in range(1, 7)]
+    case = squares(draw, "driver and client", False)
+    yield case | {"facts": [*case["facts"], "in order: " + "; ".join(turn)]}
 
 
 def noisy_squares(draw):

@@ -6,6 +6,7 @@ An event of a history is a line of words:
     call WHO NAME W .. answer R W ..          a kernel call and its result
     trap WHO SEND WHOM result R               a trap that wasn't a kernel call, if its result was known at once
     console WHO 0xHH                          a byte was written
+    line N WHO                                an interrupt of a line that somebody has taken
     tick N                                    the uptime
 
 A fact is one of these, where EVENT is such a line in which `*` stands for any word, and `..` at its end for any words:
@@ -26,6 +27,7 @@ ANSWER = re.compile(r"(\d+)   answer (-?\d+)(?: [A-Z]+)?(.*)")
 SAID = re.compile(r"(\d+)   (message|notify) (\S+)(?: (\d+))? to (\S+) (\d+) type (\d+)(?: words(.*))?")
 STATE = re.compile(r"(\d+)   (\S+) (\d+): (.*?) -> (.*?)(?:, result (-?\d+).*)?$")
 CONSOLE = re.compile(r"(\d+)   console (0x\w+)")
+LINE = re.compile(r"(\d+) \d+ line (\d+): (\S+) (\d+)")
 TICK = re.compile(r"(\d+) \d+ tick: uptime (\d+)")
 
 
@@ -61,6 +63,8 @@ def read(line, found, last):
             found.append(Event(int(it[1]), ["down", it[2], *it[5].split()[1:]], (it[3],)))
     elif (it := CONSOLE.match(line)) and last:
         found.append(Event(int(it[1]), ["console", last[1], it[2]], (last[2],)))
+    elif it := LINE.match(line):
+        found.append(Event(int(it[1]), ["line", it[2], it[3]], (it[4],)))
     elif it := TICK.match(line):
         found.append(Event(int(it[1]), ["tick", it[2]], ()))
     return last
