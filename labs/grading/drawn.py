@@ -494,12 +494,12 @@ def patient(draw):
     """A queue that has nothing, and one that has something after a while."""
     names = service("names", "good_names.out", "fffe", "1", 3)
     waits, polls = (called(it, f"{it}.out", 7, "3", "7") for it in ("waits", "polls"))
+    judge = service("judge", "judge.out", all_but(2), "11", 5)
     yield {"name": "two consumers and no producer",
-           "config": machine(1, names, service("queue", "good_queue.out", all_but(1), "1", 4), waits, polls),
+           "config": machine(1, names, service("queue", "good_queue.out", all_but(1), "1", 4), judge, waits, polls),
            "want": {"console": "", "asks": asked("waits", [GET]) | asked("polls", [TRY] * 20 + [GET]),
                     "states": {"waits": "awaiting 1", "polls": "awaiting 1"}}}
     patience = draw.randint(5, 19)
-    judge = service("judge", "judge.out", all_but(2), "11", 5)
     yield {"name": f"a queue with an item after {patience} answers NOTHING, and then one for a GET",
            "config": machine(1, names, service("queue", "slow_queue.out", all_but(1), "1", 4), judge, polls),
            "set": {"queue": {"patience": [patience]}},
