@@ -1,8 +1,9 @@
 -- What is done of a request, from what its subcommand does.
-use Rattle.std.proofs.Common.{◌≡◌, ◌∙◌, ◌⊎◌, ◌++◌, ℕ, Bool, List, [], ◌∷◌, Option, Some, None, Result, Ok, Err, IfErr, OnOk, false, inr, refl, subst, sym, take}
+use Rattle.std.proofs.Common.{◌≡◌, ◌∙◌, ◌⊎◌, ◌++◌, ℕ, Bool, List, [], ◌∷◌, Option, Some, None, Result, Ok, Err, IfErr, OnOk, false, true, inl, inr, refl, subst, sym, take}
 use Rattle.std.specs.Prelude.{IfOk}
 use Rattle.std.specs.Io.KnownBytes.{Appends}
 use Rattle.std.proofs.lemmas.List.{append-nil}
+use Rattle.mx_app_command.specs.Files.{writes_over}
 use Rattle.mx_app_command.specs.declared.words.CommandRequest.{CommandRequest}
 use Rattle.mx_app_command.specs.declared.words.CommandRequest.TheVariants.{Look, Run, Sweep, Turns}
 use Rattle.mx_app_command.specs.declared.words.RecordRange.{RecordRange}
@@ -42,11 +43,11 @@ use Rattle.mx_app_run.specs.declared.running.RunEnding.{RunEnding}
 use Rattle.mx_turns.specs.declared.turns.Ending.{Ending}
 use Rattle.mx_walk.specs.Parts.{walk_shown}
 use Rattle.mx_walker.specs.Walks.{Walk}
-use Rattle.mx_app.specs.Deeds.{Deeds}
+use Rattle.mx_app.specs.Deeds.{Deeds, nothing_done}
 use Rattle.mx_app.specs.Explained.{ExplainsConfig}
 use Rattle.mx_app.specs.Named.{Assembles, ShowsFile}
 use Rattle.mx_app.specs.declared.performing.Done.{Done}
-use Rattle.mx_app.specs.Requests.{Debugs, Draws, Explains, Looks, Performs, PerformsUntyped, Replays, SavesApart, Shows, Steps, Traces, saves_over, done_after_replay, done_after_run, done_after_sweep, done_after_turns, done_after_work}
+use Rattle.mx_app.specs.Requests.{Debugs, Draws, Explains, Looks, Performs, PerformsApart, PerformsUntyped, Replays, SavesSteps, Shows, Steps, Traces, done_after_replay, done_after_run, done_after_sweep, done_after_turns, done_after_work, over_read}
 
 -- what a request asked for and wrote, and what is done of it
 abbrev pub AsksAndWrites : List Asked → List Asked → List Written → List Written → (List Asked → List Written → Type 0) → Type 0
@@ -59,13 +60,9 @@ Grows asked asked_now written written_now given given_now shown shown_now Holds 
     (did : Deeds) × (asked_now ≡ asked ++ did.asked) × (written_now ≡ written ++ did.written)
     × (given_now ≡ given ++ did.typed) × (shown_now ≡ shown ++ did.shown) × Holds did
 
--- a command that did nothing
-abbrev pub nothing_done : Deeds
-nothing_done = record { asked = []; written = []; typed = []; shown = [] }
-
 -- a request that takes no lines and shows no progress
 untyped : (WasShown : Part → Type 0) (request : CommandRequest) (asks : Bool) (qs : List Asked) (ws : List Written) (Prints : List ℕ → Type 0) (r : Result Done Kind)
-    → PerformsUntyped request qs ws Prints r → Performs WasShown request asks (record { asked = qs; written = ws; typed = []; shown = [] }) Prints r
+    → PerformsUntyped request qs ws Prints r → PerformsApart WasShown request asks (record { asked = qs; written = ws; typed = []; shown = [] }) Prints r
 untyped WasShown (Run config log ticks events) asks qs ws Prints r h = absurd h
 untyped WasShown (Look config log) asks qs ws Prints r h = absurd h
 untyped WasShown (Turns config log ticks events bound) asks qs ws Prints r h = absurd h
@@ -82,7 +79,7 @@ as_known asked now files written Prints r request known same done =
 -- what is done of it, if no lines are typed and no progress is shown
 pub as_asked : (WasShown : Part → Type 0) {given : List (Option (List ℕ))} {shown : List Part} (asks : Bool) (asked now : List Asked) (files written : List Written) (Prints : List ℕ → Type 0) (r : Result Done Kind) (request : CommandRequest)
     → AsksAndWrites asked now files written (λ qs ws. PerformsUntyped request qs ws Prints r)
-    → Grows asked now files written given given shown shown (λ did. Performs WasShown request asks did Prints r)
+    → Grows asked now files written given given shown shown (λ did. PerformsApart WasShown request asks did Prints r)
 as_asked WasShown {given} {shown} asks asked now files written Prints r request done = (
   record { asked = done.0; written = done.1; typed = []; shown = [] },
   done.2,
@@ -94,10 +91,10 @@ as_asked WasShown {given} {shown} asks asked now files written Prints r request 
 
 -- what is done of the request that this one is, if it takes lines, shows progress or has threads
 pub as_typed : (WasShown : Part → Type 0) (asked now : List Asked) (files written : List Written) (given typed : List (Option (List ℕ))) (shown later : List Part) (asks : Bool) (Prints : List ℕ → Type 0) (r : Result Done Kind) (request known : CommandRequest) → request ≡ known
-    → Grows asked now files written given typed shown later (λ did. Performs WasShown known asks did Prints r)
-    → Grows asked now files written given typed shown later (λ did. Performs WasShown request asks did Prints r)
+    → Grows asked now files written given typed shown later (λ did. PerformsApart WasShown known asks did Prints r)
+    → Grows asked now files written given typed shown later (λ did. PerformsApart WasShown request asks did Prints r)
 as_typed WasShown asked now files written given typed shown later asks Prints r request known same done =
-    subst (λ (x : CommandRequest). Grows asked now files written given typed shown later (λ did. Performs WasShown x asks did Prints r)) (sym same) done
+    subst (λ (x : CommandRequest). Grows asked now files written given typed shown later (λ did. PerformsApart WasShown x asks did Prints r)) (sym same) done
 
 -- a session was held, or its machine wasn't started
 pub looks : (asked now : List Asked) (files files_now : List Written) (given given_now : List (Option (List ℕ))) (shown later : List Part) (config log : List ℕ) (asks : Bool) (x y : Option (List ℕ)) (d : Result (Unit {0}) Kind) (r : Result Done Kind)
@@ -144,8 +141,7 @@ swept {given} asked now files written shown later config log fault save from to 
     (record { asked = p.0; written = p.1; typed = []; shown = p.2 }, p.3, p.4, sym (append-nil given), p.5, (refl, d, p.6, e))
 
 -- a script was done, and its history saved or not
-pub saves : (asked now : List Asked) (files written : List Written) (config script log : List ℕ) (numbered : Bool) (x y : Option (List ℕ)) (d : Result (Unit {0}) Kind)
-    → saves_over config script log ≡ false
+pub saved : (asked now : List Asked) (files written : List Written) (config script log : List ℕ) (numbered : Bool) (x y : Option (List ℕ)) (d : Result (Unit {0}) Kind) (r : Result Done Kind)
     → OnOk d ((qs : List Asked) × (c : Config) × (vs : List Service) × (said : List ScriptLine)
     × (now ≡ asked ++ qs) × IsStart IsScript config script qs c vs said × (names_program c log ≡ false)
     × (written ≡ files ++ kept log (saved_text c.rules (history_made (world_at_boot c vs) c.cpus said)) ∷ [])
@@ -155,15 +151,11 @@ pub saves : (asked now : List Asked) (files written : List Written) (config scri
     ⊎ ((c : Config) × (vs : List Service) × (said : List ScriptLine) × IsStart IsScript config script qs c vs said
     × (SparesProgram c log ws (λ text. Appends x y text) f
     ⊎ ((names_program c log ≡ false) × IsUnsaved log (saved_text c.rules (history_made (world_at_boot c vs) c.cpus said)) ws f)))))
-    → AsksAndWrites asked now files written (λ qs ws. SavesApart config script log numbered qs ws (λ text. Appends x y text) d)
-saves asked now files written config script log numbered x y (Ok u) apart p f =
-    (p.0, kept log (saved_text p.1.rules (history_made (world_at_boot p.1 p.2) p.1.cpus p.3)) ∷ [], p.4, p.7, inr (apart, (p.1, p.2, p.3, p.5, p.6, refl, p.8)))
-saves asked now files written config script log numbered x y (Err why) apart p f = (f.0, f.1, f.2, f.3, inr (apart, f.4))
-
-pub saved : (asked now : List Asked) (files written : List Written) (config script log : List ℕ) (numbered : Bool) (x y : Option (List ℕ)) (d : Result (Unit {0}) Kind) (r : Result Done Kind)
-    → (qs : List Asked) × (ws : List Written) × (now ≡ asked ++ qs) × (written ≡ files ++ ws) × SavesApart config script log numbered qs ws (λ text. Appends x y text) d → r ≡ done_after_work d
-    → AsksAndWrites asked now files written (λ qs ws. (e : Result (Unit {0}) Kind) × SavesApart config script log numbered qs ws (λ text. Appends x y text) e × (r ≡ done_after_work e))
-saved asked now files written config script log numbered x y d r p e = (p.0, p.1, p.2, p.3, (d, p.4, e))
+    → r ≡ done_after_work d
+    → AsksAndWrites asked now files written (λ qs ws. (e : Result (Unit {0}) Kind) × SavesSteps config script log numbered qs ws (λ text. Appends x y text) e × (r ≡ done_after_work e))
+saved asked now files written config script log numbered x y (Ok u) r p f e =
+    (p.0, kept log (saved_text p.1.rules (history_made (world_at_boot p.1 p.2) p.1.cpus p.3)) ∷ [], p.4, p.7, (Ok u, (p.1, p.2, p.3, p.5, p.6, refl, p.8), e))
+saved asked now files written config script log numbered x y (Err why) r p f e = (f.0, f.1, f.2, f.3, (Err why, f.4, e))
 
 -- `asked` and `files` before, `now` asked after; no file is written
 module _ (asked now : List Asked) (files : List Written) where
@@ -230,3 +222,17 @@ module _ (asked now : List Asked) (files : List Written) where
       → WritesNone (λ qs ws. (e : Result Replayed Kind) × (ws ≡ []) × Draws config log range qs (λ text. Appends x y text) e × (r ≡ done_after_replay e))
   draws config log range x y (Ok how) r p f e = (p.0, [], p.4, sym (append-nil files), (Ok how, refl, (p.1, p.2, p.3, p.5, p.6), e))
   draws config log range x y (Err why) r p f e = (f.0, [], f.1, sym (append-nil files), (Err why, refl, f.2, e))
+
+-- ---- whether it writes over what it reads
+
+pub spared : (WasShown : Part → Type 0) {given : List (Option (List ℕ))} {shown : List Part} (asks : Bool) (asked : List Asked) (files : List Written) (known : Option (List ℕ)) (r : Result Done Kind) (request : CommandRequest)
+    → writes_over request ≡ true → r ≡ Err over_read
+    → Grows asked asked files files given given shown shown (λ did. Performs WasShown request asks did (λ text. Appends known known text) r)
+spared WasShown {given} {shown} asks asked files known r request over e =
+    (nothing_done, sym (append-nil asked), sym (append-nil files), sym (append-nil given), sym (append-nil shown), inl (over, refl, appends_nothing known, e))
+
+pub apart : (WasShown : Part → Type 0) (asked now : List Asked) (files written : List Written) (given typed : List (Option (List ℕ))) (shown later : List Part) (asks : Bool) (Prints : List ℕ → Type 0) (r : Result Done Kind) (request : CommandRequest)
+    → writes_over request ≡ false
+    → Grows asked now files written given typed shown later (λ did. PerformsApart WasShown request asks did Prints r)
+    → Grows asked now files written given typed shown later (λ did. Performs WasShown request asks did Prints r)
+apart WasShown asked now files written given typed shown later asks Prints r request other done = (done.0, done.1, done.2, done.3, done.4, inr (other, done.5))

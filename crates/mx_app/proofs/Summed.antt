@@ -6,7 +6,7 @@ use Rattle.std.proofs.lemmas.List.{append-nil}
 use Rattle.mx_app_start.proofs.SetupLemmas.{asked_on}
 use Rattle.mx_walk.specs.declared.progress.Part.{Part}
 use Rattle.mx_app_command.specs.declared.words.CommandRequest.{CommandRequest}
-use Rattle.mx_app_explain.specs.Explaining.{first_name}
+use Rattle.mx_app_command.specs.Files.{names_file}
 use Rattle.mx_app_failure.specs.declared.failure.Failure.{Failure as Kind}
 use Rattle.mx_app_db.specs.Asked.{Asked, file_given}
 use Rattle.mx_app_db.specs.Config.{Config}
@@ -17,14 +17,14 @@ use Rattle.mx_app_explain.specs.Sums.{machine_sums, sums_text}
 use Rattle.mx_app_explain.specs.declared.sums_fault.SumsFault.{SumsFault}
 use Rattle.mx_app_explain.specs.declared.sums_fault.SumsFault.TheVariants.{NameTaken}
 use Rattle.mx_app_explain.specs.declared.sums.PartSum.{PartSum}
-use Rattle.mx_app.specs.Deeds.{Deeds}
+use Rattle.mx_app.specs.Deeds.{Deeds, nothing_done}
 use Rattle.mx_app.specs.Requests.{Performs}
-use Rattle.mx_app.specs.Summing.{ComparesSums, IsCompared, IsUnsummed, PerformsBy, PerformsCompared, PerformsSummed, PerformsWith, WritesSums, by_request, names_file, writes_sums}
+use Rattle.mx_app.specs.Summing.{ComparesSums, IsCompared, IsUnsummed, PerformsBy, PerformsCompared, PerformsSummed, PerformsWith, WritesSums, by_request, first_name, writes_sums}
 use Rattle.mx_app.specs.declared.performing.Done.{Done}
 use Rattle.mx_app.specs.declared.summing.LineFailure.{LineFailure}
 use Rattle.mx_app.specs.declared.summing.LineFailure.TheVariants.{Request, Sums}
 use Rattle.mx_app_start.proofs.Appended.{appends_nothing}
-use Rattle.mx_app.proofs.Doing.{Grows, nothing_done}
+use Rattle.mx_app.proofs.Doing.{Grows}
 
 -- files that were written in two steps
 written_on : (a b c ws xs : List Written) → b ≡ a ++ ws → c ≡ b ++ xs → c ≡ a ++ (ws ++ xs)

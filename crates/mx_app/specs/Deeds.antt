@@ -1,5 +1,5 @@
 -- What a command did with what it works with (our own).
-use Rattle.std.specs.Prelude.{◌≡◌, ◌++◌, ℕ, List, Option}
+use Rattle.std.specs.Prelude.{◌≡◌, ◌++◌, ℕ, List, [], Option}
 use Rattle.std.specs.Io.KnownBytes.{Appends}
 use Rattle.mx_app_db.specs.Asked.{Asked}
 use Rattle.mx_app_db.specs.Written.{Written}
@@ -14,6 +14,10 @@ pub record Deeds : Type 0 where
   pub written : List Written
   pub typed : List (Option (List ℕ))
   pub shown : List Part
+
+-- a command that did nothing
+abbrev pub nothing_done : Deeds
+nothing_done = record { asked = []; written = []; typed = []; shown = [] }
 
 -- THESE LOGS HAVE GROWN by what a command did: of files asked for and written, of typed lines, and of progress. Of what
 -- it did and of the texts that it may have printed this holds

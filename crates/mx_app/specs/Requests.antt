@@ -1,13 +1,15 @@
 -- What is done of requests (our own).
-use Rattle.std.specs.Prelude.{◌≡◌, ◌⊎◌, ◌||◌, ℕ, Bool, true, false, if◌then◌else◌, List, [], ◌∷◌, ◌++◌, Option, Some, None, Result, Ok, Err, option_map, take}
-use Rattle.std.specs.Str.{bytes_eq}
+use Rattle.std.specs.Prelude.{◌≡◌, ◌⊎◌, ℕ, Bool, true, false, if◌then◌else◌, List, [], ◌∷◌, ◌++◌, Option, Some, None, Result, Ok, Err, option_map, take}
+use Rattle.mx_app_command.specs.Files.{writes_over}
 use Rattle.mx_app_command.specs.declared.words.CommandRequest.{CommandRequest}
 use Rattle.mx_app_command.specs.declared.words.RecordRange.{RecordRange}
 use Rattle.mx_app_command.specs.declared.words.CommandRequest.TheVariants.{One, As, Dis, Nm, Explain, Step, Run, Turns, Sweep, Replay, Trace, Draw, Look, Db}
 use Rattle.mx_app_db.specs.ScriptLine.{ScriptLine}
 use Rattle.mx_app_db.specs.declared.script.DebugLine.{DebugLine}
 use Rattle.mx_app_failure.specs.declared.failure.Failure.{Failure as Kind}
-use Rattle.mx_app_failure.specs.declared.failure.Failure.TheVariants.{File}
+use Rattle.mx_app_failure.specs.declared.failure.About.TheVariants.{Written as FileWritten}
+use Rattle.mx_app_failure.specs.declared.failure.FileProblem.TheVariants.{OverRead}
+use Rattle.mx_app_failure.specs.Failure.{failure_if}
 use Rattle.mx_app_program.specs.One.{IsPrinted}
 use Rattle.mx_app_program.specs.Shown.{HasListing, HasNames, IsShown}
 use Rattle.mx_machine.specs.Boot.{world_at_boot}
@@ -45,7 +47,7 @@ use Rattle.mx_walk.specs.Parts.{walk_shown}
 use Rattle.mx_walker.specs.Walks.{Walk}
 use Rattle.mx_app_db.specs.DebugLines.{DebuggedWorld, debug_lines_made}
 use Rattle.mx_app_db.specs.LineTexts.{debug_lines_text}
-use Rattle.mx_app.specs.Deeds.{Deeds}
+use Rattle.mx_app.specs.Deeds.{Deeds, nothing_done}
 use Rattle.mx_app.specs.Explained.{ExplainsConfig}
 use Rattle.mx_app.specs.Named.{Assembles, ShowsFile}
 use Rattle.mx_app.specs.declared.ending.DrivenEnding.TheVariants as driven
@@ -113,16 +115,6 @@ SavesSteps config script log numbered qs ws Prints (Err f) =
     × (SparesProgram c log ws Prints f
     ⊎ ((names_program c log ≡ false) × IsUnsaved log (saved_text c.rules (history_made (world_at_boot c vs) c.cpus said)) ws f)))
 
--- a text that is read would be written over
-abbrev pub saves_over : List ℕ → List ℕ → List ℕ → Bool
-saves_over config script log = bytes_eq config log || bytes_eq script log
-
--- then nothing is read or written
-abbrev pub SavesApart : List ℕ → List ℕ → List ℕ → Bool → List Asked → List Written → (List ℕ → Type 0) → Result (Unit {0}) Kind → Type 0
-SavesApart config script log numbered qs ws Prints r =
-    ((saves_over config script log ≡ true) × (qs ≡ []) × (ws ≡ []) × (r ≡ Err File))
-    ⊎ ((saves_over config script log ≡ false) × SavesSteps config script log numbered qs ws Prints r)
-
 abbrev pub Debugs : List ℕ → List ℕ → List Asked → (List ℕ → Type 0) → Result (Unit {0}) Kind → Type 0
 Debugs config script qs Prints (Ok u) =
     (c : Config) × (vs : List Service) × (said : List DebugLine) × IsStart IsDebugScript config script qs c vs said
@@ -164,42 +156,6 @@ Looks config log asks qs typed ps Prints (Err f) = HasFailed config log qs ps f
 
 -- ---- requests
 
--- one that works on files, without a machine
-abbrev pub is_on_files : CommandRequest → Bool
-is_on_files (One file steps) = true
-is_on_files (As text file) = true
-is_on_files (Dis file) = true
-is_on_files (Nm file) = true
-is_on_files (Explain config) = true
-is_on_files request = false
-
--- one that drives a machine by a script
-abbrev pub is_by_script : CommandRequest → Bool
-is_by_script (Step config script save numbered) = true
-is_by_script (Db config script) = true
-is_by_script request = false
-
--- one that shows a saved history
-abbrev pub is_of_history : CommandRequest → Bool
-is_of_history (Replay config log) = true
-is_of_history (Trace config log range) = true
-is_of_history (Draw config log range) = true
-is_of_history request = false
-
--- one that makes turns in one thread, or sweeps a history by such turns
-abbrev pub makes_turns : CommandRequest → Bool
-makes_turns (Turns config log ticks events bound) = true
-makes_turns (Sweep config log fault bound from to strict save) = true
-makes_turns request = false
-
--- one that takes no lines and shows no progress, and has no threads
-abbrev pub is_untyped : CommandRequest → Bool
-is_untyped (Run config log ticks events) = false
-is_untyped (Turns config log ticks events bound) = false
-is_untyped (Sweep config log fault bound from to strict save) = false
-is_untyped (Look config log) = false
-is_untyped request = true
-
 -- a file is read, shown, and none is written
 abbrev pub Shows : (List ℕ → List ℕ → Type 0) → List ℕ → List Asked → List Written → (List ℕ → Type 0) → Result Done Kind → Type 0
 Shows Has name qs ws Prints r =
@@ -221,7 +177,7 @@ PerformsUntyped (Explain config) qs ws Prints r = Explains config.now qs ws Prin
 PerformsUntyped (Step config script None numbered) qs ws Prints r =
     (d : Result (Unit {0}) Kind) × (ws ≡ []) × Steps config.now script.now numbered qs Prints d × (r ≡ done_after_work d)
 PerformsUntyped (Step config script (Some log) numbered) qs ws Prints r =
-    (d : Result (Unit {0}) Kind) × SavesApart config.now script.now log.now numbered qs ws Prints d × (r ≡ done_after_work d)
+    (d : Result (Unit {0}) Kind) × SavesSteps config.now script.now log.now numbered qs ws Prints d × (r ≡ done_after_work d)
 PerformsUntyped (Run config log ticks events) qs ws Prints r = ⊥
 PerformsUntyped (Turns config log ticks events bound) qs ws Prints r = ⊥
 PerformsUntyped (Sweep config log fault bound from to strict save) qs ws Prints r = ⊥
@@ -235,22 +191,32 @@ PerformsUntyped (Look config log) qs ws Prints r = ⊥
 PerformsUntyped (Db config script) qs ws Prints r =
     (d : Result (Unit {0}) Kind) × (ws ≡ []) × Debugs config.now script.now qs Prints d × (r ≡ done_after_work d)
 
--- WHAT IS DONE OF A REQUEST, by what a command did, by what is printed, and by how it ends. Only a session takes lines;
+-- what is done of a request that writes over nothing that it reads, by what a command did, by what is printed, and by how it ends. Only a session takes lines;
 -- it, turns and a sweep show progress. What the threads of a run show is no list, since they have no order: WasShown
 -- holds of it.
-abbrev pub Performs : (Part → Type 0) → CommandRequest → Bool → Deeds → (List ℕ → Type 0) → Result Done Kind → Type 0
-Performs WasShown (Look config log) asks did Prints r =
+abbrev pub PerformsApart : (Part → Type 0) → CommandRequest → Bool → Deeds → (List ℕ → Type 0) → Result Done Kind → Type 0
+PerformsApart WasShown (Look config log) asks did Prints r =
     (d : Result (Unit {0}) Kind) × (did.written ≡ []) × Looks config.now log.now asks did.asked did.typed did.shown Prints d × (r ≡ done_after_work d)
-Performs WasShown (Run config log ticks events) asks did Prints r =
+PerformsApart WasShown (Run config log ticks events) asks did Prints r =
     (did.typed ≡ []) × (did.shown ≡ []) × (d : Result RunEnding Kind)
     × Runs WasShown config.now (option_map (λ s. s.now) events) log.now ticks did.asked did.written Prints d
     × (r ≡ done_after_run d)
-Performs WasShown (Turns config log ticks events bound) asks did Prints r =
+PerformsApart WasShown (Turns config log ticks events bound) asks did Prints r =
     (did.typed ≡ []) × (d : Result Ending Kind)
     × MakesTurns config.now (option_map (λ s. s.now) events) log.now ticks bound did.asked did.written did.shown Prints d
     × (r ≡ done_after_turns d)
-Performs WasShown (Sweep config log fault bound from to strict save) asks did Prints r =
+PerformsApart WasShown (Sweep config log fault bound from to strict save) asks did Prints r =
     (did.typed ≡ []) × (d : Result Swept Kind)
     × Sweeps config.now log.now fault.now (option_map (λ s. s.now) save) from to bound did.asked did.written did.shown Prints d
     × (r ≡ done_after_sweep strict d)
-Performs WasShown request asks did Prints r = (did.typed ≡ []) × (did.shown ≡ []) × PerformsUntyped request did.asked did.written Prints r
+PerformsApart WasShown request asks did Prints r = (did.typed ≡ []) × (did.shown ≡ []) × PerformsUntyped request did.asked did.written Prints r
+
+-- the failure of a request that would write over what it reads
+abbrev pub over_read : Kind
+over_read = failure_if (Some OverRead) FileWritten
+
+-- WHAT IS DONE OF A REQUEST: nothing, if it would write over what it reads
+abbrev pub Performs : (Part → Type 0) → CommandRequest → Bool → Deeds → (List ℕ → Type 0) → Result Done Kind → Type 0
+Performs WasShown request asks did Prints r =
+    ((writes_over request ≡ true) × (did ≡ nothing_done) × Prints [] × (r ≡ Err over_read))
+    ⊎ ((writes_over request ≡ false) × PerformsApart WasShown request asks did Prints r)

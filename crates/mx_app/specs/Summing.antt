@@ -1,11 +1,10 @@
 -- What is done of a command line: of its request, and of the file of sums that it may name (our own).
-use Rattle.std.specs.Prelude.{◌≡◌, ◌⊎◌, ◌||◌, ℕ, Bool, true, false, List, [], ◌∷◌, ◌++◌, Option, Some, None, Result, Ok, Err, option_map}
-use Rattle.std.specs.Str.{bytes_eq}
+use Rattle.std.specs.Prelude.{◌≡◌, ◌⊎◌, ℕ, Bool, true, false, List, [], ◌∷◌, ◌++◌, Option, Some, None, Result, Ok, Err, option_map}
 use Rattle.std.specs.declared.io.ErrorKind.{ErrorKind}
+use Rattle.mx_app_command.specs.Files.{files_read, names_file}
 use Rattle.mx_app_command.specs.declared.words.CommandLine.{CommandLine}
 use Rattle.mx_app_command.specs.declared.words.CommandRequest.{CommandRequest}
-use Rattle.mx_app_command.specs.declared.words.CommandRequest.TheVariants.{Step, Run, Turns, Sweep}
-use Rattle.mx_app_explain.specs.Explaining.{first_name, second_name}
+use Rattle.mx_app_command.specs.declared.words.CommandRequest.TheVariants.{Step, Run, Turns}
 use Rattle.mx_app_failure.specs.declared.failure.Failure.{Failure as Kind}
 use Rattle.mx_app_failure.specs.declared.failure.Failure.TheVariants as failures
 use Rattle.mx_app_failure.specs.Failure.{failure_line, status_of}
@@ -37,21 +36,9 @@ line_failure_line (Sums f) = fault_line f
 
 -- ---- requests
 
-abbrev pub is_named : Option (List ℕ) → List ℕ → Bool
-is_named None name = false
-is_named (Some word) name = bytes_eq word name
-
--- a word after the first two names this file
-abbrev pub names_later : CommandRequest → List ℕ → Bool
-names_later (Step config script save numbered) name = is_named (option_map (λ s. s.now) save) name
-names_later (Run config log ticks events) name = bytes_eq log.now name
-names_later (Turns config log ticks events bound) name = bytes_eq log.now name
-names_later (Sweep config log fault bound from to strict save) name = bytes_eq fault.now name || is_named (option_map (λ s. s.now) save) name
-names_later r name = false
-
--- a word of a request on a machine names this file
-abbrev pub names_file : CommandRequest → List ℕ → Bool
-names_file r name = (bytes_eq (first_name r) name || bytes_eq (second_name r) name) || names_later r name
+-- the configuration of its machine
+abbrev pub first_name : CommandRequest → List ℕ
+first_name r = (files_read r).first.name
 
 -- a request that makes a history has sums written; all others have them compared
 abbrev pub writes_sums : CommandRequest → Bool

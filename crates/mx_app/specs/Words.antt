@@ -17,7 +17,6 @@ use Rattle.mx_app_failure.specs.declared.failure.Failure.{Failure as Kind}
 use Rattle.mx_app_failure.specs.declared.failure.Failure.TheVariants.{NotText, NoMemory}
 use Rattle.mx_app_failure.specs.Failure.{IsWanting}
 use Rattle.mx_app.specs.Deeds.{Deeds}
-use Rattle.mx_app.specs.Noting.{Noted}
 use Rattle.mx_app.specs.Requests.{with_status}
 use Rattle.mx_app.specs.Summing.{PerformsLine, line_failure_line, line_failure_status}
 use Rattle.mx_app.specs.declared.summing.LineFailure.{LineFailure}
@@ -88,28 +87,28 @@ word_or_nothing None = []
 word_or_nothing (Some name) = name
 
 -- what explains it: a request's failure by the request, and a fault of the file of sums by its name
-abbrev pub explained_line : CommandLine → LineFailure → Noted → List ℕ
-explained_line line (Request f) noted = explained line.request f noted.last noted.is_missed noted.is_unwritten noted.text
-explained_line line (Sums f) noted = fault_explained (word_or_nothing (option_map (λ s. s.now) line.sums)) f
+abbrev pub explained_line : CommandLine → LineFailure → List ℕ
+explained_line line (Request f) = explained line.request f
+explained_line line (Sums f) = fault_explained (word_or_nothing (option_map (λ s. s.now) line.sums)) f
 
 -- a failure without more; or, if it is to be explained, with the line that explains it, unless there was no memory for this line
-abbrev pub IsComplaintOf : CommandLine → Bool → LineFailure → Noted → Complaint → Type 0
-IsComplaintOf line shows f noted c =
+abbrev pub IsComplaintOf : CommandLine → Bool → LineFailure → Complaint → Type 0
+IsComplaintOf line shows f c =
     ((explains line shows ≡ false) × (c ≡ Failed f))
     ⊎ ((explains line shows ≡ true) × (c ≡ Unexplained f))
     ⊎ ((s : String Global) × (explains line shows ≡ true) × (c ≡ Explained f s)
-    × (string_bytes s ≡ explained_line line f noted))
+    × (string_bytes s ≡ explained_line line f))
 
 -- what comes of a request that is done, or of its failure
-abbrev pub IsAnswered : CommandLine → Bool → Result Done LineFailure → Noted → Result Done Complaint → Type 0
-IsAnswered line shows (Ok done) noted r = r ≡ Ok done
-IsAnswered line shows (Err f) noted r = (c : Complaint) × (r ≡ Err c) × IsComplaintOf line shows f noted c
+abbrev pub IsAnswered : CommandLine → Bool → Result Done LineFailure → Result Done Complaint → Type 0
+IsAnswered line shows (Ok done) r = r ≡ Ok done
+IsAnswered line shows (Err f) r = (c : Complaint) × (r ≡ Err c) × IsComplaintOf line shows f c
 
 -- WHAT IS DONE OF WORDS: what the request does that they ask for; or, if something is wrong with them, nothing is asked
 -- for, written, typed or shown, and the mistake is answered
-abbrev pub IsPerformed : (Part → Type 0) → List (List ℕ) → Bool → Bool → Deeds → Noted → (List ℕ → Type 0) → Result Done Complaint → Type 0
-IsPerformed WasShown texts asks shows did noted Prints r =
+abbrev pub IsPerformed : (Part → Type 0) → List (List ℕ) → Bool → Bool → Deeds → (List ℕ → Type 0) → Result Done Complaint → Type 0
+IsPerformed WasShown texts asks shows did Prints r =
     ((line : CommandLine) × (d : Result Done LineFailure) × Asks line.request (subcommand_of mx_grammar texts) × AsksToExplain line.explains (subcommand_of mx_grammar texts)
     × AsksForSilence line.silent (subcommand_of mx_grammar texts) × AsksForSums (option_map (λ s. s.now) line.sums) (subcommand_of mx_grammar texts) × (both_given (subcommand_of mx_grammar texts) ≡ false)
-    × PerformsLine WasShown line asks did Prints d × IsAnswered line shows d noted r)
+    × PerformsLine WasShown line asks did Prints d × IsAnswered line shows d r)
     ⊎ ((m : Mistake) × IsMistake texts m × (did.asked ≡ []) × (did.written ≡ []) × (did.typed ≡ []) × (did.shown ≡ []) × AnswersMistake m r)

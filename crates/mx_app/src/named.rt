@@ -1,21 +1,34 @@
 //! Subcommands by the names of their files.
 
-ghost use Rattle.std.specs.Prelude.{◌≡◌, ◌++◌, ◌∷◌, [], List};
+ghost use Rattle.std.specs.Prelude.{◌≡◌, ◌++◌, ◌∷◌, [], IfErr, IfOk, List};
 ghost use Rattle.std.specs.Io.KnownBytes.{Appends};
-ghost use Rattle.mx_app_db.specs.Asked.{Asked};
+ghost use Rattle.std.specs.declared.io.ErrorKind.{ErrorKind};
+ghost use Rattle.mx_app_db.specs.Asked.{Asked, file_given, file_missed};
 ghost use Rattle.mx_app_db.specs.Written.{Written};
+ghost use Rattle.mx_app_failure.specs.Failure.{failure_if, problem_of_reading};
 ghost use Rattle.mx_app_program.specs.One.{IsPrinted};
 ghost use Rattle.mx_app_program.specs.Shown.{HasListing, HasNames, IsShown};
-ghost use Rattle.mx_app.specs.Deeds.{DoesUntyped};
 ghost use Rattle.mx_app.specs.Named.{Assembles, ShowsFile};
-ghost use Rattle.mx_app.specs.Requests.{SavesApart, saves_over};
 
-use mx_app_db::{NamedScript, step_saved};
-use mx_app_failure::Failure;
+use mx_app_failure::{About, Failure};
 use mx_app_program::{assemble_file, print_listing, print_names, print_one};
-use mx_app_start::{Channels, FileWriter, Reader};
+use mx_app_start::{FileWriter, Reader};
 use std::alloc::Global;
 use std::io::Write;
+
+/// The bytes of the program's file that a command reads.
+fn program_of<R: Reader>(alloc: Global, reader: &mut R, file: &str) -> Result<Vec<u8>, Failure>
+    ensures given { IfOk result (λ bytes. R.asked reader.new
+        ≡ R.asked reader.old ++ file_given file.now bytes.items ∷ []) }
+    ensures missed { IfErr result (λ f. (kind : ErrorKind)
+        × (R.asked reader.new ≡ R.asked reader.old ++ file_missed file.now kind ∷ [])
+        × (f ≡ failure_if (problem_of_reading kind) About.Program)) }
+{
+    match reader.read_program(alloc, file) {
+        Ok(bytes) => Ok(bytes),
+        Err(error) => Err(Failure::unread(&error, About::Program)),
+    }
+}
 
 /// Reads a file, makes at most `steps` steps from its image, and prints the registers, the flags and how
 /// the steps ended.
@@ -30,12 +43,11 @@ pub fn one_named<R: Reader, W: Write>(
         × ShowsFile (λ bytes text. IsPrinted bytes steps text) file.now q
         (λ text. Appends (W.contents out.old) (W.contents out.new) text) result }
 {
-    let bytes = reader.read_program(alloc, file)?;
+    let bytes = program_of(alloc, reader, file)?;
     print_one(alloc, bytes.as_slice(), steps, out)
 }
 
-/// Reads a text, assembles it, and writes the program's file. A text isn't written over: if both have
-/// one name, nothing is read or written. Two names of one file aren't seen to be one.
+/// Reads a text, assembles it, and writes the program's file.
 pub fn as_named<R: Reader, F: FileWriter>(
     alloc: Global,
     reader: &mut R,
@@ -48,13 +60,15 @@ pub fn as_named<R: Reader, F: FileWriter>(
         × (F.written files.new ≡ F.written files.old ++ ws)
         × Assembles text.now file.now qs ws result }
 {
-    if text == file {
-        return Err(Failure::File);
+    let source = match reader.read(alloc, text) {
+        Ok(source) => source,
+        Err(error) => return Err(Failure::unread(&error, About::Source)),
+    };
+    let program = assemble_file(alloc, source)?;
+    match files.write(alloc, file, program.as_slice()) {
+        Ok(()) => Ok(()),
+        Err(error) => Err(Failure::unwritten(&error)),
     }
-    let source = reader.read(alloc, text)?;
-    let program = assemble_file(alloc, source.as_slice())?;
-    files.write(alloc, file, program.as_slice())?;
-    Ok(())
 }
 
 /// Reads a file, and prints its program's instructions, one a line.
@@ -68,7 +82,7 @@ pub fn dis_named<R: Reader, W: Write>(
         × ShowsFile (λ bytes text. IsShown HasListing bytes text) file.now q
         (λ text. Appends (W.contents out.old) (W.contents out.new) text) result }
 {
-    let bytes = reader.read_program(alloc, file)?;
+    let bytes = program_of(alloc, reader, file)?;
     print_listing(alloc, bytes.as_slice(), out)
 }
 
@@ -83,32 +97,6 @@ pub fn nm_named<R: Reader, W: Write>(
         × ShowsFile (λ bytes text. IsShown HasNames bytes text) file.now q
         (λ text. Appends (W.contents out.old) (W.contents out.new) text) result }
 {
-    let bytes = reader.read_program(alloc, file)?;
+    let bytes = program_of(alloc, reader, file)?;
     print_names(alloc, bytes.as_slice(), out)
-}
-
-/// Whether a text that is read would be written over: the history's file has its name.
-fn saves_over(config: &str, script: &str, log: &str) -> bool
-    ensures { result ≡ saves_over config.now script.now log.now }
-{
-    config == log || script == log
-}
-
-/// Does what a script says, and saves the history that it made to the file `log`. No file that is read is written over:
-/// if LOG has the name of CONFIG or SCRIPT, nothing is read or written. If it has that of a service's
-/// program, nothing is written or printed.
-pub fn step_apart<R: Reader + Drop, F: FileWriter + Drop, W: Write + Drop>(
-    alloc: Global,
-    channels: &mut Channels<R, F, W>,
-    named: NamedScript<'_>,
-    log: &str,
-) -> Result<(), Failure>
-    ensures { DoesUntyped channels.old channels.new R.asked F.written W.contents
-        (λ qs ws Prints. SavesApart named.entry.config.now named.entry.script.now log.now
-        named.entry.numbered qs ws Prints result) }
-{
-    if saves_over(named.config, named.script, log) {
-        return Err(Failure::File);
-    }
-    step_saved(alloc, channels, named, log)
 }

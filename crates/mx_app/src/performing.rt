@@ -1,20 +1,20 @@
 //! Does what the program's words ask for.
 
-ghost use Rattle.std.specs.Prelude.{◌≡◌, true};
-ghost use Rattle.mx_app.specs.Deeds.{Does, DoesUntyped};
-ghost use Rattle.mx_app.specs.Requests.{Performs, PerformsUntyped, done_after_replay, done_after_run, done_after_sweep, done_after_turns, done_after_work, is_by_script, is_of_history, is_on_files, is_untyped, makes_turns, with_status};
+ghost use Rattle.std.specs.Prelude.{◌≡◌};
+ghost use Rattle.mx_app.specs.Deeds.{Does};
+ghost use Rattle.mx_app.specs.Requests.{Performs, PerformsApart, done_after_replay, done_after_run, done_after_sweep, done_after_turns, done_after_work, run_status, with_status};
 
 use crate::command_io::CommandIo;
 use crate::ending::DrivenEnding;
 use crate::explain::explain_named;
-use crate::named::{as_named, dis_named, nm_named, one_named, step_apart};
+use crate::named::{as_named, dis_named, nm_named, one_named};
 use mx_app_command::{CommandRequest, RecordRange};
-use mx_app_db::{HistoryPart, NamedScript, Replayed, db, replay, step, trace};
+use mx_app_db::{HistoryPart, NamedScript, Replayed, db, replay, step, step_saved, trace};
 use mx_app_draw::draw;
-use mx_app_failure::Failure;
+use mx_app_failure::{About, Failure, FileProblem};
 use mx_app_look::{SessionWanted, look};
 use mx_app_run::{RunEnding, RunWanted, run};
-use mx_app_start::{Channels, FileWriter, LineReader, Reader, SharedProgress};
+use mx_app_start::{FileWriter, LineReader, Reader, SharedProgress};
 use mx_app_turns::{
     SweepNames, SweepWanted, Swept, TurnsNames, TurnsWanted, Untested, sweep, turns,
 };
@@ -123,47 +123,52 @@ fn done_after_sweep(done: Result<Swept, Failure>, strict: bool) -> Result<Done, 
     }
 }
 
-/// Does what a request asks for that works on files, without a machine.
-fn perform_on_files<R: Reader + Drop, F: FileWriter + Drop, W: Write + Drop>(
+/// Does what a request asks for that writes over nothing that it reads.
+fn perform_apart<
+    T: Threads + Wait + Clock + Sync,
+    R: Reader + Drop,
+    F: FileWriter + Drop,
+    W: Write + Drop,
+    L: LineReader + Drop,
+    P: Progress + SharedProgress + Sync + Drop,
+>(
+    rt: &T,
     alloc: Global,
-    channels: &mut Channels<R, F, W>,
+    io: &mut CommandIo<R, F, W, L, P>,
     request: CommandRequest<'_>,
 ) -> Result<Done, Failure>
-    requires { is_on_files request ≡ true }
-    ensures { DoesUntyped channels.old channels.new R.asked F.written W.contents
-        (λ qs ws Prints. PerformsUntyped request.entry qs ws Prints result) }
+    ensures asks { io.new.asks ≡ io.old.asks }
+    ensures done { Does io.old io.new R.asked F.written W.contents L.given P.shown
+        (λ did Prints. PerformsApart (P.was_shown io.old.progress)
+        request.entry io.old.asks did Prints result) }
 {
-    let reader = &mut channels.reader;
-    let out = &mut channels.out;
+    let channels = &mut io.channels;
     match request {
-        CommandRequest::One { file, steps } => done_after_work(one_named(
-            alloc, reader, file, steps, out,
-        )),
-        CommandRequest::As { text, file } => {
-            done_after_work(as_named(alloc, reader, &mut channels.files, text, file))
+        CommandRequest::One { file, steps } => {
+            let reader = &mut channels.reader;
+            let out = &mut channels.out;
+            done_after_work(one_named(alloc, reader, file, steps, out))
         }
-        CommandRequest::Dis { file } => done_after_work(dis_named(alloc, reader, file, out)),
-        CommandRequest::Nm { file } => done_after_work(nm_named(alloc, reader, file, out)),
+        CommandRequest::As { text, file } => {
+            let reader = &mut channels.reader;
+            let files = &mut channels.files;
+            done_after_work(as_named(alloc, reader, files, text, file))
+        }
+        CommandRequest::Dis { file } => {
+            let reader = &mut channels.reader;
+            let out = &mut channels.out;
+            done_after_work(dis_named(alloc, reader, file, out))
+        }
+        CommandRequest::Nm { file } => {
+            let reader = &mut channels.reader;
+            let out = &mut channels.out;
+            done_after_work(nm_named(alloc, reader, file, out))
+        }
         CommandRequest::Explain { config } => {
+            let reader = &mut channels.reader;
+            let out = &mut channels.out;
             done_after_work(explain_named(alloc, reader, config, out))
         }
-        _ => unreachable!(),
-    }
-}
-
-/// Does what a request asks for that drives a machine by a script.
-fn perform_script<R: Reader + Drop, F: FileWriter + Drop, W: Write + Drop>(
-    alloc: Global,
-    channels: &mut Channels<R, F, W>,
-    request: CommandRequest<'_>,
-) -> Result<Done, Failure>
-    requires { is_by_script request ≡ true }
-    ensures { DoesUntyped channels.old channels.new R.asked F.written W.contents
-        (λ qs ws Prints. PerformsUntyped request.entry qs ws Prints result) }
-{
-    let reader = &mut channels.reader;
-    let out = &mut channels.out;
-    match request {
         CommandRequest::Step {
             config,
             script,
@@ -176,78 +181,33 @@ fn perform_script<R: Reader + Drop, F: FileWriter + Drop, W: Write + Drop>(
                 numbered,
             };
             match save {
-                None => done_after_work(step(alloc, reader, named, out)),
-                Some(log) => done_after_work(step_apart(alloc, channels, named, log)),
+                None => {
+                    let reader = &mut channels.reader;
+                    let out = &mut channels.out;
+                    done_after_work(step(alloc, reader, named, out))
+                }
+                Some(log) => done_after_work(step_saved(alloc, channels, named, log)),
             }
         }
-        CommandRequest::Db { config, script } => done_after_work(db(
-            alloc, reader, config, script, out,
-        )),
-        _ => unreachable!(),
-    }
-}
-
-/// Does what a request asks for that shows a saved history.
-fn perform_history<R: Reader + Drop, F: FileWriter + Drop, W: Write + Drop>(
-    alloc: Global,
-    channels: &mut Channels<R, F, W>,
-    request: CommandRequest<'_>,
-) -> Result<Done, Failure>
-    requires { is_of_history request ≡ true }
-    ensures { DoesUntyped channels.old channels.new R.asked F.written W.contents
-        (λ qs ws Prints. PerformsUntyped request.entry qs ws Prints result) }
-{
-    let reader = &mut channels.reader;
-    let out = &mut channels.out;
-    match request {
-        CommandRequest::Replay { config, log } => {
-            done_after_replay(replay(alloc, reader, config, log, out))
+        CommandRequest::Db { config, script } => {
+            let reader = &mut channels.reader;
+            let out = &mut channels.out;
+            done_after_work(db(alloc, reader, config, script, out))
         }
-        CommandRequest::Trace { config, log, range } => {
-            let RecordRange { from, to } = range;
-            let records = HistoryPart {
+        CommandRequest::Run {
+            config,
+            log,
+            ticks,
+            events,
+        } => {
+            let wanted = RunWanted {
                 config,
                 log,
-                from,
-                to,
+                events,
+                ticks,
             };
-            done_after_replay(trace(alloc, reader, records, out))
+            done_after_run(run(rt, alloc, channels, wanted, &mut io.progress))
         }
-        CommandRequest::Draw { config, log, range } => {
-            let RecordRange { from, to } = range;
-            let records = HistoryPart {
-                config,
-                log,
-                from,
-                to,
-            };
-            done_after_replay(draw(alloc, reader, records, out))
-        }
-        _ => unreachable!(),
-    }
-}
-
-/// Does what a request asks for that makes turns in one thread, or sweeps a history by such turns.
-fn perform_turns<
-    R: Reader + Drop,
-    F: FileWriter + Drop,
-    W: Write + Drop,
-    L: LineReader + Drop,
-    P: Progress + SharedProgress + Drop,
->(
-    alloc: Global,
-    io: &mut CommandIo<R, F, W, L, P>,
-    request: CommandRequest<'_>,
-) -> Result<Done, Failure>
-    requires { makes_turns request ≡ true }
-    ensures asks { io.new.asks ≡ io.old.asks }
-    ensures done { Does io.old io.new R.asked F.written W.contents L.given P.shown
-        (λ did Prints. Performs (P.was_shown io.old.progress)
-        request.entry io.old.asks did Prints result) }
-{
-    let channels = &mut io.channels;
-    let progress = &mut io.progress;
-    match request {
         CommandRequest::Turns {
             config,
             log,
@@ -261,7 +221,7 @@ fn perform_turns<
                 events,
             };
             let wanted = TurnsWanted { ticks, bound };
-            done_after_turns(turns(alloc, channels, names, wanted, progress))
+            done_after_turns(turns(alloc, channels, names, wanted, &mut io.progress))
         }
         CommandRequest::Sweep {
             config,
@@ -280,39 +240,52 @@ fn perform_turns<
                 bound,
                 save,
             };
-            let swept = sweep(alloc, channels, progress, names, wanted);
+            let swept = sweep(alloc, channels, &mut io.progress, names, wanted);
             done_after_sweep(swept, strict)
         }
-        _ => unreachable!(),
-    }
-}
-
-/// Does what a request asks for that takes no lines and shows no progress, and has no threads.
-fn perform_untyped<R: Reader + Drop, F: FileWriter + Drop, W: Write + Drop>(
-    alloc: Global,
-    channels: &mut Channels<R, F, W>,
-    request: CommandRequest<'_>,
-) -> Result<Done, Failure>
-    requires { is_untyped request ≡ true }
-    ensures { DoesUntyped channels.old channels.new R.asked F.written W.contents
-        (λ qs ws Prints. PerformsUntyped request.entry qs ws Prints result) }
-{
-    match request {
-        CommandRequest::One { .. }
-        | CommandRequest::As { .. }
-        | CommandRequest::Dis { .. }
-        | CommandRequest::Nm { .. }
-        | CommandRequest::Explain { .. } => perform_on_files(alloc, channels, request),
-        CommandRequest::Step { .. } | CommandRequest::Db { .. } => {
-            perform_script(alloc, channels, request)
+        CommandRequest::Replay { config, log } => {
+            let reader = &mut channels.reader;
+            let out = &mut channels.out;
+            done_after_replay(replay(alloc, reader, config, log, out))
         }
-        _ => perform_history(alloc, channels, request),
+        CommandRequest::Trace { config, log, range } => {
+            let RecordRange { from, to } = range;
+            let records = HistoryPart {
+                config,
+                log,
+                from,
+                to,
+            };
+            let reader = &mut channels.reader;
+            let out = &mut channels.out;
+            done_after_replay(trace(alloc, reader, records, out))
+        }
+        CommandRequest::Draw { config, log, range } => {
+            let RecordRange { from, to } = range;
+            let records = HistoryPart {
+                config,
+                log,
+                from,
+                to,
+            };
+            let reader = &mut channels.reader;
+            let out = &mut channels.out;
+            done_after_replay(draw(alloc, reader, records, out))
+        }
+        CommandRequest::Look { config, log } => {
+            let asks = io.asks;
+            let wanted = SessionWanted { config, log, asks };
+            let lines = &mut io.lines;
+            let progress = &mut io.progress;
+            done_after_work(look(alloc, channels, lines, progress, wanted))
+        }
     }
 }
 
 /// Does what a request asks for, and answers the status to end with, and how turns or a run ended. The
 /// processors of `run` are threads. `look` answers the typed lines. It shows its progress, and so do `run`,
-/// `turns` and `sweep`.
+/// `turns` and `sweep`. No file that is read is written over: nothing is read or written then. Two names of one file
+/// aren't seen to be one.
 pub fn perform<
     T: Threads + Wait + Clock + Sync,
     R: Reader + Drop,
@@ -331,31 +304,8 @@ pub fn perform<
         (λ did Prints. Performs (P.was_shown io.old.progress)
         request.entry io.old.asks did Prints result) }
 {
-    let channels = &mut io.channels;
-    match request {
-        CommandRequest::Run {
-            config,
-            log,
-            ticks,
-            events,
-        } => {
-            let wanted = RunWanted {
-                config,
-                log,
-                events,
-                ticks,
-            };
-            done_after_run(run(rt, alloc, channels, wanted, &mut io.progress))
-        }
-        CommandRequest::Turns { .. } | CommandRequest::Sweep { .. } => {
-            perform_turns(alloc, io, request)
-        }
-        CommandRequest::Look { config, log } => {
-            let asks = io.asks;
-            let wanted = SessionWanted { config, log, asks };
-            let lines = &mut io.lines;
-            done_after_work(look(alloc, channels, lines, &mut io.progress, wanted))
-        }
-        _ => perform_untyped(alloc, channels, request),
+    if request.writes_over() {
+        return Err(Failure::of(Some(FileProblem::OverRead), About::Written));
     }
+    perform_apart(rt, alloc, io, request)
 }

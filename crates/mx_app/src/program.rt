@@ -8,7 +8,6 @@ use crate::asking::{begin_with, texts_asked};
 use crate::command_io::CommandIo;
 use crate::complaint::Complaint;
 use crate::ending::{NotingOutput, PrintedText, Terminals};
-use crate::noting::{NotingFiles, NotingReader};
 use crate::performing::Done;
 use crate::words::perform_words;
 use mx_app_failure::Failure;
@@ -127,8 +126,8 @@ where
 {
     let mut work = CommandIo {
         channels: Channels {
-            reader: NotingReader::new(RuntimeFiles::new(rt)),
-            files: NotingFiles::new(RuntimeWriter::new(rt)),
+            reader: RuntimeFiles::new(rt),
+            files: RuntimeWriter::new(rt),
             out: NotingOutput::new(io::writer(rt)),
         },
         lines: InputLines::new(rt.reader()),

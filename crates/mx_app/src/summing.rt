@@ -8,14 +8,14 @@ ghost use Rattle.mx_app_db.specs.Setup.{IsSetup};
 ghost use Rattle.mx_app_db.specs.Written.{Written};
 ghost use Rattle.mx_app_explain.specs.Sums.{machine_sums, sums_text};
 ghost use Rattle.mx_app.specs.Deeds.{Does};
-ghost use Rattle.mx_app.specs.Summing.{ComparesSums, IsCompared, IsUnsummed, PerformsCompared, PerformsLine, PerformsSummed, PerformsWith, WritesSums, line_failure_status, names_file, writes_sums};
+ghost use Rattle.mx_app.specs.Summing.{ComparesSums, IsCompared, IsUnsummed, PerformsCompared, PerformsLine, PerformsSummed, PerformsWith, WritesSums, first_name, line_failure_status, writes_sums};
 
 use crate::command_io::CommandIo;
 use crate::performing::{Done, perform};
 use mx_app_command::{CommandLine, CommandRequest};
 use mx_app_explain::{
-    PartSum, SumsFault, first_name, first_other, machine_sums, passed_sums_are_own, second_name,
-    sums_text, unread, unwritten,
+    PartSum, SumsFault, first_other, machine_sums, passed_sums_are_own, sums_text, unread,
+    unwritten,
 };
 use mx_app_failure::Failure;
 use mx_app_start::{FileWriter, LineReader, Reader, SharedProgress, setup_of};
@@ -28,7 +28,7 @@ use std::thread::Threads;
 use std::time::Clock;
 
 /// Why what a command line asks for isn't done.
-#[derive(Clone, Copy)]
+#[derive(Drop)]
 pub enum LineFailure {
     /// The request fails.
     Request(Failure),
@@ -38,8 +38,8 @@ pub enum LineFailure {
 
 impl LineFailure {
     /// The program's exit status.
-    pub fn status(self) -> u8
-        ensures { result ≡ line_failure_status self }
+    pub fn status(&self) -> u8
+        ensures { result ≡ line_failure_status self.now }
     {
         match self {
             LineFailure::Request(failure) => failure.status(),
@@ -85,20 +85,11 @@ impl From<SumsFault> for LineFailure {
     }
 }
 
-/// Whether a word of a request on a machine names this file.
-fn names_file(request: CommandRequest<'_>, name: &str) -> bool
-    ensures { result ≡ names_file request.entry name.now }
+/// The name of the file of a request's configuration.
+fn first_name(request: CommandRequest<'_>) -> &str
+    ensures { result.now ≡ first_name request.entry }
 {
-    if first_name(request) == name || second_name(request) == name {
-        return true;
-    }
-    match request {
-        CommandRequest::Step { save, .. } => save == Some(name),
-        CommandRequest::Run { log, .. } => log == name,
-        CommandRequest::Turns { log, .. } => log == name,
-        CommandRequest::Sweep { fault, save, .. } => fault == name || save == Some(name),
-        _ => false,
-    }
+    request.reads().first.name
 }
 
 /// Whether sums are written after a request, and not compared before it: it makes a history.
@@ -272,7 +263,7 @@ fn perform_with_sums<
         (λ did Prints. PerformsWith (P.was_shown io.old.progress)
         request.entry name.now io.old.asks did Prints result) }
 {
-    if names_file(request, name) {
+    if request.names_file(name) {
         return Err(LineFailure::Sums(SumsFault::NameTaken));
     }
     if writes_sums(request) {

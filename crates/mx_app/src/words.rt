@@ -3,18 +3,16 @@
 ghost use Rattle.std.specs.Prelude.{◌≡◌, IfErr, IfOk, map, string_bytes};
 ghost use Rattle.mx_app_failure.specs.Failure.{IsWanting};
 ghost use Rattle.mx_app.specs.Deeds.{Does};
-ghost use Rattle.mx_app.specs.Noting.{noted_by, noted_in};
 ghost use Rattle.mx_app.specs.Words.{AnswersMistake, Explains, explained_line, explains, IsAnswered, IsComplaintOf, IsPerformed};
 
 use crate::command_io::CommandIo;
 use crate::complaint::Complaint;
-use crate::noting::{NotingFiles, NotingReader, notes_of};
 use crate::performing::Done;
 use crate::summing::{LineFailure, perform_line};
 use clap::Error;
 use clap::error::ErrorKind;
 use mx_app_command::{CommandLine, Mistake, command};
-use mx_app_explain::{Notes, explain_failure, explain_sums};
+use mx_app_explain::{explain_failure, explain_sums};
 use mx_app_failure::{Failure, print_text};
 use mx_app_start::{FileWriter, LineReader, Reader, SharedProgress};
 use mx_walk::Progress;
@@ -69,54 +67,51 @@ fn explains(line: CommandLine<'_>, shows: bool) -> bool
 fn explained_line(
     alloc: Global,
     line: CommandLine<'_>,
-    failure: LineFailure,
-    notes: Notes<'_>,
+    failure: &LineFailure,
 ) -> Result<String, AllocError>
     ensures { IfOk result (λ text. string_bytes text
-        ≡ explained_line line.entry failure (noted_in notes.entry)) }
+        ≡ explained_line line.entry failure.now) }
 {
     match failure {
-        LineFailure::Request(failure) => explain_failure(alloc, line.request, failure, notes),
+        LineFailure::Request(failure) => explain_failure(alloc, line.request, failure),
         LineFailure::Sums(fault) => match line.sums {
-            Some(name) => explain_sums(alloc, name, fault),
-            None => explain_sums(alloc, "", fault),
+            Some(name) => explain_sums(alloc, name, *fault),
+            None => explain_sums(alloc, "", *fault),
         },
     }
 }
 
 /// The complaint of a failure, with the line that explains it if that is asked for.
 #[tactic(auto, using(crate::proofs::Complaints::complaint_plain, crate::proofs::Complaints::complaint_unexplained))]
-fn complaint_of<'a>(
+fn complaint_of(
     alloc: Global,
-    line: CommandLine<'a>,
+    line: CommandLine<'_>,
     shows: bool,
     failure: LineFailure,
-    notes: Notes<'a>,
 ) -> Complaint
-    ensures { IsComplaintOf line.entry shows failure (noted_in notes.entry) result }
+    ensures { IsComplaintOf line.entry shows failure result }
 {
     if !explains(line, shows) {
         return Complaint::Failed(failure);
     }
-    match explained_line(alloc, line, failure, notes) {
+    match explained_line(alloc, line, &failure) {
         Ok(text) => Complaint::Explained(failure, text),
         Err(_) => Complaint::Unexplained(failure),
     }
 }
 
 /// The answer to a request that was done or that failed.
-fn answer<'a>(
+fn answer(
     alloc: Global,
-    line: CommandLine<'a>,
+    line: CommandLine<'_>,
     shows: bool,
     done: Result<Done, LineFailure>,
-    notes: Notes<'a>,
 ) -> Result<Done, Complaint>
-    ensures { IsAnswered line.entry shows done (noted_in notes.entry) result }
+    ensures { IsAnswered line.entry shows done result }
 {
     match done {
         Ok(done) => Ok(done),
-        Err(failure) => Err(complaint_of(alloc, line, shows, failure, notes)),
+        Err(failure) => Err(complaint_of(alloc, line, shows, failure)),
     }
 }
 
@@ -134,26 +129,18 @@ pub fn perform_words<
     rt: &T,
     alloc: Global,
     words: &'a [&'a str],
-    io: &mut CommandIo<NotingReader<R>, NotingFiles<F>, W, L, P>,
+    io: &mut CommandIo<R, F, W, L, P>,
     shows: bool,
 ) -> Result<Done, Complaint>
     ensures asks { io.new.asks ≡ io.old.asks }
-    ensures done { Does io.old io.new (λ r. R.asked r.reader) (λ f. F.written f.files) W.contents
-        L.given P.shown (λ did Prints. IsPerformed (P.was_shown io.old.progress)
-        (map (λ s. s.now) words.now) io.old.asks shows did
-        (noted_by io.new.channels.reader.last io.new.channels.reader.is_missed
-        io.new.channels.files.is_unwritten io.new.channels.reader.text) Prints result) }
+    ensures done { Does io.old io.new R.asked F.written W.contents L.given P.shown
+        (λ did Prints. IsPerformed (P.was_shown io.old.progress)
+        (map (λ s. s.now) words.now) io.old.asks shows did Prints result) }
 {
     match command(alloc, words) {
         Ok(line) => {
             let done = perform_line(rt, alloc, io, line);
-            answer(
-                alloc,
-                line,
-                shows,
-                done,
-                notes_of(&io.channels.reader, &io.channels.files),
-            )
+            answer(alloc, line, shows, done)
         }
         Err(mistake) => complain(alloc, mistake, &mut io.channels.out),
     }

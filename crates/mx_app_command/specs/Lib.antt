@@ -1,3 +1,4 @@
+pub mod Files
 pub mod Tables
 pub mod Words
 pub mod Mistakes

@@ -2,8 +2,10 @@
 //! help, with examples.
 #![tactic(auto)]
 
+mod files;
 mod grammar;
 mod help;
 mod words;
 
+pub use files::{NamedWord, ReadWords};
 pub use words::{CommandLine, CommandRequest, Mistake, RecordRange, command};

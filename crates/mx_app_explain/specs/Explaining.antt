@@ -1,22 +1,29 @@
 -- The second line of a failure: what it is about, and what was wanted (our own).
-use Rattle.std.specs.Prelude.{◌++◌, ◌||◌, ℕ, Bool, true, false, if◌then◌else◌, List, [], codes, Option, Some, None}
-use Rattle.std.specs.Str.{bytes_eq}
-use Rattle.mx_aout.specs.declared.program.FileError.TheVariants as errors
+use Rattle.std.specs.Prelude.{◌++◌, ℕ, List, [], codes, Option, Some, None, option_map, string_bytes}
 use Rattle.mx_text.specs.declared.error.BootError.{BootError}
 use Rattle.mx_text.specs.declared.error.BootError.TheVariants as lines
+use Rattle.mx_app_command.specs.Files.{FileWord, file_written, files_read}
 use Rattle.mx_app_command.specs.declared.words.CommandRequest.{CommandRequest}
-use Rattle.mx_app_command.specs.declared.words.CommandRequest.TheVariants.{One, As, Dis, Nm, Explain, Step, Run, Turns, Sweep, Replay, Trace, Draw, Look, Db}
+use Rattle.mx_app_command.specs.declared.words.CommandRequest.TheVariants.{Step, Run, Turns, Sweep, Db}
+use Rattle.mx_app_failure.specs.declared.failure.About.{About}
+use Rattle.mx_app_failure.specs.declared.failure.About.TheVariants as about
+use Rattle.mx_app_failure.specs.declared.failure.FileFailure.{FileFailure}
+use Rattle.mx_app_failure.specs.declared.failure.FileProblem.{FileProblem}
+use Rattle.mx_app_failure.specs.declared.failure.FileProblem.TheVariants.{Refused, Faulty, Misstated, Unread, NotUtf8, IsProgram, Unwritten, OverRead, OverProgram}
+use Rattle.mx_app_failure.specs.declared.failure.OutputProblem.{OutputProblem}
+use Rattle.mx_app_failure.specs.declared.failure.OutputProblem.TheVariants.{ReaderEnded, NoRoom, Other}
 use Rattle.mx_app_failure.specs.declared.failure.Failure.{Failure as Kind}
-use Rattle.mx_app_failure.specs.declared.failure.Failure.TheVariants.{Refused, Faulty, Misstated, NotText, File, NoMemory}
+use Rattle.mx_app_failure.specs.declared.failure.Failure.TheVariants.{Of, NotText, Input, Output, NoMemory}
 use Rattle.mx_app_explain.specs.Details.{config_detail, detail_told, wanted_told}
-use Rattle.mx_app_explain.specs.OwnPrograms.{writes_program}
 use Rattle.mx_app_explain.specs.TextAdvice.{advice_told, advised, words_at}
 use Rattle.mx_app_explain.specs.Wanted.{problem_wanted, refusal_wanted}
 use Rattle.mx_app_explain.specs.declared.explaining.Explanation.{Explanation}
+use Rattle.mx_app_explain.specs.declared.explaining.Said.{Said}
+use Rattle.mx_app_explain.specs.declared.explaining.Said.TheVariants as saids
 use Rattle.mx_app_explain.specs.declared.subject.Subject.{Subject}
-use Rattle.mx_app_explain.specs.declared.subject.Subject.TheVariants.{Word, Service, Unknown, Output, Memory}
+use Rattle.mx_app_explain.specs.declared.subject.Subject.TheVariants as subjects
 
--- ---- words
+-- ---- what a failure is about
 
 -- a word of the command line as its help has it, and its text
 abbrev pub word_told : List ℕ → List ℕ → List ℕ
@@ -28,6 +35,9 @@ service_told name = codes "a service's program " ++ name
 abbrev pub unknown_told : List ℕ
 unknown_told = codes "a file"
 
+abbrev pub input_told : List ℕ
+input_told = codes "standard input"
+
 abbrev pub output_told : List ℕ
 output_told = codes "standard output"
 
@@ -35,146 +45,34 @@ abbrev pub memory_told : List ℕ
 memory_told = codes "memory"
 
 abbrev pub subject_told : Subject → List ℕ
-subject_told (Word label name) = word_told label.now name.now
-subject_told (Service name) = service_told name.now
-subject_told Unknown = unknown_told
-subject_told Output = output_told
-subject_told Memory = memory_told
+subject_told (subjects.Word label name) = word_told label.now name.now
+subject_told (subjects.Service name) = service_told name.now
+subject_told subjects.Unknown = unknown_told
+subject_told subjects.Input = input_told
+subject_told subjects.Output = output_told
+subject_told subjects.Memory = memory_told
 
--- the file that is read first, or assembled
-abbrev pub first_name : CommandRequest → List ℕ
-first_name (One file steps) = file.now
-first_name (As text file) = text.now
-first_name (Dis file) = file.now
-first_name (Nm file) = file.now
-first_name (Explain config) = config.now
-first_name (Step config script save numbered) = config.now
-first_name (Run config log ticks events) = config.now
-first_name (Turns config log ticks events bound) = config.now
-first_name (Sweep config log fault bound from to strict save) = config.now
-first_name (Replay config log) = config.now
-first_name (Trace config log range) = config.now
-first_name (Draw config log range) = config.now
-first_name (Look config log) = config.now
-first_name (Db config script) = config.now
+-- the file that a word names, if the request has it
+abbrev pub word_subject : Option FileWord → List ℕ
+word_subject None = unknown_told
+word_subject (Some w) = word_told w.label w.name
 
-abbrev pub first_label : CommandRequest → List ℕ
-first_label (One file steps) = codes "FILE"
-first_label (As text file) = codes "TEXT"
-first_label (Dis file) = codes "FILE"
-first_label (Nm file) = codes "FILE"
-first_label r = codes "CONFIG"
+-- a file, by what it is to the command
+abbrev pub file_subject : CommandRequest → About → List ℕ
+file_subject r about.Program = word_subject (Some (files_read r).first)
+file_subject r about.Source = word_subject (Some (files_read r).first)
+file_subject r about.Config = word_subject (Some (files_read r).first)
+file_subject r about.Course = word_subject (files_read r).course
+file_subject r about.Fault = word_subject (files_read r).fault
+file_subject r about.Written = word_subject (file_written r)
+file_subject r (about.Service name) = service_told (string_bytes name)
 
--- the file that drives the machine, or is written
-abbrev pub second_name : CommandRequest → List ℕ
-second_name (One file steps) = file.now
-second_name (As text file) = file.now
-second_name (Dis file) = file.now
-second_name (Nm file) = file.now
-second_name (Explain config) = config.now
-second_name (Step config script save numbered) = script.now
-second_name (Run config log ticks None) = log.now
-second_name (Run config log ticks (Some events)) = events.now
-second_name (Turns config log ticks None bound) = log.now
-second_name (Turns config log ticks (Some events) bound) = events.now
-second_name (Sweep config log fault bound from to strict save) = log.now
-second_name (Replay config log) = log.now
-second_name (Trace config log range) = log.now
-second_name (Draw config log range) = log.now
-second_name (Look config log) = log.now
-second_name (Db config script) = script.now
-
-abbrev pub second_label : CommandRequest → List ℕ
-second_label (One file steps) = codes "FILE"
-second_label (As text file) = codes "FILE"
-second_label (Dis file) = codes "FILE"
-second_label (Nm file) = codes "FILE"
-second_label (Explain config) = codes "CONFIG"
-second_label (Step config script save numbered) = codes "SCRIPT"
-second_label (Db config script) = codes "SCRIPT"
-second_label (Run config log ticks (Some events)) = codes "EVENTS"
-second_label (Turns config log ticks (Some events) bound) = codes "EVENTS"
-second_label r = codes "LOG"
-
-abbrev pub first_word : CommandRequest → List ℕ
-first_word r = word_told (first_label r) (first_name r)
-
-abbrev pub second_word : CommandRequest → List ℕ
-second_word r = word_told (second_label r) (second_name r)
-
--- the file that is written
-abbrev pub written_word : CommandRequest → List ℕ
-written_word (Step config script (Some log) numbered) = word_told (codes "LOG") log.now
-written_word (Run config log ticks events) = word_told (codes "LOG") log.now
-written_word (Turns config log ticks events bound) = word_told (codes "LOG") log.now
-written_word (Sweep config log fault bound from to strict (Some file)) = word_told (codes "FILE") file.now
-written_word r = second_word r
-
--- one program is read, and nothing else
-abbrev pub reads_one_program : CommandRequest → Bool
-reads_one_program (One file steps) = true
-reads_one_program (Dis file) = true
-reads_one_program (Nm file) = true
-reads_one_program r = false
-
--- what is read would be written over
-abbrev pub writes_over : CommandRequest → Bool
-writes_over (As text file) = bytes_eq text.now file.now
-writes_over (Step config script (Some log) numbered) = bytes_eq config.now log.now || bytes_eq script.now log.now
-writes_over (Run config log ticks None) = bytes_eq config.now log.now
-writes_over (Run config log ticks (Some events)) = bytes_eq config.now log.now || bytes_eq events.now log.now
-writes_over (Turns config log ticks None bound) = bytes_eq config.now log.now
-writes_over (Turns config log ticks (Some events) bound) = bytes_eq config.now log.now || bytes_eq events.now log.now
-writes_over (Sweep config log fault bound from to strict (Some file)) = bytes_eq config.now file.now || (bytes_eq log.now file.now || bytes_eq fault.now file.now)
-writes_over r = false
-
--- a machine runs by itself
-abbrev pub is_run : CommandRequest → Bool
-is_run (Run config log ticks events) = true
-is_run (Turns config log ticks events bound) = true
-is_run r = false
-
--- ---- what a failure is about
-
--- a file with the name of neither word is the fault's, or a service's program
-abbrev pub last_word : CommandRequest → List ℕ → List ℕ
-last_word (Sweep config log fault bound from to strict save) name = if bytes_eq name fault.now then word_told (codes "FAULT") name else service_told name
-last_word r name = service_told name
-
-abbrev pub asked_subject : CommandRequest → Option (List ℕ) → List ℕ
-asked_subject r None = unknown_told
-asked_subject r (Some name) =
-    if bytes_eq name (first_name r) then first_word r
-    else (if bytes_eq name (second_name r) then second_word r else last_word r name)
-
-abbrev pub refused_subject : CommandRequest → Option (List ℕ) → List ℕ
-refused_subject r last = if reads_one_program r then first_word r else asked_subject r last
-
--- a text that was given isn't UTF-8, or standard output takes nothing
-abbrev pub given_subject : CommandRequest → Option (List ℕ) → List ℕ
-given_subject r last = if reads_one_program r || is_run r then output_told else asked_subject r last
-
-abbrev pub file_subject : CommandRequest → Option (List ℕ) → Bool → Bool → Option (List ℕ) → List ℕ
-file_subject r last is_missed is_unwritten text =
-    if writes_over r || is_unwritten then written_word r
-    else (if is_missed then asked_subject r last
-    else (if writes_program r text then written_word r else given_subject r last))
-
--- the text with a line that says nothing: of two, the one that was asked for last
-abbrev pub misstated_subject : CommandRequest → Option (List ℕ) → List ℕ
-misstated_subject (Sweep config log fault bound from to strict save) last = asked_subject (Sweep config log fault bound from to strict save) last
-misstated_subject r last = second_word r
-
-abbrev pub subject_of : CommandRequest → Kind → Option (List ℕ) → Bool → Bool → Option (List ℕ) → List ℕ
-subject_of r (Refused errors.NoMemory) last m u text = memory_told
-subject_of r (Refused e) last m u text = refused_subject r last
-subject_of r (Faulty f) last m u text = first_word r
-subject_of r (Misstated lines.NoMemory) last m u text = memory_told
-subject_of r (Misstated (lines.BadRecord n)) last m u text = misstated_subject r last
-subject_of r (Misstated e) last m u text = first_word r
-subject_of r NotText last m u text = first_word r
-subject_of r File last m u text = file_subject r last m u text
-subject_of r NoMemory last m u text = memory_told
+abbrev pub subject_of : CommandRequest → Kind → List ℕ
+subject_of r (Of f) = file_subject r f.about
+subject_of r NotText = word_subject (Some (files_read r).first)
+subject_of r Input = input_told
+subject_of r (Output p) = output_told
+subject_of r NoMemory = memory_told
 
 -- ---- what was wanted
 
@@ -199,55 +97,69 @@ lines_wanted r (lines.TooMany n) = codes "at most 32 services"
 lines_wanted r (lines.BadRecord n) = record_wanted r
 lines_wanted r lines.NoMemory = codes "more of it"
 
-abbrev pub file_wanted : CommandRequest → Bool → Bool → Option (List ℕ) → List ℕ
-file_wanted r is_missed is_unwritten text =
-    if writes_over r then codes "another file than the one that is read"
-    else (if is_unwritten then codes "a file that can be written"
-    else (if is_missed then codes "a file that can be read"
-    else (if writes_program r text then codes "another file than a service's program"
-    else (if reads_one_program r || is_run r then codes "room for what is printed"
-    else codes "UTF-8 in what is read, and room for what is printed"))))
-
-abbrev pub wanted_of : CommandRequest → Kind → Bool → Bool → Option (List ℕ) → List ℕ
-wanted_of r (Refused e) m u text = refusal_wanted e
-wanted_of r (Faulty f) m u text = problem_wanted f.problem
-wanted_of r (Misstated e) m u text = lines_wanted r e
-wanted_of r NotText m u text = codes "UTF-8"
-wanted_of r File m u text = file_wanted r m u text
-wanted_of r NoMemory m u text = codes "more of it"
+abbrev pub file_wanted : CommandRequest → FileProblem → List ℕ
+file_wanted r (Refused e) = refusal_wanted e
+file_wanted r (Faulty f) = problem_wanted f.problem
+file_wanted r (Misstated e) = lines_wanted r e
+file_wanted r Unread = codes "a file that can be read"
+file_wanted r NotUtf8 = codes "a text in UTF-8"
+file_wanted r IsProgram = codes "a text in UTF-8; it is a program"
+file_wanted r Unwritten = codes "a file that can be written"
+file_wanted r OverRead = codes "another file than the one that is read"
+file_wanted r OverProgram = codes "another file than a service's program"
 
 -- ---- the word at fault
 
-abbrev pub plain_detail : CommandRequest → Kind → Bool → Bool → Option (List ℕ) → List ℕ
-plain_detail r f m u text = wanted_told [] (wanted_of r f m u text) []
+abbrev pub plain_detail : CommandRequest → FileProblem → List ℕ
+plain_detail r p = wanted_told [] (file_wanted r p) []
 
 -- the words of the line at fault of a text for the assembler
-abbrev pub faulty_words : Kind → Option (List ℕ) → List (List ℕ)
+abbrev pub faulty_words : FileProblem → Option (List ℕ) → List (List ℕ)
 faulty_words (Faulty f) (Some text) = words_at text f.line
-faulty_words f text = []
+faulty_words p text = []
 
 -- what was wanted of the line at fault of a text, if that is known
-abbrev pub text_detail : Kind → List ℕ → Option (List ℕ)
-text_detail (Misstated (lines.BadLine n)) text = config_detail text n
-text_detail (Faulty f) text = Some (advice_told (advised f.problem (words_at text f.line)))
-text_detail f text = None
+abbrev pub line_detail : FileProblem → Option (List ℕ) → Option (List ℕ)
+line_detail (Misstated (lines.BadLine n)) (Some text) = config_detail text n
+line_detail (Faulty f) (Some text) = Some (advice_told (advised f.problem (words_at text f.line)))
+line_detail p text = None
 
 -- that, or else what was wanted of no line that is known
 abbrev pub detail_or : List ℕ → Option (List ℕ) → List ℕ
 detail_or plain None = plain
 detail_or plain (Some detail) = detail
 
--- by the text that was read first
-abbrev pub detail_of : CommandRequest → Kind → Bool → Bool → Option (List ℕ) → List ℕ
-detail_of r f m u None = plain_detail r f m u None
-detail_of r f m u (Some text) = detail_or (plain_detail r f m u (Some text)) (text_detail f text)
+abbrev pub text_of : FileFailure → Option (List ℕ)
+text_of f = option_map (λ t. t.items) f.text
+
+abbrev pub file_said : CommandRequest → FileFailure → List ℕ
+file_said r f = detail_or (plain_detail r f.problem) (line_detail f.problem (text_of f))
+
+abbrev pub output_said : OutputProblem → List ℕ
+output_said ReaderEnded = codes "its reader has ended"
+output_said NoRoom = codes "wanted room for what is printed"
+output_said Other = codes "wanted an output that can be written"
+
+-- what is said of what a failure is about
+abbrev pub said_of : CommandRequest → Kind → List ℕ
+said_of r (Of f) = file_said r f
+said_of r NotText = codes "wanted UTF-8"
+said_of r Input = codes "wanted an input that can be read"
+said_of r (Output p) = output_said p
+said_of r NoMemory = codes "wanted more of it"
 
 -- ---- the line, without its end
 
-abbrev pub explanation_told : Explanation → List ℕ
-explanation_told e = codes "mx: " ++ subject_told e.subject ++ codes ": " ++ detail_told e.detail
+abbrev pub said_line : List ℕ → List ℕ → List ℕ
+said_line subject said = codes "mx: " ++ subject ++ codes ": " ++ said
 
--- WHAT EXPLAINS A FAILURE, by the request, the name of the file that was asked for last, whether it was missed, whether a file wasn't written, and the text that was read first
-abbrev pub explained : CommandRequest → Kind → Option (List ℕ) → Bool → Bool → Option (List ℕ) → List ℕ
-explained r f last is_missed is_unwritten text =
-    codes "mx: " ++ subject_of r f last is_missed is_unwritten text ++ codes ": " ++ detail_of r f is_missed is_unwritten text
+abbrev pub said_told : Said → List ℕ
+said_told (saids.Detail d) = detail_told d
+said_told (saids.Words words) = words.now
+
+abbrev pub explanation_told : Explanation → List ℕ
+explanation_told e = said_line (subject_told e.subject) (said_told e.said)
+
+-- WHAT EXPLAINS A FAILURE, by the request: its words name the files
+abbrev pub explained : CommandRequest → Kind → List ℕ
+explained r f = said_line (subject_of r f) (said_of r f)

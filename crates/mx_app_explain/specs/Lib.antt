@@ -3,7 +3,6 @@ pub mod ConfigPlaces
 pub mod Details
 pub mod Explaining
 pub mod FoundWords
-pub mod OwnPrograms
 pub mod ServiceWords
 pub mod TextAdvice
 pub mod TextWords

@@ -1,27 +1,50 @@
 //! The second line of a failure.
 
-ghost use Rattle.std.specs.Prelude.{◌≡◌, IfOk, Some, option_map, string_bytes};
+ghost use Rattle.std.specs.Prelude.{◌≡◌, IfOk, option_map, string_bytes};
 ghost use Rattle.mx_app_explain.specs.Details.{detail_told};
-ghost use Rattle.mx_app_explain.specs.Explaining.{detail_of, explained, explanation_told, faulty_words, plain_detail, text_detail};
+ghost use Rattle.mx_app_explain.specs.Explaining.{explained, faulty_words, file_said, file_subject, line_detail, output_said, plain_detail, said_line, subject_told, text_of};
 ghost use Rattle.mx_text.specs.Fields.{fields};
 
 use crate::detail::{Detail, Label, config_detail, line_below};
 use crate::found_word::FoundWord;
-use crate::subject::{Notes, Subject, subject_of};
+use crate::subject::{Subject, file_subject, first_subject};
 use crate::text_advice::advice_on;
 use crate::text_words::with_spaces;
-use crate::wanted::wanted_of;
+use crate::wanted::file_wanted;
 use mx_app_command::CommandRequest;
-use mx_app_failure::Failure;
+use mx_app_failure::{Failure, FileFailure, FileProblem, OutputProblem};
 use mx_text::BootError;
 use std::alloc::{AllocError, Global};
 use std::fmt;
 
-/// What explains a failure: what it is about, and what was wanted.
+/// What is said of what a failure is about.
+#[derive(Clone, Copy)]
+enum Said<'a> {
+    /// What was wanted of a file, and where.
+    Detail(Detail<'a>),
+    Words(&'static str),
+}
+
+/// As it is in a line.
+impl fmt::Display for Said<'_> {
+    ghost use Rattle.std.specs.Prelude.{Some};
+    ghost use Rattle.mx_app_explain.specs.Explaining.{said_told};
+
+    ghost output = { λ said. Some (said_told said) };
+
+    fn fmt<W: fmt::Write>(&self, f: &mut fmt::Formatter<W>) -> fmt::Result {
+        match *self {
+            Said::Detail(detail) => write!(f, "{detail}"),
+            Said::Words(words) => write!(f, "{words}"),
+        }
+    }
+}
+
+/// What explains a failure: what it is about, and what is said of that.
 #[derive(Clone, Copy)]
 struct Explanation<'a> {
     subject: Subject<'a>,
-    detail: Detail<'a>,
+    said: Said<'a>,
 }
 
 /// The line without its end, as `mx: SCRIPT a.script: wanted an event: take C, ..`.
@@ -32,20 +55,20 @@ impl fmt::Display for Explanation<'_> {
     ghost output = { λ explanation. Some (explanation_told explanation) };
 
     fn fmt<W: fmt::Write>(&self, f: &mut fmt::Formatter<W>) -> fmt::Result {
-        let Explanation { subject, detail } = *self;
-        write!(f, "mx: {subject}: {detail}")
+        let Explanation { subject, said } = *self;
+        write!(f, "mx: {subject}: {said}")
     }
 }
 
 /// The line at fault of a text for the assembler, with its words between spaces; empty if the failure is no
-/// such line's, or the text isn't known.
-fn faulty_words(alloc: Global, failure: Failure, text: Option<&[u8]>) -> Result<Vec<u8>, AllocError>
+/// such line's.
+fn faulty_words(alloc: Global, failure: &FileFailure) -> Result<Vec<u8>, AllocError>
     ensures { IfOk result (λ line. fields line.items
-        ≡ faulty_words failure (option_map (λ t. t.now) text.entry)) }
+        ≡ faulty_words failure.now.problem (text_of failure.now)) }
 {
-    match (failure, text) {
-        (Failure::Faulty(fault), Some(text)) => {
-            match line_below(text, fault.line.saturating_sub(1)) {
+    match (failure.problem, &failure.text) {
+        (FileProblem::Faulty(fault), Some(text)) => {
+            match line_below(text.as_slice(), fault.line.saturating_sub(1)) {
                 Some(line) => with_spaces(alloc, line),
                 None => Ok(Vec::new(alloc)),
             }
@@ -54,67 +77,110 @@ fn faulty_words(alloc: Global, failure: Failure, text: Option<&[u8]>) -> Result<
     }
 }
 
-/// What was wanted of no line that is known.
-fn plain_detail<'a>(request: CommandRequest<'_>, failure: Failure, notes: Notes<'_>) -> Detail<'a>
-    ensures { detail_told result ≡ plain_detail request.entry failure notes.entry.is_missed
-        notes.entry.is_unwritten (option_map (λ t. t.now) notes.entry.text) }
-{
-    Detail {
-        label: Label::Nowhere,
-        wanted: wanted_of(request, failure, notes),
-        found: FoundWord::Unseen,
-    }
-}
-
 /// What was wanted of the line of a text that is at fault: of a text for the assembler its words are given. None if
-/// no line of the text is known for it.
-fn text_detail<'a>(failure: Failure, text: &'a [u8], words: &'a [u8]) -> Option<Detail<'a>>
-    requires { fields words.now ≡ faulty_words failure (Some text.now) }
-    ensures { option_map detail_told result ≡ text_detail failure text.now }
+/// there is no such line.
+fn line_detail<'a>(failure: &'a FileFailure, words: &'a [u8]) -> Option<Detail<'a>>
+    requires { fields words.now ≡ faulty_words failure.now.problem (text_of failure.now) }
+    ensures { option_map detail_told result
+        ≡ line_detail failure.now.problem (text_of failure.now) }
 {
-    match failure {
-        Failure::Misstated(BootError::BadLine(number)) => config_detail(text, number),
-        Failure::Faulty(fault) => Some(advice_on(words, fault.problem).detail()),
+    match (failure.problem, &failure.text) {
+        (FileProblem::Misstated(BootError::BadLine(number)), Some(text)) => {
+            config_detail(text.as_slice(), number)
+        }
+        (FileProblem::Faulty(fault), Some(_)) => Some(advice_on(words, fault.problem).detail()),
         _ => None,
     }
 }
 
-/// What was wanted, by the line at fault if that is known: of a text for the assembler its words are given.
-fn detail_of<'a>(
-    request: CommandRequest<'a>,
-    failure: Failure,
-    notes: Notes<'a>,
-    words: &'a [u8],
-) -> Detail<'a>
-    requires { fields words.now ≡ faulty_words failure (option_map (λ t. t.now) notes.text) }
-    ensures { detail_told result ≡ detail_of request.entry failure notes.entry.is_missed
-        notes.entry.is_unwritten (option_map (λ t. t.now) notes.entry.text) }
+/// What was wanted of a file of which no line is at fault.
+fn plain_detail<'a>(request: CommandRequest<'_>, problem: FileProblem) -> Detail<'a>
+    ensures { detail_told result ≡ plain_detail request.entry problem }
 {
-    let detail = match notes.text {
-        Some(text) => text_detail(failure, text, words),
-        None => None,
-    };
-    match detail {
-        Some(detail) => detail,
-        None => plain_detail(request, failure, notes),
+    Detail {
+        label: Label::Nowhere,
+        wanted: file_wanted(request, problem),
+        found: FoundWord::Unseen,
     }
 }
 
-/// What explains the failure of a request, by what was noted of its files: a line without its end.
+/// What was wanted of a file, by its line at fault if there is one.
+fn detail_of<'a>(
+    request: CommandRequest<'a>,
+    failure: &'a FileFailure,
+    words: &'a [u8],
+) -> Detail<'a>
+    requires { fields words.now ≡ faulty_words failure.now.problem (text_of failure.now) }
+    ensures { detail_told result ≡ file_said request.entry failure.now }
+{
+    match line_detail(failure, words) {
+        Some(detail) => detail,
+        None => plain_detail(request, failure.problem),
+    }
+}
+
+/// The line of a file's failure.
+fn explain_file(
+    alloc: Global,
+    request: CommandRequest<'_>,
+    failure: &FileFailure,
+) -> Result<String, AllocError>
+    ensures { IfOk result (λ line. string_bytes line
+        ≡ said_line (file_subject request.entry failure.now.about)
+        (file_said request.entry failure.now)) }
+{
+    let words = faulty_words(alloc, failure)?;
+    let explanation = Explanation {
+        subject: file_subject(request, &failure.about),
+        said: Said::Detail(detail_of(request, failure, words.as_slice())),
+    };
+    explanation.to_string(alloc)
+}
+
+/// Why standard output takes nothing more.
+fn output_said(problem: OutputProblem) -> &'static str
+    ensures { result.now ≡ output_said problem }
+{
+    match problem {
+        OutputProblem::ReaderEnded => "its reader has ended",
+        OutputProblem::NoRoom => "wanted room for what is printed",
+        OutputProblem::Other => "wanted an output that can be written",
+    }
+}
+
+/// A line of these words.
+fn explain_plainly(
+    alloc: Global,
+    subject: Subject<'_>,
+    words: &'static str,
+) -> Result<String, AllocError>
+    ensures { IfOk result (λ line. string_bytes line
+        ≡ said_line (subject_told subject.entry) words.now) }
+{
+    let explanation = Explanation {
+        subject,
+        said: Said::Words(words),
+    };
+    explanation.to_string(alloc)
+}
+
+/// What explains the failure of a request: a line without its end.
 pub fn explain_failure(
     alloc: Global,
     request: CommandRequest<'_>,
-    failure: Failure,
-    notes: Notes<'_>,
+    failure: &Failure,
 ) -> Result<String, AllocError>
-    ensures { IfOk result (λ line. string_bytes line ≡ explained request.entry failure
-        (option_map (λ s. s.now) notes.entry.last) notes.entry.is_missed notes.entry.is_unwritten
-        (option_map (λ t. t.now) notes.entry.text)) }
+    ensures { IfOk result (λ line. string_bytes line ≡ explained request.entry failure.now) }
 {
-    let words = faulty_words(alloc, failure, notes.text)?;
-    let explanation = Explanation {
-        subject: subject_of(request, failure, notes),
-        detail: detail_of(request, failure, notes, words.as_slice()),
-    };
-    explanation.to_string(alloc)
+    match failure {
+        Failure::Of(file) => explain_file(alloc, request, file),
+        Failure::NotText => explain_plainly(alloc, first_subject(request), "wanted UTF-8"),
+        Failure::Input => explain_plainly(
+            alloc,
+            Subject::Input,
+            "wanted an input that can be read",
+        ),
+        Failure::Output(problem) => explain_plainly(alloc, Subject::Output, output_said(*problem)),
+        Failure::NoMemory => explain_plainly(alloc, Subject::Memory, "wanted more of it"),
+    }
 }

@@ -1,14 +1,12 @@
 //! What was wanted in place of what a command met.
 
-ghost use Rattle.std.specs.Prelude.{◌≡◌, option_map};
+ghost use Rattle.std.specs.Prelude.{◌≡◌};
 ghost use Rattle.mx_app_explain.specs.Wanted.{problem_wanted, refusal_wanted};
-ghost use Rattle.mx_app_explain.specs.Explaining.{file_wanted, lines_wanted, record_wanted, wanted_of};
+ghost use Rattle.mx_app_explain.specs.Explaining.{file_wanted, lines_wanted, record_wanted};
 
-use crate::own_programs::writes_program;
-use crate::subject::{Notes, is_run, reads_one_program, writes_over};
 use mx_aout::FileError;
 use mx_app_command::CommandRequest;
-use mx_app_failure::Failure;
+use mx_app_failure::FileProblem;
 use mx_asm::Problem;
 use mx_text::BootError;
 
@@ -103,43 +101,19 @@ fn lines_wanted(request: CommandRequest<'_>, error: BootError) -> &'static str
     }
 }
 
-/// What is wanted of a file that can't be read or written.
-fn file_wanted(request: CommandRequest<'_>, notes: Notes<'_>) -> &'static str
-    ensures { result.now
-        ≡ file_wanted request.entry notes.entry.is_missed notes.entry.is_unwritten
-        (option_map (λ t. t.now) notes.entry.text) }
+/// What was wanted of a file.
+pub(crate) fn file_wanted(request: CommandRequest<'_>, problem: FileProblem) -> &'static str
+    ensures { result.now ≡ file_wanted request.entry problem }
 {
-    if writes_over(request) {
-        "another file than the one that is read"
-    } else if notes.is_unwritten {
-        "a file that can be written"
-    } else if notes.is_missed {
-        "a file that can be read"
-    } else if writes_program(request, notes.text) {
-        "another file than a service's program"
-    } else if reads_one_program(request) || is_run(request) {
-        "room for what is printed"
-    } else {
-        "UTF-8 in what is read, and room for what is printed"
-    }
-}
-
-/// What was wanted in place of what failed.
-pub(crate) fn wanted_of(
-    request: CommandRequest<'_>,
-    failure: Failure,
-    notes: Notes<'_>,
-) -> &'static str
-    ensures { result.now
-        ≡ wanted_of request.entry failure notes.entry.is_missed notes.entry.is_unwritten
-        (option_map (λ t. t.now) notes.entry.text) }
-{
-    match failure {
-        Failure::Refused(error) => refusal_wanted(error),
-        Failure::Faulty(fault) => problem_wanted(fault.problem),
-        Failure::Misstated(error) => lines_wanted(request, error),
-        Failure::NotText => "UTF-8",
-        Failure::File => file_wanted(request, notes),
-        Failure::NoMemory => MORE,
+    match problem {
+        FileProblem::Refused(error) => refusal_wanted(error),
+        FileProblem::Faulty(fault) => problem_wanted(fault.problem),
+        FileProblem::Misstated(error) => lines_wanted(request, error),
+        FileProblem::Unread => "a file that can be read",
+        FileProblem::NotUtf8 => "a text in UTF-8",
+        FileProblem::IsProgram => "a text in UTF-8; it is a program",
+        FileProblem::Unwritten => "a file that can be written",
+        FileProblem::OverRead => "another file than the one that is read",
+        FileProblem::OverProgram => "another file than a service's program",
     }
 }

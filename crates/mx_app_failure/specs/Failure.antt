@@ -1,6 +1,7 @@
 -- Failures: which error becomes which failure, and each failure's line and exit status.
-use Rattle.std.specs.Prelude.{◌≡◌, ◌⊎◌, ℕ, List, ◌++◌, codes, Option, Some, None, Result, Err, IfErr}
+use Rattle.std.specs.Prelude.{◌≡◌, ◌⊎◌, ◌&&◌, ◌==◌, ℕ, if◌then◌else◌, List, ◌++◌, codes, Option, Some, None, Result, Err, IfErr, Vec, length, nat_lt, slice_index}
 use Rattle.std.specs.Fmt.{decimal}
+use Rattle.std.specs.declared.alloc.Global.{Global}
 use Rattle.std.specs.declared.io.ErrorKind.{ErrorKind}
 use Rattle.std.specs.declared.io.ErrorKind.TheVariants as kinds
 use Rattle.mx_aout.specs.declared.program.FileError.{FileError}
@@ -13,41 +14,85 @@ use Rattle.mx_asm.specs.declared.fault.AsmError.{AsmError}
 use Rattle.mx_asm.specs.declared.fault.AsmError.TheVariants as asm_errors
 use Rattle.mx_text.specs.declared.error.BootError.{BootError}
 use Rattle.mx_text.specs.declared.error.BootError.TheVariants as lines
+use Rattle.mx_app_failure.specs.declared.failure.About.{About}
+use Rattle.mx_app_failure.specs.declared.failure.About.TheVariants.{Program, Source, Written}
+use Rattle.mx_app_failure.specs.declared.failure.FileProblem.{FileProblem}
+use Rattle.mx_app_failure.specs.declared.failure.FileProblem.TheVariants.{Refused, Faulty, Misstated, Unread, NotUtf8, IsProgram, Unwritten}
+use Rattle.mx_app_failure.specs.declared.failure.OutputProblem.{OutputProblem}
+use Rattle.mx_app_failure.specs.declared.failure.OutputProblem.TheVariants.{ReaderEnded, NoRoom, Other}
 use Rattle.mx_app_failure.specs.declared.failure.Failure.{Failure as Kind}
-use Rattle.mx_app_failure.specs.declared.failure.Failure.TheVariants.{Refused, Faulty, Misstated, NotText, File, NoMemory}
+use Rattle.mx_app_failure.specs.declared.failure.Failure.TheVariants.{Of, NotText, Input, Output, NoMemory}
 
--- THE STATUS. If there isn't enough memory it is 4, also if Refused or Misstated says so
+-- THE STATUS
+abbrev pub status_of_problem : FileProblem → ℕ
+status_of_problem (Refused e) = 1
+status_of_problem (Faulty f) = 1
+status_of_problem (Misstated e) = 1
+status_of_problem p = 3
+
 abbrev pub status_of : Kind → ℕ
-status_of (Refused errors.NoMemory) = 4
-status_of (Refused e) = 1
-status_of (Faulty f) = 1
-status_of (Misstated lines.NoMemory) = 4
-status_of (Misstated e) = 1
+status_of (Of f) = status_of_problem f.problem
 status_of NotText = 2
-status_of File = 3
+status_of Input = 3
+status_of (Output p) = 3
 status_of NoMemory = 4
 
--- ---- from errors to failures: too little memory is always NoMemory, and never Refused, Misstated or File
+-- ---- from errors to failures: too little memory is always NoMemory, and never a file's
+
+-- of a file without its text, if it has a problem; else memory is out
+abbrev pub failure_if : Option FileProblem → About → Kind
+failure_if (Some p) about = Of (record { problem = p; about = about; text = None })
+failure_if None about = NoMemory
+
+-- of a file with a wrong line: its text is in the failure
+abbrev pub IsOfText : FileProblem → About → List ℕ → Kind → Type 0
+IsOfText p about text f = (v : Vec ℕ Global) × (f ≡ Of (record { problem = p; about = about; text = Some v })) × (v.items ≡ text)
+
+-- of a file that is read
+abbrev pub problem_of_reading : ErrorKind → Option FileProblem
+problem_of_reading kinds.OutOfMemory = None
+problem_of_reading k = Some Unread
 
 -- of a program file
-abbrev pub failure_of : FileError → Kind
-failure_of errors.NoMemory = NoMemory
-failure_of e = Refused e
+abbrev pub problem_of_refusal : FileError → Option FileProblem
+problem_of_refusal errors.NoMemory = None
+problem_of_refusal e = Some (Refused e)
+
+-- of the file that is written
+abbrev pub unwritten_of : ErrorKind → Kind
+unwritten_of kinds.OutOfMemory = NoMemory
+unwritten_of k = failure_if (Some Unwritten) Written
 
 -- of a text for the assembler
-abbrev pub failure_of_text : AsmError → Kind
-failure_of_text (asm_errors.At f) = Faulty f
-failure_of_text asm_errors.NoMemory = NoMemory
+abbrev pub IsFaulty : AsmError → List ℕ → Kind → Type 0
+IsFaulty (asm_errors.At f) text r = IsOfText (Faulty f) Source text r
+IsFaulty asm_errors.NoMemory text r = r ≡ NoMemory
 
 -- of a configuration, a script or a saved history
-abbrev pub failure_of_lines : BootError → Kind
-failure_of_lines lines.NoMemory = NoMemory
-failure_of_lines e = Misstated e
+abbrev pub IsMisstated : BootError → About → List ℕ → Kind → Type 0
+IsMisstated lines.NoMemory about text f = f ≡ NoMemory
+IsMisstated e about text f = IsOfText (Misstated e) about text f
 
--- of input and output
-abbrev pub failure_of_kind : ErrorKind → Kind
-failure_of_kind kinds.OutOfMemory = NoMemory
-failure_of_kind k = File
+-- of a text whose bytes aren't UTF-8: a program begins with 01 03
+abbrev pub problem_of_bytes : List ℕ → FileProblem
+problem_of_bytes b = if nat_lt 1 (length b) && slice_index b 0 == 1 && slice_index b 1 == 3 then IsProgram else NotUtf8
+
+-- of standard output and input
+abbrev pub output_problem : ErrorKind → OutputProblem
+output_problem kinds.BrokenPipe = ReaderEnded
+output_problem kinds.StorageFull = NoRoom
+output_problem kinds.QuotaExceeded = NoRoom
+output_problem kinds.FileTooLarge = NoRoom
+output_problem kinds.WriteZero = NoRoom
+output_problem k = Other
+
+abbrev pub output_of : ErrorKind → Kind
+output_of kinds.OutOfMemory = NoMemory
+output_of k = Output (output_problem k)
+
+abbrev pub input_of : ErrorKind → Kind
+input_of kinds.OutOfMemory = NoMemory
+input_of k = Input
 
 -- ---- lines
 
@@ -73,23 +118,33 @@ lines_told (lines.TooMany n) = codes "72 TooMany line " ++ decimal n
 lines_told (lines.BadRecord n) = codes "73 BadRecord line " ++ decimal n
 lines_told lines.NoMemory = codes "90 NoMemory"
 
+-- the words after "mx: " in the line of a file's failure
+abbrev pub problem_told : FileProblem → List ℕ
+problem_told (Refused e) = decimal (refusal_code e) ++ codes " " ++ refusal_name e
+problem_told (Faulty f) = decimal (problem_code f.problem) ++ codes " " ++ problem_name f.problem ++ codes " line " ++ decimal f.line
+problem_told (Misstated e) = lines_told e
+problem_told p = codes "80 File"
+
 -- THE LINE of a failure, without its line feed
 abbrev pub failure_line : Kind → List ℕ
-failure_line (Refused e) = codes "mx: " ++ decimal (refusal_code e) ++ codes " " ++ refusal_name e
-failure_line (Faulty f) = codes "mx: " ++ decimal (problem_code f.problem) ++ codes " " ++ problem_name f.problem ++ codes " line " ++ decimal f.line
-failure_line (Misstated e) = codes "mx: " ++ lines_told e
+failure_line (Of f) = codes "mx: " ++ problem_told f.problem
 failure_line NotText = codes "mx: a word of the command line isn't text"
-failure_line File = codes "mx: 80 File"
+failure_line Input = codes "mx: 80 File"
+failure_line (Output p) = codes "mx: 80 File"
 failure_line NoMemory = codes "mx: 90 NoMemory"
 
 -- ---- commands
 
--- the failure comes from outside: a file that can't be read or written, or too little memory
+-- the failure comes from outside: standard output takes nothing, or too little memory
 abbrev pub IsWanting : Kind → Type 0
-IsWanting f = (f ≡ File) ⊎ (f ≡ NoMemory)
+IsWanting f = ((p : OutputProblem) × (f ≡ Output p)) ⊎ (f ≡ NoMemory)
+
+-- no line can be typed: standard input gives nothing, or too little memory
+abbrev pub IsUntyped : Kind → Type 0
+IsUntyped f = (f ≡ Input) ⊎ (f ≡ NoMemory)
 
 -- a command answers r about a file. If the file has a refusal e, r is that failure. If not, r is no failure,
 -- or one from outside
 abbrev pub Tells : Option FileError → {A : Type 0} → Result A Kind → Type 0
-Tells (Some e) r = r ≡ Err (failure_of e)
+Tells (Some e) r = r ≡ Err (failure_if (problem_of_refusal e) Program)
 Tells None r = IfErr r IsWanting

@@ -1,7 +1,8 @@
 //! Why a command fails: its line on standard error, and its status.
 
-ghost use Rattle.std.specs.Prelude.{◌≡◌};
-ghost use Rattle.mx_app_failure.specs.Failure.{problem_name, status_of};
+ghost use Rattle.std.specs.Prelude.{◌≡◌, string_bytes};
+ghost use Rattle.std.specs.IoError.{error_kind};
+ghost use Rattle.mx_app_failure.specs.Failure.{IsFaulty, IsMisstated, IsUntyped, IsWanting, failure_if, input_of, output_of, output_problem, problem_name, problem_of_bytes, problem_of_reading, problem_of_refusal, status_of, unwritten_of};
 
 use mx_aout::FileError;
 use mx_asm::{AsmError, Fault, Problem};
@@ -10,36 +11,233 @@ use mx_word::NoMemory;
 use std::alloc::{AllocError, AllocFailed};
 use std::{fmt, io};
 
-/// Why a command fails.
+/// What a failure is about: a file that the command line names, by what it is to the command; or a service's program,
+/// by the name that its configuration gave it, which is moved here and not copied.
+#[derive(Drop)]
+pub enum About {
+    /// The program's file of a command without a machine.
+    Program,
+    /// The text that is assembled.
+    Source,
+    Config,
+    /// What drives the machine: a script, outside events or a saved history.
+    Course,
+    /// The fault of a sweep.
+    Fault,
+    /// The file that is written.
+    Written,
+    Service(String),
+}
+
+/// What is wrong with a file.
 #[derive(Clone, Copy, Debug, PartialEq, Eq)]
-pub enum Failure {
-    /// A program file isn't right, for this reason.
+pub enum FileProblem {
+    /// It is no program, for this reason, which isn't memory.
     Refused(FileError),
-    /// A text for the assembler has this fault, at the line that the fault names.
+    /// A text for the assembler has this fault.
     Faulty(Fault),
-    /// A configuration, a script or a saved history has a wrong line: this one, for this reason.
+    /// A configuration, a script or a saved history has a wrong line; memory isn't the reason.
     Misstated(BootError),
+    /// It can't be read.
+    Unread,
+    /// It isn't UTF-8, so it is no text.
+    NotUtf8,
+    /// It isn't UTF-8, and begins as a program does.
+    IsProgram,
+    /// It can't be written.
+    Unwritten,
+    /// It is read, and would be written over.
+    OverRead,
+    /// It is a service's program, and would be written over.
+    OverProgram,
+}
+
+/// Which file fails, and why.
+#[derive(Drop)]
+pub struct FileFailure {
+    pub problem: FileProblem,
+    pub about: About,
+    /// Its text, if a line of it is at fault: moved here, and not copied.
+    pub text: Option<Vec<u8>>,
+}
+
+/// Why standard output takes nothing more.
+#[derive(Clone, Copy, Debug, PartialEq, Eq)]
+pub enum OutputProblem {
+    /// Who reads it has ended.
+    ReaderEnded,
+    /// There is no room where it is kept.
+    NoRoom,
+    /// Anything else.
+    Other,
+}
+
+/// Why a command fails.
+#[derive(Drop)]
+pub enum Failure {
+    /// A file isn't right, or can't be read or written.
+    Of(FileFailure),
     /// A word of the command line isn't text: its bytes aren't UTF-8.
     NotText,
-    /// The program can't read or write a file, or write to standard output.
-    File,
+    /// Standard input can't be read.
+    Input,
+    /// Standard output takes nothing more.
+    Output(OutputProblem),
     /// There isn't enough memory.
     NoMemory,
 }
 
+impl FileProblem {
+    /// What is wrong with a program's file that can't be read; None for lack of memory.
+    pub fn of_reading(error: &io::Error) -> Option<FileProblem>
+        ensures { result ≡ problem_of_reading (error_kind error.now) }
+    {
+        match error.kind() {
+            io::ErrorKind::OutOfMemory => None,
+            _ => Some(FileProblem::Unread),
+        }
+    }
+
+    /// What is wrong with a program's file that is refused; None for lack of memory.
+    pub fn of_refusal(error: FileError) -> Option<FileProblem>
+        ensures { result ≡ problem_of_refusal error }
+    {
+        match error {
+            FileError::NoMemory => None,
+            _ => Some(FileProblem::Refused(error)),
+        }
+    }
+
+    /// What is wrong with a text of these bytes, which aren't UTF-8: a program begins with the bytes 01 03.
+    pub fn of_bytes(bytes: &[u8]) -> FileProblem
+        ensures { result ≡ problem_of_bytes bytes.now }
+    {
+        if bytes.len() >= 2 && bytes[0] == 1 && bytes[1] == 3 {
+            FileProblem::IsProgram
+        } else {
+            FileProblem::NotUtf8
+        }
+    }
+}
+
+impl OutputProblem {
+    /// Why standard output fails with an error of this kind, which isn't lack of memory.
+    fn of_kind(kind: io::ErrorKind) -> OutputProblem
+        ensures { result ≡ output_problem kind }
+    {
+        match kind {
+            io::ErrorKind::BrokenPipe => OutputProblem::ReaderEnded,
+            io::ErrorKind::StorageFull
+            | io::ErrorKind::QuotaExceeded
+            | io::ErrorKind::FileTooLarge
+            | io::ErrorKind::WriteZero => OutputProblem::NoRoom,
+            _ => OutputProblem::Other,
+        }
+    }
+}
+
 impl Failure {
+    /// The failure of a file with this problem; of no problem it is lack of memory. Takes no memory.
+    pub fn of(problem: Option<FileProblem>, about: About) -> Failure
+        ensures { result ≡ failure_if problem about }
+    {
+        match problem {
+            Some(problem) => Failure::Of(FileFailure {
+                problem,
+                about,
+                text: None,
+            }),
+            None => Failure::NoMemory,
+        }
+    }
+
+    /// The failure of a file that can't be read.
+    pub fn unread(error: &io::Error, about: About) -> Failure
+        ensures { result ≡ failure_if (problem_of_reading (error_kind error.now)) about }
+    {
+        Failure::of(FileProblem::of_reading(error), about)
+    }
+
+    /// The failure of a file that is no program.
+    pub fn refused(error: FileError, about: About) -> Failure
+        ensures { result ≡ failure_if (problem_of_refusal error) about }
+    {
+        Failure::of(FileProblem::of_refusal(error), about)
+    }
+
+    /// The failure of the file that can't be written.
+    pub fn unwritten(error: &io::Error) -> Failure
+        ensures { result ≡ unwritten_of (error_kind error.now) }
+    {
+        match error.kind() {
+            io::ErrorKind::OutOfMemory => Failure::NoMemory,
+            _ => Failure::of(Some(FileProblem::Unwritten), About::Written),
+        }
+    }
+
+    /// The failure of a text with a wrong line, which is moved into it.
+    pub fn misstated(error: BootError, about: About, text: String) -> Failure
+        ensures { IsMisstated error about (string_bytes text) result }
+    {
+        match error {
+            BootError::NoMemory => Failure::NoMemory,
+            _ => Failure::Of(FileFailure {
+                problem: FileProblem::Misstated(error),
+                about,
+                text: Some(text.into_bytes()),
+            }),
+        }
+    }
+
+    /// The failure of a text for the assembler, which is moved into it.
+    pub fn faulty(error: AsmError, text: Vec<u8>) -> Failure
+        ensures { IsFaulty error text.items result }
+    {
+        match error {
+            AsmError::At(fault) => Failure::Of(FileFailure {
+                problem: FileProblem::Faulty(fault),
+                about: About::Source,
+                text: Some(text),
+            }),
+            AsmError::NoMemory => Failure::NoMemory,
+        }
+    }
+
+    /// The failure of standard output.
+    pub fn output(error: &io::Error) -> Failure
+        ensures kind { result ≡ output_of (error_kind error.now) }
+        ensures wanting { IsWanting result }
+    {
+        match error.kind() {
+            io::ErrorKind::OutOfMemory => Failure::NoMemory,
+            kind => Failure::Output(OutputProblem::of_kind(kind)),
+        }
+    }
+
+    /// The failure of standard input.
+    pub fn input(error: &io::Error) -> Failure
+        ensures kind { result ≡ input_of (error_kind error.now) }
+        ensures untyped { IsUntyped result }
+    {
+        match error.kind() {
+            io::ErrorKind::OutOfMemory => Failure::NoMemory,
+            _ => Failure::Input,
+        }
+    }
+
     /// The program's exit status: 1 if a file or a text isn't right, 2 if a word isn't text, 3 if a file
     /// can't be read or written, 4 if there isn't enough memory.
-    pub fn status(self) -> u8
-        ensures { result ≡ status_of self }
+    pub fn status(&self) -> u8
+        ensures { result ≡ status_of self.now }
     {
         match self {
-            Failure::Refused(FileError::NoMemory)
-            | Failure::Misstated(BootError::NoMemory)
-            | Failure::NoMemory => 4,
-            Failure::Refused(_) | Failure::Faulty(_) | Failure::Misstated(_) => 1,
+            Failure::Of(failure) => match failure.problem {
+                FileProblem::Refused(_) | FileProblem::Faulty(_) | FileProblem::Misstated(_) => 1,
+                _ => 3,
+            },
             Failure::NotText => 2,
-            Failure::File => 3,
+            Failure::Input | Failure::Output(_) => 3,
+            Failure::NoMemory => 4,
         }
     }
 }
@@ -72,70 +270,31 @@ impl fmt::Display for Failure {
     ghost output = { λ failure. Some (failure_line failure) };
 
     fn fmt<W: fmt::Write>(&self, f: &mut fmt::Formatter<W>) -> fmt::Result {
-        match *self {
-            Failure::Refused(error) => {
-                let code = error.code();
-                let name = error.name();
-                write!(f, "mx: {code} {name}")
-            }
-            Failure::Faulty(fault) => {
-                let code = fault.problem.code();
-                let name = problem_name(fault.problem);
-                let line = fault.line;
-                write!(f, "mx: {code} {name} line {line}")
-            }
-            Failure::Misstated(error) => match error {
-                BootError::BadLine(line) => write!(f, "mx: 70 BadLine line {line}"),
-                BootError::TwiceNamed(line) => write!(f, "mx: 71 TwiceNamed line {line}"),
-                BootError::TooMany(line) => write!(f, "mx: 72 TooMany line {line}"),
-                BootError::BadRecord(line) => write!(f, "mx: 73 BadRecord line {line}"),
-                BootError::NoMemory => write!(f, "mx: 90 NoMemory"),
+        match self {
+            Failure::Of(failure) => match failure.problem {
+                FileProblem::Refused(error) => {
+                    let code = error.code();
+                    let name = error.name();
+                    write!(f, "mx: {code} {name}")
+                }
+                FileProblem::Faulty(fault) => {
+                    let code = fault.problem.code();
+                    let name = problem_name(fault.problem);
+                    let line = fault.line;
+                    write!(f, "mx: {code} {name} line {line}")
+                }
+                FileProblem::Misstated(error) => match error {
+                    BootError::BadLine(line) => write!(f, "mx: 70 BadLine line {line}"),
+                    BootError::TwiceNamed(line) => write!(f, "mx: 71 TwiceNamed line {line}"),
+                    BootError::TooMany(line) => write!(f, "mx: 72 TooMany line {line}"),
+                    BootError::BadRecord(line) => write!(f, "mx: 73 BadRecord line {line}"),
+                    BootError::NoMemory => write!(f, "mx: 90 NoMemory"),
+                },
+                _ => write!(f, "mx: 80 File"),
             },
             Failure::NotText => write!(f, "mx: a word of the command line isn't text"),
-            Failure::File => write!(f, "mx: 80 File"),
+            Failure::Input | Failure::Output(_) => write!(f, "mx: 80 File"),
             Failure::NoMemory => write!(f, "mx: 90 NoMemory"),
-        }
-    }
-}
-
-impl From<FileError> for Failure {
-    ghost use Rattle.std.specs.Prelude.{◌≡◌};
-    ghost use Rattle.mx_app_failure.specs.Failure.{failure_of};
-
-    ghost from_gives = { λ error failure. failure ≡ failure_of error };
-
-    fn from(error: FileError) -> Failure {
-        match error {
-            FileError::NoMemory => Failure::NoMemory,
-            _ => Failure::Refused(error),
-        }
-    }
-}
-
-impl From<AsmError> for Failure {
-    ghost use Rattle.std.specs.Prelude.{◌≡◌};
-    ghost use Rattle.mx_app_failure.specs.Failure.{failure_of_text};
-
-    ghost from_gives = { λ error failure. failure ≡ failure_of_text error };
-
-    fn from(error: AsmError) -> Failure {
-        match error {
-            AsmError::At(fault) => Failure::Faulty(fault),
-            AsmError::NoMemory => Failure::NoMemory,
-        }
-    }
-}
-
-impl From<BootError> for Failure {
-    ghost use Rattle.std.specs.Prelude.{◌≡◌};
-    ghost use Rattle.mx_app_failure.specs.Failure.{failure_of_lines};
-
-    ghost from_gives = { λ error failure. failure ≡ failure_of_lines error };
-
-    fn from(error: BootError) -> Failure {
-        match error {
-            BootError::NoMemory => Failure::NoMemory,
-            _ => Failure::Misstated(error),
         }
     }
 }
@@ -170,20 +329,5 @@ impl<T: Drop> From<AllocFailed<T>> for Failure {
 
     fn from(_: AllocFailed<T>) -> Failure {
         Failure::NoMemory
-    }
-}
-
-impl From<io::Error> for Failure {
-    ghost use Rattle.std.specs.Prelude.{◌≡◌};
-    ghost use Rattle.std.specs.IoError.{error_kind};
-    ghost use Rattle.mx_app_failure.specs.Failure.{failure_of_kind};
-
-    ghost from_gives = { λ error failure. failure ≡ failure_of_kind (error_kind error) };
-
-    fn from(error: io::Error) -> Failure {
-        match error.kind() {
-            io::ErrorKind::OutOfMemory => Failure::NoMemory,
-            _ => Failure::File,
-        }
     }
 }

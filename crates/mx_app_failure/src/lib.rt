@@ -7,5 +7,5 @@
 mod failure;
 mod printing;
 
-pub use failure::Failure;
+pub use failure::{About, Failure, FileFailure, FileProblem, OutputProblem};
 pub use printing::print_text;

@@ -8,7 +8,7 @@ use Rattle.mx_app_failure.specs.declared.failure.Failure.{Failure}
 use Rattle.mx_app_step.specs.Asked.{Asked}
 use Rattle.mx_app_step.specs.Config.{Config}
 use Rattle.mx_app_step.specs.Course.{IsSaved, TellsSaved}
-use Rattle.mx_app_step.specs.Failure.{IsWanting}
+use Rattle.mx_app_step.specs.Failure.{IsUntyped, IsWanting}
 use Rattle.mx_app_step.specs.Service.{Service}
 use Rattle.mx_app_step.specs.Setup.{IsNotStarted, IsStart}
 use Rattle.mx_machine.specs.Boot.{world_at_boot}
@@ -93,10 +93,14 @@ pub record IsBegun (w : World) (xs : List Record) (k : Walk) : Type 0 where
   pub here : k.here ≡ first
   pub last : IsLast w xs k.last
 
+-- a session can't go on: no line can be typed, its answer can't be printed, or memory is out
+abbrev pub IsCutOff : Failure → Type 0
+IsCutOff f = IsUntyped f ⊎ IsWanting f
+
 -- a session has failed for this, after this was shown: no machine was started, and nothing was; or one was, its first
--- walk was shown up to the last position, and then later ones, and it can't be printed, or memory is out
+-- walk was shown up to the last position, and then later ones, and it can't go on
 abbrev pub HasFailed : List ℕ → List ℕ → List Asked → List Part → Failure → Type 0
 HasFailed config log qs ps f =
     ((ps ≡ []) × IsNotStarted IsSaved TellsSaved config log qs f)
     ⊎ ((c : Config) × (vs : List Service) × (records : List Record) × (last : Position) × IsStart IsSaved config log qs c vs records
-    × IsLast (world_at_boot c vs) records last × HasGrown (walk_shown records last) ps × IsWanting f)
+    × IsLast (world_at_boot c vs) records last × HasGrown (walk_shown records last) ps × IsCutOff f)

@@ -5,7 +5,7 @@ ghost use Rattle.std.specs.Io.KnownBytes.{Appends};
 ghost use Rattle.mx_app_step.specs.Asked.{Asked};
 ghost use Rattle.mx_app_step.specs.Config.{Config as Configured};
 ghost use Rattle.mx_app_step.specs.Course.{IsSaved};
-ghost use Rattle.mx_app_step.specs.Failure.{IsWanting};
+ghost use Rattle.mx_app_step.specs.Failure.{IsUntyped, IsWanting};
 ghost use Rattle.mx_app_step.specs.Service.{Service};
 ghost use Rattle.mx_app_step.specs.Setup.{IsStart};
 ghost use Rattle.mx_machine.specs.Boot.{world_at_boot};
@@ -13,7 +13,7 @@ ghost use Rattle.mx_machine.specs.declared.history.Record.{Record as Noted};
 ghost use Rattle.mx_walk.specs.declared.progress.Part.{Part as Parts};
 ghost use Rattle.mx_walk.specs.Parts.{HasGrown, walk_shown};
 ghost use Rattle.mx_walker.specs.Walks.{Walk};
-ghost use Rattle.mx_app_look.specs.Sessions.{HasFailed, IsAnswered, IsBegun, IsSession, IsWhole, begun_text, end_text, ends, prompt_text, sight_at};
+ghost use Rattle.mx_app_look.specs.Sessions.{HasFailed, IsAnswered, IsBegun, IsCutOff, IsSession, IsWhole, begun_text, end_text, ends, prompt_text, sight_at};
 ghost use Rattle.mx_app_look.specs.Shows.{IsShown};
 
 use crate::answering::{answer_line, push_prompt};
@@ -58,14 +58,17 @@ fn print_end<W: Write>(asks: bool, out: &mut W) -> Result<(), Failure>
 
 /// Takes the next line, if the input isn't at its end.
 fn next_line<L: LineReader>(lines: &mut L, line: &mut Vec<u8>) -> Result<bool, Failure>
-    ensures err { IfErr result IsWanting }
+    ensures err { IfErr result IsUntyped }
     ensures more { IfOk result (λ more. more ≡ true
         → L.given lines.new ≡ L.given lines.old ++ Some line.new.items ∷ []) }
     ensures end { IfOk result (λ more. more ≡ false
         → L.given lines.new ≡ L.given lines.old ++ None ∷ []) }
     ensures failed { OnErr result (L.given lines.new ≡ L.given lines.old) }
 {
-    Ok(lines.next(line)?)
+    match lines.next(line) {
+        Ok(more) => Ok(more),
+        Err(error) => Err(Failure::input(&error)),
+    }
 }
 
 /// A session: what it has in hand, and whether it asks for each line.
@@ -113,7 +116,7 @@ fn converse<L: LineReader, P: Progress, W: Write>(
     progress: &mut P,
     out: &mut W,
 ) -> Result<(), Failure>
-    ensures err { IfErr result (λ f. IsWanting f × ((typed : List (Option (List ℕ)))
+    ensures err { IfErr result (λ f. IsCutOff f × ((typed : List (Option (List ℕ)))
         × (L.given lines.new ≡ L.given lines.old ++ typed))
         × HasGrown (P.shown progress.old) (P.shown progress.new)) }
     ensures printed { OnOk result ((typed : List (Option (List ℕ))) × (text : List ℕ)

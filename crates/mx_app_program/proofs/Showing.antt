@@ -6,7 +6,8 @@ use Rattle.mx_aout.specs.declared.program.FileError.{FileError}
 use Rattle.mx_aout.specs.declared.program.FileError.TheVariants.{NoMemory}
 use Rattle.mx_aout.specs.File.{ReadsFile}
 use Rattle.mx_app_failure.specs.declared.failure.Failure.{Failure as Kind}
-use Rattle.mx_app_failure.specs.Failure.{IsWanting, Tells, failure_of}
+use Rattle.mx_app_failure.specs.declared.failure.About.TheVariants.{Program as #Program}
+use Rattle.mx_app_failure.specs.Failure.{IsWanting, Tells, failure_if, problem_of_refusal}
 use Rattle.mx_app_program.specs.Shown.{IsShown, Shows}
 
 module _ {S : Type 0} (bytes_of : S → List ℕ) (Has : Program → List ℕ → Type 0) where
@@ -22,9 +23,9 @@ module _ {S : Type 0} (bytes_of : S → List ℕ) (Has : Program → List ℕ �
   shows_text (Some d) b p text h g = absurd cc
   shows_text None b p text h g = (p, h, g)
 
-  pub tells_refused : (o : Option FileError) (b : List ℕ) (e : FileError) → Shows {S = S} bytes_of Has o b (Err e) → Tells o {A = Unit {0}} (Err (failure_of e))
-  tells_refused (Some d) b e h = let s : e ≡ d = cc in ap (λ (x : FileError). Err (failure_of x)) s
-  tells_refused None b e h = subst (λ (x : FileError). IsWanting (failure_of x)) (sym h) (inr refl)
+  pub tells_refused : (o : Option FileError) (b : List ℕ) (e : FileError) → Shows {S = S} bytes_of Has o b (Err e) → Tells o {A = Unit {0}} (Err (failure_if (problem_of_refusal e) #Program))
+  tells_refused (Some d) b e h = let s : e ≡ d = cc in ap (λ (x : FileError). Err (failure_if (problem_of_refusal x) #Program)) s
+  tells_refused None b e h = subst (λ (x : FileError). IsWanting (failure_if (problem_of_refusal x) #Program)) (sym h) (inr refl)
 
   pub tells_written : (o : Option FileError) (b : List ℕ) (text : S) (r : Result (Unit {0}) Kind) → Shows {S = S} bytes_of Has o b (Ok text) → IfErr r IsWanting → Tells o r
   tells_written (Some d) b text r h w = absurd cc

@@ -1,5 +1,5 @@
 -- The error of a file, from what is answered of it.
-use Rattle.std.proofs.Common.{◌≡◌, ℕ, List, Option, Some, None, Result, Ok, Err, IfErr, OnOk, inr, ap, sym, subst, refl}
+use Rattle.std.proofs.Common.{◌≡◌, ℕ, List, Option, Some, None, Result, Ok, Err, IfErr, OnOk, inl, inr, ap, sym, subst, refl}
 use Rattle.std.specs.Io.KnownBytes.{Appends}
 use Rattle.std.specs.Str.{IsUtf8}
 use Rattle.mx_asm.specs.declared.fault.AsmError.{AsmError}
@@ -12,12 +12,13 @@ use Rattle.mx_aout.specs.declared.program.FileError.{FileError}
 use Rattle.mx_app_failure.specs.declared.failure.Failure.{Failure as Kind}
 use Rattle.mx_app_program.specs.Assembling.{TellsText}
 use Rattle.mx_app_program.specs.One.{Answers, IsPrinted, one_text}
-use Rattle.mx_app_failure.specs.Failure.{IsWanting, Tells, failure_of, failure_of_text}
+use Rattle.mx_app_failure.specs.declared.failure.About.TheVariants.{Program}
+use Rattle.mx_app_failure.specs.Failure.{IsFaulty, IsWanting, Tells, failure_if, problem_of_refusal}
 
 -- a refusal, or lack of memory
-pub tells_refusal : (o : Option FileError) (b : List ℕ) (n : ℕ) (e : FileError) → Answers o b n (Err e) → Tells o {A = Unit {0}} (Err (failure_of e))
-tells_refusal (Some d) b n e h = let s : e ≡ d = cc in ap (λ (x : FileError). Err (failure_of x)) s
-tells_refusal None b n e h = subst (λ (x : FileError). IsWanting (failure_of x)) (sym h) (inr refl)
+pub tells_refusal : (o : Option FileError) (b : List ℕ) (n : ℕ) (e : FileError) → Answers o b n (Err e) → Tells o {A = Unit {0}} (Err (failure_if (problem_of_refusal e) Program))
+tells_refusal (Some d) b n e h = let s : e ≡ d = cc in ap (λ (x : FileError). Err (failure_if (problem_of_refusal x) Program)) s
+tells_refusal None b n e h = subst (λ (x : FileError). IsWanting (failure_if (problem_of_refusal x) Program)) (sym h) (inr refl)
 
 -- what is wanting where it is printed
 pub tells_printed : (o : Option FileError) (b : List ℕ) (n : ℕ) (p : ℕ × Stop × Image) (r : Result (Unit {0}) Kind) → Answers o b n (Ok p) → IfErr r IsWanting → Tells o r
@@ -32,6 +33,6 @@ printed_on None b n p x y (Ok u) h w = (one_text p.0 p.1 p.2, (h.0, h.1, ap (λ 
 printed_on None b n p x y (Err e) h w = tt
 
 -- the error of a text that is UTF-8
-pub tells_text : (text slice : List ℕ) (e : AsmError) → slice ≡ text → IsUtf8 text → TellsTextFault slice e → TellsText text (failure_of_text e)
-tells_text text slice NoMemory of utf8 h = utf8
-tells_text text slice (At f) of utf8 h = subst (λ (t : List ℕ). HasTextFault t f) of h
+pub tells_text : (text slice : List ℕ) (e : AsmError) (f : Kind) → slice ≡ text → IsUtf8 text → TellsTextFault slice e → IsFaulty e text f → TellsText text f
+tells_text text slice NoMemory f of utf8 h m = inr (inr (utf8, m))
+tells_text text slice (At x) f of utf8 h m = inr (inl (x, subst (λ (t : List ℕ). HasTextFault t x) of h, m))

@@ -4,21 +4,23 @@ ghost use Rattle.std.specs.Prelude.{IfErr, IfOk};
 ghost use Rattle.mx_app_program.specs.Assembling.{IsAssembledFile, TellsText};
 
 use mx_aout::write;
-use mx_app_failure::Failure;
+use mx_app_failure::{About, Failure, FileProblem};
 use mx_asm::assemble;
 use std::alloc::Global;
 use std::str;
 
 /// Assembles a text to the bytes of its a.out file: what `mx as` writes. Answers the bytes of the
 /// program's file, in the one short form.
-#[tactic(auto, using(crate::proofs::Telling::tells_text))]
-pub fn assemble_file(alloc: Global, text: &[u8]) -> Result<Vec<u8>, Failure>
-    ensures file { IfOk result (λ bytes. IsAssembledFile text.now bytes.items) }
-    ensures fault { IfErr result (TellsText text.now) }
+pub fn assemble_file(alloc: Global, source: Vec<u8>) -> Result<Vec<u8>, Failure>
+    ensures file { IfOk result (λ bytes. IsAssembledFile source.items bytes.items) }
+    ensures fault { IfErr result (TellsText source.items) }
 {
-    let Ok(text) = str::from_utf8(text) else {
-        return Err(Failure::File);
+    let Ok(text) = str::from_utf8(source.as_slice()) else {
+        let problem = FileProblem::of_bytes(source.as_slice());
+        return Err(Failure::of(Some(problem), About::Source));
     };
-    let program = assemble(alloc, text)?;
-    Ok(write(alloc, &program)?)
+    match assemble(alloc, text) {
+        Ok(program) => Ok(write(alloc, &program)?),
+        Err(error) => Err(Failure::faulty(error, source)),
+    }
 }

@@ -7,7 +7,7 @@ ghost use Rattle.mx_app_failure.specs.Failure.{Tells};
 ghost use Rattle.mx_app_program.specs.Shown.{HasListing, HasNames, IsShown, Shows};
 
 use mx_aout::{FileError, read};
-use mx_app_failure::{Failure, print_text};
+use mx_app_failure::{About, Failure, print_text};
 use mx_dis::{list, names};
 use std::alloc::Global;
 use std::io::Write;
@@ -34,7 +34,10 @@ pub fn print_listing<W: Write>(alloc: Global, bytes: &[u8], out: &mut W) -> Resu
     ensures shown { OnOk result ((text : List ℕ) × IsShown HasListing bytes.now text
         × Appends (W.contents out.old) (W.contents out.new) text) }
 {
-    let text = listing_of(alloc, bytes)?;
+    let text = match listing_of(alloc, bytes) {
+        Ok(text) => text,
+        Err(error) => return Err(Failure::refused(error, About::Program)),
+    };
     print_text(text.as_bytes(), out)
 }
 
@@ -44,6 +47,9 @@ pub fn print_names<W: Write>(alloc: Global, bytes: &[u8], out: &mut W) -> Result
     ensures shown { OnOk result ((text : List ℕ) × IsShown HasNames bytes.now text
         × Appends (W.contents out.old) (W.contents out.new) text) }
 {
-    let text = names_of(alloc, bytes)?;
+    let text = match names_of(alloc, bytes) {
+        Ok(text) => text,
+        Err(error) => return Err(Failure::refused(error, About::Program)),
+    };
     print_text(text.as_bytes(), out)
 }

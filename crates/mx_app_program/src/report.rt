@@ -7,7 +7,7 @@ ghost use Rattle.mx_app_failure.specs.Failure.{IsWanting, Tells};
 ghost use Rattle.mx_app_program.specs.One.{IsPrinted, one_text};
 
 use crate::running::one;
-use mx_app_failure::{Failure, print_text};
+use mx_app_failure::{About, Failure, print_text};
 use mx_image::{Runs, Stop};
 use mx_print_answers::{push_registers, push_stop};
 use std::alloc::{AllocError, Global};
@@ -26,7 +26,10 @@ pub fn print_one<W: Write>(
     ensures shown { OnOk result ((text : List ℕ) × IsPrinted bytes.now steps text
         × Appends (W.contents out.old) (W.contents out.new) text) }
 {
-    let (count, stop, image) = one(alloc, bytes, steps)?;
+    let (count, stop, image) = match one(alloc, bytes, steps) {
+        Ok(made) => made,
+        Err(error) => return Err(Failure::refused(error, About::Program)),
+    };
     print_steps(alloc, count, stop, &image, out)
 }
 

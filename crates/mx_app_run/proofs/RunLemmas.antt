@@ -20,7 +20,8 @@ use Rattle.mx_app_step.specs.Asked.{Asked}
 use Rattle.mx_app_step.specs.ServiceLine.{ServiceLine}
 use Rattle.mx_app_step.specs.Setup.{AreServicesRead, IsSetup, IsTextGiven}
 use Rattle.mx_app_failure.specs.declared.failure.Failure.{Failure as Kind}
-use Rattle.mx_app_failure.specs.Failure.{failure_of_lines}
+use Rattle.mx_app_failure.specs.declared.failure.About.TheVariants.{Course}
+use Rattle.mx_app_failure.specs.Failure.{IsMisstated}
 use Rattle.mx_app_step.specs.Setup.{IsSetupFault}
 use Rattle.mx_app_step.specs.Kept.{text_kept}
 use Rattle.mx_app_step.specs.Written.{Written}
@@ -81,8 +82,9 @@ called_alone config o qs c vs xs is setup none = subst (λ (p : Option (List ℕ
 pub calls_given : (name text slice : List ℕ) (q : Asked) (others : ℕ) (xs : List OutsideCall) → slice ≡ text → IsTextGiven name q text → AreLinesRead (call_line others) (lines slice) xs → AreCallsGiven name q others xs
 calls_given name text slice q others xs of t h = (text, t, subst (λ (x : List ℕ). AreLinesRead (call_line others) (lines x) xs) of h)
 
-pub calls_unread : (name text slice : List ℕ) (q : Asked) (others : ℕ) (e : BootError) → slice ≡ text → IsTextGiven name q text → TellsUnread (call_line others) (lines slice) e → IsCallsFault name q others (failure_of_lines e)
-calls_unread name text slice q others e of t h = inr (text, e, t, subst (λ (x : List ℕ). TellsUnread (call_line others) (lines x) e) of h, refl)
+pub calls_unread : (name text slice : List ℕ) (q : Asked) (others : ℕ) (e : BootError) (f : Kind) → slice ≡ text → IsTextGiven name q text → TellsUnread (call_line others) (lines slice) e → IsMisstated e Course text f
+    → IsCallsFault name q others f
+calls_unread name text slice q others e f of t h m = inr (text, e, t, subst (λ (x : List ℕ). TellsUnread (call_line others) (lines x) e) of h, m)
 
 -- those of a file
 pub called_by : (config name : List ℕ) (o : Option (List ℕ)) (qs : List Asked) (q : Asked) (c : Config) (vs : List Service) (xs : List OutsideCall) → o ≡ Some name → IsSetup config qs c vs → AreCallsGiven name q c.others xs

@@ -9,6 +9,7 @@ use Rattle.mx_machine.specs.declared.events.Event.{Event}
 use Rattle.mx_machine.specs.declared.events.Event.TheVariants as events
 use Rattle.mx_cpus.specs.declared.outside.OutsideCall.{OutsideCall}
 use Rattle.mx_cpus.specs.declared.outside.OutsideCall.TheVariants.{Line, Kill, Tick, Wait}
+use Rattle.mx_app_failure.specs.declared.failure.About.TheVariants.{Course}
 use Rattle.mx_app_failure.specs.declared.failure.Failure.{Failure as Kind}
 use Rattle.mx_app_step.specs.Asked.{Asked}
 use Rattle.mx_app_step.specs.Setup.{IsNoTextGiven, IsTextFaulty, IsTextGiven}
@@ -42,7 +43,8 @@ AreCallsGiven name q others xs = (text : List ℕ) × IsTextGiven name q text ×
 
 -- why they weren't: the file is missed or no text, or its first line at fault
 abbrev pub IsCallsFault : List ℕ → Asked → ℕ → Kind → Type 0
-IsCallsFault name q others f = IsNoTextGiven name q f ⊎ IsTextFaulty (λ text e. TellsUnread (call_line others) (lines text) e) name q f
+IsCallsFault name q others f =
+    IsNoTextGiven Course name q f ⊎ IsTextFaulty (λ text e. TellsUnread (call_line others) (lines text) e) Course name q f
 
 -- 1 for a tick, and 0 for another call
 abbrev pub tick_of : OutsideCall → ℕ

@@ -22,10 +22,9 @@ use Rattle.mx_boot.specs.Text.{saved_text}
 use Rattle.mx_app_run.specs.declared.running.RunEnding.{RunEnding}
 use Rattle.mx_app_run.specs.declared.running.RunEnding.TheVariants.{Full, Rest, Stopped}
 use Rattle.mx_app_failure.specs.declared.failure.Failure.{Failure as Kind}
-use Rattle.mx_app_failure.specs.declared.failure.Failure.TheVariants.{File, NoMemory}
+use Rattle.mx_app_failure.specs.declared.failure.Failure.TheVariants.{NoMemory}
 use Rattle.mx_app_failure.specs.Failure.{IsWanting}
 use Rattle.mx_app_step.specs.Asked.{Asked}
-use Rattle.mx_app_turns.specs.Turned.{writes_over}
 use Rattle.mx_app_run.specs.Calls.{AreCallsGiven, IsCallsFault, ticks_of}
 use Rattle.mx_app_step.specs.Course.{IsSaved}
 use Rattle.mx_app_step.specs.Kept.{IsUnwritten}
@@ -88,12 +87,6 @@ IsNotCalled config (Some name) qs f =
     ⊎ ((before : List Asked) × (q : Asked) × (c : Config) × (vs : List Service) × (qs ≡ before ++ q ∷ []) × IsSetup config before c vs
     × IsCallsFault name q c.others f)
 
--- why no run is begun: CONFIG or EVENTS would be written over, and nothing is read; or the first fault of these files
-abbrev pub IsNotRun : List ℕ → Option (List ℕ) → List ℕ → List Asked → Kind → Type 0
-IsNotRun config events log qs f =
-    ((writes_over config events log ≡ true) × (qs ≡ []) × (f ≡ File))
-    ⊎ ((writes_over config events log ≡ false) × IsNotCalled config events qs f)
-
 -- WHAT REPORTING A RUN DOES: it writes the history's text, whole, prints the report, and answers how the run ended; or it
 -- answers why not all of this was done
 abbrev pub ReportsRun : List ℕ → List ℕ → List Written → Type 0 → RunEnding → Result RunEnding Kind → Type 0
@@ -108,12 +101,12 @@ ComesTo WasShown c vs xs log ticks ws Prints r =
     ⊎ ((k : BootAndHistory) × (whole : Bool) × IsRun WasShown c vs ticks xs whole k
     × ReportsRun log (saved_text c.rules k.history) ws (Prints (report_text (replay k).table (replay k).services)) (run_ending c.log ticks xs whole k) r)
 
--- WHAT `mx run` DOES: it answers why no run is begun; or, after its files were read, it spares a service's program that the
+-- WHAT `mx run` DOES: it answers why no run is begun, and prints nothing; or, after its files were read, it spares a service's program that the
 -- history would be written over; or it runs what was read, and this comes of it
 abbrev pub Runs : (Part → Type 0) → List ℕ → Option (List ℕ) → List ℕ → ℕ → List Asked → List Written → (List ℕ → Type 0) → Result RunEnding Kind → Type 0
 Runs WasShown config events log ticks qs ws Prints r =
-    IsErrAnd r (λ f. (ws ≡ []) × IsNotRun config events log qs f)
-    ⊎ ((c : Config) × (vs : List Service) × (xs : List OutsideCall) × (writes_over config events log ≡ false) × IsCalled config events qs c vs xs
+    IsErrAnd r (λ f. (ws ≡ []) × Prints [] × IsNotCalled config events qs f)
+    ⊎ ((c : Config) × (vs : List Service) × (xs : List OutsideCall) × IsCalled config events qs c vs xs
     × (IsErrAnd r (SparesProgram c log ws Prints) ⊎ ((names_program c log ≡ false) × ComesTo WasShown c vs xs log ticks ws Prints r)))
 
 -- ---- its replay

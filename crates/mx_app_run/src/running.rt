@@ -14,12 +14,11 @@ ghost use Rattle.mx_app_run.specs.Run.{ComesTo, EndsDriven, IsCalled, IsNotCalle
 
 use crate::calls::{outside_calls, ticks_of};
 use crate::gate::{RunGate, RunPlan, is_full_at};
-use mx_app_failure::Failure;
+use mx_app_failure::{About, Failure};
 use mx_app_start::{
-    Channels, FileWriter, Reader, SharedProgress, names_program, setup_of, text_of,
+    Channels, FileWriter, Reader, SharedProgress, setup_of, spare_programs, text_of,
 };
 use mx_app_step::{print_kernel_report, write_history};
-use mx_app_turns::writes_over;
 use mx_cpus::{ActorSeat, Blank, Naming, Outside, OutsideCall, Shared, boot, drive_with};
 use mx_machine::{Config, Kernel, Service};
 use mx_walk::Progress;
@@ -184,9 +183,11 @@ fn calls_of<R: Reader>(
     ensures fault { IfErr result (λ f. (q : Asked)
         × (R.asked reader.new ≡ R.asked reader.old ++ q ∷ []) × IsCallsFault name.now q others f) }
 {
-    let text = text_of(alloc, reader, name)?;
-    let calls = outside_calls(alloc, text.as_str(), others)?;
-    Ok(calls)
+    let text = text_of(alloc, reader, name, About::Course)?;
+    match outside_calls(alloc, text.as_str(), others) {
+        Ok(calls) => Ok(calls),
+        Err(error) => Err(Failure::misstated(error, About::Course, text)),
+    }
 }
 
 /// Reads a configuration, the programs of its services, and the file of outside events, if one is named.
@@ -333,12 +334,7 @@ pub fn run<
         (λ text. Appends (W.contents channels.old.out) (W.contents channels.new.out) text) result }
     ensures shown { P.shown progress.new ≡ P.shown progress.old }
 {
-    if writes_over(wanted.config, wanted.events, wanted.log) {
-        return Err(Failure::File);
-    }
     let begun = begin(alloc, &mut channels.reader, wanted.config, wanted.events)?;
-    if names_program(&begun.config, wanted.log) {
-        return Err(Failure::File);
-    }
+    spare_programs(&begun.config, wanted.log)?;
     run_begun(rt, alloc, channels, wanted, begun, progress)
 }

@@ -1,5 +1,6 @@
 -- What a machine is started from, by what a reader was asked for (our own).
-use Rattle.std.specs.Prelude.{◌≡◌, ◌⊎◌, ℕ, List, [], ◌∷◌, ◌++◌, Err}
+use Rattle.std.specs.Prelude.{◌≡◌, ◌⊎◌, ℕ, List, [], ◌∷◌, ◌++◌, Err, Option, Some, None, String, length, slice_get, string_bytes}
+use Rattle.std.specs.declared.alloc.Global.{Global}
 use Rattle.std.specs.Str.{IsUtf8}
 use Rattle.std.specs.declared.io.ErrorKind.{ErrorKind}
 use Rattle.mx_aout.specs.declared.program.FileError.{FileError}
@@ -10,27 +11,34 @@ use Rattle.mx_boot.specs.ServiceLine.{ServiceLine}
 use Rattle.mx_machine.specs.Service.{Service}
 use Rattle.mx_boot.specs.Lines.{IsConfig, TellsConfigFault}
 use Rattle.mx_app_failure.specs.declared.failure.Failure.{Failure}
-use Rattle.mx_app_failure.specs.declared.failure.Failure.TheVariants.{File, NoMemory}
-use Rattle.mx_app_failure.specs.Failure.{failure_of, failure_of_kind, failure_of_lines}
+use Rattle.mx_app_failure.specs.declared.failure.About.{About}
+use Rattle.mx_app_failure.specs.declared.failure.About.TheVariants as about
+use Rattle.mx_app_failure.specs.declared.failure.FileProblem.{FileProblem}
+use Rattle.mx_app_failure.specs.declared.failure.Failure.TheVariants.{NoMemory}
+use Rattle.mx_app_failure.specs.Failure.{IsMisstated, failure_if, problem_of_bytes, problem_of_reading, problem_of_refusal}
 use Rattle.mx_app_start.specs.Asked.{Asked, file_given, file_missed}
 
 -- ---- one file
 
--- the file that has the name was missed
-abbrev pub IsFileMissed : List ℕ → Asked → Failure → Type 0
-IsFileMissed name q f = (kind : ErrorKind) × (q ≡ file_missed name kind) × (f ≡ failure_of_kind kind)
+-- the file that has the name was missed, with this problem
+abbrev pub IsFileMissed : List ℕ → Asked → Option FileProblem → Type 0
+IsFileMissed name q p = (kind : ErrorKind) × (q ≡ file_missed name kind) × (p ≡ problem_of_reading kind)
 
 -- its bytes are a text
 abbrev pub IsTextGiven : List ℕ → Asked → List ℕ → Type 0
 IsTextGiven name q text = (q ≡ file_given name text) × ∥ IsUtf8 text ∥₁
 
 -- why they are none
-abbrev pub IsNoTextGiven : List ℕ → Asked → Failure → Type 0
-IsNoTextGiven name q f = IsFileMissed name q f ⊎ ((bytes : List ℕ) × (q ≡ file_given name bytes) × (¬ (IsUtf8 bytes)) × (f ≡ File))
+abbrev pub IsNoText : List ℕ → Asked → Option FileProblem → Type 0
+IsNoText name q p = IsFileMissed name q p ⊎ ((bytes : List ℕ) × (q ≡ file_given name bytes) × (¬ (IsUtf8 bytes)) × (p ≡ Some (problem_of_bytes bytes)))
+
+-- the failure says of which file, by what it is to the command
+abbrev pub IsNoTextGiven : About → List ℕ → Asked → Failure → Type 0
+IsNoTextGiven about name q f = (p : Option FileProblem) × IsNoText name q p × (f ≡ failure_if p about)
 
 -- a text with this fault, as `Tells` has it
-abbrev pub IsTextFaulty : (List ℕ → BootError → Type 0) → List ℕ → Asked → Failure → Type 0
-IsTextFaulty Tells name q f = (text : List ℕ) × (e : BootError) × IsTextGiven name q text × Tells text e × (f ≡ failure_of_lines e)
+abbrev pub IsTextFaulty : (List ℕ → BootError → Type 0) → About → List ℕ → Asked → Failure → Type 0
+IsTextFaulty Tells about name q f = (text : List ℕ) × (e : BootError) × IsTextGiven name q text × Tells text e × IsMisstated e about text f
 
 -- ---- a configuration
 
@@ -40,7 +48,7 @@ IsConfigRead name q config = (text : List ℕ) × IsTextGiven name q text × IsC
 
 -- why it is none: the file is missed or no text, or its first line at fault
 abbrev pub IsConfigFault : List ℕ → Asked → Failure → Type 0
-IsConfigFault name q f = IsNoTextGiven name q f ⊎ IsTextFaulty TellsConfigFault name q f
+IsConfigFault name q f = IsNoTextGiven about.Config name q f ⊎ IsTextFaulty TellsConfigFault about.Config name q f
 
 -- ---- services
 
@@ -55,10 +63,10 @@ abbrev pub IsServiceRead : ServiceLine → Asked → Service → Type 0
 IsServiceRead line q v = (bytes : List ℕ) × (q ≡ file_given line.file bytes) × IsServiceOf line bytes v
 
 -- why the line's file gives no program: it is missed or refused, or out of memory for the program that it is
-abbrev pub IsFileRefused : ServiceLine → Asked → Failure → Type 0
-IsFileRefused line q f =
-    IsFileMissed line.file q f
-    ⊎ ((bytes : List ℕ) × (e : FileError) × (q ≡ file_given line.file bytes) × ReadsFile (refusal_of bytes) bytes (Err e) × (f ≡ failure_of e))
+abbrev pub IsLineRefused : ServiceLine → Asked → Option FileProblem → Type 0
+IsLineRefused line q p =
+    IsFileMissed line.file q p
+    ⊎ ((bytes : List ℕ) × (e : FileError) × (q ≡ file_given line.file bytes) × ReadsFile (refusal_of bytes) bytes (Err e) × (p ≡ problem_of_refusal e))
 
 -- each line's file was asked for, in order
 abbrev pub AreServicesRead : List ServiceLine → List Asked → List Service → Type 0
@@ -66,20 +74,24 @@ AreServicesRead [] [] [] = Unit {0}
 AreServicesRead (l ∷ ls) (q ∷ qs) (v ∷ vs) = IsServiceRead l q v × AreServicesRead ls qs vs
 AreServicesRead _ _ _ = ⊥
 
--- the first that gives no program
-abbrev pub IsFirstRefused : List ServiceLine → List Asked → Failure → Type 0
-IsFirstRefused lines qs f =
-    (above below : List ServiceLine) × (line : ServiceLine) × (before : List Asked) × (q : Asked) × (services : List Service)
-    × (lines ≡ above ++ line ∷ below) × (qs ≡ before ++ q ∷ []) × AreServicesRead above before services × IsFileRefused line q f
+-- the first line that gives no program has n above it; or out of memory for the list of the services of some lines,
+-- each of which was read
+abbrev pub IsFirstRefused : List ServiceLine → List Asked → ℕ → Option FileProblem → Type 0
+IsFirstRefused lines qs n p =
+    ((above below : List ServiceLine) × (line : ServiceLine) × (before : List Asked) × (q : Asked) × (services : List Service)
+    × (lines ≡ above ++ line ∷ below) × (length above ≡ n) × (qs ≡ before ++ q ∷ []) × AreServicesRead above before services × IsLineRefused line q p)
+    ⊎ ((above below : List ServiceLine) × (services : List Service)
+    × (lines ≡ above ++ below) × AreServicesRead above qs services × (p ≡ None))
 
--- out of memory for the list of the services of some lines, each of which was read
-abbrev pub IsListLost : List ServiceLine → List Asked → Failure → Type 0
-IsListLost lines qs f =
-    (above below : List ServiceLine) × (services : List Service)
-    × (lines ≡ above ++ below) × AreServicesRead above qs services × (f ≡ NoMemory)
+-- the failure has the name of the program's file
+abbrev pub IsServiceFailure : List ℕ → Option FileProblem → Failure → Type 0
+IsServiceFailure name None f = f ≡ NoMemory
+IsServiceFailure name (Some p) f = (s : String Global) × (string_bytes s ≡ name) × (f ≡ failure_if (Some p) (about.Service s))
 
 abbrev pub IsServicesFault : List ServiceLine → List Asked → Failure → Type 0
-IsServicesFault lines qs f = IsFirstRefused lines qs f ⊎ IsListLost lines qs f
+IsServicesFault lines qs f =
+    (n : ℕ) × (p : Option FileProblem) × (line : ServiceLine)
+    × IsFirstRefused lines qs n p × (slice_get lines n ≡ Some line) × IsServiceFailure line.file p f
 
 -- ---- a configuration and its services
 
@@ -109,7 +121,7 @@ IsFirstFault Tells config_name name qs f =
     IsSetupFault config_name qs f
     ⊎ ((before : List Asked) × (q : Asked) × (config : Config) × (services : List Service)
     × (qs ≡ before ++ q ∷ []) × IsSetup config_name before config services
-    × (IsNoTextGiven name q f ⊎ IsTextFaulty (λ text e. Tells text config e) name q f))
+    × (IsNoTextGiven about.Course name q f ⊎ IsTextFaulty (λ text e. Tells text config e) about.Course name q f))
 
 -- no machine was started: that fault; or, where there is none, out of memory
 abbrev pub IsNotStarted : {L : Type 0} → (List ℕ → Config → Config → List L → Type 0) → (List ℕ → Config → BootError → Type 0) → List ℕ → List ℕ → List Asked → Failure → Type 0

@@ -5,7 +5,7 @@ use Rattle.mx_text.specs.declared.error.BootError.{BootError}
 use Rattle.mx_boot.specs.Config.{Config}
 use Rattle.mx_machine.specs.Service.{Service}
 use Rattle.mx_app_failure.specs.declared.failure.Failure.{Failure}
-use Rattle.mx_app_failure.specs.Failure.{IsWanting, failure_of_kind}
+use Rattle.mx_app_failure.specs.Failure.{IsWanting, unwritten_of}
 use Rattle.mx_app_start.specs.Asked.{Asked}
 use Rattle.mx_app_start.specs.Setup.{IsNotStarted, IsStart}
 use Rattle.mx_app_start.specs.Written.{Written, kept, unkept}
@@ -22,5 +22,5 @@ IsTold {L} Says Tells config name qs f =
 abbrev pub IsUnsaved : List ℕ → List ℕ → List Written → Failure → Type 0
 IsUnsaved name text ws f =
     ((ws ≡ []) × IsWanting f)
-    ⊎ (((kind : ErrorKind) × (ws ≡ unkept name text kind ∷ []) × (f ≡ failure_of_kind kind))
+    ⊎ (((kind : ErrorKind) × (ws ≡ unkept name text kind ∷ []) × (f ≡ unwritten_of kind))
     ⊎ ((ws ≡ kept name text ∷ []) × IsWanting f))

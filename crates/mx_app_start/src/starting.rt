@@ -12,7 +12,7 @@ ghost use Rattle.mx_app_start.specs.Setup.{IsFirstFault, IsNotStarted, IsStart};
 use crate::course::Course;
 use crate::reader::Reader;
 use crate::setup::{setup_of, text_of};
-use mx_app_failure::Failure;
+use mx_app_failure::{About, Failure};
 use mx_machine::{Config, Kernel, Machine, Service};
 use mx_word::NoMemory;
 use std::alloc::Global;
@@ -62,9 +62,11 @@ fn read_all<C: Course, R: Reader>(
         × IsFirstFault C.Tells config.now text.now qs f) }
 {
     let (mut config, services) = setup_of(alloc, reader, config)?;
-    let text = text_of(alloc, reader, text)?;
-    let lines = C::read(alloc, text.as_str(), &mut config)?;
-    Ok((config, services, lines))
+    let text = text_of(alloc, reader, text, About::Course)?;
+    match C::read(alloc, text.as_str(), &mut config) {
+        Ok(lines) => Ok((config, services, lines)),
+        Err(error) => Err(Failure::misstated(error, About::Course, text)),
+    }
 }
 
 /// Reads a configuration, the programs of its services in the order of their lines, and the text that

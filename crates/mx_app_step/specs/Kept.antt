@@ -3,10 +3,10 @@ use Rattle.std.specs.Prelude.{◌≡◌, ◌⊎◌, ℕ, List, [], ◌∷◌, Op
 use Rattle.std.specs.declared.io.ErrorKind.{ErrorKind}
 use Rattle.mx_app_failure.specs.declared.failure.Failure.{Failure}
 use Rattle.mx_app_failure.specs.declared.failure.Failure.TheVariants.{NoMemory}
-use Rattle.mx_app_failure.specs.Failure.{failure_of_kind}
+use Rattle.mx_app_failure.specs.Failure.{IsWanting, unwritten_of}
 use Rattle.mx_app_start.specs.Machine.{kept_after}
 use Rattle.mx_app_start.specs.Text.{saved_text}
-use Rattle.mx_app_start.specs.Written.{Written, unkept}
+use Rattle.mx_app_start.specs.Written.{Written, kept, unkept}
 use Rattle.mx_boot.specs.declared.scripts.ScriptLine.{ScriptLine}
 use Rattle.mx_boot.specs.declared.scripts.ScriptLine.TheVariants.{Step, Take, Back, Line, Tick, Kill, Respawn}
 use Rattle.mx_machine.specs.declared.events.Event.{Event}
@@ -49,4 +49,9 @@ history_made w other lines = (lines_kept (record { boot = w; history = [] }) w o
 -- why a text isn't written to a file: memory was out, and nothing was given to the file; or the file failed
 abbrev pub IsUnwritten : List ℕ → List ℕ → List Written → Failure → Type 0
 IsUnwritten name text ws f =
-    ((ws ≡ []) × (f ≡ NoMemory)) ⊎ ((kind : ErrorKind) × (ws ≡ unkept name text kind ∷ []) × (f ≡ failure_of_kind kind))
+    ((ws ≡ []) × (f ≡ NoMemory)) ⊎ ((kind : ErrorKind) × (ws ≡ unkept name text kind ∷ []) × (f ≡ unwritten_of kind))
+
+-- why a history isn't written and then reported: the text isn't written, and nothing is printed; or the report wants
+-- memory or an output
+abbrev pub IsUnreported : List ℕ → List ℕ → List Written → (List ℕ → Type 0) → Failure → Type 0
+IsUnreported name text ws Prints f = (IsUnwritten name text ws f × Prints []) ⊎ ((ws ≡ kept name text ∷ []) × IsWanting f)

@@ -117,7 +117,7 @@ pub fn print_said<P: Performs, W: Write>(
 {
     let mut text = String::new(alloc);
     let done = perform_lines(performer, machine, lines, &mut text, out);
-    if let Err(Failure::File) = done {
+    if let Err(Failure::Output(_)) = done {
         return done;
     }
     print_text(text.as_bytes(), out)?;

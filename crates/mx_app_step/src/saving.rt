@@ -24,7 +24,7 @@ use crate::driving::{Lines, print_said};
 use crate::lines::{NamedScript, ScriptPerformer};
 use crate::printing::print_report;
 use mx_app_failure::Failure;
-use mx_app_start::{Channels, FileWriter, Reader, Script, Started, names_program, start};
+use mx_app_start::{Channels, FileWriter, Reader, Script, Started, spare_programs, start};
 use mx_boot::{ScriptLine, saved_text};
 use mx_machine::Kernel;
 use std::alloc::Global;
@@ -45,8 +45,10 @@ pub fn write_history<F: FileWriter>(
         × IsUnwritten log.now (text_kept kernel.now) ws f) }
 {
     let text = saved_text(alloc, kernel)?;
-    files.write(alloc, log, text.as_slice())?;
-    Ok(())
+    match files.write(alloc, log, text.as_slice()) {
+        Ok(()) => Ok(()),
+        Err(error) => Err(Failure::unwritten(&error)),
+    }
 }
 
 /// On a machine that was started: does what each line of the script says, prints the answer to each, writes
@@ -119,9 +121,7 @@ fn step_started<R: Drop, F: FileWriter + Drop, W: Write + Drop>(
         (lines_kept started.old.machine.kernel (world_of started.old.machine) started.old.other
         started.old.lines.items)) ws f))) }
 {
-    if names_program(&started.config, log) {
-        return Err(Failure::File);
-    }
+    spare_programs(&started.config, log)?;
     perform_and_save(alloc, channels, started, log, numbered)
 }
 

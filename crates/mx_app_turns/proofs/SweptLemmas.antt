@@ -6,6 +6,7 @@ use Rattle.std.proofs.lemmas.List.{append-nil}
 use Rattle.std.specs.List.{flat_map}
 use Rattle.std.specs.Prelude.{IfErr, IfOk, IsErrAnd}
 use Rattle.mx_app_start.specs.Log.{lines_above}
+use Rattle.mx_app_start.specs.Programs.{over_program}
 use Rattle.mx_machine.specs.Boot.{world_at_boot}
 use Rattle.mx_machine.specs.declared.events.Refusal.{Refusal}
 use Rattle.mx_machine.specs.declared.history.Record.{Record}
@@ -14,7 +15,6 @@ use Rattle.mx_machine.specs.History.{AreAccepted, BootAndHistory, events_of_hist
 use Rattle.mx_walk.specs.declared.progress.Part.{Part}
 use Rattle.mx_walk.specs.Parts.{parts_shown}
 use Rattle.mx_app_failure.specs.declared.failure.Failure.{Failure as Kind}
-use Rattle.mx_app_failure.specs.declared.failure.Failure.TheVariants.{File}
 use Rattle.mx_app_failure.specs.Failure.{IsWanting}
 use Rattle.mx_app_step.specs.Asked.{Asked}
 use Rattle.mx_app_step.specs.Config.{Config}
@@ -31,7 +31,7 @@ use Rattle.mx_app_turns.specs.declared.nothing_tested.Untested.{Untested}
 use Rattle.mx_app_turns.specs.declared.nothing_tested.Untested.TheVariants.{NoLine, NoPosition}
 use Rattle.mx_app_turns.specs.Untested.{refused_or_full, untested_by}
 use Rattle.mx_app_turns.specs.Begun.{IsDone}
-use Rattle.mx_app_turns.specs.Sweeping.{IsBegun, IsNotBegun, IsShown, IsSweptThrough, IsUnsaved, SweepOf, Sweeps, blocks_at, ended, ending_of, is_alike_at, last_text, of, positions_in, refusal_at, run_at, saved_if, saves_program, sweep_text, total_in, total_of, writes_over}
+use Rattle.mx_app_turns.specs.Sweeping.{IsBegun, IsNotBegun, IsShown, IsSweptThrough, IsUnsaved, SweepOf, Sweeps, blocks_at, ended, ending_of, is_alike_at, last_text, of, positions_in, refusal_at, run_at, saved_if, saves_program, sweep_text, total_in, total_of}
 
 -- ---- how it ended
 
@@ -177,19 +177,21 @@ module _ (s : SweepOf) (from to first end : ℕ) (at : first ≡ from) (by : end
 
 -- ---- all of it
 
-module _ (config log fault : List ℕ) (save : Option (List ℕ)) (from to n : ℕ) (qs : List Asked) (Prints : List ℕ → Type 0) (apart : writes_over config log fault save ≡ false) where
-  pub not_begun : (f : Kind) (r : Result Swept Kind) → IsNotBegun config log fault qs f → IsErrAnd r (λ y. y ≡ f) → Sweeps config log fault save from to n qs [] [] Prints r
-  not_begun f (Ok how) why h = absurd h
-  not_begun f (Err y) why h = inr (inl (apart, refl, refl, subst (λ z. IsNotBegun config log fault qs z) (sym h) why))
+module _ (config log fault : List ℕ) (save : Option (List ℕ)) (from to n : ℕ) (qs : List Asked) (Prints : List ℕ → Type 0) where
+  pub not_begun : (f : Kind) (r : Result Swept Kind) → IsNotBegun config log fault qs f → Prints [] → IsErrAnd r (λ y. y ≡ f) → Sweeps config log fault save from to n qs [] [] Prints r
+  not_begun f (Ok how) why printed h = absurd h
+  not_begun f (Err y) why printed h = inl (refl, refl, printed, subst (λ z. IsNotBegun config log fault qs z) (sym h) why)
 
   -- a program isn't written over
-  pub spared : (c : Config) (vs : List Service) (records : List Record) (said : List FaultLine) → IsBegun config log fault qs c vs records said → saves_program c save ≡ true → Prints [] → Sweeps config log fault save from to n qs [] [] Prints (Err File)
-  spared c vs records said begun named printed = inr (inr (inl (c, vs, records, said, apart, begun, named, refl, refl, printed, refl)))
+  pub spared : (c : Config) (vs : List Service) (records : List Record) (said : List FaultLine) (f : Kind) (r : Result Swept Kind) → IsBegun config log fault qs c vs records said → saves_program c save ≡ true → Prints [] → f ≡ over_program → IsErrAnd r (λ y. y ≡ f)
+      → Sweeps config log fault save from to n qs [] [] Prints r
+  spared c vs records said f (Ok how) begun named printed over h = absurd h
+  spared c vs records said f (Err y) begun named printed over h = inr (inl (c, vs, records, said, begun, named, refl, refl, printed, h ∙ over))
 
   module _ (c : Config) (vs : List Service) (records : List Record) (said : List FaultLine) (begun : IsBegun config log fault qs c vs records said) (unnamed : saves_program c save ≡ false) (ws : List Written) (ps : List Part) where
     by_result : (r : Result Swept Kind) → IsDone (of c vs records said n) from to save ws ps Prints r → Sweeps config log fault save from to n qs ws ps Prints r
-    by_result (Ok how) h = (c, vs, records, said, apart, begun, unnamed, h)
-    by_result (Err f) h = inr (inr (inr (c, vs, records, said, apart, begun, unnamed, h)))
+    by_result (Ok how) h = (c, vs, records, said, begun, unnamed, h)
+    by_result (Err f) h = inr (inr (c, vs, records, said, begun, unnamed, h))
 
     pub done : (boot : World) (other : ℕ) (r : Result Swept Kind) → boot ≡ world_at_boot c vs → other ≡ c.cpus
         → IsDone (record { boot = boot; other = other; records = records; fault = said; bound = n }) from to save ws ps Prints r → Sweeps config log fault save from to n qs ws ps Prints r

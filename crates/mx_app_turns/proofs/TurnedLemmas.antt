@@ -26,17 +26,16 @@ use Rattle.mx_turns.specs.Turns.{refusable, turns}
 use Rattle.mx_app_failure.specs.declared.failure.Failure.{Failure as Kind}
 use Rattle.mx_app_step.proofs.AcceptedLemmas.{not_refused}
 use Rattle.mx_app_step.specs.Asked.{Asked}
-use Rattle.mx_app_step.specs.Kept.{IsUnwritten, text_kept}
+use Rattle.mx_app_step.specs.Kept.{IsUnreported, text_kept}
 use Rattle.mx_app_step.specs.Programs.{SparesProgram, names_program}
 use Rattle.mx_app_step.specs.Records.{IsReplayPrinted}
 use Rattle.mx_app_step.specs.Report.{report_text}
-use Rattle.mx_app_step.specs.Telling.{IsUnsaved}
 use Rattle.mx_app_step.specs.Text.{saved_text}
 use Rattle.mx_app_step.specs.Written.{Written, kept}
 use Rattle.mx_app_step.specs.declared.records.Replayed.{Replayed}
 use Rattle.mx_app_step.specs.declared.records.Replayed.TheVariants as replayed
 use Rattle.mx_walk.specs.declared.progress.Part.{Part}
-use Rattle.mx_app_turns.specs.Turned.{IsBegun, IsNotBegun, IsTurned, MakesTurns, ShowsTurns, coming, writes_over}
+use Rattle.mx_app_turns.specs.Turned.{IsBegun, IsNotBegun, IsTurned, MakesTurns, ShowsTurns, coming}
 
 -- ---- a machine's turns
 
@@ -101,34 +100,29 @@ rules_at_boot : (c : Config) (vs : List Service) → (world_at_boot c vs).table.
 unfolding first_table
 rules_at_boot c vs = refl
 
--- what isn't written isn't saved
-pub unsaved : (name text : List ℕ) (ws : List Written) (f : Kind) → IsUnwritten name text ws f → IsUnsaved name text ws f
-unsaved name text ws f h = elim h [
-  | inl none ↦ inl (none.0, inr none.1)
-  | inr file ↦ inr (inl file)
-]
-
-module _ (config : List ℕ) (file : Option (List ℕ)) (log : List ℕ) (ticks bound : ℕ) (qs : List Asked) (Prints : List ℕ → Type 0) (apart : writes_over config file log ≡ false) where
-  pub not_begun : (f : Kind) (r : Result Ending Kind) → IsNotBegun config file qs f → IsErrAnd r (λ y. y ≡ f) → MakesTurns config file log ticks bound qs [] [] Prints r
-  not_begun f (Ok u) why h = absurd h
-  not_begun f (Err y) why h = inr (inl (apart, refl, refl, subst (λ z. IsNotBegun config file qs z) (sym h) why))
+module _ (config : List ℕ) (file : Option (List ℕ)) (log : List ℕ) (ticks bound : ℕ) (qs : List Asked) (Prints : List ℕ → Type 0) where
+  pub not_begun : (f : Kind) (r : Result Ending Kind) → IsNotBegun config file qs f → Prints [] → IsErrAnd r (λ y. y ≡ f) → MakesTurns config file log ticks bound qs [] [] Prints r
+  not_begun f (Ok u) why printed h = absurd h
+  not_begun f (Err y) why printed h = inl (refl, refl, printed, subst (λ z. IsNotBegun config file qs z) (sym h) why)
 
   -- a program isn't written over
-  pub spared : (c : Config) (vs : List Service) (events : List Event) (f : Kind) → IsBegun config file qs c vs events → SparesProgram c log [] Prints f → MakesTurns config file log ticks bound qs [] [] Prints (Err f)
-  spared c vs events f begun named = inr (inr (inl (c, vs, events, apart, begun, refl, named)))
+  pub spared : (c : Config) (vs : List Service) (events : List Event) (f : Kind) (r : Result Ending Kind) → IsBegun config file qs c vs events → SparesProgram c log [] Prints f → IsErrAnd r (λ y. y ≡ f)
+      → MakesTurns config file log ticks bound qs [] [] Prints r
+  spared c vs events f (Ok u) begun named h = absurd h
+  spared c vs events f (Err y) begun named h = inr (inl (c, vs, events, begun, refl, subst (λ z. SparesProgram c log [] Prints z) (sym h) named))
 
   module _ (c : Config) (vs : List Service) (events : List Event) (k : BootAndHistory) (ending : Ending) (ps : List Part) (begun : IsBegun config file qs c vs events) (other : names_program c log ≡ false) (made : IsTurned c vs bound (coming events ticks) k ending)
       (shown : ShowsTurns c vs bound (coming events ticks) ps) where
     by_rules : text_kept k ≡ saved_text c.rules k.history
     by_rules = ap (λ (r : Rules). saved_text r k.history) (ap (λ (w : World). w.table.rules) made.boot ∙ rules_at_boot c vs)
 
-    pub untold : (ws : List Written) (f : Kind) (r : Result Ending Kind) → IsUnsaved log (text_kept k) ws f → IsErrAnd r (λ y. y ≡ f) → MakesTurns config file log ticks bound qs ws ps Prints r
+    pub untold : (ws : List Written) (f : Kind) (r : Result Ending Kind) → IsUnreported log (text_kept k) ws Prints f → IsErrAnd r (λ y. y ≡ f) → MakesTurns config file log ticks bound qs ws ps Prints r
     untold ws f (Ok u) why h = absurd h
     untold ws f (Err y) why h =
-        inr (inr (inr (c, vs, events, k, ending, apart, begun, other, made, shown, subst (λ t. IsUnsaved log t ws y) by_rules (subst (λ z. IsUnsaved log (text_kept k) ws z) (sym h) why))))
+        inr (inr (c, vs, events, k, ending, begun, other, made, shown, subst (λ t. IsUnreported log t ws Prints y) by_rules (subst (λ z. IsUnreported log (text_kept k) ws Prints z) (sym h) why)))
 
     pub written : Prints (report_text (replay k).table (replay k).services) → MakesTurns config file log ticks bound qs (kept log (text_kept k) ∷ []) ps Prints (Ok ending)
-    written printed = (c, vs, events, k, apart, begun, other, made, shown, ap (λ t. kept log t ∷ []) by_rules, printed)
+    written printed = (c, vs, events, k, begun, other, made, shown, ap (λ t. kept log t ∷ []) by_rules, printed)
 
 -- ---- its replay
 

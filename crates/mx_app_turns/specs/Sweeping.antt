@@ -1,6 +1,5 @@
 -- What `mx sweep` reads, prints and writes (our own).
-use Rattle.std.specs.Prelude.{◌≡◌, ◌≤◌, ◌⊎◌, ◌||◌, ◌+◌, ◌-◌, ◌==◌, if◌then◌else◌, ℕ, Bool, true, false, List, [], ◌∷◌, ◌++◌, length, min, is_some, Option, Some, None, Result, Ok, Err}
-use Rattle.std.specs.Str.{bytes_eq}
+use Rattle.std.specs.Prelude.{◌≡◌, ◌≤◌, ◌⊎◌, ◌+◌, ◌-◌, ◌==◌, if◌then◌else◌, ℕ, Bool, true, false, List, [], ◌∷◌, ◌++◌, length, min, is_some, Option, Some, None, Result, Ok, Err}
 use Rattle.mx_text.specs.Lines.{lines}
 use Rattle.mx_boot.specs.Reading.{AreLinesRead, TellsUnread}
 use Rattle.mx_machine.specs.Boot.{world_at_boot}
@@ -11,14 +10,14 @@ use Rattle.mx_machine.specs.World.{World}
 use Rattle.mx_walk.specs.declared.progress.Part.{Part}
 use Rattle.mx_walk.specs.Parts.{parts_shown}
 use Rattle.mx_app_failure.specs.declared.failure.Failure.{Failure as Kind}
-use Rattle.mx_app_failure.specs.declared.failure.Failure.TheVariants.{File}
+use Rattle.mx_app_failure.specs.declared.failure.About.TheVariants.{Fault}
 use Rattle.mx_app_failure.specs.Failure.{IsWanting}
 use Rattle.mx_app_step.specs.Asked.{Asked}
 use Rattle.mx_app_step.specs.Config.{Config}
 use Rattle.mx_app_step.specs.Service.{Service}
 use Rattle.mx_app_step.specs.Course.{IsSaved, TellsSaved}
 use Rattle.mx_app_step.specs.Kept.{IsUnwritten, text_kept}
-use Rattle.mx_app_step.specs.Programs.{names_program}
+use Rattle.mx_app_step.specs.Programs.{names_program, over_program}
 use Rattle.mx_app_step.specs.Records.{IsReplayPrinted}
 use Rattle.mx_app_step.specs.Setup.{IsNoTextGiven, IsNotStarted, IsStart, IsTextFaulty, IsTextGiven}
 use Rattle.mx_app_step.specs.Written.{Written, kept}
@@ -50,12 +49,7 @@ IsNotBegun config log fault qs f =
     IsNotStarted IsSaved TellsSaved config log qs f
     ⊎ ((before : List Asked) × (q : Asked) × (c : Config) × (vs : List Service) × (records : List Record) × (qs ≡ before ++ q ∷ [])
     × IsStart IsSaved config log before c vs records
-    × (IsNoTextGiven fault q f ⊎ IsTextFaulty (λ text e. TellsUnread fault_line (lines text) e) fault q f))
-
--- a file that is read would be written over
-abbrev pub writes_over : List ℕ → List ℕ → List ℕ → Option (List ℕ) → Bool
-writes_over config log fault None = false
-writes_over config log fault (Some save) = bytes_eq config save || (bytes_eq log save || bytes_eq fault save)
+    × (IsNoTextGiven Fault fault q f ⊎ IsTextFaulty (λ text e. TellsUnread fault_line (lines text) e) Fault fault q f))
 
 -- the program of a service would be written over
 abbrev pub saves_program : Config → Option (List ℕ) → Bool
@@ -172,13 +166,11 @@ of c vs records said n = record { boot = world_at_boot c vs; other = c.cpus; rec
 -- WHAT `mx sweep` DOES
 abbrev pub Sweeps : List ℕ → List ℕ → List ℕ → Option (List ℕ) → ℕ → ℕ → ℕ → List Asked → List Written → List Part → (List ℕ → Type 0) → Result Swept Kind → Type 0
 Sweeps config log fault save from to n qs ws ps Prints (Ok how) =
-    (c : Config) × (vs : List Service) × (records : List Record) × (said : List FaultLine) × (writes_over config log fault save ≡ false)
-    × IsBegun config log fault qs c vs records said × (saves_program c save ≡ false)
-    × IsSweptThrough (of c vs records said n) from to save ws ps Prints how
+    (c : Config) × (vs : List Service) × (records : List Record) × (said : List FaultLine) × IsBegun config log fault qs c vs records said
+    × (saves_program c save ≡ false) × IsSweptThrough (of c vs records said n) from to save ws ps Prints how
 Sweeps config log fault save from to n qs ws ps Prints (Err f) =
-    ((writes_over config log fault save ≡ true) × (qs ≡ []) × (ws ≡ []) × (ps ≡ []) × (f ≡ File))
-    ⊎ (((writes_over config log fault save ≡ false) × (ws ≡ []) × (ps ≡ []) × IsNotBegun config log fault qs f)
-    ⊎ (((c : Config) × (vs : List Service) × (records : List Record) × (said : List FaultLine) × (writes_over config log fault save ≡ false)
-    × IsBegun config log fault qs c vs records said × (saves_program c save ≡ true) × (ws ≡ []) × (ps ≡ []) × Prints [] × (f ≡ File))
-    ⊎ ((c : Config) × (vs : List Service) × (records : List Record) × (said : List FaultLine) × (writes_over config log fault save ≡ false)
-    × IsBegun config log fault qs c vs records said × (saves_program c save ≡ false) × IsUntold (of c vs records said n) from to save ws ps f)))
+    ((ws ≡ []) × (ps ≡ []) × Prints [] × IsNotBegun config log fault qs f)
+    ⊎ (((c : Config) × (vs : List Service) × (records : List Record) × (said : List FaultLine) × IsBegun config log fault qs c vs records said
+    × (saves_program c save ≡ true) × (ws ≡ []) × (ps ≡ []) × Prints [] × (f ≡ over_program))
+    ⊎ ((c : Config) × (vs : List Service) × (records : List Record) × (said : List FaultLine) × IsBegun config log fault qs c vs records said
+    × (saves_program c save ≡ false) × IsUntold (of c vs records said n) from to save ws ps f))

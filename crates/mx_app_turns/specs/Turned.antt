@@ -1,7 +1,6 @@
 -- Machines that make turns, and what `mx turns` leaves (our own).
-use Rattle.std.specs.Prelude.{◌≡◌, ◌⊎◌, ◌||◌, ◌≤◌, ◌^◌, ℕ, Bool, true, false, List, [], ◌∷◌, ◌++◌, All, Option, Some, None, Result, Ok, Err, replicate}
+use Rattle.std.specs.Prelude.{◌≡◌, ◌⊎◌, ◌≤◌, ◌^◌, ℕ, false, List, [], ◌∷◌, ◌++◌, All, Option, Some, None, Result, Ok, Err, replicate}
 use Rattle.std.specs.Io.KnownBytes.{Appends}
-use Rattle.std.specs.Str.{bytes_eq}
 use Rattle.mx_machine.specs.declared.config.Config.{Config}
 use Rattle.mx_machine.specs.declared.events.Event.{Event}
 use Rattle.mx_machine.specs.declared.events.Event.TheVariants.{Tick}
@@ -17,14 +16,14 @@ use Rattle.mx_turns.specs.Shown.{turns_shown}
 use Rattle.mx_turns.specs.Turns.{turns}
 use Rattle.mx_walk.specs.declared.progress.Part.{Part}
 use Rattle.mx_app_failure.specs.declared.failure.Failure.{Failure as Kind}
-use Rattle.mx_app_failure.specs.declared.failure.Failure.TheVariants.{File, NoMemory}
+use Rattle.mx_app_failure.specs.declared.failure.Failure.TheVariants.{NoMemory}
 use Rattle.mx_app_step.specs.Asked.{Asked}
 use Rattle.mx_app_step.specs.Course.{IsSaved}
+use Rattle.mx_app_step.specs.Kept.{IsUnreported}
 use Rattle.mx_app_step.specs.Programs.{SparesProgram, names_program}
 use Rattle.mx_app_step.specs.Records.{IsReplayPrinted}
 use Rattle.mx_app_step.specs.Report.{report_text}
 use Rattle.mx_app_step.specs.Setup.{IsNotStarted, IsSetup, IsSetupFault, IsStart}
-use Rattle.mx_app_step.specs.Telling.{IsUnsaved}
 use Rattle.mx_app_step.specs.Text.{saved_text}
 use Rattle.mx_app_step.specs.Written.{Written, kept}
 use Rattle.mx_app_step.specs.declared.records.Replayed.{Replayed}
@@ -66,26 +65,20 @@ abbrev pub IsNotBegun : List ℕ → Option (List ℕ) → List Asked → Kind �
 IsNotBegun config None qs f = IsSetupFault config qs f ⊎ ((c : Config) × (vs : List Service) × IsSetup config qs c vs × (f ≡ NoMemory))
 IsNotBegun config (Some name) qs f = IsNotStarted AreOutside TellsOutside config name qs f
 
--- a file that is read would be written over
-abbrev pub writes_over : List ℕ → Option (List ℕ) → List ℕ → Bool
-writes_over config None log = bytes_eq config log
-writes_over config (Some events) log = bytes_eq config log || bytes_eq events log
-
 -- WHAT `mx turns` DOES: it shows after each turn how many records the history has, of those that it may have; it writes
 -- the text of the history of a machine's turns, whole, and prints the report on the machine after them; or it fails, and
 -- this is why
 abbrev pub MakesTurns : List ℕ → Option (List ℕ) → List ℕ → ℕ → ℕ → List Asked → List Written → List Part → (List ℕ → Type 0) → Result Ending Kind → Type 0
 MakesTurns config events log ticks n qs ws ps Prints (Ok ending) =
-    (c : Config) × (vs : List Service) × (xs : List Event) × (k : BootAndHistory) × (writes_over config events log ≡ false) × IsBegun config events qs c vs xs
+    (c : Config) × (vs : List Service) × (xs : List Event) × (k : BootAndHistory) × IsBegun config events qs c vs xs
     × (names_program c log ≡ false) × IsTurned c vs n (coming xs ticks) k ending × ShowsTurns c vs n (coming xs ticks) ps
     × (ws ≡ kept log (saved_text c.rules k.history) ∷ []) × Prints (report_text (replay k).table (replay k).services)
 MakesTurns config events log ticks n qs ws ps Prints (Err f) =
-    ((writes_over config events log ≡ true) × (qs ≡ []) × (ws ≡ []) × (ps ≡ []) × (f ≡ File))
-    ⊎ (((writes_over config events log ≡ false) × (ws ≡ []) × (ps ≡ []) × IsNotBegun config events qs f)
-    ⊎ (((c : Config) × (vs : List Service) × (xs : List Event) × (writes_over config events log ≡ false) × IsBegun config events qs c vs xs
-    × (ps ≡ []) × SparesProgram c log ws Prints f)
-    ⊎ ((c : Config) × (vs : List Service) × (xs : List Event) × (k : BootAndHistory) × (ending : Ending) × (writes_over config events log ≡ false) × IsBegun config events qs c vs xs
-    × (names_program c log ≡ false) × IsTurned c vs n (coming xs ticks) k ending × ShowsTurns c vs n (coming xs ticks) ps × IsUnsaved log (saved_text c.rules k.history) ws f)))
+    ((ws ≡ []) × (ps ≡ []) × Prints [] × IsNotBegun config events qs f)
+    ⊎ (((c : Config) × (vs : List Service) × (xs : List Event) × IsBegun config events qs c vs xs × (ps ≡ []) × SparesProgram c log ws Prints f)
+    ⊎ ((c : Config) × (vs : List Service) × (xs : List Event) × (k : BootAndHistory) × (ending : Ending) × IsBegun config events qs c vs xs
+    × (names_program c log ≡ false) × IsTurned c vs n (coming xs ticks) k ending × ShowsTurns c vs n (coming xs ticks) ps
+    × IsUnreported log (saved_text c.rules k.history) ws Prints f))
 
 -- ---- its replay
 

@@ -17,4 +17,4 @@ pub use fault_files::fault_lines;
 pub use laws::{bound_is_not_met, turns_again};
 pub use nothing_tested::Untested;
 pub use sweeping::{SweepNames, SweepWanted, Swept, sweep};
-pub use turning::{TurnsNames, TurnsWanted, turns, writes_over};
+pub use turning::{TurnsNames, TurnsWanted, turns};

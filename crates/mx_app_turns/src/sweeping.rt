@@ -6,6 +6,7 @@ ghost use Rattle.std.specs.List.{flat_map};
 ghost use Rattle.std.specs.Str.{bytes_eq};
 ghost use Rattle.mx_boot.specs.Reading.{AreLinesRead, TellsUnread};
 ghost use Rattle.mx_app_start.specs.Log.{lines_above};
+ghost use Rattle.mx_app_start.specs.Programs.{over_program};
 ghost use Rattle.mx_machine.specs.Boot.{world_at_boot};
 ghost use Rattle.mx_machine.specs.declared.history.Record.{Record as Recorded};
 ghost use Rattle.mx_machine.specs.History.{AreAccepted, events_of_history};
@@ -26,15 +27,17 @@ ghost use Rattle.mx_app_turns.specs.Blocks.{block_text, positions_of, total_text
 ghost use Rattle.mx_app_turns.specs.Tallied.{both, has_room, tally_of, with_next};
 ghost use Rattle.mx_app_turns.specs.Untested.{untested_by};
 ghost use Rattle.mx_sweep.specs.Swept.{IsSwept};
-ghost use Rattle.mx_app_turns.specs.Sweeping.{IsBegun, IsNotBegun, IsShown, IsUnsaved, Sweeps, blocks_at, ended, findings_at, refusal_at, run_at, saved_if, saves_program, text_at, total_of, writes_over};
+ghost use Rattle.mx_app_turns.specs.Sweeping.{IsBegun, IsNotBegun, IsShown, IsUnsaved, Sweeps, blocks_at, ended, findings_at, refusal_at, run_at, saved_if, saves_program, text_at, total_of};
 ghost use Rattle.mx_app_step.specs.Kept.{kept_of, text_kept};
 ghost use Rattle.mx_app_turns.specs.Begun.{IsDone, IsReady, begun_of, is_ready, sweep_of};
 
 use crate::blocks::{Block, Total, push_block, push_total};
 use crate::fault_files::fault_lines;
 use crate::nothing_tested::{Untested, why_nothing};
-use mx_app_failure::{Failure, print_text};
-use mx_app_start::{Channels, FileWriter, History, Reader, Started, names_program, start, text_of};
+use mx_app_failure::{About, Failure, print_text};
+use mx_app_start::{
+    Channels, FileWriter, History, Reader, Started, spare_programs, start, text_of,
+};
 use mx_app_step::{perform_records, print_refusal, write_history};
 use mx_boot::lines_above;
 use mx_machine::{Config, Machine, Record, Refusal};
@@ -89,12 +92,15 @@ fn fault_of<R: Reader>(alloc: Global, reader: &mut R, name: &str) -> Result<Vec<
         × (R.asked reader.new ≡ R.asked reader.old ++ q ∷ []) × IsTextGiven name.now q text
         × AreLinesRead fault_line (lines text) said.items) }
     ensures fault { IfErr result (λ f. (q : Asked)
-        × (R.asked reader.new ≡ R.asked reader.old ++ q ∷ []) × (IsNoTextGiven name.now q f
-        ⊎ IsTextFaulty (λ text e. TellsUnread fault_line (lines text) e) name.now q f)) }
+        × (R.asked reader.new ≡ R.asked reader.old ++ q ∷ []) × (IsNoTextGiven About.Fault name.now q f
+        ⊎ IsTextFaulty (λ text e. TellsUnread fault_line (lines text) e)
+        About.Fault name.now q f)) }
 {
-    let text = text_of(alloc, reader, name)?;
-    let fault = fault_lines(alloc, text.as_str())?;
-    Ok(fault)
+    let text = text_of(alloc, reader, name, About::Fault)?;
+    match fault_lines(alloc, text.as_str()) {
+        Ok(fault) => Ok(fault),
+        Err(error) => Err(Failure::misstated(error, About::Fault, text)),
+    }
 }
 
 /// Boots the machine of a saved history, after the fault's file is read too.
@@ -115,24 +121,17 @@ fn begin<R: Reader>(alloc: Global, reader: &mut R, names: SweepNames<'_>) -> Res
     Ok(Begun { started, fault })
 }
 
-/// Whether a file that is read would be written over.
-fn writes_over(names: SweepNames<'_>, save: Option<&str>) -> bool
-    ensures { result ≡ writes_over names.entry.config.now names.entry.log.now names.entry.fault.now
-        (option_map (λ s. s.now) save.entry) }
+/// Refuses to write over the program of a service: the history that is to be saved, if one is, has its file's name.
+fn spare_if_saved(config: &Config, save: Option<&str>) -> Result<(), Failure>
+    ensures spared { OnOk result
+        (saves_program config.now (option_map (λ s. s.now) save.entry) ≡ false) }
+    ensures over { IfErr result (λ f.
+        (saves_program config.now (option_map (λ s. s.now) save.entry) ≡ true)
+        × (f ≡ over_program)) }
 {
     match save {
-        None => false,
-        Some(save) => names.config == save || names.log == save || names.fault == save,
-    }
-}
-
-/// Whether the program of a service would be written over.
-fn saves_program(config: &Config, save: Option<&str>) -> bool
-    ensures { result ≡ saves_program config.now (option_map (λ s. s.now) save.entry) }
-{
-    match save {
-        None => false,
-        Some(save) => names_program(config, save),
+        None => Ok(()),
+        Some(save) => spare_programs(config, save),
     }
 }
 
@@ -566,11 +565,10 @@ fn sweep_begun<R: Drop, F: FileWriter + Drop, W: Write + Drop, P: Progress>(
 /// Replays a saved history; then, for each of its positions that is wanted, boots the machine again, makes the
 /// records above the position, does what the fault's lines say, and makes turns. Prints what comes of each,
 /// positions in a row with the same lines as one block, with a mark if one of them has another outcome without the
-/// fault, and how many have the outcome that they have without it. Then writes the history of the last position's run to the file `save`, if it is named. If an event
-/// of the saved history is refused, prints that as `replay` does, and nothing is swept. No file that is read is
-/// written over: if `save` has the name of CONFIG, LOG or FAULT, nothing is read or written. If it has
-/// that of a service's program, nothing is swept, printed or written. After each position `progress` is
-/// shown how many are done.
+/// fault, and how many have the outcome that they have without it. Then writes the history of the last position's run
+/// to the file `save`, if it is named. If an event of the saved history is refused, prints that as `replay` does, and
+/// nothing is swept. If `save` has the name of a service's program, nothing is swept, printed or written. After each
+/// position `progress` is shown how many are done.
 pub fn sweep<R: Reader + Drop, F: FileWriter + Drop, W: Write + Drop, P: Progress>(
     alloc: Global,
     channels: &mut Channels<R, F, W>,
@@ -587,12 +585,7 @@ pub fn sweep<R: Reader + Drop, F: FileWriter + Drop, W: Write + Drop, P: Progres
         wanted.entry.bound qs ws ps
         (λ text. Appends (W.contents channels.old.out) (W.contents channels.new.out) text) result }
 {
-    if writes_over(names, wanted.save) {
-        return Err(Failure::File);
-    }
     let begun = begin(alloc, &mut channels.reader, names)?;
-    if saves_program(&begun.started.config, wanted.save) {
-        return Err(Failure::File);
-    }
+    spare_if_saved(&begun.started.config, wanted.save)?;
     sweep_begun(alloc, channels, progress, begun, wanted)
 }

@@ -10,15 +10,14 @@ ghost use Rattle.mx_walk.specs.declared.progress.Part.{Part as Parts};
 ghost use Rattle.mx_machine.specs.declared.config.Config.{Config as Configured};
 ghost use Rattle.mx_app_step.specs.Asked.{Asked};
 ghost use Rattle.mx_machine.specs.History.{replay};
-ghost use Rattle.mx_app_step.specs.Kept.{text_kept};
+ghost use Rattle.mx_app_step.specs.Kept.{IsUnreported, text_kept};
 ghost use Rattle.mx_app_step.specs.Report.{report_text};
-ghost use Rattle.mx_app_step.specs.Telling.{IsUnsaved};
 ghost use Rattle.mx_app_step.specs.Written.{Written, kept};
-ghost use Rattle.mx_app_turns.specs.Turned.{IsBegun, IsNotBegun, IsTurned, MakesTurns, ShowsTurns, coming, writes_over};
+ghost use Rattle.mx_app_turns.specs.Turned.{IsBegun, IsNotBegun, IsTurned, MakesTurns, ShowsTurns, coming};
 
 use crate::events::OutsideEvents;
 use mx_app_failure::Failure;
-use mx_app_start::{Channels, FileWriter, Reader, names_program, setup_of, start};
+use mx_app_start::{Channels, FileWriter, Reader, setup_of, spare_programs, start};
 use mx_app_step::{print_kernel_report, write_history};
 use mx_machine::{Config, Event, Kernel, Machine};
 use mx_turns::{Ending, Outside, make_turns};
@@ -105,17 +104,6 @@ fn begin<R: Reader>(
     }
 }
 
-/// Whether a file that is read would be written over: a configuration, or a file of events if one is named.
-pub fn writes_over(config: &str, events: Option<&str>, log: &str) -> bool
-    ensures { result ≡ writes_over config.entry.now (option_map (λ s. s.now) events.entry)
-        log.entry.now }
-{
-    match events {
-        None => config == log,
-        Some(events) => config == log || events == log,
-    }
-}
-
 /// Makes the turns of a machine that was begun, with its outside events and then ticks to come. Answers how they
 /// ended.
 fn drive<P: Progress>(begun: &mut Begun, wanted: TurnsWanted, progress: &mut P) -> Ending
@@ -159,7 +147,8 @@ fn save_and_report<R: Drop, F: FileWriter + Drop, W: Write + Drop>(
         (report_text (replay kernel.now).table (replay kernel.now).services)) }
     ensures unsaved { IfErr result (λ f. (ws : List Written)
         × (F.written channels.new.files ≡ F.written channels.old.files ++ ws)
-        × IsUnsaved log.now (text_kept kernel.now) ws f) }
+        × IsUnreported log.now (text_kept kernel.now) ws
+        (λ text. Appends (W.contents channels.old.out) (W.contents channels.new.out) text) f) }
 {
     write_history(alloc, kernel, &mut channels.files, log)?;
     print_kernel_report(alloc, kernel, &mut channels.out)
@@ -167,10 +156,8 @@ fn save_and_report<R: Drop, F: FileWriter + Drop, W: Write + Drop>(
 
 /// Makes turns of the machine of a configuration, with the outside events of a file and then ticks to come,
 /// until it is at rest and none is to come, or all turns are made, or its history is full. Then writes the
-/// history to a file, and prints the report. Answers how the turns ended. No file that is read
-/// is written over: if LOG has the name of CONFIG or EVENTS, nothing is read or written. If it has that
-/// of a service's program, no turn is made and nothing is written. After each turn `progress` is shown how many
-/// records the history has.
+/// history to a file, and prints the report. Answers how the turns ended. If LOG has the name of a service's program,
+/// no turn is made and nothing is written. After each turn `progress` is shown how many records the history has.
 pub fn turns<R: Reader + Drop, F: FileWriter + Drop, W: Write + Drop, P: Progress>(
     alloc: Global,
     channels: &mut Channels<R, F, W>,
@@ -186,13 +173,8 @@ pub fn turns<R: Reader + Drop, F: FileWriter + Drop, W: Write + Drop, P: Progres
         names.entry.log.now wanted.ticks wanted.bound qs ws ps
         (λ text. Appends (W.contents channels.old.out) (W.contents channels.new.out) text) result }
 {
-    if writes_over(names.config, names.events, names.log) {
-        return Err(Failure::File);
-    }
     let mut begun = begin(alloc, &mut channels.reader, names.config, names.events)?;
-    if names_program(&begun.config, names.log) {
-        return Err(Failure::File);
-    }
+    spare_programs(&begun.config, names.log)?;
     let ending = drive(&mut begun, wanted, progress);
     save_and_report(alloc, channels, begun.machine.kernel(), names.log)?;
     Ok(ending)

@@ -64,7 +64,7 @@ fn help_asked(rt: HostRuntime) -> Result<(), Fail> {
     for row in ASKED {
         let name = row.name;
         let words = words_of(rt.alloc(), row.words)?;
-        let asked = texts_asked(rt.alloc(), words.as_slice())?;
+        let asked = texts_asked(rt.alloc(), words.as_slice()).map_err(|_| "no memory")?;
         assert!(rt; asked.as_slice() == row.texts, "{name}");
     }
     Ok(())

@@ -3,8 +3,8 @@
 
 use crate::files::{SUM, reader};
 use mx_app::{
-    CommandIo, Complaint, DrivenEnding, Ending, Failure, LineFailure, NoProgress, NotingFiles,
-    NotingReader, RunEnding, perform_words,
+    CommandIo, Complaint, DrivenEnding, Ending, Failure, LineFailure, NoProgress, RunEnding,
+    perform_words,
 };
 use mx_app_db::{Channels, InputLines, KeptFile, MemoryWriter, NamedFiles};
 use std::alloc::Global;
@@ -40,8 +40,8 @@ impl Write for Sink {
 }
 
 type MemoryIo = CommandIo<
-    NotingReader<NamedFiles<'static>>,
-    NotingFiles<MemoryWriter>,
+    NamedFiles<'static>,
+    MemoryWriter,
     Sink,
     InputLines<&'static [u8]>,
     NoProgress,
@@ -55,8 +55,8 @@ fn memory_io(alloc: Global, refusal: Option<io::ErrorKind>) -> MemoryIo {
     };
     CommandIo {
         channels: Channels {
-            reader: NotingReader::new(reader()),
-            files: NotingFiles::new(files),
+            reader: reader(),
+            files,
             out: Sink {
                 bytes: Vec::new(alloc),
                 flushed: 0,
@@ -118,7 +118,7 @@ fn is_done<R: Threads + Wait + Clock + Sync>(rt: &R, alloc: Global, row: &Done) 
     status == row.status
         && answer.is_empty()
         && is_printed(&work.channels.out, row.printed)
-        && is_kept(work.channels.files.writer().files(), row.file)
+        && is_kept(work.channels.files.files(), row.file)
 }
 
 /// Whether words fail with nothing printed or written if what takes bytes refuses each write in this way.
@@ -133,7 +133,7 @@ fn is_refused<R: Threads + Wait + Clock + Sync>(
     let (status, answer) = perform(rt, alloc, &mut work, row.words, false);
     (status, answer.as_str()) == wanted
         && is_printed(&work.channels.out, "")
-        && is_kept(work.channels.files.writer().files(), None)
+        && is_kept(work.channels.files.files(), None)
 }
 
 const SUMMED: &str = "EAX 00000080 ECX 00000000 EDX 00000000 EBX 00000000\n\
@@ -296,10 +296,47 @@ fn terminals_explained(rt: HostRuntime) {
     }
 }
 
+/// Each kind of error of standard output, and what is said of it.
+static OUTPUTS: &[(io::ErrorKind, &str)] = &[
+    (io::ErrorKind::BrokenPipe, "its reader has ended"),
+    (
+        io::ErrorKind::StorageFull,
+        "wanted room for what is printed",
+    ),
+    (
+        io::ErrorKind::QuotaExceeded,
+        "wanted room for what is printed",
+    ),
+    (
+        io::ErrorKind::FileTooLarge,
+        "wanted room for what is printed",
+    ),
+    (
+        io::ErrorKind::Uncategorized,
+        "wanted an output that can be written",
+    ),
+];
+
+/// Standard output that fails is called by its name, with what is wrong with it.
+#[test]
+fn outputs_explained(rt: HostRuntime) -> Result<(), Fail> {
+    for (kind, said) in OUTPUTS {
+        let mut work = memory_io(rt.alloc(), Some(*kind));
+        let words = &["mx", "explain", "one", "--explain"];
+        let (status, answer) = perform(&rt, rt.alloc(), &mut work, words, false);
+        let wanted = format!(in rt.alloc(); "mx: 80 File\nmx: standard output: {said}\n")?;
+        assert!(rt;
+            status == 3 && answer.as_str() == wanted.as_str(),
+            "{answer}"
+        );
+    }
+    Ok(())
+}
+
 /// A failure for whose line there is no memory reports this, and has the status that it had.
 #[test]
 fn nothing_explained(rt: HostRuntime) -> Result<(), Fail> {
-    let complaint = Complaint::Unexplained(LineFailure::Request(Failure::File));
+    let complaint = Complaint::Unexplained(LineFailure::Request(Failure::Input));
     let answer = complaint.to_string(rt.alloc())?;
     assert!(rt; answer.as_str() == "mx: 80 File\nmx: memory: wanted more of it\n");
     assert!(rt; complaint.status() == 3);
@@ -315,7 +352,7 @@ fn lines_in(text: &[u8]) -> usize {
 /// rules, four records of the processor and the ticks.
 fn has_three_ticks(work: &MemoryIo) -> bool {
     let report = "0 a 0 down fault 13 7 1\nuptime 3\nconsole 0\n";
-    let is_saved = match work.channels.files.writer().files() {
+    let is_saved = match work.channels.files.files() {
         [file] => lines_in(file.bytes.as_slice()) == 8,
         _ => false,
     };

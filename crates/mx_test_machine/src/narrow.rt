@@ -2,7 +2,7 @@
 
 use crate::files::reader;
 use crate::texts::Narrow;
-use mx_app::{CommandIo, Failure, NoProgress, perform};
+use mx_app::{CommandIo, Failure, NoProgress, OutputProblem, perform};
 use mx_app_command::{CommandRequest, RecordRange};
 use mx_app_db::{Channels, InputLines, MemoryWriter, Script, make_steps, start};
 use mx_boot::{Over, save};
@@ -48,17 +48,13 @@ fn is_printed<R: Threads + Wait + Clock + Sync>(
         asks: false,
     };
     let text = row.printed.as_bytes();
-    let wanted = if room < text.len() {
-        Err(Failure::File)
-    } else {
-        Ok(0)
+    let is_short = room < text.len();
+    let is_answered = match perform(rt, alloc, &mut io, row.request) {
+        Ok(done) => !is_short && done.status == 0,
+        Err(Failure::Output(OutputProblem::NoRoom)) => is_short,
+        Err(_) => false,
     };
-    let done = perform(rt, alloc, &mut io, row.request);
-    let answer = match done {
-        Ok(done) => Ok(done.status),
-        Err(failure) => Err(failure),
-    };
-    answer == wanted && io.channels.out.bytes.as_slice() == &text[..room.min(text.len())]
+    is_answered && io.channels.out.bytes.as_slice() == &text[..room.min(text.len())]
 }
 
 fn print_in_each_room<R: Threads + Wait + Clock + Sync + Abort>(rt: &R, alloc: Global, row: &Row) {

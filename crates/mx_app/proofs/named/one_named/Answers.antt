@@ -1,14 +1,10 @@
-use Rattle.std.proofs.Common.{inl}
-use Rattle.std.specs.IoError.{error_kind}
 use Rattle.mx_app_program.specs.One.{IsPrinted}
-use Rattle.mx_app_db.specs.Asked.{file_given, file_missed}
+use Rattle.mx_app_db.specs.Asked.{file_given}
 use Rattle.mx_app.proofs.Shown.{missing, shown}
 use Rattle.mx_app.proofs.named.one_named.Goals as goal
 
 pub returns-in_err-bytes : goal.returns-in_err-bytes
-returns-in_err-bytes g c =
-    let kind = error_kind c.in_err-bytes.field-0.0 in
-    (file_missed c.args.file.now kind, c.in_err-bytes.ensures.missed, inl (missing c.args.file.now kind c.from_residual.result c.from_residual.ensures.1))
+returns-in_err-bytes g c = missing (λ bytes text. IsPrinted bytes c.args.steps text) c.args.file.now _ c.from_residual.result _ _ c.in_err-bytes.field-0.0 c.in_err-bytes.ensures.missed c.from_residual.ensures.1
 
 pub returns : goal.returns
 returns g c = (

@@ -1,9 +1,6 @@
-use Rattle.std.proofs.Common.{inl, inr, refl, subst, sym}
+use Rattle.std.proofs.Common.{inl, inr, refl, sym}
 use Rattle.std.proofs.lemmas.List.{append-nil}
-use Rattle.mx_app.specs.Noting.{Noted}
-use Rattle.mx_app.specs.Words.{IsAnswered}
-use Rattle.mx_app.proofs.Doing.{nothing_done}
-use Rattle.mx_app.proofs.Complaints.{noted_same}
+use Rattle.mx_app.specs.Deeds.{nothing_done}
 use Rattle.mx_app.proofs.words.perform_words.Goals as goal
 
 pub returns-in-Err-clause-done : goal.returns-in-Err-clause-done
@@ -12,8 +9,7 @@ returns-in-Err-clause-done g c =
 
 pub returns-in-Ok-clause-done : goal.returns-in-Ok-clause-done
 returns-in-Ok-clause-done g c =
-    let done = c.perform_line-done.ensures.done in
-    let same = noted_same c.notes_of.result _ _ _ _ c.notes_of.ensures.last c.notes_of.ensures.missed c.notes_of.ensures.unwritten c.notes_of.ensures.text in (
+    let done = c.perform_line-done.ensures.done in (
       done.0,
       done.1,
       done.2,
@@ -28,6 +24,6 @@ returns-in-Ok-clause-done g c =
         c.in-Ok.ensures.sums,
         c.in-Ok.ensures.apart,
         done.5,
-        subst (λ (n : Noted). IsAnswered c.in-Ok.line c.args.shows c.perform_line-done.result n c.answer.result) same c.answer.ensures,
+        c.answer.ensures,
       ),
     )

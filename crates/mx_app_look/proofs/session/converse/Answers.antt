@@ -1,6 +1,6 @@
-use Rattle.std.proofs.Common.{rules, ◌∙◌, ◌++◌, IfErr, List, Some, ℕ, [], ◌∷◌, ap, sym, arith}
+use Rattle.std.proofs.Common.{rules, ◌∙◌, ◌++◌, IfErr, List, Some, ℕ, [], ◌∷◌, ap, inl, inr, sym, arith}
 use Rattle.std.proofs.lemmas.Result.{IfErr-weaker, IfOk-weaker}
-use Rattle.mx_app_step.specs.Failure.{IsWanting}
+use Rattle.mx_app_step.specs.Failure.{IsUntyped, IsWanting}
 use Rattle.mx_app_look.proofs.SoFar.{broken_off, ended, given_more, none_case, one_more, over, shown_more, some_case}
 use Rattle.mx_app_look.proofs.session.converse.Goals as goal
 
@@ -8,8 +8,8 @@ pub returns-in_err-next_line-clause-err : goal.returns-in_err-next_line-clause-e
 returns-in_err-next_line-clause-err g c =
     let inv = c.loop.invariant in
     let same = c.in_err-next_line.ensures.failed in
-    let wanting : IfErr c.from_residual.result IsWanting = search rules in
-    IfErr-weaker c.from_residual.result IsWanting _ (λ f h. (h, (inv.typed, same ∙ inv.lines), (inv.parts, inv.walked))) wanting
+    let untyped : IfErr c.from_residual.result IsUntyped = search rules in
+    IfErr-weaker c.from_residual.result IsUntyped _ (λ f h. (inl h, (inv.typed, same ∙ inv.lines), (inv.parts, inv.walked))) untyped
 
 pub returns-in_err-next-clause-err : goal.returns-in_err-next-clause-err
 returns-in_err-next-clause-err g c =
@@ -19,7 +19,7 @@ returns-in_err-next-clause-err g c =
     (g.P.Progress.shown c.args.progress.now) (g.P.Progress.shown c.loop.progress) (g.W.Write.contents c.args.out.now) (g.W.Write.contents c.loop.out) (Some c.next_line.new.line.items) c.loop.invariant more in
     let shown = shown_more c.args.session.asks c.args.session.sight c.loop.sight c.loop.counter (g.L.LineReader.given c.args.lines.now) (g.L.LineReader.given c.loop.lines)
     (g.P.Progress.shown c.args.progress.now) (g.P.Progress.shown c.loop.progress) (g.P.Progress.shown c.reply.new.progress) (g.W.Write.contents c.args.out.now) (g.W.Write.contents c.loop.out) c.loop.invariant c.in_err-next.ensures.grown in
-    IfErr-weaker c.from_residual-in_err-next.result IsWanting _ (λ f h. (h, given, shown)) wanting
+    IfErr-weaker c.from_residual-in_err-next.result IsWanting _ (λ f h. (inr h, given, shown)) wanting
 
 pub returns-in-None-clause-printed : goal.returns-in-None-clause-printed
 returns-in-None-clause-printed g c =
@@ -41,7 +41,7 @@ returns-then-not-branch-clause-err g c =
     let more = c.in_ok-next_line.ensures.end c.if-not-branch.true in
     let given = given_more c.args.session.asks c.args.session.sight c.loop.sight c.loop.counter (g.L.LineReader.given c.args.lines.now) (g.L.LineReader.given c.loop.lines) (g.L.LineReader.given c.next_line.new.lines)
     (g.P.Progress.shown c.args.progress.now) (g.P.Progress.shown c.loop.progress) (g.W.Write.contents c.args.out.now) (g.W.Write.contents c.loop.out) _ inv more in
-    IfErr-weaker c.print_end.result IsWanting _ (λ f h. (h, given, (inv.parts, inv.walked))) c.print_end.ensures.err
+    IfErr-weaker c.print_end.result IsWanting _ (λ f h. (inr h, given, (inv.parts, inv.walked))) c.print_end.ensures.err
 
 pub returns-then-not-branch-clause-printed : goal.returns-then-not-branch-clause-printed
 returns-then-not-branch-clause-printed g c =

@@ -22,7 +22,7 @@ returns-in_err-begin-clause-fault g c =
     let k = c.in_ok-walker.walker in
     let wanting : IfErr c.from_residual-in_err-begin.result IsWanting = search rules in
     IfErr-weaker c.from_residual-in_err-begin.result IsWanting _
-    (λ f e. (s.0, [], walk_shown k.records k.last, s.4, sym (append-nil (g.L.LineReader.given c.args.lines.now)), s.5, inr (s.1, s.2, s.3, k.last, s.6, s.7.last, grown_same _ _ (ap (λ (rs : List Record). walk_shown rs k.last) s.7.records), e))) wanting
+    (λ f e. (s.0, [], walk_shown k.records k.last, s.4, sym (append-nil (g.L.LineReader.given c.args.lines.now)), s.5, inr (s.1, s.2, s.3, k.last, s.6, s.7.last, grown_same _ _ (ap (λ (rs : List Record). walk_shown rs k.last) s.7.records), inr e))) wanting
 
 pub returns-clause-printed : goal.returns-clause-printed
 returns-clause-printed g c =

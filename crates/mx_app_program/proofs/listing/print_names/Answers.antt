@@ -1,19 +1,17 @@
 use Rattle.std.proofs.Common.{string_bytes, sym, subst, List, ℕ}
-use Rattle.std.proofs.lemmas.Result.{err_from_is_err_and}
 use Rattle.mx_aout.specs.File.{refusal_of}
 use Rattle.mx_app_program.specs.Shown.{HasNames, IsShown}
 use Rattle.mx_app_program.proofs.Showing.{shown_on, tells_refused, tells_written, text_shown}
 use Rattle.mx_app_program.proofs.listing.print_names.Goals as goal
 
-pub returns-in_err-text-clause-tells : goal.returns-in_err-text-clause-tells
-returns-in_err-text-clause-tells g c =
-    let p = err_from_is_err_and c.from_residual.result c.from_residual.ensures.1 in
-    rw (p.1, p.2) (tells_refused (λ text. string_bytes text) HasNames (refusal_of c.args.bytes.now) c.args.bytes.now c.in_err-text.field-0.0 c.in_err-text.ensures)
-
 pub returns-clause-tells : goal.returns-clause-tells
-returns-clause-tells g c = tells_written (λ text. string_bytes text) HasNames (refusal_of c.args.bytes.now) c.args.bytes.now c.in_ok-text.text c.print_text.result c.in_ok-text.ensures c.print_text.ensures.err
+returns-clause-tells g c = tells_written (λ text. string_bytes text) HasNames (refusal_of c.args.bytes.now) c.args.bytes.now c.in-Ok.text c.print_text.result c.in-Ok.ensures c.print_text.ensures.err
 
 pub returns-clause-shown : goal.returns-clause-shown
 returns-clause-shown g c =
-    let shown = text_shown (λ text. string_bytes text) HasNames (refusal_of c.args.bytes.now) c.args.bytes.now c.in_ok-text.text c.in_ok-text.ensures in
+    let shown = text_shown (λ text. string_bytes text) HasNames (refusal_of c.args.bytes.now) c.args.bytes.now c.in-Ok.text c.in-Ok.ensures in
     shown_on HasNames c.args.bytes.now _ _ c.as_bytes.result.now c.print_text.result (subst (λ (t : List ℕ). IsShown HasNames c.args.bytes.now t) (sym c.as_bytes.ensures.value) shown) c.print_text.ensures.bytes
+
+pub returns-in-Err-clause-tells : goal.returns-in-Err-clause-tells
+returns-in-Err-clause-tells g c =
+    rw (c.refused.ensures) (tells_refused (λ text. string_bytes text) HasNames (refusal_of c.args.bytes.now) c.args.bytes.now c.in-Err.error c.in-Err.ensures)

@@ -10,13 +10,12 @@ returns-in_err-text-clause-fault g c =
     let h = c.in_err-text.ensures.fault in
     rw (p.1, p.2) (h.0, h.1, inl h.2)
 
-pub returns-in_err-calls-clause-fault : goal.returns-in_err-calls-clause-fault
-returns-in_err-calls-clause-fault g c =
-    let p = err_from_is_err_and c.from_residual-in_err-calls.result c.from_residual-in_err-calls.ensures.1 in
+pub returns-in-Err-clause-fault : goal.returns-in-Err-clause-fault
+returns-in-Err-clause-fault g c =
     let t = c.in_ok-text.ensures.text in
-    rw (p.1, p.2) (t.0, t.1, calls_unread c.args.name.now (string_bytes c.in_ok-text.text) c.as_str.result.now t.0 c.args.others c.in_err-calls.field-0.0 c.as_str.ensures.value t.2 c.in_err-calls.ensures.unread)
+    (t.0, t.1, calls_unread c.args.name.now (string_bytes c.in_ok-text.text) c.as_str.result.now t.0 c.args.others c.in-Err.error c.misstated.result c.as_str.ensures.value t.2 c.in-Err.ensures.unread c.misstated.ensures)
 
-pub returns-clause-calls : goal.returns-clause-calls
-returns-clause-calls g c =
+pub returns-in-Ok-clause-calls : goal.returns-in-Ok-clause-calls
+returns-in-Ok-clause-calls g c =
     let t = c.in_ok-text.ensures.text in
-    (t.0, t.1, calls_given c.args.name.now (string_bytes c.in_ok-text.text) c.as_str.result.now t.0 c.args.others c.in_ok-calls.calls.items c.as_str.ensures.value t.2 c.in_ok-calls.ensures.read)
+    (t.0, t.1, calls_given c.args.name.now (string_bytes c.in_ok-text.text) c.as_str.result.now t.0 c.args.others c.in-Ok.calls.items c.as_str.ensures.value t.2 c.in-Ok.ensures.read)

@@ -1,18 +1,12 @@
-use Rattle.std.proofs.Common.{ap, inr, refl, sym}
+use Rattle.std.proofs.Common.{◌∙◌, Some, ap, inr, refl}
+use Rattle.mx_app_failure.specs.Failure.{problem_of_bytes}
 use Rattle.mx_app_start.specs.Asked.{file_given}
 use Rattle.mx_app_start.proofs.SetupLemmas.{never}
 use Rattle.mx_app_start.proofs.setup.text_of.Goals as goal
 
-pub returns-in-Ok-clause-text : goal.returns-in-Ok-clause-text
-returns-in-Ok-clause-text g c = (
-  file_given c.args.name.now c.in_ok-bytes.bytes.items,
-  c.in_ok-bytes.ensures.given,
-  (ap (λ v. file_given c.args.name.now v.items) (sym c.in-Ok.ensures.ok), c.in-Ok.text.ok),
-)
-
-pub returns-clause-fault : goal.returns-clause-fault
-returns-clause-fault g c = (
-  file_given c.args.name.now c.in_ok-bytes.bytes.items,
-  c.in_ok-bytes.ensures.given,
-  inr (c.in_ok-bytes.bytes.items, refl, (λ u. never (c.in-Err.ensures.succeeds u)), refl),
+pub returns-in-Err-from_utf8-clause-fault : goal.returns-in-Err-from_utf8-clause-fault
+returns-in-Err-from_utf8-clause-fault g c = (
+  file_given c.args.name.now c.in-Ok.bytes.items,
+  c.in-Ok.ensures.given,
+  (Some c.of_bytes-problem.result, inr (c.in-Ok.bytes.items, refl, (λ u. never (c.in-Err-from_utf8.ensures.succeeds u)), ap Some (c.of_bytes-problem.ensures ∙ ap problem_of_bytes c.as_slice.ensures.value)), c.of.ensures),
 )

@@ -1,20 +1,16 @@
-use Rattle.std.proofs.Common.{◌∙◌, ◌∷◌, ℕ, List, [], Option, ap, inl, refl, subst, sym, true, false}
-use Rattle.std.specs.Prelude.{◌≡◌, option_map}
+use Rattle.std.proofs.Common.{◌∙◌, ◌∷◌, ℕ, List, [], Option, ap, refl, subst, sym}
+use Rattle.std.specs.Prelude.{option_map}
 use Rattle.std.specs.Io.KnownBytes.{Appends}
 use Rattle.std.proofs.lemmas.List.{append-nil}
 use Rattle.mx_app_start.proofs.Appended.{appends_nothing}
 use Rattle.mx_app_step.specs.Kept.{text_kept}
-use Rattle.mx_app_step.specs.Programs.{names_program}
 use Rattle.mx_app_step.specs.Written.{kept}
 use Rattle.mx_machine.specs.Boot.{world_at_boot}
 use Rattle.mx_machine.specs.declared.config.Config.{Config}
 use Rattle.mx_machine.specs.History.{BootAndHistory}
-use Rattle.mx_app_turns.specs.Turned.{IsBegun, IsTurned, coming, writes_over}
+use Rattle.mx_app_turns.specs.Turned.{IsBegun, IsTurned, coming}
 use Rattle.mx_app_turns.proofs.TurnedLemmas.{not_begun, spared, untold, written}
 use Rattle.mx_app_turns.proofs.turning.turns.Goals as goal
-
-pub returns-then-writes_over : goal.returns-then-writes_over
-returns-then-writes_over g c = ([], [], [], sym (append-nil _), sym (append-nil _), sym (append-nil _), inl (sym c.writes_over.ensures ∙ c.if-writes_over.true, refl, refl, refl, refl))
 
 pub returns-in_err-begun : goal.returns-in_err-begun
 returns-in_err-begun g c =
@@ -23,27 +19,26 @@ returns-in_err-begun g c =
     let log = c.args.names.log.now in
     let ticks = c.args.wanted.ticks in
     let bound = c.args.wanted.bound in
-    let apart : writes_over config file log ≡ false = sym {b = writes_over config file log} c.writes_over.ensures ∙ c.if-writes_over.false in
     let h = c.in_err-begun.ensures.fault in
-    (h.0, [], [], h.1, sym (append-nil _), sym (append-nil _), not_begun config file log ticks bound h.0 (λ (text : List ℕ). Appends (g.W.Write.contents c.args.channels.now.out) (g.W.Write.contents c.args.channels.now.out) text) apart c.in_err-begun.field-0.0 c.from_residual.result h.2 c.from_residual.ensures.1)
+    (h.0, [], [], h.1, sym (append-nil _), sym (append-nil _), not_begun config file log ticks bound h.0 (λ (text : List ℕ). Appends (g.W.Write.contents c.args.channels.now.out) (g.W.Write.contents c.args.channels.now.out) text) c.in_err-begun.field-0.0 c.from_residual.result h.2 (appends_nothing _) c.from_residual.ensures.1)
 
-pub returns-then-names_program : goal.returns-then-names_program
-returns-then-names_program g c =
+pub returns-in_err-spare_programs : goal.returns-in_err-spare_programs
+returns-in_err-spare_programs g c =
     let config = c.args.names.config.now in
     let file : Option (List ℕ) = option_map (λ s. s.now) c.args.names.events in
     let log = c.args.names.log.now in
-    let apart : writes_over config file log ≡ false = sym {b = writes_over config file log} c.writes_over.ensures ∙ c.if-writes_over.false in
     let s = c.in_ok-begun.ensures.begun in
     let b = c.in_ok-begun.begun in
     let begun = subst (λ (k : Config). IsBegun config file s.0 k s.2 b.events.items) (sym s.6) s.4 in
-    let named : names_program b.config log ≡ true = sym {b = names_program b.config log} c.names_program.ensures ∙ c.if-names_program.true in (
+    let h = c.in_err-spare_programs.ensures.over in (
       s.0,
       [],
       [],
       s.3,
       sym (append-nil _),
       sym (append-nil _),
-      spared config file log c.args.wanted.ticks c.args.wanted.bound s.0 (λ (text : List ℕ). Appends (g.W.Write.contents c.args.channels.now.out) (g.W.Write.contents c.args.channels.now.out) text) apart b.config s.2 b.events.items _ begun (named, refl, appends_nothing _, refl),
+      spared config file log c.args.wanted.ticks c.args.wanted.bound s.0 (λ (text : List ℕ). Appends (g.W.Write.contents c.args.channels.now.out) (g.W.Write.contents c.args.channels.now.out) text) b.config s.2 b.events.items
+          c.in_err-spare_programs.field-0.0 c.from_residual-in_err-spare_programs.result begun (h.0, refl, appends_nothing _, h.1) c.from_residual-in_err-spare_programs.ensures.1,
     )
 
 pub returns-in_err-save_and_report : goal.returns-in_err-save_and_report
@@ -51,12 +46,11 @@ returns-in_err-save_and_report g c =
     let config = c.args.names.config.now in
     let file : Option (List ℕ) = option_map (λ s. s.now) c.args.names.events in
     let log = c.args.names.log.now in
-    let apart : writes_over config file log ≡ false = sym {b = writes_over config file log} c.writes_over.ensures ∙ c.if-writes_over.false in
     let s = c.in_ok-begun.ensures.begun in
     let b = c.in_ok-begun.begun in
     let begun = subst (λ (k : Config). IsBegun config file s.0 k s.2 b.events.items) (sym s.6) s.4 in
     let booted = s.5 ∙ ap (λ (k : Config). world_at_boot k s.2) (sym s.6) in
-    let unnamed : names_program b.config log ≡ false = sym {b = names_program b.config log} c.names_program.ensures ∙ c.if-names_program.false in
+    let unnamed = c.in_ok-spare_programs.ensures.spared in
     let shown = c.drive-ending.ensures.shown s.2 booted in
     let k = c.kernel.result.now in
     let made = subst (λ (x : BootAndHistory). IsTurned b.config s.2 c.args.wanted.bound (coming b.events.items c.args.wanted.ticks) x c.drive-ending.result) (sym c.kernel.ensures) (c.drive-ending.ensures.turned s.2 booted) in
@@ -67,7 +61,7 @@ returns-in_err-save_and_report g c =
       ap g.R.Reader.asked c.in_err-save_and_report.ensures.reader ∙ s.3,
       h.1,
       shown.1,
-      untold config file log c.args.wanted.ticks c.args.wanted.bound s.0 (λ (text : List ℕ). Appends (g.W.Write.contents c.args.channels.now.out) (g.W.Write.contents c.save_and_report.new.channels.out) text) apart b.config s.2 b.events.items
+      untold config file log c.args.wanted.ticks c.args.wanted.bound s.0 (λ (text : List ℕ). Appends (g.W.Write.contents c.args.channels.now.out) (g.W.Write.contents c.save_and_report.new.channels.out) text) b.config s.2 b.events.items
           k c.drive-ending.result shown.0 begun unnamed made shown.2 h.0 c.in_err-save_and_report.field-0.0 c.from_residual-in_err-save_and_report.result h.2 c.from_residual-in_err-save_and_report.ensures.1,
     )
 
@@ -76,12 +70,11 @@ returns g c =
     let config = c.args.names.config.now in
     let file : Option (List ℕ) = option_map (λ s. s.now) c.args.names.events in
     let log = c.args.names.log.now in
-    let apart : writes_over config file log ≡ false = sym {b = writes_over config file log} c.writes_over.ensures ∙ c.if-writes_over.false in
     let s = c.in_ok-begun.ensures.begun in
     let b = c.in_ok-begun.begun in
     let begun = subst (λ (k : Config). IsBegun config file s.0 k s.2 b.events.items) (sym s.6) s.4 in
     let booted = s.5 ∙ ap (λ (k : Config). world_at_boot k s.2) (sym s.6) in
-    let unnamed : names_program b.config log ≡ false = sym {b = names_program b.config log} c.names_program.ensures ∙ c.if-names_program.false in
+    let unnamed = c.in_ok-spare_programs.ensures.spared in
     let shown = c.drive-ending.ensures.shown s.2 booted in
     let k = c.kernel.result.now in
     let made = subst (λ (x : BootAndHistory). IsTurned b.config s.2 c.args.wanted.bound (coming b.events.items c.args.wanted.ticks) x c.drive-ending.result) (sym c.kernel.ensures) (c.drive-ending.ensures.turned s.2 booted) in
@@ -92,6 +85,6 @@ returns g c =
       ap g.R.Reader.asked c.in_ok-save_and_report.ensures.reader ∙ s.3,
       h.0,
       shown.1,
-      written config file log c.args.wanted.ticks c.args.wanted.bound s.0 (λ (text : List ℕ). Appends (g.W.Write.contents c.args.channels.now.out) (g.W.Write.contents c.save_and_report.new.channels.out) text) apart b.config s.2 b.events.items
+      written config file log c.args.wanted.ticks c.args.wanted.bound s.0 (λ (text : List ℕ). Appends (g.W.Write.contents c.args.channels.now.out) (g.W.Write.contents c.save_and_report.new.channels.out) text) b.config s.2 b.events.items
           k c.drive-ending.result shown.0 begun unnamed made shown.2 h.1,
     )

@@ -1,0 +1,98 @@
+-- The files that a request names: those that it reads, in order, and the one that it writes (our own).
+use Rattle.std.specs.Prelude.{◌||◌, ℕ, Bool, false, List, codes, Option, Some, None, option_map}
+use Rattle.std.specs.Str.{bytes_eq}
+use Rattle.mx_app_command.specs.declared.files.NamedWord.{NamedWord}
+use Rattle.mx_app_command.specs.declared.files.ReadWords.{ReadWords}
+use Rattle.mx_app_command.specs.declared.words.CommandRequest.{CommandRequest}
+use Rattle.mx_app_command.specs.declared.words.CommandRequest.TheVariants.{One, As, Dis, Nm, Explain, Step, Run, Turns, Sweep, Replay, Trace, Draw, Look, Db}
+
+-- A word of the command line that names a file: the word as help has it, and the name.
+pub record FileWord : Type 0 where
+  pub label : List ℕ
+  pub name : List ℕ
+
+abbrev pub file_word : List ℕ → List ℕ → FileWord
+file_word label name = record { label = label; name = name }
+
+-- The files that are read, in order: a program, a text or a configuration; what drives the machine; a sweep's fault.
+pub record FilesRead : Type 0 where
+  pub first : FileWord
+  pub course : Option FileWord
+  pub fault : Option FileWord
+
+abbrev pub one_file : List ℕ → List ℕ → FilesRead
+one_file label name = record { first = file_word label name; course = None; fault = None }
+
+-- a configuration, and what drives its machine
+abbrev pub with_course : List ℕ → List ℕ → List ℕ → FilesRead
+with_course config label name =
+    record { first = file_word (codes "CONFIG") config; course = Some (file_word label name); fault = None }
+
+-- a configuration, and the file of outside events if one is named
+abbrev pub with_events : List ℕ → Option (List ℕ) → FilesRead
+with_events config None = one_file (codes "CONFIG") config
+with_events config (Some events) = with_course config (codes "EVENTS") events
+
+-- THE FILES THAT ARE READ
+abbrev pub files_read : CommandRequest → FilesRead
+files_read (One file steps) = one_file (codes "FILE") file.now
+files_read (As text file) = one_file (codes "TEXT") text.now
+files_read (Dis file) = one_file (codes "FILE") file.now
+files_read (Nm file) = one_file (codes "FILE") file.now
+files_read (Explain config) = one_file (codes "CONFIG") config.now
+files_read (Step config script save numbered) = with_course config.now (codes "SCRIPT") script.now
+files_read (Run config log ticks events) = with_events config.now (option_map (λ s. s.now) events)
+files_read (Turns config log ticks events bound) = with_events config.now (option_map (λ s. s.now) events)
+files_read (Sweep config log fault bound from to strict save) =
+    record {
+      first = file_word (codes "CONFIG") config.now;
+      course = Some (file_word (codes "LOG") log.now);
+      fault = Some (file_word (codes "FAULT") fault.now);
+    }
+files_read (Replay config log) = with_course config.now (codes "LOG") log.now
+files_read (Trace config log range) = with_course config.now (codes "LOG") log.now
+files_read (Draw config log range) = with_course config.now (codes "LOG") log.now
+files_read (Look config log) = with_course config.now (codes "LOG") log.now
+files_read (Db config script) = with_course config.now (codes "SCRIPT") script.now
+
+-- THE FILE THAT IS WRITTEN
+abbrev pub file_written : CommandRequest → Option FileWord
+file_written (As text file) = Some (file_word (codes "FILE") file.now)
+file_written (Step config script (Some log) numbered) = Some (file_word (codes "LOG") log.now)
+file_written (Run config log ticks events) = Some (file_word (codes "LOG") log.now)
+file_written (Turns config log ticks events bound) = Some (file_word (codes "LOG") log.now)
+file_written (Sweep config log fault bound from to strict (Some file)) = Some (file_word (codes "FILE") file.now)
+file_written r = None
+
+-- ---- names
+
+abbrev pub is_of : List ℕ → FileWord → Bool
+is_of name w = bytes_eq w.name name
+
+-- a word that may be there names this file, byte for byte
+abbrev pub names : Option FileWord → List ℕ → Bool
+names None name = false
+names (Some w) name = is_of name w
+
+-- one of these files has this name
+abbrev pub has_name : FilesRead → List ℕ → Bool
+has_name files name = is_of name files.first || (names files.course name || names files.fault name)
+
+-- what is read would be written over
+abbrev pub is_over : FilesRead → Option FileWord → Bool
+is_over files None = false
+is_over files (Some w) = has_name files w.name
+
+abbrev pub writes_over : CommandRequest → Bool
+writes_over r = is_over (files_read r) (file_written r)
+
+abbrev pub names_file : CommandRequest → List ℕ → Bool
+names_file r name = has_name (files_read r) name || names (file_written r) name
+
+-- ---- as values
+
+abbrev pub word_of : NamedWord → FileWord
+word_of w = file_word w.label.now w.name.now
+
+abbrev pub files_in : ReadWords → FilesRead
+files_in r = record { first = word_of r.first; course = option_map word_of r.course; fault = option_map word_of r.fault }

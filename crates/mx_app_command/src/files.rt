@@ -1,0 +1,153 @@
+//! The files that a request names: those that it reads, and the one that it writes.
+
+ghost use Rattle.std.specs.Prelude.{◌≡◌, codes, option_map};
+ghost use Rattle.mx_app_command.specs.Files.{file_word, file_written, files_in, files_read, has_name, names, names_file, one_file, with_course, with_events, word_of, writes_over};
+
+use crate::words::CommandRequest;
+
+/// A word of the command line that names a file: the word as help has it, and the file's name.
+#[derive(Clone, Copy)]
+pub struct NamedWord<'a> {
+    pub label: &'static str,
+    pub name: &'a str,
+}
+
+/// The files that a request reads, in order.
+#[derive(Clone, Copy)]
+pub struct ReadWords<'a> {
+    /// A program, a text for the assembler, or a configuration.
+    pub first: NamedWord<'a>,
+    /// What drives the machine.
+    pub course: Option<NamedWord<'a>>,
+    /// The fault of a sweep.
+    pub fault: Option<NamedWord<'a>>,
+}
+
+/// A word with this label.
+fn word<'a>(label: &'static str, name: &'a str) -> NamedWord<'a>
+    ensures { word_of result ≡ file_word label.entry.now name.entry.now }
+{
+    NamedWord { label, name }
+}
+
+/// One file alone.
+fn one_file<'a>(label: &'static str, name: &'a str) -> ReadWords<'a>
+    ensures { files_in result ≡ one_file label.entry.now name.entry.now }
+{
+    ReadWords {
+        first: word(label, name),
+        course: None,
+        fault: None,
+    }
+}
+
+/// A configuration, and what drives its machine.
+fn with_course<'a>(config: &'a str, label: &'static str, name: &'a str) -> ReadWords<'a>
+    ensures { files_in result ≡ with_course config.entry.now label.entry.now name.entry.now }
+{
+    ReadWords {
+        first: word("CONFIG", config),
+        course: Some(word(label, name)),
+        fault: None,
+    }
+}
+
+/// A configuration, and the file of outside events if one is named.
+fn with_events<'a>(config: &'a str, events: Option<&'a str>) -> ReadWords<'a>
+    ensures { files_in result ≡ with_events config.entry.now
+        (option_map (λ s. s.now) events.entry) }
+{
+    match events {
+        None => one_file("CONFIG", config),
+        Some(events) => with_course(config, "EVENTS", events),
+    }
+}
+
+/// Whether a word that may be there names this file.
+fn names(word: Option<NamedWord<'_>>, name: &str) -> bool
+    ensures { result ≡ names (option_map word_of word.entry) name.now }
+{
+    match word {
+        None => false,
+        Some(word) => word.name == name,
+    }
+}
+
+impl ReadWords<'_> {
+    /// Whether one of them is the file of this name, byte for byte.
+    pub fn has(self, name: &str) -> bool
+        ensures { result ≡ has_name (files_in self.entry) name.now }
+    {
+        self.first.name == name || names(self.course, name) || names(self.fault, name)
+    }
+}
+
+impl<'a> CommandRequest<'a> {
+    /// The files that it reads.
+    pub fn reads(self) -> ReadWords<'a>
+        ensures { files_in result ≡ files_read self.entry }
+    {
+        match self {
+            CommandRequest::One { file, .. } => one_file("FILE", file),
+            CommandRequest::As { text, .. } => one_file("TEXT", text),
+            CommandRequest::Dis { file } => one_file("FILE", file),
+            CommandRequest::Nm { file } => one_file("FILE", file),
+            CommandRequest::Explain { config } => one_file("CONFIG", config),
+            CommandRequest::Step { config, script, .. } => with_course(config, "SCRIPT", script),
+            CommandRequest::Db { config, script } => with_course(config, "SCRIPT", script),
+            CommandRequest::Run { config, events, .. } => with_events(config, events),
+            CommandRequest::Turns { config, events, .. } => with_events(config, events),
+            CommandRequest::Sweep {
+                config,
+                log,
+                fault,
+                ..
+            } => ReadWords {
+                first: word("CONFIG", config),
+                course: Some(word("LOG", log)),
+                fault: Some(word("FAULT", fault)),
+            },
+            CommandRequest::Replay { config, log } => with_course(config, "LOG", log),
+            CommandRequest::Trace { config, log, .. } => with_course(config, "LOG", log),
+            CommandRequest::Draw { config, log, .. } => with_course(config, "LOG", log),
+            CommandRequest::Look { config, log } => with_course(config, "LOG", log),
+        }
+    }
+
+    /// The file that it writes, if it writes one.
+    pub fn writes(self) -> Option<NamedWord<'a>>
+        ensures { option_map word_of result ≡ file_written self.entry }
+    {
+        match self {
+            CommandRequest::As { file, .. } => Some(word("FILE", file)),
+            CommandRequest::Step {
+                save: Some(log),
+                ..
+            } => Some(word("LOG", log)),
+            CommandRequest::Run { log, .. } => Some(word("LOG", log)),
+            CommandRequest::Turns { log, .. } => Some(word("LOG", log)),
+            CommandRequest::Sweep {
+                save: Some(file),
+                ..
+            } => Some(word("FILE", file)),
+            _ => None,
+        }
+    }
+
+    /// Whether a word of it names this file.
+    pub fn names_file(self, name: &str) -> bool
+        ensures { result ≡ names_file self.entry name.now }
+    {
+        self.reads().has(name) || names(self.writes(), name)
+    }
+
+    /// Whether it would write over what it reads. Two names of one file aren't seen to be one.
+    pub fn writes_over(self) -> bool
+        ensures { result ≡ writes_over self.entry }
+    {
+        match self.writes() {
+            None => false,
+            Some(word) => self.reads().has(word.name),
+        }
+    }
+}
