@@ -1,6 +1,6 @@
 //! Blocks: positions in a row whose outcomes are printed alike.
 
-ghost use Rattle.std.specs.Prelude.{◌≡◌, ◌++◌, IfOk, OnOk, string_bytes};
+ghost use Rattle.std.specs.Prelude.{◌≡◌, ◌++◌, if◌then◌else◌, IfOk, None, OnOk, Some, string_bytes};
 ghost use Rattle.mx_app_turns.specs.Blocks.{block_text, head_text, mark_text, positions_of, total_text};
 ghost use Rattle.mx_app_turns.specs.Tallied.{both, has_room, total_one};
 

@@ -89,8 +89,8 @@ returns-clause-kernel g c =
     last_kernel (sweep_of c.args.sweep c.args.first.machine.kernel.boot) c.args.sweep.range.from end p (g.W.Write.contents c.args.out.now) (g.W.Write.contents c.loop-position.out) (positions_of tally.block) tally.total c.loop-position.machine.kernel so_far last
 
 -- as many as there are positions so far, and one more
-pub push-requires-clause-few : goal.push-requires-clause-few
-push-requires-clause-few g c =
+pub push-requires : goal.push-requires
+push-requires g c =
     let inv = c.loop-position.invariant.swept in
     let found = c.in_ok-outcome.outcome.findings in
     let one = ap (λ (t : Tally). t.total) c.one-next.ensures in
