@@ -1,7 +1,7 @@
 -- What a sweep prints of positions (our own).
 use Rattle.std.specs.Prelude.{ℕ, zero, suc, ◌+◌, ◌==◌, if◌then◌else◌, Bool, List, [], ◌∷◌, ◌++◌, Option, Some, None, codes, length}
 use Rattle.std.specs.Fmt.{decimal}
-use Rattle.core.specs.Option.{option_or}
+use Rattle.std.specs.Option.{option_or}
 use Rattle.std.specs.List.{flat_map}
 use Rattle.std.specs.Str.{bytes_eq}
 use Rattle.mx_app_turns.specs.declared.blocks.Block.{Block as Kept}

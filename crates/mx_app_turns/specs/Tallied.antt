@@ -1,6 +1,7 @@
 -- Positions that are tallied: the counts, and the block that is open.
-use Rattle.std.specs.Prelude.{ℕ, ◌+◌, ◌<◌, ◌^◌, if◌then◌else◌, Bool, Some, None, is_some, Vec, Global}
-use Rattle.core.specs.Option.{option_or}
+use Rattle.std.specs.Prelude.{ℕ, ◌+◌, ◌<◌, ◌^◌, if◌then◌else◌, Bool, Some, None, is_some, Vec}
+use Rattle.std.specs.Global.{Global}
+use Rattle.std.specs.Option.{option_or}
 use Rattle.mx_sweep.specs.declared.outcomes.Findings.{Findings}
 use Rattle.mx_app_turns.specs.declared.blocks.Block.{Block}
 use Rattle.mx_app_turns.specs.declared.blocks.Total.{Total}
