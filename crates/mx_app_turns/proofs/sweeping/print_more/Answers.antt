@@ -101,13 +101,15 @@ push-requires g c =
     let f = ap (λ (t : Total). t.full) one in
     let a1 = small found.is_alike in
     let r1 = small (is_some found.refusal) in
-    let f1 = small found.is_full in (
-      omega (arith, n, inv.positions, inv.above, c.loop-position-test.true),
-      omega (arith, b, inv.few, inv.above, c.loop-position-test.true),
-      omega (arith, a, a1, inv.alike.few, inv.above, c.loop-position-test.true),
-      omega (arith, r, r1, inv.refused.few, inv.above, c.loop-position-test.true),
-      omega (arith, f, f1, inv.full.few, inv.above, c.loop-position-test.true),
-    )
+    let f1 = small found.is_full in record {
+      few = (
+        omega (arith, n, inv.positions, inv.above, c.loop-position-test.true),
+        omega (arith, b, inv.few, inv.above, c.loop-position-test.true),
+        omega (arith, a, a1, inv.alike.few, inv.above, c.loop-position-test.true),
+        omega (arith, r, r1, inv.refused.few, inv.above, c.loop-position-test.true),
+        omega (arith, f, f1, inv.full.few, inv.above, c.loop-position-test.true),
+      );
+    }
 
 pub outcome_shown-requires-clause-swept : goal.outcome_shown-requires-clause-swept
 outcome_shown-requires-clause-swept g c =
