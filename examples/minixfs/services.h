@@ -24,7 +24,9 @@
 /* The file server. It has no open files: a file is its number, so that a new server knows as much as
  * the one that died. The number means this file alone: its low half is an inode, its high half counts
  * the files that this inode has been. When the file's last name is gone, its number is ESTALE, also when
- * the inode is another file's by then (65,536 files later the numbers come again).
+ * the inode is another file's by then (65,536 files later the numbers come again). If the server dies
+ * between the removal of the name and that of the inode, the number still answers, and the inode is no
+ * other file's.
  *
  * A path is a place in the client's memory and a length; it ends before a zero byte. */
 #define FS_SLOT 2

@@ -15,7 +15,7 @@ from . import told
 from .alike import alike
 from .checks import Check, Lab
 from .commands import Lost, printable, stop_running
-from .making import LABS, Kit, Student
+from .making import LABS, MX, Kit, Student
 
 REFUSED, INTERRUPTED = 2, 130  # statuses: nothing was graded; not all was
 SECONDS = 30  # of one command
@@ -153,6 +153,8 @@ class Interrupts:
 
 def grade_all(words, lab):
     """Grades, and tells what came of each folder. The status."""
+    if not shutil.which(MX):
+        raise Refused(f"{MX} can't be run: the variable MX names the program")
     tell = told.print_json if words.json else told.print_line if words.all else told.print_results
     keep = made_keep(words.keep)
     secret, files = secret_of(words.secret, keep), writers(words, lab)
