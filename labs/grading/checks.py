@@ -181,24 +181,30 @@ class Check:
             self.compare(case, self.mx("turns", *words))
 
     def do_sweep(self):
-        """A fault at each position of a run: the machine ends at rest, with the wanted console, at each of them."""
+        """A fault at each position of a run: the machine ends at rest, with the wanted console and states, at each of
+        them. A case without a fault is a run alone."""
         for case in self.cases():
             config, bound = self.machine(case), ["--turns", str(self.row["turns"])]
             printed = self.mx("turns", config, self.log, *bound)
-            self.compare({**case, "name": "without the fault"}, printed)
+            if "fault" not in case:
+                self.compare(case, printed)
+                continue
+            self.compare({**case, "name": f"{case['name']}: without the fault"}, printed)
             self.compare_sweep(case, config, self.write("fault", case["fault"]), bound)
 
     def compare_sweep(self, case, config, fault, bound):
-        wanted = case["want"]["console"]
+        wanted, states = case["want"]["console"], case["want"].get("states", {})
         for block in blocks(self.mx("sweep", config, self.log, fault, *bound)):
-            if (block["ending"], block["console"]) == ("rest", wanted):
+            came = {words[0]: " ".join(words[2:]) for words in map(str.split, block["states"])}
+            if (block["ending"], block["console"]) == ("rest", wanted) and states.items() <= came.items():
                 continue
             at = ["--from", block["position"], "--to", block["position"]]
             saved = f"{self.number}.fault.log"
             self.mx("sweep", config, self.log, fault, *bound, *at, "--save", saved)
             self.log, self.place = saved, str(int(block["position"]) + 1)
             self.shows = f"--from {self.place} | sed -n 1,40p"
-            raise Lost(f"{', '.join(case['fault'])} at {block['head']}", f"rest, console {wanted!r}",
+            ends = "".join(f"; {name} {it}" for name, it in states.items())
+            raise Lost(f"{', '.join(case['fault'])} at {block['head']}", f"rest, console {wanted!r}{ends}",
                        f"{block['ending']}, console {block['console']!r}; {', '.join(block['states'])}")
 
     def do_threads(self):

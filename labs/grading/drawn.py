@@ -192,7 +192,7 @@ def pair_case(name, cpus, levels, other=None, number=0):
     digit = f"0x{ord('0') + sum(mine.values()):02x}"
     facts = [] if other else ["1+ trap * SEND * result -101"]
     for i, (slot, it) in enumerate(zip(PAIR, names)):
-        facts.append(f"1 message {it} to {partner[it]} type 1 words {mine[slot]}")
+        facts.append(f"1 message {it} to {partner[it]} type 1 words {mine[slot]} ..")
         if it != "stranger":
             facts += [f"in order: message {partner[it]} to {it} ..; console {it} {digit}", f"1 console {it} *"]
     lines = [service(it, f"{it}.out", send=("2", "1")[i], level=levels[i]) for i, it in enumerate(names)]
@@ -300,6 +300,18 @@ def busy(draw):
 
 # Lab 4
 
+LIVES, LONG = 24, 1000  # as in the partners that end by themselves
+
+
+def deaths(lives):
+    """Each of a partner's lives in turn ends at a request after so many answers. Those that aren't given don't end."""
+    return [*lives, *[LONG] * (LIVES - len(lives))]
+
+
+def looked(client, lives):
+    """The fact that a client asked the kernel for each of a partner's successors."""
+    return f"{len(lives)}+ call {client} WHOIS 0 answer 0 .."
+
 
 def answering(draw, restarts, lives=()):
     """A driver with answers of its own to 1 to 6, whose last digits differ from one another and from those of the squares.
@@ -308,7 +320,7 @@ def answering(draw, restarts, lives=()):
     while any(digits[i] == (i + 1) ** 2 % 10 for i in range(6)):
         digits = draw.sample(range(10), 6)
     answers = [10 * draw.randint(1, 9999) + it for it in digits]
-    made = {"answers": [0, *answers], "lives": [*lives, *[1000] * (24 - len(lives))]}
+    made = {"answers": [0, *answers], "lives": deaths(lives)}
     line = service("driver", "teller.out", send="fffe", calls="81", level=4, restarts=restarts)
     return line, made, "".join(str(it % 10) for it in answers)
 
@@ -320,9 +332,10 @@ def squares(draw, name, noise, lives=(), more=None):
     lines = [driver, service("client", "client.out", calls="91")]
     if noise:
         lines.append(service("noise", "noise.out", send="2", calls="1", level=6))
+    asked = [f"1+ message client to driver type 1 words {it} .." for it in range(1, 7)]
     return {"name": name, "config": machine(1, *lines, *others), "set": {"driver": made, **plans},
-            "want": {"console": digits, "states": {"client": "down exit"}},
-            "facts": [f"1+ message client to driver type 1 words {it} .." for it in range(1, 7)], **(more or {})}
+            "want": {"console": digits, "states": {"client": "down exit"}}, "facts": [*asked, looked("client", lives)],
+            **(more or {})}
 
 
 def quiet_squares(draw):
@@ -337,22 +350,27 @@ def noisy_squares(draw):
     yield squares(draw, "with noise", True)
 
 
+def swept_squares(draw, name, noise, fault):
+    """A driver that ends by itself too, once: so the successor of a kill has one endpoint or another."""
+    yield squares(draw, name, noise, [draw.randint(1, 4)], {"fault": fault})
+
+
 def killed_squares(draw):
-    yield squares(draw, "a kill at every position", False, more={"fault": ["kill slot 0"]})
+    yield from swept_squares(draw, "a kill at every position", False, ["kill slot 0"])
 
 
 def twice_killed_squares(draw):
-    yield squares(draw, "two kills at every position", False,
-                  more={"fault": ["kill slot 0", "respawn 0", "kill slot 0"]})
+    yield from swept_squares(draw, "two kills at every position", False, ["kill slot 0", "respawn 0", "kill slot 0"])
 
 
 def noisy_killed_squares(draw):
-    yield squares(draw, "a kill at every position, with noise", True, more={"fault": ["kill slot 0"]})
+    yield from swept_squares(draw, "a kill at every position, with noise", True, ["kill slot 0"])
 
 
 def mortal_squares(draw):
-    """A driver that ends again and again at a request, some ten times."""
-    lives = [draw.choice([0, 0, 0, 1]) for _ in range(draw.randint(10, 14))]
+    """A driver that ends again and again at a request, some ten times: it answers less than six before its last life."""
+    lives = [1] * draw.randint(2, 5) + [0] * draw.randint(8, 9)
+    draw.shuffle(lives)
     yield squares(draw, f"a driver that ends {len(lives)} times at a request", False, lives)
 
 
@@ -360,15 +378,20 @@ def mortal_squares(draw):
 
 BYTES = 64
 STORE = service("store", "store.out", send="fffe", calls="a1", level=4, restarts=20)
+KEEPER = STORE.replace("store.out", "keeper.out")
 SAVER = service("saver", "saver.out", calls="191")
+LODGER = service("lodger", "lodger.out", calls="191")
 
 
 def prober(draw):
-    """A client that stores bytes of its own in all blocks; one that computes while it is served."""
-    others, plans = bystanders(draw)
-    line = service("prober", "prober.out", calls="191")
-    yield {"name": "a client that tries the store", "config": machine(1, STORE, line, *others), "want": {"console": "." * 30},
-           "set": {**plans, "prober": {"seed": [draw.randint(1, 1 << 30), draw.randint(0, 7), draw.randint(0, 7)]}}}
+    """A client that stores bytes of its own in all blocks, beside one that doesn't wait for its answer; one that computes
+    while it is served."""
+    others, plans = bystanders(draw, 1)
+    lines = [service("hasty", "actor.out", calls="1", level=6), service("prober", "prober.out", calls="191")]
+    plans["hasty"] = plan((TELL, 0, draw.choice([PUT, GET]), draw.randint(8, 99)))
+    plans["prober"] = {"seed": [draw.randint(1, 1 << 30), draw.randint(0, 7), draw.randint(0, 7)]}
+    yield {"name": "a client that tries the store", "config": machine(1, STORE, *others, *lines), "set": plans,
+           "want": {"console": "." * 31}}
     line = service("hurried", "hurried.out", calls="191")
     yield {"name": "a client that runs on another processor while it is served", "config": machine(2, STORE, line),
            "set": {"hurried": {"work": [draw.randint(12, 20)]}}, "want": {"console": ".."}}
@@ -387,23 +410,42 @@ def ends(data):
     return chr(data[0]) + chr(data[-1])
 
 
-SAVED = ["in order: message saver to store type 1 words 3 *; call store VIRCOPY 1 * 0 * 64 answer 0 ..; "
-         "message store to saver type 0 ..; message saver to store type 2 words 3 *; "
-         "call store VIRCOPY 0 * 1 * 64 answer 0 ..; message store to saver type 0 ..; console saver *"]
-FILLED = [{"at": "message saver to store type 1 words 3 *", "slot": 1, "bytes": "a" * BYTES + "z" * BYTES},
-          {"at": "message saver to store type 2 words 3 *", "slot": 1, "bytes": "\0" * BYTES + "z" * BYTES}]
+SAVED = ["in order: message saver to store type 1 words 3 * ..; call store VIRCOPY 1 * * * 64 answer 0 ..; "
+         "message store to saver type 0 ..; message saver to store type 2 words 3 * ..; "
+         "call store VIRCOPY * * 1 * 64 answer 0 ..; message store to saver type 0 ..; console saver *"]
+FILLED = [{"at": "message saver to store type 1 words 3 * ..", "slot": 1, "bytes": "a" * BYTES + "z" * BYTES},
+          {"at": "message saver to store type 2 words 3 * ..", "slot": 1, "bytes": "\0" * BYTES + "z" * BYTES}]
+
+
+def saving(name, cpus, store, values, console="aa", **more):
+    """A case of a saver and a store: what is drawn for each service, and what the saver writes in the end."""
+    others = [service(it, "actor.out", send="0", calls="1") for it in values if it != "store"]
+    return {"name": name, "config": machine(cpus, store, SAVER, *others), "set": values, "facts": SAVED,
+            "model": ["windows", "saver"], "want": {"console": console, "states": {"saver": "down exit"}}, **more}
+
+
+def lodged(draw, name, cpus, **more):
+    """A case of a student's store and a saver with bytes that are drawn, which isn't in slot 1."""
+    data = letters(draw, BYTES)
+    others, plans = bystanders(draw, 1)
+    return {"name": name, "config": machine(cpus, STORE, *others, LODGER),
+            "set": {**plans, "lodger": {"plain": dwords(data)}},
+            "want": {"console": ends(data), "states": {"lodger": "down exit"}}, **more}
+
+
+def kept(data, lives=()):
+    """What a keeper has: the bytes that it gives back, and how long each of its lives is."""
+    return {"given": dwords(data), "lives": deaths(lives)}
 
 
 def saved(draw, cpus):
-    others, plans = bystanders(draw)
-    yield {"name": f"{cpus} processors", "config": machine(cpus, STORE, SAVER, *others), "set": plans, "facts": SAVED,
-           "memory": FILLED, "want": {"console": "aa", "states": {"saver": "down exit"}}}
-    # A store that gives other bytes back than it got.
+    _, plans = bystanders(draw, 1)
+    yield saving(f"{cpus} processors", cpus, STORE, plans, memory=FILLED)
+    # A store that gives other bytes back than it got, and a saver with other bytes.
     data = letters(draw, BYTES)
-    yield {"name": f"a store with bytes of its own, {cpus} processors",
-           "config": machine(cpus, STORE.replace("store.out", "keeper.out"), SAVER, *others),
-           "set": {**plans, "store": {"given": dwords(data)}}, "facts": SAVED, "memory": FILLED,
-           "want": {"console": ends(data), "states": {"saver": "down exit"}}}
+    yield saving(f"a store with bytes of its own, {cpus} processors", cpus, KEEPER, {**plans, "store": kept(data)},
+                 ends(data), memory=FILLED)
+    yield lodged(draw, f"a client with bytes of its own, {cpus} processors", cpus)
 
 
 def saved_on_one(draw):
@@ -416,22 +458,29 @@ def saved_on_two(draw):
 
 def thieves(draw):
     """A thief that looks again every few turns, from each turn on."""
+    thief = STORE.replace("store.out", "thief.out").replace("calls a1", "calls b9")
     for every in (3, 4):
         for first in range(every):
             data = letters(draw, BYTES)
             events = ["line 9"] * first + (["line 5"] + ["line 9"] * (every - 1)) * (120 // every)
-            thief = STORE.replace("store.out", "thief.out").replace("calls a1", "calls b9")
-            yield {"name": f"a thief in slot 0, which looks again every {every} turns, from turn {first} on",
-                   "config": machine(1, thief, SAVER), "events": events, "set": {"store": {"given": dwords(data)}},
-                   "facts": SAVED, "memory": FILLED, "want": {"console": ends(data)}}
+            case = saving(f"a thief in slot 0, which looks again every {every} turns, from turn {first} on", 1, thief,
+                          {"store": {"given": dwords(data)}}, ends(data), events=events, memory=FILLED)
+            yield case | {"want": {"console": ends(data)}}
 
 
 def killed_store(draw):
+    """A store of the grader's, which ends by itself too; a student's store; a store that ends again and again."""
     data = letters(draw, BYTES)
-    others, plans = bystanders(draw)
-    yield {"name": "a kill at every position", "fault": ["kill slot 0"], "facts": SAVED,
-           "config": machine(1, STORE.replace("store.out", "keeper.out"), SAVER, *others),
-           "set": {**plans, "store": {"given": dwords(data)}}, "want": {"console": ends(data)}}
+    _, plans = bystanders(draw, 1)
+    kill = {"fault": ["kill slot 0"]}
+    lives = [draw.randint(0, 1)]
+    case = saving("a kill at every position", 1, KEEPER, {**plans, "store": kept(data, lives)}, ends(data), **kill)
+    yield case | {"facts": [*SAVED, looked("saver", lives)]}
+    yield lodged(draw, "a kill of your store at every position", 1, **kill)
+    lives = [draw.randint(0, 1) for _ in range(draw.randint(5, 9))]
+    case = saving(f"a store that ends {len(lives)} times at a request", 1, KEEPER, {**plans, "store": kept(data, lives)},
+                  ends(data))
+    yield case | {"facts": [*SAVED, looked("saver", lives)]}
 
 
 # Lab 6

@@ -4,6 +4,7 @@ from .commands import Lost
 
 NOTIFICATION = 4096
 BAD_REQUEST, EINVAL = -107, -22
+GENERATION = 1024  # from an endpoint to that of the next process in its slot
 
 
 def wrong(name, event, wanted, came):
@@ -211,7 +212,55 @@ class Button:
             self.due = None
 
 
-MODELS = {"totals": Totals, "names": Names, "queue": Queue, "button": Button}
+class Windows:
+    """Lab 5's saver: each window that it opens is the one that its next request needs, and none is open at a letter."""
+
+    PUT, GET, BYTES = 1, 2, 64
+    ACCESS = {PUT: 1, GET: 2}  # to read, to write
+    AFTER = {PUT: GET, GET: None}
+
+    def __init__(self, name, saver):
+        self.name, self.saver = name, saver
+        self.next = self.PUT  # the request that comes next; None: the GET is answered
+        self.open = {}  # of an endpoint: where its window begins
+
+    def follow(self, found):
+        for it in found:
+            words = it.words
+            if words[:3] == ["call", self.saver, "GRANT"] and words[7:9] == ["answer", "0"]:
+                self.grant(it, *map(int, words[3:7]))
+            elif words[:4] == ["message", self.saver, "to", "store"] and int(words[5]) in self.ACCESS:
+                self.ask(it)
+            elif words[:4] == ["message", "store", "to", self.saver] and int(words[5]) != NOTIFICATION:
+                self.next = self.AFTER.get(self.next) if words[5] == "0" else self.PUT
+            elif words[:2] == ["down", "store"]:
+                self.open.pop(it.who[0], None)
+                self.next = self.PUT
+            elif words[:2] == ["console", self.saver] and self.open:
+                raise wrong(self.name, it, "no window is open when a letter is written", f"a window at {self.places()}")
+
+    def grant(self, event, who, address, count, access):
+        self.open.pop(str(who), None)
+        if access == 0 or count == 0:
+            return
+        if self.next is None:
+            raise wrong(self.name, event, "no window after the GET's answer", said(event))
+        if who % GENERATION or (count, access) != (self.BYTES, self.ACCESS[self.next]):
+            wanted = f"a GRANT for slot 0's process, {self.BYTES} bytes, access {self.ACCESS[self.next]}"
+            raise wrong(self.name, event, wanted, said(event))
+        self.open[str(who)] = address
+
+    def ask(self, event):
+        """A request has the address of the window that is open for who takes it."""
+        at = numbers(event)[1]
+        if self.open.get(event.who[1]) != at:
+            raise wrong(self.name, event, f"a window at {at}", f"a window at {self.places() or 'no address'}")
+
+    def places(self):
+        return ", ".join(map(str, self.open.values()))
+
+
+MODELS = {"windows": Windows, "totals": Totals, "names": Names, "queue": Queue, "button": Button}
 
 
 def compare_steps(name, to, found):

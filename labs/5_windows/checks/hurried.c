@@ -1,5 +1,5 @@
 /* A client that sends its request and goes on: it holds its processor while the store asks for the copy, and takes the
- * answer afterwards. It writes a dot for each answer OK, and an r for another one. */
+ * answer afterwards. It writes a dot for each answer OK with the right bytes, and an r for another one. */
 #include "mx.h"
 
 #define STORE 0
@@ -25,8 +25,11 @@ static int ask(int type)
 
 int main(void)
 {
+    bytes[0] = 'h';
+    bytes[BYTES - 1] = 'd';
     sys_grant(STORE, bytes, BYTES, GRANT_READ | GRANT_WRITE);
     sys_out(CONSOLE_REGISTER, ask(PUT) == OK ? '.' : 'r');
-    sys_out(CONSOLE_REGISTER, ask(GET) == OK ? '.' : 'r');
+    bytes[0] = bytes[BYTES - 1] = 0;
+    sys_out(CONSOLE_REGISTER, ask(GET) == OK && bytes[0] == 'h' && bytes[BYTES - 1] == 'd' ? '.' : 'r');
     return 0;
 }

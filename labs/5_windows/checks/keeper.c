@@ -1,12 +1,16 @@
-/* A store that gives back bytes of its own, which are drawn, and not those that it got; before it got any, zeros. */
+/* A store that gives back bytes of its own, which are drawn, and not those that it got; before it got any, zeros. Each of its
+ * lives ends at a request after so many answers. */
 #include "mx.h"
 
 #define STORE_SLOT 0
 #define PUT 1
 #define GET 2
 #define BYTES 64
+#define LIVES 24
+#define LONG 1000
 
 volatile uint32_t given[BYTES / 4] = {1};
+volatile uint32_t lives[LIVES] = {LONG};
 
 static volatile uint32_t zeros[BYTES / 4];
 static char kept[BYTES];
@@ -30,11 +34,15 @@ static int copy(const message *m)
 int main(void)
 {
     message m;
+    uint32_t left;
 
     sys_whois(STORE_SLOT, &self);
+    left = self / 1024 < LIVES ? lives[self / 1024] : LONG;
     while (receive(ANY, &m) == OK) {
         if (m.m_type == NOTIFICATION)
             continue;
+        if (left-- == 0)
+            return 1;
         m.m_type = m.m_type == PUT || m.m_type == GET ? copy(&m) : EBADREQUEST;
         send(m.m_source, &m);
     }

@@ -55,6 +55,17 @@ static int has(const char *place, uint32_t text)
     return 1;
 }
 
+static int are_zeros(const char *place)
+{
+    uint32_t i;
+
+    for (i = 0; i < BYTES; i++) {
+        if (place[i] != 0)
+            return 0;
+    }
+    return 1;
+}
+
 static int is_given_back(char *place, uint32_t block, uint32_t text)
 {
     fill(place, 99);
@@ -67,6 +78,8 @@ int main(void)
 
     bytes[0] = bytes[BYTES + 1] = before;
     sys_grant(STORE, bytes + 1, BYTES, GRANT_READ | GRANT_WRITE);
+    fill(bytes + 1, 99);
+    expect(ask(GET, seed[2], bytes + 1) == OK && are_zeros(bytes + 1), 'e');
     for (i = 0; i < BLOCKS; i++) {
         block = (seed[1] + i) % BLOCKS;
         fill(bytes + 1, block);
