@@ -42,7 +42,7 @@ use Rattle.mx_app_turns.specs.Turned.{MakesTurns}
 use Rattle.mx_app_run.specs.declared.running.RunEnding.{RunEnding}
 use Rattle.mx_turns.specs.declared.turns.Ending.{Ending}
 use Rattle.mx_walk.specs.Parts.{walk_shown}
-use Rattle.mx_walker.specs.Walks.{Walk}
+use Rattle.mx_walk.specs.Walks.{Walk}
 use Rattle.mx_app.specs.Deeds.{Deeds, nothing_done}
 use Rattle.mx_app.specs.Explained.{ExplainsConfig}
 use Rattle.mx_app.specs.Named.{Assembles, ShowsFile}

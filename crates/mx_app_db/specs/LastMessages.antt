@@ -3,10 +3,10 @@
 use Rattle.std.specs.Prelude.{ℕ, ◌-◌, ◌==◌, ◌&&◌, if◌then◌else◌, Bool, List, [], ◌++◌, codes, drop, length, slice_index, take, Option, Some, None}
 use Rattle.std.specs.Fmt.{decimal}
 use Rattle.std.specs.List.{flat_map}
-use Rattle.mx_look_facts.specs.declared.glance.Glance.{Glance}
-use Rattle.mx_look_facts.specs.declared.slot_glances.SlotGlance.{SlotGlance}
-use Rattle.mx_look_facts.specs.Glances.{glance_of}
-use Rattle.mx_look_facts.specs.Step.{slot_in}
+use Rattle.mx_look.specs.declared.glance.Glance.{Glance}
+use Rattle.mx_look.specs.declared.slot_glances.SlotGlance.{SlotGlance}
+use Rattle.mx_look.specs.Glances.{glance_of}
+use Rattle.mx_look.specs.Step.{slot_in}
 use Rattle.mx_machine.specs.World.{World}
 use Rattle.mx_print_answers.specs.Messages.{delivery_text}
 use Rattle.mx_proc.specs.EndpointNumbers.{slot_of}

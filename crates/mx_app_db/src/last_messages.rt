@@ -2,12 +2,12 @@
 
 ghost use Rattle.std.specs.Prelude.{◌≡◌, ◌≤◌, ◌++◌, OnOk, length, string_bytes};
 ghost use Rattle.mx_app_step.specs.Machine.{world_of};
-ghost use Rattle.mx_look_facts.specs.Step.{slot_in};
+ghost use Rattle.mx_look.specs.Step.{slot_in};
 ghost use Rattle.mx_machine.specs.History.{replay};
 ghost use Rattle.mx_proc.specs.EndpointNumbers.{slot_of};
 ghost use Rattle.mx_app_db.specs.LastMessages.{if_of, is_of, kept_line, kept_words, last_lines, last_of, recorded, spaced, words_seen};
 
-use mx_look_facts::{Glance, SlotGlance, slot_in};
+use mx_look::{Glance, SlotGlance, slot_in};
 use mx_machine::{Kernel, Machine};
 use mx_print_answers::{Debugger, push_delivery};
 use mx_proc::{Delivery, KEPT_DELIVERIES, slot_of};

@@ -1,13 +1,13 @@
 -- The classes of figures, whose colours the style sheet has (our own).
 use Rattle.std.specs.Prelude.{ℕ, List, codes}
-use Rattle.mx_look_picture.specs.declared.values.BarKind.{BarKind}
-use Rattle.mx_look_picture.specs.declared.values.BarKind.TheVariants as bar
-use Rattle.mx_look_picture.specs.declared.values.ArrowKind.{ArrowKind}
-use Rattle.mx_look_picture.specs.declared.values.ArrowKind.TheVariants as arrow
-use Rattle.mx_look_picture.specs.declared.values.LabelKind.{LabelKind}
-use Rattle.mx_look_picture.specs.declared.values.LabelKind.TheVariants as label
-use Rattle.mx_look_picture.specs.declared.values.Anchor.{Anchor}
-use Rattle.mx_look_picture.specs.declared.values.Anchor.TheVariants as anchor
+use Rattle.mx_app_draw.specs.declared.values.BarKind.{BarKind}
+use Rattle.mx_app_draw.specs.declared.values.BarKind.TheVariants as bar
+use Rattle.mx_app_draw.specs.declared.values.ArrowKind.{ArrowKind}
+use Rattle.mx_app_draw.specs.declared.values.ArrowKind.TheVariants as arrow
+use Rattle.mx_app_draw.specs.declared.values.LabelKind.{LabelKind}
+use Rattle.mx_app_draw.specs.declared.values.LabelKind.TheVariants as label
+use Rattle.mx_app_draw.specs.declared.values.Anchor.{Anchor}
+use Rattle.mx_app_draw.specs.declared.values.Anchor.TheVariants as anchor
 
 abbrev pub bar_class : BarKind → List ℕ
 bar_class bar.Band = codes "band"

@@ -1,9 +1,9 @@
 -- THE DRAWING AS TEXT (SVG 1.1): its head, a title, a style sheet, the paper, and the values.
 use Rattle.std.specs.Prelude.{ℕ, List, ◌++◌, codes}
 use Rattle.std.specs.List.{flat_map}
-use Rattle.mx_look_picture.specs.declared.scene_values.Scene.{Scene}
-use Rattle.mx_look_picture.specs.declared.values.Drawing.{Drawing}
-use Rattle.mx_look_picture.specs.declared.values.Value.{Value}
+use Rattle.mx_app_draw.specs.declared.scene_values.Scene.{Scene}
+use Rattle.mx_app_draw.specs.declared.values.Drawing.{Drawing}
+use Rattle.mx_app_draw.specs.declared.values.Value.{Value}
 use Rattle.mx_app_draw.specs.Shown.{shown, attribute, pair}
 use Rattle.mx_app_draw.specs.Texts.{title_text}
 use Rattle.mx_app_draw.specs.Figures.{value_text}

@@ -1,18 +1,18 @@
 -- EACH VALUE'S ELEMENT (SVG 1.1; classes and figures are our own).
 use Rattle.std.specs.Prelude.{ℕ, ◌+◌, ◌-◌, nat_lt, if◌then◌else◌, List, [], ◌∷◌, ◌++◌, codes}
 use Rattle.std.specs.Fmt.{decimal}
-use Rattle.mx_look_picture.specs.declared.scene_values.Scene.{Scene}
-use Rattle.mx_look_picture.specs.declared.values.Anchor.{Anchor}
-use Rattle.mx_look_picture.specs.declared.values.Bar.{Bar}
-use Rattle.mx_look_picture.specs.declared.values.Arrow.{Arrow}
-use Rattle.mx_look_picture.specs.declared.values.ArrowKind.{ArrowKind}
-use Rattle.mx_look_picture.specs.declared.values.ArrowKind.TheVariants as drawn
-use Rattle.mx_look_picture.specs.declared.values.Mark.{Mark}
-use Rattle.mx_look_picture.specs.declared.values.MarkKind.{MarkKind}
-use Rattle.mx_look_picture.specs.declared.values.MarkKind.TheVariants as marked
-use Rattle.mx_look_picture.specs.declared.values.Label.{Label}
-use Rattle.mx_look_picture.specs.declared.values.Value.{Value}
-use Rattle.mx_look_picture.specs.declared.values.Value.TheVariants as value
+use Rattle.mx_app_draw.specs.declared.scene_values.Scene.{Scene}
+use Rattle.mx_app_draw.specs.declared.values.Anchor.{Anchor}
+use Rattle.mx_app_draw.specs.declared.values.Bar.{Bar}
+use Rattle.mx_app_draw.specs.declared.values.Arrow.{Arrow}
+use Rattle.mx_app_draw.specs.declared.values.ArrowKind.{ArrowKind}
+use Rattle.mx_app_draw.specs.declared.values.ArrowKind.TheVariants as drawn
+use Rattle.mx_app_draw.specs.declared.values.Mark.{Mark}
+use Rattle.mx_app_draw.specs.declared.values.MarkKind.{MarkKind}
+use Rattle.mx_app_draw.specs.declared.values.MarkKind.TheVariants as marked
+use Rattle.mx_app_draw.specs.declared.values.Label.{Label}
+use Rattle.mx_app_draw.specs.declared.values.Value.{Value}
+use Rattle.mx_app_draw.specs.declared.values.Value.TheVariants as value
 use Rattle.mx_app_draw.specs.Shown.{shown, attribute, pair}
 use Rattle.mx_app_draw.specs.Texts.{text_words}
 use Rattle.mx_app_draw.specs.Hints.{hint_text, end_text}

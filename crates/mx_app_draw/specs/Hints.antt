@@ -2,15 +2,15 @@
 -- record.
 use Rattle.std.specs.Prelude.{ℕ, nat_lt, if◌then◌else◌, List, [], ◌++◌, codes, Option, Some, None, slice_get}
 use Rattle.std.specs.Fmt.{decimal}
-use Rattle.mx_look_facts.specs.declared.slot_glances.SlotGlance.{SlotGlance}
-use Rattle.mx_look_facts.specs.declared.step.Step.{Step}
-use Rattle.mx_look_facts.specs.Step.{slot_in}
-use Rattle.mx_look_trace.specs.Faults.{fault_line}
-use Rattle.mx_look_trace.specs.Trace.{head_line, change_line, delivery_line, kept_line, console_line}
-use Rattle.mx_look_picture.specs.declared.scene_values.Scene.{Scene}
-use Rattle.mx_look_picture.specs.declared.scene_values.Standing.{Standing}
-use Rattle.mx_look_picture.specs.declared.values.Hint.{Hint}
-use Rattle.mx_look_picture.specs.declared.values.Hint.TheVariants.{Nothing, Record, Change, Delivery, Kept, Console, Standing as StandingHint}
+use Rattle.mx_look.specs.declared.slot_glances.SlotGlance.{SlotGlance}
+use Rattle.mx_look.specs.declared.step.Step.{Step}
+use Rattle.mx_look.specs.Step.{slot_in}
+use Rattle.mx_look.specs.FaultLines.{fault_line}
+use Rattle.mx_look.specs.Trace.{head_line, change_line, delivery_line, kept_line, console_line}
+use Rattle.mx_app_draw.specs.declared.scene_values.Scene.{Scene}
+use Rattle.mx_app_draw.specs.declared.scene_values.Standing.{Standing}
+use Rattle.mx_app_draw.specs.declared.values.Hint.{Hint}
+use Rattle.mx_app_draw.specs.declared.values.Hint.TheVariants.{Nothing, Record, Change, Delivery, Kept, Console, Standing as StandingHint}
 use Rattle.mx_app_draw.specs.Shown.{shown}
 use Rattle.mx_app_draw.specs.Texts.{standing_text}
 

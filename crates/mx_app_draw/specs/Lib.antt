@@ -5,3 +5,15 @@ pub mod Classes
 pub mod Figures
 pub mod Document
 pub mod Scenes
+pub mod FourFigures
+pub mod Inside
+pub mod Layout
+pub mod Scene
+pub mod Bars
+pub mod Fates
+pub mod Messages
+pub mod Returns
+pub mod Record
+pub mod Strips
+pub mod Legend
+pub mod Picture

@@ -7,9 +7,9 @@ use Rattle.mx_machine.specs.World.{World}
 use Rattle.mx_app_step.specs.Log.{lines_above}
 use Rattle.mx_app_step.specs.Glances.{glance_of}
 use Rattle.mx_app_step.specs.Step.{Step}
-use Rattle.mx_look_picture.specs.declared.scene_values.Scene.{Scene}
-use Rattle.mx_look_picture.specs.declared.values.Drawing.{Drawing}
-use Rattle.mx_look_picture.specs.Picture.{IsPicture}
+use Rattle.mx_app_draw.specs.declared.scene_values.Scene.{Scene}
+use Rattle.mx_app_draw.specs.declared.values.Drawing.{Drawing}
+use Rattle.mx_app_draw.specs.Picture.{IsPicture}
 use Rattle.mx_app_draw.specs.Document.{drawing_text}
 use Rattle.mx_app_step.specs.declared.records.Replayed.{Replayed}
 use Rattle.mx_app_step.specs.declared.records.Replayed.TheVariants as replayed

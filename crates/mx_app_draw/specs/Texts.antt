@@ -6,19 +6,19 @@ use Rattle.mx_machine.specs.declared.events.Refusal.{Refusal}
 use Rattle.mx_machine.specs.Refusals.{code_of_refusal, name_of_refusal}
 use Rattle.mx_print_report.specs.Numbers.{two_digits}
 use Rattle.mx_print_report.specs.Words.{doing_text, named}
-use Rattle.mx_look_facts.specs.declared.step.Step.{Step}
-use Rattle.mx_look_trace.specs.Trace.{call_name, name_or}
-use Rattle.mx_look_trace.specs.KernelCalls.{request_name}
-use Rattle.mx_look_picture.specs.declared.scene_values.Scene.{Scene}
-use Rattle.mx_look_picture.specs.declared.scene_values.Standing.{Standing}
-use Rattle.mx_look_picture.specs.declared.values.Deed.{Deed}
-use Rattle.mx_look_picture.specs.declared.values.Deed.TheVariants as deed
-use Rattle.mx_look_picture.specs.declared.values.Manner.{Manner}
-use Rattle.mx_look_picture.specs.declared.values.Manner.TheVariants as manner
-use Rattle.mx_look_picture.specs.declared.values.Item.{Item}
-use Rattle.mx_look_picture.specs.declared.values.Item.TheVariants as item
-use Rattle.mx_look_picture.specs.declared.values.Text.{Text}
-use Rattle.mx_look_picture.specs.declared.values.Text.TheVariants as text
+use Rattle.mx_look.specs.declared.step.Step.{Step}
+use Rattle.mx_look.specs.Trace.{call_name, name_or}
+use Rattle.mx_look.specs.KernelCalls.{request_name}
+use Rattle.mx_app_draw.specs.declared.scene_values.Scene.{Scene}
+use Rattle.mx_app_draw.specs.declared.scene_values.Standing.{Standing}
+use Rattle.mx_app_draw.specs.declared.values.Deed.{Deed}
+use Rattle.mx_app_draw.specs.declared.values.Deed.TheVariants as deed
+use Rattle.mx_app_draw.specs.declared.values.Manner.{Manner}
+use Rattle.mx_app_draw.specs.declared.values.Manner.TheVariants as manner
+use Rattle.mx_app_draw.specs.declared.values.Item.{Item}
+use Rattle.mx_app_draw.specs.declared.values.Item.TheVariants as item
+use Rattle.mx_app_draw.specs.declared.values.Text.{Text}
+use Rattle.mx_app_draw.specs.declared.values.Text.TheVariants as text
 
 -- how many there are of something
 unfoldable pub counted : ℕ → List ℕ → List ℕ

@@ -3,7 +3,7 @@
 ghost use Rattle.std.specs.Prelude.{◌≡◌};
 ghost use Rattle.mx_app_draw.specs.Classes.{bar_class, arrow_class, label_class, anchor_word};
 
-use mx_look_picture::{Anchor, ArrowKind, BarKind, LabelKind};
+use crate::values::{Anchor, ArrowKind, BarKind, LabelKind};
 
 pub(crate) fn bar_class(kind: BarKind) -> &'static [u8]
     ensures { result.now ≡ bar_class kind }

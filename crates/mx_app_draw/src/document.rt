@@ -4,9 +4,10 @@ ghost use Rattle.std.specs.Prelude.{◌≡◌, ◌++◌, OnOk};
 ghost use Rattle.mx_app_draw.specs.Document.{size_text, document_head, opening_text, description, told_title, paper_text, letters_style, words_style, figures_style, dark_style, values_text, drawing_text};
 
 use crate::figures::push_value;
+use crate::scene_values::Scene;
 use crate::shown::{push_attribute, push_pair, push_shown};
 use crate::texts::push_title;
-use mx_look_picture::{Drawing, Scene, Value};
+use crate::values::{Drawing, Value};
 use std::alloc::{AllocError, Global};
 
 /// Appends the size of the paper.

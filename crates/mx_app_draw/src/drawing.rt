@@ -13,16 +13,17 @@ ghost use Rattle.mx_app_step.specs.Telling.{IsTold};
 ghost use Rattle.mx_machine.specs.declared.history.Record.{Record as Noted};
 ghost use Rattle.mx_machine.specs.Boot.{world_at_boot};
 ghost use Rattle.mx_machine.specs.World.{actors};
-ghost use Rattle.mx_look_picture.specs.Picture.{IsDrawable};
+ghost use Rattle.mx_app_draw.specs.Picture.{IsDrawable};
 ghost use Rattle.mx_app_draw.specs.Scenes.{IsDrawing, IsDrawingPrinted, IsPictureText};
 
 use crate::document::push_drawing;
 use crate::scene::{DrawnPart, scene_of};
+use crate::scene_values::Scene;
 use crate::seeing::last_drawn;
+use crate::whole_picture::picture;
 use mx_app_step::{
     Failure, History, HistoryPart, Reader, Replayed, first_records, print_text, start,
 };
-use mx_look_picture::{Scene, picture};
 use mx_machine::{Machine, Record};
 use std::alloc::Global;
 use std::io::Write;

@@ -8,12 +8,13 @@
 ghost use Rattle.std.specs.Prelude.{◌≡◌, ◌++◌, OnOk};
 ghost use Rattle.mx_app_draw.specs.Hints.{step_line, kept_hint, on_processor, standing_hint, placed_line, hint_line, hint_title, hint_text, end_text};
 
+use crate::scene_values::{Scene, Standing};
 use crate::shown::push_shown;
 use crate::texts::push_standing;
-use mx_look_facts::{Step, slot_in};
-use mx_look_picture::{Hint, Scene, Standing};
-use mx_look_trace::{
-    push_change, push_console_line, push_delivery, push_fault_line, push_head, push_kept,
+use crate::values::Hint;
+use mx_look::{
+    Step, push_change, push_console_line, push_delivery, push_fault_line, push_head, push_kept,
+    slot_in,
 };
 use mx_print_report::push_decimal;
 use std::alloc::{AllocError, Global};

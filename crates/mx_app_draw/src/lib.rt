@@ -1,15 +1,36 @@
-//! `mx draw`: the picture of a saved history, a scene of figures, arrows, hints and marks, as text in SVG 1.1:
-//! texts, classes, attributes, fonts and strokes.
+//! `mx draw`: the picture of a saved history. First a `Scene` is made of its steps (strips, spots, bars, hints, labels
+//! and deeds: calls that failed, fates, returns), then the picture of it, a list of values with whole coordinates on
+//! paper, and at last its text in SVG 1.1: texts, classes, attributes, fonts and strokes.
 #![tactic(auto)]
 
+mod bars;
+mod between_steps;
+mod came;
 mod classes;
 mod document;
 mod drawing;
+mod fates;
 mod figures;
+mod four_figures;
 mod hints;
+mod layout;
+mod legend;
+mod messages;
+mod returns;
 mod scene;
+mod scene_values;
 mod seeing;
 mod shown;
+mod strips;
 mod texts;
+mod values;
+mod whole_picture;
 
 pub use drawing::draw;
+pub(crate) use mx_look::Glance;
+pub use scene_values::{Scene, Standing};
+pub use values::{
+    Anchor, Arrow, ArrowKind, Bar, BarKind, Deed, Drawing, Hint, Item, Label, LabelKind, Manner,
+    Mark, MarkKind, Text, Value,
+};
+pub use whole_picture::picture;

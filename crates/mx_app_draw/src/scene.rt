@@ -4,12 +4,12 @@ ghost use Rattle.std.specs.Prelude.{◌≡◌, ◌<◌, ◌≤◌, ◌+◌, ◌^
 ghost use Rattle.mx_app_step.specs.Machine.{world_of};
 ghost use Rattle.mx_machine.specs.declared.history.Record.{Record as Noted};
 ghost use Rattle.mx_machine.specs.World.{actors};
-ghost use Rattle.mx_look_picture.specs.Picture.{IsDrawable};
+ghost use Rattle.mx_app_draw.specs.Picture.{IsDrawable};
 ghost use Rattle.mx_app_draw.specs.Scenes.{IsHistoryScene, refused_line, told_number};
 
+use crate::scene_values::Scene;
 use crate::seeing::see_records;
 use mx_app_step::lines_above;
-use mx_look_picture::Scene;
 use mx_machine::{Machine, Record, Refusal};
 use std::alloc::{AllocError, Global};
 

@@ -12,7 +12,7 @@ ghost use Rattle.mx_machine.specs.World.{actors};
 ghost use Rattle.mx_app_draw.specs.Scenes.{IsSeen, drawn_of, last_drawn};
 
 use mx_app_step::{look_record, resting_step};
-use mx_look_facts::{Glance, Step};
+use mx_look::{Glance, Step};
 use mx_machine::{Machine, Record, Refusal};
 use std::alloc::{AllocError, Global};
 

@@ -1,12 +1,12 @@
 //! The words of a picture's texts.
 
 ghost use Rattle.std.specs.Prelude.{◌≡◌, ◌++◌, OnOk};
-ghost use Rattle.mx_look_trace.specs.Trace.{name_or};
+ghost use Rattle.mx_look.specs.Trace.{name_or};
 ghost use Rattle.mx_app_draw.specs.Texts.{counted, span_text, title_text, who_text, standing_text, deed_word, deed_text, refused_text, key_text, text_words};
 
-use mx_look_facts::Step;
-use mx_look_picture::{Deed, Item, Manner, Scene, Standing, Text};
-use mx_look_trace::{call_name, request_name};
+use crate::scene_values::{Scene, Standing};
+use crate::values::{Deed, Item, Manner, Text};
+use mx_look::{Step, call_name, request_name};
 use mx_print_report::{
     push_counted, push_decimal, push_doing, push_named, push_signed, push_two_digits,
 };

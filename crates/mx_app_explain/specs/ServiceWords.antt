@@ -8,7 +8,7 @@ use Rattle.mx_machine.specs.declared.config.ServiceLine.{ServiceLine}
 use Rattle.mx_proc.specs.declared.process.Terms.{Terms}
 use Rattle.mx_proc.specs.declared.windows.Rules.{Rules}
 use Rattle.mx_print_report.specs.Words.{name_bytes}
-use Rattle.mx_look_trace.specs.Trace.{call_text}
+use Rattle.mx_look.specs.Trace.{call_text}
 use Rattle.mx_kcall.specs.Rows.{calls, is_there, name_of}
 use Rattle.mx_kcall.specs.declared.rows.CallRow.{CallRow}
 

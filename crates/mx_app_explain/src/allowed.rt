@@ -4,7 +4,7 @@ ghost use Rattle.std.specs.Prelude.{◌≡◌, ◌<◌, ◌≤◌, ◌++◌, OnO
 ghost use Rattle.mx_app_explain.specs.ServiceWords.{call_if, call_words, none_since, or_none, receiver_if, receiver_words, trap_if, trap_words};
 
 use mx_kcall::{CALLS, is_there};
-use mx_look_trace::push_call;
+use mx_look::push_call;
 use mx_machine::ServiceLine;
 use mx_print_report::push_name;
 use mx_proc::Rules;

@@ -6,8 +6,8 @@ use Rattle.mx_app_look.specs.Requests.{request_of}
 use Rattle.mx_app_look.proofs.Halting.{one_last_halt, one_next_halt}
 use Rattle.mx_walk.specs.declared.positions.Position.{Position}
 use Rattle.mx_walk.specs.Positions.{IsPosition, is_up_to, next_position, position_before}
-use Rattle.mx_walker.specs.Walks.{Walk}
-use Rattle.mx_look_moves.specs.Moves.{steps_back, steps_on}
+use Rattle.mx_walk.specs.Walks.{Walk}
+use Rattle.mx_walk.specs.Moves.{steps_back, steps_on}
 use Rattle.mx_app_look.specs.declared.sight.Sight.{Sight}
 use Rattle.mx_app_look.specs.Answers.{IsMade}
 use Rattle.mx_app_look.specs.Places.{place_text}

@@ -8,9 +8,9 @@ use Rattle.mx_machine.specs.World.{World}
 use Rattle.mx_walk.specs.declared.positions.Position.{Position}
 use Rattle.mx_walk.specs.Positions.{IsAbove, IsPosition, IsUpTo, event_below, events_above, first, is_up_to, next_position, position_before, world_at}
 use Rattle.mx_walk.specs.Seeking.{IsFirstMarked, IsLastMarked, IsPassed, is_marked}
-use Rattle.mx_walker.specs.Walks.{Walk, world_here}
+use Rattle.mx_walk.specs.Walks.{Walk, world_here}
 use Rattle.mx_walk.proofs.Next.{has_event, next_up_to, not_itself, up_to_of, world_next}
-use Rattle.mx_walker.proofs.Arriving.{begins}
+use Rattle.mx_walk.proofs.Arriving.{begins}
 use Rattle.mx_app_look.proofs.Lists.{same_rest}
 use Rattle.mx_app_look.specs.declared.points.Points.{Points}
 use Rattle.mx_app_look.specs.Marks.{changes_watched, is_looked_for}

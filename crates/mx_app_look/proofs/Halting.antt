@@ -8,11 +8,11 @@ use Rattle.mx_machine.specs.World.{World}
 use Rattle.mx_walk.specs.declared.positions.Position.{Position}
 use Rattle.mx_walk.specs.Positions.{IsPosition, IsUpTo, event_below, events_above, first, next_position, position_before, world_at}
 use Rattle.mx_walk.specs.Seeking.{IsFirstMarked, IsLastMarked, IsPassed, NoneMarked, is_marked}
-use Rattle.mx_walker.specs.Walks.{Walk, world_here}
-use Rattle.mx_walker.proofs.Arriving.{begins, first_up_to}
+use Rattle.mx_walk.specs.Walks.{Walk, world_here}
+use Rattle.mx_walk.proofs.Arriving.{begins, first_up_to}
 use Rattle.mx_walk.proofs.Made.{after_both}
 use Rattle.mx_walk.proofs.Meeting.{above_first, meets}
-use Rattle.mx_walker.proofs.Naming.{first_is_one, last_is_one}
+use Rattle.mx_walk.proofs.Naming.{first_is_one, last_is_one}
 use Rattle.mx_walk.proofs.Next.{above_it}
 use Rattle.mx_app_look.proofs.Lists.{same_rest}
 use Rattle.mx_app_look.specs.declared.points.Points.{Points}

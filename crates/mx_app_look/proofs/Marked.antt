@@ -3,11 +3,11 @@ use Rattle.std.proofs.Common.{◌≡◌, ◌∙◌, ℕ, Bool, ◌||◌, List, m
 use Rattle.std.specs.List.{flat_map}
 use Rattle.mx_machine.specs.declared.events.Event.{Event}
 use Rattle.mx_machine.specs.World.{World}
-use Rattle.mx_walker.specs.declared.stopping.Leaving.{Leaving}
-use Rattle.mx_walker.specs.declared.watching.ByteChange.{ByteChange}
-use Rattle.mx_walker.specs.Several.{any_marks}
-use Rattle.mx_walker.specs.Stopping.{leaves}
-use Rattle.mx_walker.specs.Watching.{is_changed}
+use Rattle.mx_walk.specs.declared.stopping.Leaving.{Leaving}
+use Rattle.mx_walk.specs.declared.watching.ByteChange.{ByteChange}
+use Rattle.mx_walk.specs.Several.{any_marks}
+use Rattle.mx_walk.specs.Stopping.{leaves}
+use Rattle.mx_walk.specs.Watching.{is_changed}
 use Rattle.mx_app_look.specs.declared.points.Points.{Points}
 use Rattle.mx_app_look.specs.Marks.{changes, changes_watched, code_place, is_looked_for, leaves_breakpoint, leaving}
 use Rattle.mx_app_look.specs.Watches.{places_of}

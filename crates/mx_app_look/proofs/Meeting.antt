@@ -2,10 +2,10 @@
 use Rattle.std.proofs.Common.{◌≡◌, ◌∙◌, ◌≤◌, ◌<◌, ◌++◌, ℕ, suc, ◌+◌, ◌-◌, cond, true, false, List, length, get_or, Option, Some, slice_get, find, ap, sym, arith}
 use Rattle.std.specs.List.{range_with_len}
 use Rattle.mx_machine.specs.declared.history.Record.{Record}
-use Rattle.mx_look_facts.specs.declared.step.Step.{Step}
-use Rattle.mx_look_trace.specs.Trace.{record_text}
+use Rattle.mx_look.specs.declared.step.Step.{Step}
+use Rattle.mx_look.specs.Trace.{record_text}
 use Rattle.mx_walk.specs.declared.positions.Position.{Position}
-use Rattle.mx_walker.specs.Walks.{Walk}
+use Rattle.mx_walk.specs.Walks.{Walk}
 use Rattle.mx_app_look.proofs.Moving.{read_is}
 use Rattle.mx_app_look.proofs.WhyTexts.{why_is}
 use Rattle.mx_app_look.specs.declared.happening.Happening.{Happening}

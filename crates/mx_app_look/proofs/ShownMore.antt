@@ -10,7 +10,7 @@ use Rattle.mx_machine.specs.World.{World}
 use Rattle.mx_walk.specs.declared.positions.Position.{Position}
 use Rattle.mx_walk.specs.declared.progress.Part.{Part}
 use Rattle.mx_walk.specs.Parts.{HasGrown, parts_between, walk_between, walk_shown}
-use Rattle.mx_walker.specs.Walks.{Walk, shown_to, shown_way, world_here}
+use Rattle.mx_walk.specs.Walks.{Walk, shown_to, shown_way, world_here}
 use Rattle.mx_walk.specs.Positions.{IsPosition, IsUpTo, event_below, first, first_steps, is_up_to, next_position, position_before, steps_in, world_at}
 use Rattle.mx_walk.specs.Seeking.{IsFirstMarked, IsLastMarked, IsPassed, is_marked}
 use Rattle.mx_walk.proofs.Next.{world_next}
@@ -28,7 +28,7 @@ use Rattle.mx_app_look.specs.Until.{below, halt_below, has, met, until_halt}
 use Rattle.mx_walk.proofs.Along.{up_trans}
 use Rattle.mx_app_look.proofs.Coming.{gone}
 use Rattle.mx_app_look.proofs.Meeting.{met_from}
-use Rattle.mx_look_moves.proofs.Staying.{none_shown, on_shown, stays_shown}
+use Rattle.mx_walk.proofs.Staying.{none_shown, on_shown, stays_shown}
 use Rattle.mx_app_look.proofs.Moving.{made_position, read_is, records_up_to, steps_by}
 
 -- ---- what was shown before, and after

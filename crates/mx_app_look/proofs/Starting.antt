@@ -6,7 +6,7 @@ use Rattle.mx_debug.specs.declared.points.Breakpoint.{Breakpoint}
 use Rattle.mx_app_look.specs.declared.points.Points.{Points}
 use Rattle.mx_app_look.specs.declared.watches.Watch.{Watch}
 use Rattle.mx_walk.specs.declared.progress.Part.{Part}
-use Rattle.mx_walker.specs.Walks.{IsLast, Walk}
+use Rattle.mx_walk.specs.Walks.{IsLast, Walk}
 use Rattle.mx_walk.specs.Positions.{first}
 use Rattle.mx_app_look.specs.declared.sight.Sight.{Sight}
 use Rattle.mx_app_look.specs.Sessions.{IsBegun, IsSession, sight_at}

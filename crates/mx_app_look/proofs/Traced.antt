@@ -10,7 +10,7 @@ use Rattle.mx_machine.specs.World.{World}
 use Rattle.mx_app_step.specs.Traces.{steps_before}
 use Rattle.mx_walk.specs.declared.positions.Position.{Position}
 use Rattle.mx_walk.specs.Positions.{steps_in, steps_of}
-use Rattle.mx_walker.specs.Walks.{Walk}
+use Rattle.mx_walk.specs.Walks.{Walk}
 use Rattle.mx_walk.proofs.Made.{after_both}
 
 -- a walk, but for its marks

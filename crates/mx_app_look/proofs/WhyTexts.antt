@@ -1,8 +1,8 @@
 -- What the record above did.
 use Rattle.std.proofs.Common.{◌≡◌, ◌∙◌, ◌-◌, ℕ, suc, List, Option, Some, slice_get, ap, arith}
 use Rattle.mx_machine.specs.declared.history.Record.{Record}
-use Rattle.mx_look_trace.specs.Trace.{record_text}
-use Rattle.mx_walker.specs.Walks.{Walk}
+use Rattle.mx_look.specs.Trace.{record_text}
+use Rattle.mx_walk.specs.Walks.{Walk}
 use Rattle.mx_app_look.specs.Above.{record_above, step_above, why_by, why_text}
 
 above_is : (records : List Record) (n m : ℕ) (x : Record) → n ≡ suc m → slice_get records m ≡ Some x → record_above records n ≡ Some x

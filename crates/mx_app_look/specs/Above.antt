@@ -1,12 +1,12 @@
 -- What the record above did (our own).
 use Rattle.std.specs.Prelude.{ℕ, zero, suc, ◌+◌, ◌-◌, ◌%◌, ◌^◌, List, codes, Option, Some, None, slice_get}
-use Rattle.mx_look_trace.specs.Glances.{glance_of}
-use Rattle.mx_look_trace.specs.Step.{Step as Seen}
-use Rattle.mx_look_trace.specs.Trace.{record_text}
+use Rattle.mx_look.specs.Glances.{glance_of}
+use Rattle.mx_look.specs.Step.{Step as Seen}
+use Rattle.mx_look.specs.Trace.{record_text}
 use Rattle.mx_machine.specs.declared.history.Record.{Record}
 use Rattle.mx_machine.specs.World.{World}
 use Rattle.mx_walk.specs.Positions.{steps_in, world_at}
-use Rattle.mx_walker.specs.Walks.{Walk}
+use Rattle.mx_walk.specs.Walks.{Walk}
 
 -- record n + 1: it is looked at after its steps, and after its own event. Its number is one of 32 bits
 abbrev pub step_above : World → List Record → ℕ → Record → Seen

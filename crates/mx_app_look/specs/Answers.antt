@@ -6,10 +6,10 @@ use Rattle.mx_app_look.specs.declared.request.Request.TheVariants.{Nothing, Forw
 use Rattle.mx_machine.specs.World.{World}
 use Rattle.mx_print_answers.specs.Messages.{delivery_lines}
 use Rattle.mx_walk.specs.declared.positions.Position.{Position}
-use Rattle.mx_walker.specs.Walks.{Walk, world_here}
+use Rattle.mx_walk.specs.Walks.{Walk, world_here}
 use Rattle.mx_app_look.specs.declared.sight.Sight.{Sight}
 use Rattle.mx_app_look.specs.Above.{why_text}
-use Rattle.mx_look_moves.specs.Moves.{back_from, can_go, forward_from, gone_to, position_asked, steps_back, steps_on}
+use Rattle.mx_walk.specs.Moves.{back_from, can_go, forward_from, gone_to, position_asked, steps_back, steps_on}
 use Rattle.mx_app_look.specs.Places.{place_text}
 use Rattle.mx_app_look.specs.Seeking.{IsGoneBack, IsGoneOn, point_made, point_text}
 use Rattle.mx_app_look.specs.Showing.{shown_text}

@@ -6,8 +6,8 @@ use Rattle.std.specs.List.{flat_map}
 use Rattle.mx_insn_words.specs.Numbers.{eight_digits}
 use Rattle.mx_machine.specs.World.{World}
 use Rattle.mx_print_answers.specs.Processes.{byte_field}
-use Rattle.mx_walker.specs.declared.watching.BytePlace.{BytePlace}
-use Rattle.mx_walker.specs.Watching.{byte_in}
+use Rattle.mx_walk.specs.declared.watching.BytePlace.{BytePlace}
+use Rattle.mx_walk.specs.Watching.{byte_in}
 use Rattle.mx_app_look.specs.declared.changes.Seen.{Seen}
 use Rattle.mx_app_look.specs.declared.points.Points.{Points}
 use Rattle.mx_app_look.specs.declared.watches.Watch.{Watch}

@@ -1,11 +1,11 @@
 -- What `until` looks for, in the words of a trace (our own).
 use Rattle.std.specs.Prelude.{ℕ, ◌==◌, ◌&&◌, not, nat_lt, Bool, false, List, Option, Some, None, slice_index}
-use Rattle.mx_look_facts.specs.declared.glance.CpuGlance.{CpuGlance}
-use Rattle.mx_look_facts.specs.declared.step.Step.{Step}
-use Rattle.mx_look_facts.specs.Calls.{kernel_call}
-use Rattle.mx_look_facts.specs.Deliveries.{delivery_to}
-use Rattle.mx_look_facts.specs.Doings.{is_down, seen_is}
-use Rattle.mx_look_facts.specs.Step.{slot_in}
+use Rattle.mx_look.specs.declared.glance.CpuGlance.{CpuGlance}
+use Rattle.mx_look.specs.declared.step.Step.{Step}
+use Rattle.mx_look.specs.Calls.{kernel_call}
+use Rattle.mx_look.specs.Deliveries.{delivery_to}
+use Rattle.mx_look.specs.Doings.{is_down, seen_is}
+use Rattle.mx_look.specs.Step.{slot_in}
 use Rattle.mx_proc.specs.declared.deliveries.Delivery.{Delivery}
 use Rattle.mx_proc.specs.EndpointNumbers.{slot_of}
 use Rattle.mx_app_look.specs.declared.happening.Happening.{Happening}

@@ -4,11 +4,11 @@ use Rattle.std.specs.List.{flat_map}
 use Rattle.mx_debug.specs.declared.points.Breakpoint.{Breakpoint}
 use Rattle.mx_machine.specs.declared.events.Event.{Event}
 use Rattle.mx_machine.specs.World.{World}
-use Rattle.mx_walker.specs.declared.stopping.CodePlace.{CodePlace}
-use Rattle.mx_walker.specs.declared.watching.BytePlace.{BytePlace}
-use Rattle.mx_walker.specs.Several.{any_marks}
-use Rattle.mx_walker.specs.Stopping.{leaves}
-use Rattle.mx_walker.specs.Watching.{is_changed}
+use Rattle.mx_walk.specs.declared.stopping.CodePlace.{CodePlace}
+use Rattle.mx_walk.specs.declared.watching.BytePlace.{BytePlace}
+use Rattle.mx_walk.specs.Several.{any_marks}
+use Rattle.mx_walk.specs.Stopping.{leaves}
+use Rattle.mx_walk.specs.Watching.{is_changed}
 use Rattle.mx_app_look.specs.declared.points.Points.{Points}
 use Rattle.mx_app_look.specs.Watches.{places_of}
 

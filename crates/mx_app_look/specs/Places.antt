@@ -3,10 +3,10 @@ use Rattle.std.specs.Prelude.{ℕ, zero, suc, ◌+◌, List, [], ◌++◌, codes
 use Rattle.std.specs.Fmt.{decimal}
 use Rattle.mx_app_step.specs.Log.{lines_above}
 use Rattle.mx_app_step.specs.Records.{refused_record_line}
-use Rattle.mx_look_facts.specs.Code.{code_line}
-use Rattle.mx_look_trace.specs.Glances.{glance_of}
-use Rattle.mx_look_trace.specs.Trace.{event_text}
-use Rattle.mx_look_trace.specs.Words.{who}
+use Rattle.mx_look.specs.Code.{code_line}
+use Rattle.mx_look.specs.Glances.{glance_of}
+use Rattle.mx_look.specs.Trace.{event_text}
+use Rattle.mx_look.specs.Words.{who}
 use Rattle.mx_machine.specs.declared.events.Event.{Event}
 use Rattle.mx_machine.specs.declared.events.Event.TheVariants as event
 use Rattle.mx_machine.specs.declared.events.Refusal.{Refusal}
@@ -15,7 +15,7 @@ use Rattle.mx_machine.specs.World.{World, HeldProcess, held_by}
 use Rattle.mx_print_answers.specs.Slots.{symbols_by}
 use Rattle.mx_walk.specs.declared.positions.Position.{Position}
 use Rattle.mx_walk.specs.Positions.{event_below}
-use Rattle.mx_walker.specs.Walks.{Walk, refusal_here, world_here}
+use Rattle.mx_walk.specs.Walks.{Walk, refusal_here, world_here}
 
 -- ---- a position: K, or K.J inside the record below
 

@@ -4,7 +4,7 @@ use Rattle.mx_machine.specs.declared.events.Event.{Event}
 use Rattle.mx_walk.specs.declared.positions.Position.{Position}
 use Rattle.mx_walk.specs.Positions.{IsPosition, IsUpTo, event_below, first, is_up_to, next_position, position_before, world_at}
 use Rattle.mx_walk.specs.Seeking.{IsFirstMarked, IsLastMarked, IsPassed, is_marked}
-use Rattle.mx_walker.specs.Walks.{Walk, world_here}
+use Rattle.mx_walk.specs.Walks.{Walk, world_here}
 use Rattle.mx_app_look.specs.declared.points.Points.{Points}
 use Rattle.mx_app_look.specs.Changes.{change_text}
 use Rattle.mx_app_look.specs.Marks.{changes_watched, is_looked_for, leaves_breakpoint}

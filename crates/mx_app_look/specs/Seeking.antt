@@ -17,7 +17,7 @@ use Rattle.mx_print_answers.specs.Slots.{address_asked}
 use Rattle.mx_print_answers.specs.declared.refused.Refused.{Refused}
 use Rattle.mx_print_answers.specs.declared.refused.Refused.TheVariants.{ByDebugger}
 use Rattle.mx_walk.specs.declared.positions.Position.{Position}
-use Rattle.mx_walker.specs.Walks.{Walk, world_here}
+use Rattle.mx_walk.specs.Walks.{Walk, world_here}
 use Rattle.mx_app_look.specs.declared.sight.Sight.{Sight}
 use Rattle.mx_app_look.specs.Places.{place_text}
 use Rattle.mx_app_look.specs.Slots.{limit_in, slot_asked}

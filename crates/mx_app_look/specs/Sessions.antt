@@ -17,7 +17,7 @@ use Rattle.mx_machine.specs.World.{World}
 use Rattle.mx_walk.specs.declared.positions.Position.{Position}
 use Rattle.mx_walk.specs.declared.progress.Part.{Part}
 use Rattle.mx_walk.specs.Parts.{HasGrown, walk_shown}
-use Rattle.mx_walker.specs.Walks.{IsLast, Walk}
+use Rattle.mx_walk.specs.Walks.{IsLast, Walk}
 use Rattle.mx_walk.specs.Positions.{first}
 use Rattle.mx_app_look.specs.declared.sight.Sight.{Sight}
 use Rattle.mx_app_look.specs.Answers.{IsMade}

@@ -2,9 +2,9 @@
 use Rattle.std.specs.Prelude.{ℕ, List, Option, Some, None, Result, Ok, Err, slice_get}
 use Rattle.mx_aout.specs.declared.program.Symbol.{Symbol}
 use Rattle.mx_exec.specs.declared.image.Image.{Image}
-use Rattle.mx_look_facts.specs.Lines.{code_lines}
-use Rattle.mx_look_facts.specs.Stack.{stack_text}
-use Rattle.mx_look_facts.specs.Variables.{variable_line, variable_named, variable_value}
+use Rattle.mx_look.specs.Lines.{code_lines}
+use Rattle.mx_look.specs.Stack.{stack_text}
+use Rattle.mx_look.specs.Variables.{variable_line, variable_named, variable_value}
 use Rattle.mx_boot.specs.declared.address_word.AddressWord.{AddressWord}
 use Rattle.mx_app_look.specs.declared.shown.Shown.{Shown}
 use Rattle.mx_app_look.specs.declared.shown.Shown.TheVariants.{Code, Memory, Registers, Stack, Variable}
@@ -14,7 +14,7 @@ use Rattle.mx_print_answers.specs.Processes.{not_here}
 use Rattle.mx_print_answers.specs.Slots.{address_asked, image_in, memory_of, refused_text, registers_of, symbols_by}
 use Rattle.mx_print_answers.specs.declared.refused.Refused.{Refused as Kind}
 use Rattle.mx_print_answers.specs.declared.refused.Refused.TheVariants.{ByDebugger}
-use Rattle.mx_walker.specs.Walks.{Walk, world_here}
+use Rattle.mx_walk.specs.Walks.{Walk, world_here}
 use Rattle.mx_app_look.specs.Slots.{slot_asked}
 
 abbrev pub symbols_in : World → ℕ → List Symbol

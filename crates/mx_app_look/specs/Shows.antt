@@ -4,7 +4,7 @@ use Rattle.mx_machine.specs.declared.events.Event.{Event}
 use Rattle.mx_machine.specs.declared.history.Record.{Record}
 use Rattle.mx_walk.specs.declared.positions.Position.{Position}
 use Rattle.mx_walk.specs.declared.progress.Part.{Part}
-use Rattle.mx_walker.specs.Walks.{Walk, shown_to, shown_way, world_here}
+use Rattle.mx_walk.specs.Walks.{Walk, shown_to, shown_way, world_here}
 use Rattle.mx_walk.specs.Parts.{walk_between, walk_shown}
 use Rattle.mx_walk.specs.Positions.{IsPosition, IsUpTo, event_below, first, next_position, position_before, steps_in}
 use Rattle.mx_walk.specs.Seeking.{IsFirstMarked, IsLastMarked, IsPassed, is_marked}

@@ -8,7 +8,7 @@ use Rattle.mx_print_answers.specs.DebugError.TheVariants.{NotHere}
 use Rattle.mx_print_answers.specs.Slots.{image_in, slot_named}
 use Rattle.mx_print_answers.specs.declared.refused.Refused.{Refused as Kind}
 use Rattle.mx_print_answers.specs.declared.refused.Refused.TheVariants.{ByDebugger}
-use Rattle.mx_walker.specs.Walks.{Walk, world_here}
+use Rattle.mx_walk.specs.Walks.{Walk, world_here}
 
 abbrev pub slot_next : World → Option Record → Option ℕ
 slot_next w None = None

@@ -2,7 +2,7 @@
 use Rattle.std.specs.Prelude.{ℕ, List, [], ◌∷◌, Option, Some, None, codes, if◌then◌else◌}
 use Rattle.std.specs.Str.{bytes_eq}
 use Rattle.mx_boot.specs.Script.{count_field, only_count}
-use Rattle.mx_look_trace.specs.KernelCalls.{request_type}
+use Rattle.mx_look.specs.KernelCalls.{request_type}
 use Rattle.mx_text.specs.Bytes.{is_digit}
 use Rattle.mx_text.specs.Fields.{only, pair, ◌>>=◌}
 use Rattle.mx_boot.specs.Addresses.{number_field}

@@ -3,7 +3,7 @@ use Rattle.std.specs.Prelude.{ℕ, ◌==◌, ◌^◌, ◌&&◌, nat_le, nat_lt, 
 use Rattle.std.specs.List.{flat_map, list_any, range_with_len}
 use Rattle.mx_debug.specs.declared.error.DebugError.{DebugError}
 use Rattle.mx_debug.specs.declared.error.DebugError.TheVariants.{NotHere, TooMany}
-use Rattle.mx_walker.specs.declared.watching.BytePlace.{BytePlace}
+use Rattle.mx_walk.specs.declared.watching.BytePlace.{BytePlace}
 use Rattle.mx_app_look.specs.declared.watches.Watch.{Watch}
 
 -- the place at an address, which has 32 bits

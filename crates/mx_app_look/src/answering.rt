@@ -5,7 +5,7 @@ ghost use Rattle.mx_app_step.specs.Failure.{IsWanting};
 ghost use Rattle.mx_app_look.specs.declared.request.Request.TheVariants as requests;
 ghost use Rattle.mx_walk.specs.declared.progress.Part.{Part as Parts};
 ghost use Rattle.mx_walk.specs.Parts.{HasGrown};
-ghost use Rattle.mx_walker.specs.Walks.{shown_to, world_here};
+ghost use Rattle.mx_walk.specs.Walks.{shown_to, world_here};
 ghost use Rattle.mx_walk.specs.Positions.{IsPosition, IsUpTo};
 ghost use Rattle.mx_app_look.specs.declared.sight.Sight.{Sight as Seen};
 ghost use Rattle.mx_app_look.specs.Above.{why_text};
@@ -27,9 +27,9 @@ use crate::sight::{Sight, say};
 use crate::verb::push_unknown;
 use crate::world_texts::{push_deliveries, push_processes, push_why};
 use mx_app_failure::Failure;
-use mx_look_moves::{PositionWord, back_from, forward_from, steps_back, steps_on};
+use mx_walk::{PositionWord, back_from, forward_from, steps_back, steps_on};
 use mx_walk::{Position, Progress};
-use mx_walker::Walker;
+use mx_walk::Walker;
 use std::alloc::{AllocError, Global};
 
 /// What `help` prints.
@@ -75,7 +75,7 @@ fn go_to_asked<P: Progress>(
         ++ shown_to sight.walker (to_of sight.walker (requests.GoTo asked))) }
     ensures grown { IfErr result (λ _. HasGrown (P.shown progress.old) (P.shown progress.new)) }
 {
-    let (walker, is_there) = mx_look_moves::go_to_asked(alloc, sight.walker, asked, progress)?;
+    let (walker, is_there) = mx_walk::go_to_asked(alloc, sight.walker, asked, progress)?;
     let sight = Sight { walker, ..sight };
     if is_there {
         show_place(alloc, sight)

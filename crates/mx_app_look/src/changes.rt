@@ -10,7 +10,7 @@ use crate::watches::{Watch, places_of};
 use mx_insn_words::push_eight_digits;
 use mx_machine::Machine;
 use mx_print_answers::push_byte;
-use mx_walker::{BytePlace, byte_in};
+use mx_walk::{BytePlace, byte_in};
 use std::alloc::{AllocError, Global};
 use std::fmt::Write;
 

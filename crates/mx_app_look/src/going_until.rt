@@ -3,7 +3,7 @@
 ghost use Rattle.std.specs.Prelude.{◌≡◌, ◌++◌, IfErr, IfOk, OnOk, true};
 ghost use Rattle.mx_app_step.specs.Failure.{IsWanting};
 ghost use Rattle.mx_walk.specs.Parts.{HasGrown};
-ghost use Rattle.mx_walker.specs.Walks.{shown_to};
+ghost use Rattle.mx_walk.specs.Walks.{shown_to};
 ghost use Rattle.mx_app_look.specs.declared.request.Request.TheVariants as requests;
 ghost use Rattle.mx_app_look.specs.Answers.{after, request_text, to_of};
 ghost use Rattle.mx_app_look.specs.Searches.{not_met};
@@ -16,9 +16,9 @@ use crate::slots::slot_asked;
 use crate::world_texts::{Placed, see_record};
 use mx_app_failure::Failure;
 use mx_app_step::resting_step;
-use mx_look_trace::push_record;
+use mx_look::push_record;
 use mx_walk::Progress;
-use mx_walker::Walker;
+use mx_walk::Walker;
 use mx_word::NoMemory;
 use std::alloc::Global;
 

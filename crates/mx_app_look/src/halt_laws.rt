@@ -5,7 +5,7 @@ ghost use Rattle.mx_machine.specs.declared.events.Event.{Event};
 ghost use Rattle.mx_walk.specs.declared.positions.Position.{Position};
 ghost use Rattle.mx_walk.specs.Positions.{IsPosition, event_below, next_position, position_before};
 ghost use Rattle.mx_walk.specs.Seeking.{IsFirstMarked, is_marked};
-ghost use Rattle.mx_walker.specs.Walks.{Walk, world_here};
+ghost use Rattle.mx_walk.specs.Walks.{Walk, world_here};
 ghost use Rattle.mx_app_look.specs.declared.points.Points.{Points};
 ghost use Rattle.mx_app_look.specs.Marks.{changes_watched, is_looked_for};
 ghost use Rattle.mx_app_look.specs.Searches.{IsLastHalt, IsNextHalt, changes_from};

@@ -2,11 +2,11 @@
 
 ghost use Rattle.std.specs.Prelude.{◌≡◌};
 ghost use Rattle.std.specs.Option.{option_map};
-ghost use Rattle.mx_look_facts.specs.Doings.{is_down, seen_is};
-ghost use Rattle.mx_look_facts.specs.Step.{slot_in};
+ghost use Rattle.mx_look.specs.Doings.{is_down, seen_is};
+ghost use Rattle.mx_look.specs.Step.{slot_in};
 ghost use Rattle.mx_app_look.specs.Happenings.{calls, comes_from, dies, has_type, happens, is_delivered, called_by};
 
-use mx_look_facts::{CpuGlance, Glance, Step, delivery_to, is_down, kernel_call, slot_in};
+use mx_look::{CpuGlance, Glance, Step, delivery_to, is_down, kernel_call, slot_in};
 use mx_proc::{Delivery, slot_of};
 
 /// What `until` looks for in the records of a history.

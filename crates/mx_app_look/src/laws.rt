@@ -6,11 +6,11 @@ ghost use Rattle.mx_machine.specs.History.{events_of_history, world_after_events
 ghost use Rattle.mx_machine.specs.World.{World};
 ghost use Rattle.mx_machine.specs.declared.history.Record.{Record};
 ghost use Rattle.mx_walk.specs.declared.progress.Part.{Part};
-ghost use Rattle.mx_walker.specs.Walks.{Walk};
+ghost use Rattle.mx_walk.specs.Walks.{Walk};
 ghost use Rattle.mx_app_look.specs.Above.{step_above};
 ghost use Rattle.mx_app_look.specs.Sessions.{IsBegun, IsSession, begun_text, sight_at};
 
-use mx_walker::positions_replay;
+use mx_walk::positions_replay;
 
 /// Law: what a session prints is determined by the world of the boot, the records of the history and the
 /// lines that are typed.

@@ -8,7 +8,7 @@ ghost use Rattle.mx_app_look.specs.Watches.{places_of};
 use crate::points::Points;
 use crate::watches::{Watch, places_of};
 use mx_debug::Breakpoint;
-use mx_walker::{ByteChange, BytePlace, CodePlace, Either, Leaving, Several};
+use mx_walk::{ByteChange, BytePlace, CodePlace, Either, Leaving, Several};
 use std::alloc::{AllocError, Global};
 
 /// Appends what marks the changes of each of these bytes.

@@ -2,24 +2,24 @@
 
 ghost use Rattle.std.specs.Prelude.{◌≡◌, ◌++◌, ◌+◌, OnOk, slice_get};
 ghost use Rattle.mx_app_step.specs.Log.{lines_above};
-ghost use Rattle.mx_look_facts.specs.Code.{code_line};
+ghost use Rattle.mx_look.specs.Code.{code_line};
 ghost use Rattle.mx_machine.specs.World.{held_by};
 ghost use Rattle.mx_machine.specs.Machine.{world_of};
 ghost use Rattle.mx_walk.specs.Positions.{event_below};
-ghost use Rattle.mx_walker.specs.Walks.{refusal_here, world_here};
+ghost use Rattle.mx_walk.specs.Walks.{refusal_here, world_here};
 ghost use Rattle.mx_app_look.specs.Places.{below_line, place_text, position_text, process_line, record_line, rest_of_place, step_line};
 
 use mx_aout::Symbol;
 use mx_app_step::refusal_line;
 use mx_boot::lines_above;
 use mx_exec::Image;
-use mx_look_facts::{Glance, push_code_line};
-use mx_look_trace::{push_event, push_who};
+use mx_look::{Glance, push_code_line};
+use mx_look::{push_event, push_who};
 use mx_machine::{Event, Machine, Record, Refusal};
 use mx_print_answers::symbols_of;
 use mx_print_report::{push_decimal, push_long};
 use mx_walk::{Position, next_event};
-use mx_walker::Walker;
+use mx_walk::Walker;
 use std::alloc::{AllocError, Global};
 
 /// Appends a position: `K`, or `K.J` inside the record below.

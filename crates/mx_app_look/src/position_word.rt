@@ -4,7 +4,7 @@ ghost use Rattle.std.specs.Prelude.{◌≡◌, position};
 ghost use Rattle.mx_app_look.specs.Requests.{is_dot, position_of_word};
 
 use mx_boot::count;
-use mx_look_moves::PositionWord;
+use mx_walk::PositionWord;
 
 /// The index of the first dot.
 fn dot_in(word: &[u8]) -> Option<usize>

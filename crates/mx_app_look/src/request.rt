@@ -12,7 +12,7 @@ use crate::shown::{Shown, code, memory, registers, stack, variable};
 use crate::until_request::until_asked;
 use crate::verb::{Verb, verb_named};
 use mx_boot::{count, only_count};
-use mx_look_moves::PositionWord;
+use mx_walk::PositionWord;
 use mx_text::{next_field, one_field};
 
 /// How many bytes a line has at most.

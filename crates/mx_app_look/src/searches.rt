@@ -5,7 +5,7 @@ ghost use Rattle.mx_machine.specs.World.{World};
 ghost use Rattle.mx_walk.specs.Positions.{IsAbove, IsPosition, IsUpTo, event_below, first, next_position, position_before};
 ghost use Rattle.mx_walk.specs.declared.progress.Part.{Part as Parts};
 ghost use Rattle.mx_walk.specs.Parts.{HasGrown, walk_shown};
-ghost use Rattle.mx_walker.specs.Walks.{Walk, shown_to, world_here};
+ghost use Rattle.mx_walk.specs.Walks.{Walk, shown_to, world_here};
 ghost use Rattle.mx_walk.specs.Seeking.{IsLastMarked, IsPassed, is_marked};
 ghost use Rattle.mx_app_look.specs.Marks.{changes_watched, is_looked_for};
 ghost use Rattle.mx_app_look.specs.Searches.{IsHalt, IsHaltAfter, IsLastHalt, IsNextHalt, changes_from, halt_by, is_break, not_met};
@@ -15,7 +15,7 @@ use crate::changes::{all_bytes, push_changes};
 use crate::marks::{breaks_mark, bytes_mark, points_mark};
 use crate::points::Points;
 use mx_walk::{Mark, NextEvent, Position, Progress, is_up_to, next_event, position_before};
-use mx_walker::Walker;
+use mx_walk::Walker;
 use mx_word::NoMemory;
 use std::alloc::{AllocError, Global};
 

@@ -19,7 +19,7 @@ use mx_app_failure::Failure;
 use mx_boot::AddressWord;
 use mx_print_answers::{Refused, push_done};
 use mx_walk::Progress;
-use mx_walker::Walker;
+use mx_walk::Walker;
 use std::alloc::{AllocError, Global};
 
 /// Sets a breakpoint. Refuses if there is no such slot or symbol, or if it would be the 65th breakpoint, and

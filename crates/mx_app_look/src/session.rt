@@ -12,7 +12,7 @@ ghost use Rattle.mx_machine.specs.Boot.{world_at_boot};
 ghost use Rattle.mx_machine.specs.declared.history.Record.{Record as Noted};
 ghost use Rattle.mx_walk.specs.declared.progress.Part.{Part as Parts};
 ghost use Rattle.mx_walk.specs.Parts.{HasGrown, walk_shown};
-ghost use Rattle.mx_walker.specs.Walks.{Walk};
+ghost use Rattle.mx_walk.specs.Walks.{Walk};
 ghost use Rattle.mx_app_look.specs.Sessions.{HasFailed, IsAnswered, IsBegun, IsCutOff, IsSession, IsWhole, begun_text, end_text, ends, prompt_text, sight_at};
 ghost use Rattle.mx_app_look.specs.Shows.{IsShown};
 
@@ -24,7 +24,7 @@ use mx_app_failure::{Failure, print_text};
 use mx_app_start::Channels;
 use mx_app_step::{History, LineReader, Reader, Started, start};
 use mx_walk::Progress;
-use mx_walker::Walker;
+use mx_walk::Walker;
 use std::alloc::Global;
 use std::io::Write;
 

@@ -2,7 +2,7 @@
 
 ghost use Rattle.std.specs.Prelude.{◌≡◌, ◌++◌, OnOk, Some, option_copied, option_map, string_bytes};
 ghost use Rattle.mx_print_answers.specs.Slots.{address_asked, image_in, memory_of, refused_text, registers_of};
-ghost use Rattle.mx_walker.specs.Walks.{world_here};
+ghost use Rattle.mx_walk.specs.Walks.{world_here};
 ghost use Rattle.mx_app_look.specs.Showing.{code_at, code_by, code_from, code_next, code_of, dword_line, shown_text, stack_by, stack_of, symbol_of_name, symbols_in, value_text, variable_by, variable_text};
 ghost use Rattle.mx_app_look.specs.Slots.{slot_asked};
 
@@ -12,12 +12,12 @@ use mx_aout::Symbol;
 use mx_boot::{AddressWord, SymbolName};
 use mx_debug::DebugError;
 use mx_exec::Image;
-use mx_look_facts::{push_code_lines, push_stack, push_variable, variable_named, variable_value};
+use mx_look::{push_code_lines, push_stack, push_variable, variable_named, variable_value};
 use mx_print_answers::{
     Refused, image_in, push_memory_of, push_process, push_registers_of, symbols_of,
 };
 use mx_proc::Slot;
-use mx_walker::Walker;
+use mx_walk::Walker;
 use std::alloc::{AllocError, Global};
 use std::fmt::Write;
 

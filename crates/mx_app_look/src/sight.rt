@@ -5,7 +5,7 @@ ghost use Rattle.mx_app_step.specs.Failure.{IsWanting};
 
 use crate::points::Points;
 use mx_app_failure::Failure;
-use mx_walker::Walker;
+use mx_walk::Walker;
 use std::alloc::Global;
 
 /// A walker, and what its searches halt at.

@@ -2,14 +2,14 @@
 
 ghost use Rattle.std.specs.Prelude.{◌≡◌, slice_get};
 ghost use Rattle.mx_print_answers.specs.Slots.{address_asked};
-ghost use Rattle.mx_walker.specs.Walks.{world_here};
+ghost use Rattle.mx_walk.specs.Walks.{world_here};
 ghost use Rattle.mx_app_look.specs.Slots.{limit_in, or_not_here, slot_asked, slot_next};
 
 use mx_boot::AddressWord;
 use mx_debug::DebugError;
 use mx_print_answers::{Refused, address_asked, image_in, slot_named};
 use mx_proc::Slot;
-use mx_walker::Walker;
+use mx_walk::Walker;
 
 /// The slot of the process on the processor whose record is next, if there is one.
 fn slot_next(walker: &Walker) -> Option<Slot>

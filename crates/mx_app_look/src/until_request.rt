@@ -6,7 +6,7 @@ ghost use Rattle.mx_app_look.specs.UntilRequests.{call_asked, delivery_asked, ty
 
 use crate::happening::Happening;
 use mx_boot::{count, only_count, word_number};
-use mx_look_trace::request_type;
+use mx_look::request_type;
 use mx_text::{is_digit, next_field, one_field, two_fields};
 
 /// The type that a word is: a number, which begins with a digit, or a kernel call's name.

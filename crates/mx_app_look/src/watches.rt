@@ -8,7 +8,7 @@ ghost use Rattle.mx_debug.specs.declared.error.DebugError.TheVariants as errors;
 use arrayvec::ArrayVec;
 use mx_debug::DebugError;
 use mx_proc::Slot;
-use mx_walker::BytePlace;
+use mx_walk::BytePlace;
 use std::alloc::{AllocError, Global};
 use std::marker::Model;
 

@@ -2,10 +2,10 @@
 
 ghost use Rattle.std.specs.Prelude.{◌≡◌, ◌++◌, ◌+◌, ◌≤◌, IfOk, IfErr, OnOk, Some, slice_get};
 ghost use Rattle.mx_app_step.specs.Failure.{IsWanting};
-ghost use Rattle.mx_look_trace.specs.Trace.{record_text};
+ghost use Rattle.mx_look.specs.Trace.{record_text};
 ghost use Rattle.mx_print_answers.specs.Messages.{delivery_lines};
 ghost use Rattle.mx_walk.specs.Parts.{HasGrown};
-ghost use Rattle.mx_walker.specs.Walks.{world_here};
+ghost use Rattle.mx_walk.specs.Walks.{world_here};
 ghost use Rattle.mx_app_look.specs.Above.{step_above, why_text};
 ghost use Rattle.mx_app_look.specs.Answers.{line_end, processes_text};
 ghost use Rattle.mx_app_look.specs.Shows.{record_shown, why_shown};
@@ -14,12 +14,12 @@ ghost use Rattle.mx_app_look.specs.Until.{below};
 use mx_app_failure::Failure;
 use mx_app_step::resting_step;
 use mx_boot::report;
-use mx_look_facts::Step;
-use mx_look_trace::push_record;
+use mx_look::Step;
+use mx_look::push_record;
 use mx_machine::Record;
 use mx_print_answers::push_messages;
 use mx_walk::{Position, Progress, steps_in};
-use mx_walker::Walker;
+use mx_walk::Walker;
 use mx_word::NoMemory;
 use std::alloc::{AllocError, Global};
 

@@ -4,8 +4,8 @@ use Rattle.std.proofs.lemmas.Bool.{lt-ltb, ltb-true}
 use Rattle.mx_machine.specs.declared.history.Record.{Record}
 use Rattle.mx_machine.specs.History.{world_after_events, events_of}
 use Rattle.mx_machine.specs.World.{World}
-use Rattle.mx_look_trace.specs.Step.{Step}
-use Rattle.mx_look_trace.specs.Trace.{record_text}
+use Rattle.mx_look.specs.Step.{Step}
+use Rattle.mx_look.specs.Trace.{record_text}
 use Rattle.mx_app_step.specs.Traces.{step_of, told_of, trace_text}
 
 -- nothing is printed of a step before the first that is printed

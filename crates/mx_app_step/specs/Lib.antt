@@ -20,6 +20,6 @@ pub use Rattle.mx_app_start.specs.ServiceLine
 pub use Rattle.mx_app_start.specs.Written
 pub use Rattle.mx_app_start.specs.Text
 pub use Rattle.mx_app_start.specs.Log
-pub use Rattle.mx_look_trace.specs.Glances
-pub use Rattle.mx_look_trace.specs.Glance
-pub use Rattle.mx_look_trace.specs.Step
+pub use Rattle.mx_look.specs.Glances
+pub use Rattle.mx_look.specs.Glance
+pub use Rattle.mx_look.specs.Step

@@ -21,7 +21,7 @@ use crate::records::{Replayed, print_refusal};
 use mx_app_failure::{Failure, print_text};
 use mx_app_start::{History, Reader, start};
 use mx_boot::lines_above;
-use mx_look_trace::{Glance, Step, push_record};
+use mx_look::{Glance, Step, push_record};
 use mx_machine::{Machine, Record, Recorded, Refusal};
 use mx_walk::{make_event, make_steps, own_event, steps_in};
 use std::alloc::Global;

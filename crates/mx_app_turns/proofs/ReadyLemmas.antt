@@ -13,9 +13,9 @@ use Rattle.mx_machine.specs.History.{AreAccepted, BootAndHistory, events_of_hist
 use Rattle.mx_machine.specs.Move.{moves}
 use Rattle.mx_machine.specs.World.{World, actors}
 use Rattle.mx_turns.proofs.MadeLemmas.{kept_boot}
-use Rattle.mx_sweep.specs.declared.faults.FaultLine.{FaultLine}
-use Rattle.mx_sweep.specs.declared.running.Sweep.{Sweep}
-use Rattle.mx_sweep.specs.Swept.{IsSwept}
+use Rattle.mx_turns.specs.declared.faults.FaultLine.{FaultLine}
+use Rattle.mx_turns.specs.declared.running.Sweep.{Sweep}
+use Rattle.mx_turns.specs.Swept.{IsSwept}
 use Rattle.mx_app_turns.specs.Begun.{IsReady}
 use Rattle.mx_app_turns.specs.Sweeping.{SweepOf}
 

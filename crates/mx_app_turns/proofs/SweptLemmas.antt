@@ -23,7 +23,7 @@ use Rattle.mx_app_step.specs.Records.{IsRefusedAt, refused_record_line}
 use Rattle.mx_app_step.specs.Service.{Service}
 use Rattle.mx_app_step.specs.Written.{Written}
 use Rattle.mx_app_turns.specs.declared.blocks.Total.{Total}
-use Rattle.mx_sweep.specs.declared.faults.FaultLine.{FaultLine}
+use Rattle.mx_turns.specs.declared.faults.FaultLine.{FaultLine}
 use Rattle.mx_app_turns.specs.Blocks.{block_text, count_of, total_text}
 use Rattle.mx_app_turns.specs.declared.sweeping.Swept.{Swept}
 use Rattle.mx_app_turns.specs.declared.sweeping.Swept.TheVariants.{Alike, Differs, Nothing, Refused}

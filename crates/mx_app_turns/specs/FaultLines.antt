@@ -6,8 +6,8 @@ use Rattle.mx_boot.specs.declared.scripts.ScriptLine.{ScriptLine}
 use Rattle.mx_boot.specs.declared.verb.Verb.{Verb}
 use Rattle.mx_boot.specs.declared.verb.Verb.TheVariants as verbs
 use Rattle.mx_boot.specs.Script.{after_verb, count_field, script_line_of}
-use Rattle.mx_sweep.specs.declared.faults.FaultLine.{FaultLine}
-use Rattle.mx_sweep.specs.declared.faults.FaultLine.TheVariants.{Plain, KillSlot}
+use Rattle.mx_turns.specs.declared.faults.FaultLine.{FaultLine}
+use Rattle.mx_turns.specs.declared.faults.FaultLine.TheVariants.{Plain, KillSlot}
 
 -- the slot that `slot S` names
 abbrev pub slot_named : List (List ℕ) → Option ℕ

@@ -22,10 +22,10 @@ use Rattle.mx_app_step.specs.Records.{IsReplayPrinted}
 use Rattle.mx_app_step.specs.Setup.{IsNoTextGiven, IsNotStarted, IsStart, IsTextFaulty, IsTextGiven}
 use Rattle.mx_app_step.specs.Written.{Written, kept}
 use Rattle.mx_app_step.specs.declared.records.Replayed.TheVariants as replayed
-use Rattle.mx_sweep.specs.declared.faults.FaultLine.{FaultLine}
-use Rattle.mx_sweep.specs.declared.outcomes.Findings.{Findings}
-use Rattle.mx_sweep.specs.Findings.{findings_of}
-use Rattle.mx_sweep.specs.Sweep.{Run, outcome_text, run_of}
+use Rattle.mx_turns.specs.declared.faults.FaultLine.{FaultLine}
+use Rattle.mx_turns.specs.declared.outcomes.Findings.{Findings}
+use Rattle.mx_turns.specs.Findings.{findings_of}
+use Rattle.mx_turns.specs.Sweep.{Run, outcome_text, run_of}
 use Rattle.mx_app_turns.specs.Blocks.{Positions, blocks, count_of, swept_text}
 use Rattle.mx_app_turns.specs.declared.blocks.Total.{Total}
 use Rattle.mx_app_turns.specs.declared.sweeping.Swept.{Swept}

@@ -4,7 +4,7 @@ ghost use Rattle.std.specs.Prelude.{◌≡◌, ◌++◌, if◌then◌else◌, If
 ghost use Rattle.mx_app_turns.specs.Blocks.{block_text, head_text, mark_text, positions_of, total_text};
 ghost use Rattle.mx_app_turns.specs.Tallied.{both, has_room, total_one};
 
-use mx_sweep::Findings;
+use mx_turns::Findings;
 use std::alloc::{AllocError, Global};
 
 /// Positions in a row whose outcomes are printed alike, and how. The first of them that has another outcome

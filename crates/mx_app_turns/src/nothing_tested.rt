@@ -5,7 +5,7 @@ ghost use Rattle.mx_app_turns.specs.Untested.{untested_by};
 
 use crate::blocks::Total;
 use mx_machine::Refusal;
-use mx_sweep::FaultLine;
+use mx_turns::FaultLine;
 use std::fmt;
 
 /// Why a sweep tells nothing of its fault.

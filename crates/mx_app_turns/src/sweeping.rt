@@ -26,7 +26,7 @@ ghost use Rattle.mx_app_turns.specs.declared.sweeping.Swept.TheVariants as swept
 ghost use Rattle.mx_app_turns.specs.Blocks.{block_text, positions_of, total_text};
 ghost use Rattle.mx_app_turns.specs.Tallied.{both, has_room, tally_of, with_next};
 ghost use Rattle.mx_app_turns.specs.Untested.{untested_by};
-ghost use Rattle.mx_sweep.specs.Swept.{IsSwept};
+ghost use Rattle.mx_turns.specs.Swept.{IsSwept};
 ghost use Rattle.mx_app_turns.specs.Sweeping.{IsBegun, IsNotBegun, IsShown, IsUnsaved, Sweeps, blocks_at, ended, findings_at, refusal_at, run_at, saved_if, saves_program, text_at, total_of};
 ghost use Rattle.mx_app_step.specs.Kept.{kept_of, text_kept};
 ghost use Rattle.mx_app_turns.specs.Begun.{IsDone, IsReady, begun_of, is_ready, sweep_of};
@@ -41,7 +41,7 @@ use mx_app_start::{
 use mx_app_step::{perform_records, print_refusal, write_history};
 use mx_boot::lines_above;
 use mx_machine::{Config, Machine, Record, Refusal};
-use mx_sweep::{FaultLine, Findings, Outcome, Range, Sweep, outcome_at};
+use mx_turns::{FaultLine, Findings, Outcome, Range, Sweep, outcome_at};
 use mx_walk::{Part, Progress};
 use std::alloc::Global;
 use std::io::Write;

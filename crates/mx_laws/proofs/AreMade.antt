@@ -37,13 +37,13 @@ use Rattle.mx_laws.proofs.EntryLemmas.{receiving_blocked}
 use Rattle.mx_laws.proofs.SoundDiaries.{not_held}
 use Rattle.mx_print_report.specs.declared.doing.Naming.TheVariants.{Endpoints}
 use Rattle.mx_print_report.specs.SlotDoing.{doing_of}
-use Rattle.mx_look_facts.specs.Glances.{glance_of, glance_of_slot, held_glance, slot_glance, slot_glances}
-use Rattle.mx_look_facts.specs.Images.{image_glance}
-use Rattle.mx_look_facts.specs.Kept.{latest_deliveries}
-use Rattle.mx_look_facts.specs.declared.step.Step.{Step}
-use Rattle.mx_look_facts.specs.Doings.{is_listening, is_out as is_out_doing, is_waiting, seen_is}
-use Rattle.mx_look_facts.specs.Going.{acting, acting_of, calls_receive, calls_receive_by, gone_on, got, is_acted, is_acted_by, is_trap, is_zero, result_in}
-use Rattle.mx_look_facts.specs.Step.{slot_in}
+use Rattle.mx_look.specs.Glances.{glance_of, glance_of_slot, held_glance, slot_glance, slot_glances}
+use Rattle.mx_look.specs.Images.{image_glance}
+use Rattle.mx_look.specs.Kept.{latest_deliveries}
+use Rattle.mx_look.specs.declared.step.Step.{Step}
+use Rattle.mx_look.specs.Doings.{is_listening, is_out as is_out_doing, is_waiting, seen_is}
+use Rattle.mx_look.specs.Going.{acting, acting_of, calls_receive, calls_receive_by, gone_on, got, is_acted, is_acted_by, is_trap, is_zero, result_in}
+use Rattle.mx_look.specs.Step.{slot_in}
 use Rattle.mx_app_step.specs.Traces.{own_event, step_of}
 use Rattle.mx_laws.specs.Made.{ToldAreMade, with_slot}
 use Rattle.mx_laws.specs.Told.{IsMadeIn, result_written, world_before}

@@ -38,7 +38,7 @@ use Rattle.mx_laws.specs.Diary.{Item, items_for}
 use Rattle.mx_laws.specs.Diary.Item.{Ran, Result, Message, Copy}
 use Rattle.mx_laws.specs.Entries.{is_receiving}
 use Rattle.mx_laws.specs.Items.{bytes_of_notice, items_of_call, items_of_effect, items_of_checked_call, items_of_death, items_of_freeing, items_of_kernel_call, items_of_notifying, items_of_receive, items_of_release, items_of_reply, items_of_send, items_of_sendrec, items_of_taking, items_of_trap, items_of_trap_by}
-use Rattle.mx_look_facts.specs.Going.{is_zero}
+use Rattle.mx_look.specs.Going.{is_zero}
 use Rattle.mx_laws.specs.Made.{slot_to}
 use Rattle.mx_laws.specs.Told.{result_after, result_written}
 use Rattle.mx_laws.proofs.Keeping.{made_of_call, made_of_checked_call, made_of_notifying, made_of_receive, made_of_send, made_of_sendrec, made_of_taking, made_of_trap, made_of_trap_by, message_made, notice_made, table_after_asking}

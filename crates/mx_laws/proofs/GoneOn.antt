@@ -37,11 +37,11 @@ use Rattle.mx_laws.proofs.DiaryLemmas.{image_or, get_or-images, play_all-at}
 use Rattle.mx_laws.proofs.EventEntries.{event_entries}
 use Rattle.mx_laws.proofs.ItemLemmas.{end_of_turn_images}
 use Rattle.mx_laws.proofs.SoundDiaries.{not_held}
-use Rattle.mx_look_facts.specs.Glances.{glance_of, held_glance}
-use Rattle.mx_look_facts.specs.declared.step.Step.{Step}
-use Rattle.mx_look_facts.specs.Doings.{is_out as is_out_doing, seen_is}
-use Rattle.mx_look_facts.specs.Going.{acting, acting_of, gone_on, is_acted, is_acted_by, is_trap, result_in}
-use Rattle.mx_look_facts.specs.Step.{slot_in}
+use Rattle.mx_look.specs.Glances.{glance_of, held_glance}
+use Rattle.mx_look.specs.declared.step.Step.{Step}
+use Rattle.mx_look.specs.Doings.{is_out as is_out_doing, seen_is}
+use Rattle.mx_look.specs.Going.{acting, acting_of, gone_on, is_acted, is_acted_by, is_trap, result_in}
+use Rattle.mx_look.specs.Step.{slot_in}
 use Rattle.mx_app_step.specs.Traces.{own_event, steps_before}
 use Rattle.mx_app_step.proofs.RecordLemmas.{after_both}
 use Rattle.mx_laws.specs.Told.{IsMadeIn, result_written, ToldGoneOn, world_before}

@@ -9,10 +9,10 @@ use Rattle.std.proofs.lemmas.List.Sums.{length-filter}
 use Rattle.std.proofs.Math.Nat.{min-eq_left}
 use Rattle.circular_buffer.specs.Buffer.{keep_last}
 use Rattle.mx_proc.specs.declared.deliveries.Delivery.{Delivery}
-use Rattle.mx_look_facts.specs.Kept.{kept_count, latest, latest_deliveries}
-use Rattle.mx_look_facts.specs.declared.step.Step.{Step}
-use Rattle.mx_look_facts.specs.Deliveries.{delivery_to, got_from}
-use Rattle.mx_look_facts.specs.Going.{got}
+use Rattle.mx_look.specs.Kept.{kept_count, latest, latest_deliveries}
+use Rattle.mx_look.specs.declared.step.Step.{Step}
+use Rattle.mx_look.specs.Deliveries.{delivery_to, got_from}
+use Rattle.mx_look.specs.Going.{got}
 use Rattle.mx_laws.specs.Made.{slot_to, told_of_slot, told_of_slots, with_slot}
 use Rattle.mx_laws.proofs.Keeping.{keep}
 

@@ -30,7 +30,7 @@ use Rattle.mx_laws.specs.Diaries.{items_of_rings}
 use Rattle.mx_laws.specs.Entries.{is_receiving}
 use Rattle.mx_laws.specs.Items.{bytes_of_notice, items_of_notifying}
 use Rattle.mx_laws.proofs.EntryLemmas.{after_set, Receives}
-use Rattle.mx_look_facts.specs.Going.{is_zero}
+use Rattle.mx_look.specs.Going.{is_zero}
 use Rattle.mx_laws.specs.Made.{slot_to}
 use Rattle.mx_laws.specs.Told.{result_after}
 use Rattle.mx_laws.proofs.Getting.{accepts_receiving, AreFew, hears_receiving, home_few, home_within, items_for-append, message_slot, notice_slot, receives_within, receiving_few, to_one}

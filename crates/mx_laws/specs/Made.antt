@@ -6,8 +6,8 @@ use Rattle.mx_machine.specs.declared.events.Event.{Event}
 use Rattle.mx_machine.specs.declared.history.Record.{Record}
 use Rattle.mx_machine.specs.Move.{world_after_event}
 use Rattle.mx_machine.specs.World.{World}
-use Rattle.mx_look_facts.specs.declared.step.Step.{Step}
-use Rattle.mx_look_facts.specs.Deliveries.{delivery_to}
+use Rattle.mx_look.specs.declared.step.Step.{Step}
+use Rattle.mx_look.specs.Deliveries.{delivery_to}
 use Rattle.mx_app_step.specs.Traces.{own_event, step_of}
 use Rattle.mx_laws.specs.Told.{world_before}
 

@@ -7,7 +7,7 @@ use Rattle.mx_machine.specs.World.{World}
 use Rattle.mx_laws.specs.Diary.{Item}
 use Rattle.mx_laws.specs.Diary.Item.{Ran, Result, Message, Copy}
 use Rattle.mx_laws.specs.Diaries.{diary}
-use Rattle.mx_look_facts.specs.Going.{gone_on}
+use Rattle.mx_look.specs.Going.{gone_on}
 use Rattle.mx_app_step.specs.Traces.{own_event, step_of, steps_before}
 
 -- the world in which the event of a record is made: after the steps that the record counts

@@ -5,3 +5,5 @@ pub mod LawLemmas
 pub mod RoundLemmas
 pub mod GrowthLemmas
 pub mod ShownLemmas
+pub mod RunLemmas
+pub mod LineLemmas

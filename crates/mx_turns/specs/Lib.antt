@@ -1,3 +1,7 @@
 pub mod Turns
 pub mod Made
 pub mod Shown
+pub mod Faults
+pub mod Findings
+pub mod Sweep
+pub mod Swept

@@ -1,14 +1,27 @@
 //! Turns: one thread drives a whole machine, always in the same order: each actor is offered an event, and
-//! those that are coming follow.
+//! those that are coming follow. And a sweep, which tries a fault at each position of a history.
 //!
-//! `specs/Turns.antt` says which events come of turns.
+//! # A position of a sweep
+//!
+//! A machine is booted again, brought to the position, given the `FaultLine`s of the fault and run on by turns. The text
+//! of its outcome is compared with that of a machine that is run on without the fault.
+//!
+//! `specs/Turns.antt` says which events come of turns; `specs/Sweep.antt` what an outcome is, and how it is printed.
 #![tactic(auto)]
 
+mod booting;
+mod coming;
+mod faults;
 mod laws;
 mod offers;
+mod outcomes;
 mod outside;
+mod running;
 mod turns;
 
+pub use faults::FaultLine;
 pub use laws::{rest_is_still, turn_of_one, turns_join};
+pub use outcomes::{Findings, Outcome, outcome_at};
 pub use outside::Outside;
+pub use running::{Range, Sweep};
 pub use turns::{Ending, make_turns};

@@ -1,15 +1,42 @@
-//! Records of a saved history, made again: each `Position` along them, searches for an event that a `Mark` marks, and
-//! progress that is shown.
+//! A saved history, gone along: each of its `Position`s is made again, from the boot or from a checkpoint, forward and
+//! back.
+//!
+//! # How
+//!
+//! A record of a history says what came, and not what a process computed: so a position is made by making its records
+//! again. `Walker` is a machine at a position of a history. Going on makes the next records; going back makes a machine
+//! again, from the nearest checkpoint before the position that is wanted, or from the boot, and goes on from there. So
+//! the way back costs what the way from the checkpoint costs. A checkpoint is a copy of the whole machine; one is kept
+//! in each of some equal parts of the steps, and they are bounded in number and in bytes.
+//!
+//! A search (`seek`) goes on until a `Mark` marks an event, or is told to stop, or the history ends. Where the requests
+//! of a session lead a walker, by records, events or a `PositionWord`, is in `moves`.
 #![tactic(auto)]
 
+mod booting;
+mod checkpoints;
+mod either;
+mod first_walk;
+mod going;
+mod laws;
+mod moves;
 mod positions;
 mod progress;
 mod quiet;
 mod records;
 mod running;
 mod seeking;
+mod several;
 mod showing;
+mod stopping;
+mod walker;
+mod watching;
 
+pub use checkpoints::{MOST_BYTES, MOST_CHECKPOINTS};
+pub use either::Either;
+pub use going::go_on;
+pub use laws::{events_are_made, positions_alternate, positions_replay};
+pub use moves::{PositionWord, back_from, forward_from, go_to_asked, steps_back, steps_on};
 pub use positions::{
     FIRST, NextEvent, Position, is_position, is_up_to, next_event, own_event, position_before,
     steps_in,
@@ -17,3 +44,7 @@ pub use positions::{
 pub use progress::{Part, Progress};
 pub use records::{Halted, finish_record, make_event, make_steps};
 pub use seeking::{Mark, Sought, Way, seek, seek_last};
+pub use several::Several;
+pub use stopping::{CodePlace, Coming, Leaving};
+pub use walker::Walker;
+pub use watching::{ByteChange, BytePlace, byte_in};

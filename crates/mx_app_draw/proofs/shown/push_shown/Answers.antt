@@ -1,5 +1,5 @@
 use Rattle.std.proofs.Common.{◌≡◌, length, refl, arith}
-use Rattle.mx_look_trace.proofs.Rows.{next_row, all_rows}
+use Rattle.mx_look.proofs.TraceRows.{next_row, all_rows}
 use Rattle.mx_app_draw.specs.Shown.{shown, shown_byte}
 use Rattle.mx_app_draw.proofs.shown.push_shown.Goals as goal
 

@@ -1,7 +1,7 @@
 use Rattle.std.proofs.Common.{◌≡◌, length, refl, arith}
 use Rattle.mx_kcall.specs.Rows.{calls}
 use Rattle.mx_app_explain.specs.ServiceWords.{call_if}
-use Rattle.mx_look_trace.proofs.Rows.{next_row, all_rows}
+use Rattle.mx_look.proofs.TraceRows.{next_row, all_rows}
 use Rattle.mx_app_explain.proofs.allowed.push_calls.Goals as goal
 
 pub loop-bit-preserved : goal.loop-bit-preserved

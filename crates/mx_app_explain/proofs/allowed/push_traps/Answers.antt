@@ -1,6 +1,6 @@
 use Rattle.std.proofs.Common.{◌≡◌, ◌+◌, refl, arith}
 use Rattle.mx_app_explain.specs.ServiceWords.{trap_if}
-use Rattle.mx_look_trace.proofs.Rows.{next_row, all_rows}
+use Rattle.mx_look.proofs.TraceRows.{next_row, all_rows}
 use Rattle.mx_app_explain.proofs.allowed.push_traps.Goals as goal
 
 pub loop-index-preserved : goal.loop-index-preserved

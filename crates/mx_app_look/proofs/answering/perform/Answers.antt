@@ -3,7 +3,7 @@ use Rattle.mx_app_look.specs.declared.request.Request.{Request}
 use Rattle.mx_app_look.specs.declared.request.Request.TheVariants.{Back, Continue, Forward, GoTo, Reverse, Step, StepBack, Until}
 use Rattle.mx_app_look.specs.declared.sight.Sight.{Sight}
 use Rattle.mx_walk.specs.declared.positions.Position.{Position}
-use Rattle.mx_walker.specs.Walks.{shown_to}
+use Rattle.mx_walk.specs.Walks.{shown_to}
 use Rattle.mx_app_look.specs.Answers.{IsMade, after, request_text, to_of}
 use Rattle.mx_app_look.proofs.Making.{made_as, made_there}
 use Rattle.mx_app_look.proofs.ShownMore.{asked_shown, moved_shown}

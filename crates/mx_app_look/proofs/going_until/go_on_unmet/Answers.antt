@@ -1,7 +1,7 @@
 use Rattle.std.proofs.Common.{◌≡◌, ◌∙◌, ◌++◌, ap, inr, arith}
 use Rattle.std.proofs.lemmas.Result.{IfOk-weaker}
 use Rattle.mx_walk.specs.declared.positions.Position.{Position}
-use Rattle.mx_walker.specs.Walks.{Walk, shown_to}
+use Rattle.mx_walk.specs.Walks.{Walk, shown_to}
 use Rattle.mx_app_look.proofs.ShownMore.{ok_always, ok_weaker}
 use Rattle.mx_app_look.proofs.going_until.go_on_unmet.Goals as goal
 

@@ -4,7 +4,7 @@ use Rattle.std.specs.List.{range_with_len}
 use Rattle.mx_machine.specs.declared.history.Record.{Record}
 use Rattle.mx_walk.specs.declared.positions.Position.{Position}
 use Rattle.mx_walk.specs.Positions.{IsPosition, IsUpTo}
-use Rattle.mx_walker.specs.Walks.{Walk, shown_to}
+use Rattle.mx_walk.specs.Walks.{Walk, shown_to}
 use Rattle.mx_walk.proofs.Along.{any_record}
 use Rattle.mx_walk.proofs.PartsShown.{none_between}
 use Rattle.mx_app_look.proofs.Meeting.{goes_by, goes_on, halts_here, appends_it}

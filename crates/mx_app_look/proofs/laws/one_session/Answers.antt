@@ -1,8 +1,8 @@
 use Rattle.std.proofs.Common.{◌≡◌, ◌∙◌, ◌++◌, List, ap, subst, sym}
 use Rattle.mx_machine.specs.declared.history.Record.{Record}
-use Rattle.mx_walker.proofs.Naming.{last_is_unique}
+use Rattle.mx_walk.proofs.Naming.{last_is_unique}
 use Rattle.mx_walk.specs.Positions.{IsPosition}
-use Rattle.mx_walker.specs.Walks.{Walk}
+use Rattle.mx_walk.specs.Walks.{Walk}
 use Rattle.mx_app_look.specs.Places.{place_text}
 use Rattle.mx_app_look.specs.Sessions.{begun_text, sight_at}
 use Rattle.mx_app_look.proofs.Alike.{Texts, bare_texts, same_texts, texts_of}

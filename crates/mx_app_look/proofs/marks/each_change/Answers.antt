@@ -1,7 +1,7 @@
 use Rattle.std.proofs.Common.{◌∙◌, ap, map}
 use Rattle.std.proofs.lemmas.List.{take_all}
 use Rattle.std.specs.List.{flat_map}
-use Rattle.mx_walker.specs.declared.watching.ByteChange.{ByteChange}
+use Rattle.mx_walk.specs.declared.watching.ByteChange.{ByteChange}
 use Rattle.mx_app_look.specs.Watches.{places_of}
 use Rattle.mx_app_look.proofs.Lists.{spread_more}
 use Rattle.mx_app_look.proofs.marks.each_change.Goals as goal

@@ -1,6 +1,6 @@
 use Rattle.std.proofs.Common.{◌≡◌, map, take}
 use Rattle.std.specs.List.{flat_map}
-use Rattle.mx_walker.specs.declared.watching.ByteChange.{ByteChange}
+use Rattle.mx_walk.specs.declared.watching.ByteChange.{ByteChange}
 use Rattle.mx_app_look.specs.Watches.{places_of}
 use Rattle.mx_app_look.proofs.marks.each_change.Given as goal
 

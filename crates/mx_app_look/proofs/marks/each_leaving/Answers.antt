@@ -1,6 +1,6 @@
 use Rattle.std.proofs.Common.{◌∙◌, ap, map}
 use Rattle.std.proofs.lemmas.List.{take_all}
-use Rattle.mx_walker.specs.declared.stopping.Leaving.{Leaving}
+use Rattle.mx_walk.specs.declared.stopping.Leaving.{Leaving}
 use Rattle.mx_app_look.specs.Marks.{code_place}
 use Rattle.mx_app_look.proofs.Lists.{mapped_more}
 use Rattle.mx_app_look.proofs.marks.each_leaving.Goals as goal

@@ -1,5 +1,5 @@
 use Rattle.std.proofs.Common.{◌≡◌, map, take}
-use Rattle.mx_walker.specs.declared.stopping.Leaving.{Leaving}
+use Rattle.mx_walk.specs.declared.stopping.Leaving.{Leaving}
 use Rattle.mx_app_look.specs.Marks.{code_place}
 use Rattle.mx_app_look.proofs.marks.each_leaving.Given as goal
 

@@ -1,6 +1,6 @@
 use Rattle.std.proofs.Common.{◌∙◌, ◌++◌, ap, map}
 use Rattle.std.proofs.lemmas.List.{take_all}
-use Rattle.mx_walker.specs.declared.watching.ByteChange.{ByteChange}
+use Rattle.mx_walk.specs.declared.watching.ByteChange.{ByteChange}
 use Rattle.mx_app_look.proofs.Lists.{placed_more}
 use Rattle.mx_app_look.proofs.marks.push_changes.Goals as goal
 

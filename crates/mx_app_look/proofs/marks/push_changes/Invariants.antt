@@ -1,5 +1,5 @@
 use Rattle.std.proofs.Common.{◌≡◌, ◌++◌, map, take}
-use Rattle.mx_walker.specs.declared.watching.ByteChange.{ByteChange}
+use Rattle.mx_walk.specs.declared.watching.ByteChange.{ByteChange}
 use Rattle.mx_app_look.proofs.marks.push_changes.Given as goal
 
 abbrev pub invariant-loop-place : goal.invariant-loop-place

@@ -3,10 +3,10 @@ use Rattle.std.specs.Prelude.{option_map}
 use Rattle.mx_aout.specs.declared.program.Symbol.{Symbol}
 use Rattle.mx_app_step.specs.Service.{Service}
 use Rattle.mx_exec.specs.declared.image.Image.{Image}
-use Rattle.mx_look_facts.specs.Code.{code_line}
-use Rattle.mx_look_trace.specs.Glance.{Glance}
-use Rattle.mx_look_trace.specs.Glances.{glance_of}
-use Rattle.mx_look_trace.specs.Words.{who}
+use Rattle.mx_look.specs.Code.{code_line}
+use Rattle.mx_look.specs.Glance.{Glance}
+use Rattle.mx_look.specs.Glances.{glance_of}
+use Rattle.mx_look.specs.Words.{who}
 use Rattle.mx_machine.specs.Machine.{world_of}
 use Rattle.mx_machine.specs.World.{HeldProcess, held_by}
 use Rattle.mx_print_answers.specs.Slots.{symbols_by}

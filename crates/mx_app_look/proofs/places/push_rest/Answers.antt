@@ -2,7 +2,7 @@ use Rattle.std.proofs.Common.{◌≡◌, ◌∙◌, ◌++◌, ◌+◌, append_as
 use Rattle.mx_machine.specs.declared.events.Refusal.{Refusal}
 use Rattle.mx_machine.specs.declared.history.Record.{Record}
 use Rattle.mx_walk.specs.declared.positions.Position.{Position}
-use Rattle.mx_walker.specs.Walks.{Walk, refusal_here}
+use Rattle.mx_walk.specs.Walks.{Walk, refusal_here}
 use Rattle.mx_app_look.specs.Places.{below_line, record_line, rest_of_place}
 use Rattle.mx_app_look.proofs.Moving.{read_is}
 use Rattle.mx_app_look.proofs.places.push_rest.Goals as goal

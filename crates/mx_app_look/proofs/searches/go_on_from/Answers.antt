@@ -4,7 +4,7 @@ use Rattle.mx_machine.specs.declared.history.Record.{Record}
 use Rattle.mx_walk.specs.declared.positions.Position.{Position}
 use Rattle.mx_walk.specs.Positions.{IsPosition, IsUpTo, position_before}
 use Rattle.mx_walk.specs.Seeking.{IsFirstMarked, IsPassed}
-use Rattle.mx_walker.specs.Walks.{Walk}
+use Rattle.mx_walk.specs.Walks.{Walk}
 use Rattle.mx_walk.proofs.Meeting.{above_first, not_first}
 use Rattle.mx_app_look.specs.Marks.{is_looked_for}
 use Rattle.mx_app_look.proofs.Coming.{halts_nowhere, halts_there}

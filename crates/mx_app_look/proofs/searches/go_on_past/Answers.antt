@@ -5,7 +5,7 @@ use Rattle.mx_machine.specs.Machine.{world_of}
 use Rattle.mx_machine.specs.World.{World}
 use Rattle.mx_walk.specs.declared.positions.Position.{Position}
 use Rattle.mx_walk.specs.Positions.{IsPosition, IsUpTo}
-use Rattle.mx_walker.specs.Walks.{world_here}
+use Rattle.mx_walk.specs.Walks.{world_here}
 use Rattle.mx_walk.proofs.Next.{is_position_too, next_up_to, not_itself, up_to_of}
 use Rattle.mx_app_look.specs.Marks.{changes_watched}
 use Rattle.mx_app_look.proofs.Coming.{halts_after_more, halts_after_one}

@@ -3,7 +3,7 @@ use Rattle.std.specs.Prelude.{string_bytes}
 use Rattle.std.proofs.lemmas.Result.{IfOk-weaker}
 use Rattle.mx_walk.specs.declared.positions.Position.{Position}
 use Rattle.mx_walk.specs.Positions.{event_below}
-use Rattle.mx_walker.specs.Walks.{Walk, shown_to}
+use Rattle.mx_walk.specs.Walks.{Walk, shown_to}
 use Rattle.mx_app_look.specs.declared.points.Points.{Points}
 use Rattle.mx_app_look.specs.Searches.{changes_from, halt_by, is_break}
 use Rattle.mx_app_look.proofs.Halted.{both_hold}

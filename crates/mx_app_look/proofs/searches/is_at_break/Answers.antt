@@ -5,7 +5,7 @@ use Rattle.mx_machine.specs.Machine.{world_of}
 use Rattle.mx_machine.specs.World.{World}
 use Rattle.mx_walk.specs.declared.positions.Position.{Position}
 use Rattle.mx_walk.specs.Positions.{event_below}
-use Rattle.mx_walker.specs.Walks.{world_here}
+use Rattle.mx_walk.specs.Walks.{world_here}
 use Rattle.mx_app_look.specs.Marks.{leaves_breakpoint}
 use Rattle.mx_app_look.specs.Searches.{is_break}
 use Rattle.mx_app_look.proofs.Marked.{Marks, breaks_are}

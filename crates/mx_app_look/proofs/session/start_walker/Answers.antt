@@ -8,7 +8,7 @@ use Rattle.mx_machine.specs.History.{BootAndHistory}
 use Rattle.mx_machine.specs.World.{World, actors}
 use Rattle.mx_machine.specs.declared.history.Record.{Record}
 use Rattle.mx_walk.specs.Parts.{walk_shown}
-use Rattle.mx_walker.specs.Walks.{IsLast}
+use Rattle.mx_walk.specs.Walks.{IsLast}
 use Rattle.mx_app_look.proofs.Starting.{is_begun}
 use Rattle.mx_app_look.proofs.ShownMore.{grown_none}
 use Rattle.mx_app_look.proofs.session.start_walker.Goals as goal

@@ -1,6 +1,6 @@
 use Rattle.std.proofs.Common.{◌∙◌, List, slice_get, ap}
 use Rattle.mx_app_step.specs.Service.{Service}
-use Rattle.mx_walker.specs.Walks.{world_here}
+use Rattle.mx_walk.specs.Walks.{world_here}
 use Rattle.mx_print_answers.specs.Slots.{symbols_by}
 use Rattle.mx_app_look.proofs.Kernels.{same_services}
 use Rattle.mx_app_look.proofs.showing.symbols_in.Goals as goal

@@ -3,7 +3,7 @@ use Rattle.std.specs.Prelude.{option_map}
 use Rattle.mx_machine.specs.World.{HeldProcess, World, held_by}
 use Rattle.mx_machine.specs.declared.history.Record.{Record}
 use Rattle.mx_walk.specs.declared.positions.Position.{Position}
-use Rattle.mx_walker.specs.Walks.{world_here}
+use Rattle.mx_walk.specs.Walks.{world_here}
 use Rattle.mx_app_look.specs.Slots.{slot_next}
 use Rattle.mx_app_look.proofs.Moving.{read_is}
 use Rattle.mx_app_look.proofs.slots.slot_next.Goals as goal

@@ -1,6 +1,6 @@
 use Rattle.std.proofs.Common.{◌≡◌, ◌∙◌, ◌<◌, ◌≤◌, ℕ, suc, ◌+◌, ◌-◌, List, ◌++◌, append-nil, append_assoc, ap, sym, arith}
 use Rattle.std.specs.List.{flat_map, range_with_len}
-use Rattle.mx_walker.specs.declared.watching.BytePlace.{BytePlace}
+use Rattle.mx_walk.specs.declared.watching.BytePlace.{BytePlace}
 use Rattle.mx_app_look.specs.Watches.{place_at, places_of}
 use Rattle.mx_app_look.proofs.watches.places_of.Goals as goal
 

@@ -2,7 +2,7 @@ use Rattle.std.proofs.Common.{◌≡◌, ◌++◌, OnOk, rules, subst}
 use Rattle.mx_machine.specs.History.{replay}
 use Rattle.mx_machine.specs.Proc.TableState.{TableState}
 use Rattle.mx_print_answers.specs.Messages.{delivery_lines}
-use Rattle.mx_walker.specs.Walks.{world_here}
+use Rattle.mx_walk.specs.Walks.{world_here}
 use Rattle.mx_app_look.proofs.Kernels.{same_table}
 use Rattle.mx_app_look.proofs.world_texts.push_deliveries.Goals as goal
 

@@ -3,7 +3,7 @@ use Rattle.mx_app_step.specs.Report.{report_text}
 use Rattle.mx_app_step.specs.Service.{Service}
 use Rattle.mx_machine.specs.History.{replay}
 use Rattle.mx_machine.specs.Proc.TableState.{TableState}
-use Rattle.mx_walker.specs.Walks.{world_here}
+use Rattle.mx_walk.specs.Walks.{world_here}
 use Rattle.mx_app_look.specs.Answers.{line_end}
 use Rattle.mx_app_look.proofs.Kernels.{same_services, same_table}
 use Rattle.mx_app_look.proofs.world_texts.push_processes.Goals as goal

@@ -1,9 +1,9 @@
 use Rattle.std.proofs.Common.{◌≡◌, ◌∙◌, ◌-◌, ◌++◌, ◌≤◌, ◌<◌, ℕ, suc, List, length, get_or, Some, OnOk, slice_get, ap, subst, sym, arith}
 use Rattle.mx_machine.specs.declared.history.Record.{Record}
-use Rattle.mx_look_trace.specs.Trace.{record_text}
+use Rattle.mx_look.specs.Trace.{record_text}
 use Rattle.mx_app_look.specs.Above.{step_above, why_text}
 use Rattle.mx_walk.specs.declared.progress.Part.{Part}
-use Rattle.mx_walker.specs.Walks.{Walk}
+use Rattle.mx_walk.specs.Walks.{Walk}
 use Rattle.mx_app_look.proofs.Moving.{read_is}
 use Rattle.mx_app_look.proofs.WhyTexts.{why_is}
 use Rattle.mx_app_look.proofs.ShownMore.{shown_is_read}

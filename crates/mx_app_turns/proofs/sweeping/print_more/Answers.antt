@@ -6,8 +6,8 @@ use Rattle.mx_app_turns.specs.declared.blocks.Total.{Total}
 use Rattle.mx_app_turns.specs.declared.sweeping.Tally.{Tally}
 use Rattle.mx_app_turns.specs.Blocks.{Positions, block_at, positions_of}
 use Rattle.mx_app_turns.specs.Begun.{sweep_of}
-use Rattle.mx_sweep.specs.Swept.{IsSwept}
-use Rattle.mx_sweep.specs.declared.outcomes.Findings.{Findings}
+use Rattle.mx_turns.specs.Swept.{IsSwept}
+use Rattle.mx_turns.specs.declared.outcomes.Findings.{Findings}
 use Rattle.mx_app_turns.specs.Sweeping.{SweepOf, findings_at, is_alike_at, run_at, text_at}
 use Rattle.mx_app_turns.specs.Tallied.{tally_of, total_one}
 use Rattle.mx_walk.specs.Parts.{parts_shown}

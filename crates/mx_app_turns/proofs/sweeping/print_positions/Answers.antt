@@ -3,7 +3,7 @@ use Rattle.std.proofs.lemmas.Result.{IfOk-weaker}
 use Rattle.std.specs.Io.KnownBytes.{Appends}
 use Rattle.std.specs.List.{flat_map}
 use Rattle.mx_machine.specs.World.{World}
-use Rattle.mx_sweep.specs.Swept.{IsSwept}
+use Rattle.mx_turns.specs.Swept.{IsSwept}
 use Rattle.mx_app_turns.specs.Begun.{sweep_of}
 use Rattle.mx_app_turns.specs.Blocks.{block_text}
 use Rattle.mx_app_turns.specs.Sweeping.{blocks_at, findings_at, refusal_at, run_at, text_at, total_of}

@@ -1,0 +1,5 @@
+pub mod Rows
+pub mod Filled
+pub mod TraceRows
+pub mod Unserved
+pub mod Used

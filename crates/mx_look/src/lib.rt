@@ -1,0 +1,66 @@
+//! What is looked at: of a process by its program's symbols, lines of its code as it is in memory now, its stack, its
+//! variables, and why an instruction faults, as by a dword outside; and what an event did, as a `Glance` at the worlds
+//! before and after it, with slots and processors, what each is doing, and the facts of the step between them. The
+//! trace says these in words: the parties, their endpoints, the numbers and names of calls and results.
+//!
+//! # In place
+//!
+//! A glance is about six kilobytes long. `Glance::look` fills one that is there, since a new one is
+//! moved from call to call.
+#![tactic(auto)]
+
+mod accesses;
+mod calls;
+mod code;
+mod deliveries;
+mod doings;
+mod fault_lines;
+mod faults;
+mod glance;
+mod going;
+mod heads;
+mod images;
+mod kept;
+mod kernel_calls;
+mod lines;
+mod nearest;
+mod numbers;
+mod operands;
+mod pending;
+mod reasons;
+mod record;
+mod record_lines;
+mod refusals;
+mod slot_glances;
+mod slots;
+mod stack;
+mod step;
+mod variables;
+mod words;
+
+pub use accesses::Access;
+pub use calls::{asks_kernel, kernel_call};
+pub use code::{code_part, push_code, push_code_line};
+pub use deliveries::{delivery_to, is_new_bit};
+pub use doings::{is_doomed, is_down, is_ready, same_doing};
+pub use fault_lines::push_fault_line;
+pub use faults::FaultGlance;
+pub use glance::{CpuGlance, Glance};
+pub use going::{gone_on, got, is_acted};
+pub use heads::{call_name, push_call, push_event, push_head};
+pub use images::ImageGlance;
+pub use kernel_calls::{request_name, request_type};
+pub use lines::push_code_lines;
+pub use mx_dis::Part;
+pub(crate) use mx_proc::Delivery;
+pub use nearest::nearest_symbol;
+pub use pending::push_kept;
+pub use reasons::{FaultReason, fault_reason};
+pub use record::push_record;
+pub use record_lines::{push_change, push_console_line, push_delivery};
+pub use slot_glances::SlotGlance;
+pub use slots::{has_changed, has_rung, is_renewed};
+pub use stack::push_stack;
+pub use step::{Step, about, cpu_in, fault_in, held_after, held_before, slot_in};
+pub use variables::{push_variable, variable_named, variable_value};
+pub use words::push_who;

@@ -1,7 +1,0 @@
-use Rattle.std.proofs.Common.{◌≡◌, false}
-use Rattle.mx_look_facts.specs.Stack.{shorter_call_ends}
-use Rattle.mx_look_facts.proofs.stack.follows_call.Given as goal
-
--- no call of the sizes so far ends there
-abbrev pub invariant-loop-size : goal.invariant-loop-size
-invariant-loop-size l = shorter_call_ends l.image l.at l.size ≡ false

@@ -1,2 +1,0 @@
-mod Moving
-pub mod Staying

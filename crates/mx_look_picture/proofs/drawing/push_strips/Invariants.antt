@@ -1,8 +1,0 @@
-use Rattle.std.proofs.Common.{◌≡◌, ◌++◌}
-use Rattle.std.specs.List.{flat_map, range_with_len}
-use Rattle.mx_look_picture.specs.Picture.{strip_of}
-use Rattle.mx_look_picture.proofs.drawing.push_strips.Given as goal
-
--- the values so far
-abbrev pub invariant-loop-index : goal.invariant-loop-index
-invariant-loop-index l = l.out.items ≡ l.initial.out.items ++ flat_map (strip_of l.scene l.width l.count) (range_with_len 0 l.index)

@@ -1,8 +1,0 @@
-use Rattle.std.proofs.Common.{◌≡◌, ◌++◌}
-use Rattle.std.specs.List.{flat_map, range_with_len}
-use Rattle.mx_look_picture.specs.Messages.{kept_arrow}
-use Rattle.mx_look_picture.proofs.messages.push_kept.Given as goal
-
--- the values so far
-abbrev pub invariant-loop-place : goal.invariant-loop-place
-invariant-loop-place l = l.out.items ≡ l.initial.out.items ++ flat_map (kept_arrow l.step l.spot l.slot) (range_with_len 0 l.place)

@@ -1,8 +1,0 @@
-use Rattle.std.proofs.Common.{◌≡◌, ◌++◌}
-use Rattle.std.specs.List.{flat_map, range_with_len}
-use Rattle.mx_look_picture.specs.Strips.{axis_at}
-use Rattle.mx_look_picture.proofs.strips.push_axis.Given as goal
-
--- the values so far
-abbrev pub invariant-loop-index : goal.invariant-loop-index
-invariant-loop-index l = l.out.items ≡ l.initial.out.items ++ flat_map (axis_at l.scene l.strip) (range_with_len 0 l.index)

@@ -1,9 +1,0 @@
-pub mod Numbers
-pub mod Words
-pub mod Reasons
-pub mod KernelCalls
-pub mod Faults
-pub mod Trace
-pub use Rattle.mx_look_facts.specs.declared.step.Step
-pub use Rattle.mx_look_facts.specs.Glances
-pub use Rattle.mx_look_facts.specs.declared.glance.Glance

@@ -1,5 +1,0 @@
-use Rattle.mx_walker.proofs.Changed.{changed_by_step}
-use Rattle.mx_walker.proofs.watching.ByteChangeMark.steps_are_marked.Goals as goal
-
-pub returns : goal.returns
-returns c = λ mark w a l o h. changed_by_step mark.place w a l o h
