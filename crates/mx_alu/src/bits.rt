@@ -3,7 +3,7 @@
 ghost use Rattle.std.specs.Prelude.{◌≡◌, ◌+◌, ◌-◌, ◌*◌, ◌^◌, ◌<◌};
 ghost use Rattle.mx_alu.specs.Bits.{bit_changed, bit_test_value, bit_test_flags, found_one, bit_scan_flags, double_shift_of, last_bit_out, double_shift_value, double_shift_flags};
 
-use crate::numbers::lift;
+use crate::wide_numbers::lift;
 use mx_flags::Flags;
 use mx_word::{BitScan, BitTest, DoubleShift, Size, has_bit};
 

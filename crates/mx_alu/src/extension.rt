@@ -4,7 +4,7 @@ ghost use Rattle.std.specs.Prelude.{◌≡◌, ◌^◌, ◌<◌};
 ghost use Rattle.mx_word.specs.Word.{width};
 ghost use Rattle.mx_alu.specs.Extension.{extended_value, sign_of};
 
-use crate::numbers::{Signedness, number, upper};
+use crate::wide_numbers::{Signedness, number, upper};
 use mx_word::{Size, signed};
 
 /// The word of another size that is the same number: MOVZX, MOVSX, CBW and CWDE. If the other size is

@@ -8,17 +8,17 @@ ghost use Rattle.mx_alu.specs.Alu.{alu_value, alu_flags, unary_value, unary_flag
 
 mod bits;
 mod extension;
-mod numbers;
 mod products;
 mod shifts;
+mod wide_numbers;
 
 pub use bits::{bit_scan, bit_test, double_shift};
 pub use extension::{extend, spread_sign};
 use mx_flags::Flags;
 use mx_word::{Arithmetic, Size, Unary, add_w, sub_w};
-pub use numbers::Signedness;
 pub use products::{DivideFault, Division, Halves, divide, multiply, multiply_low};
 pub use shifts::shift;
+pub use wide_numbers::Signedness;
 
 /// The result of an operation on two words, and the flags after it. TEST is an AND, as CMP is a SUB, whose
 /// result nobody uses. Inlined, so that no code for the size is left if the caller knows it.

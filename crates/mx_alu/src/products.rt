@@ -4,7 +4,7 @@ ghost use Rattle.std.specs.Prelude.{◌≡◌, ◌^◌, ◌<◌};
 ghost use Rattle.mx_word.specs.Word.{width, modulo};
 ghost use Rattle.mx_alu.specs.Products.{product_of, halves_of, multiply_flags, division_of, leaves};
 
-use crate::numbers::{Signedness, join, lift, quotient, times, upper};
+use crate::wide_numbers::{Signedness, join, lift, quotient, times, upper};
 use mx_flags::Flags;
 use mx_word::{Size, signed};
 

@@ -4,7 +4,7 @@ ghost use Rattle.std.specs.Prelude.{◌≡◌, ◌^◌, ◌<◌, ◌≤◌};
 ghost use Rattle.mx_word.specs.Word.{width};
 ghost use Rattle.mx_alu.specs.Shifts.{shift_of, last_out, turns_over, shift_value, shift_flags, rotation_of, shown_flags, is_second};
 
-use crate::numbers::lift;
+use crate::wide_numbers::lift;
 use mx_flags::Flags;
 use mx_word::{Shift, Size, differ, signed};
 

@@ -2,7 +2,7 @@
 use Rattle.std.proofs.Common.{◌≡◌, Bool, false, inl, inr, refl, true}
 use Rattle.std.specs.Prelude.{String, string_bytes}
 use Rattle.std.specs.declared.alloc.Global.{Global}
-use Rattle.mx_app_command.specs.declared.words.CommandLine.{CommandLine}
+use Rattle.mx_app_command.specs.declared.command_line.CommandLine.{CommandLine}
 use Rattle.mx_app.specs.Words.{IsComplaintOf, explained_line, explains}
 use Rattle.mx_app.specs.declared.summing.LineFailure.{LineFailure}
 use Rattle.mx_app.specs.declared.complaint.Complaint.TheVariants.{Explained, Failed, Unexplained}

@@ -4,9 +4,9 @@ use Rattle.std.specs.Prelude.{IfOk}
 use Rattle.std.specs.Io.KnownBytes.{Appends}
 use Rattle.std.proofs.lemmas.List.{append-nil}
 use Rattle.mx_app_command.specs.Files.{writes_over}
-use Rattle.mx_app_command.specs.declared.words.CommandRequest.{CommandRequest}
-use Rattle.mx_app_command.specs.declared.words.CommandRequest.TheVariants.{Look, Run, Sweep, Turns}
-use Rattle.mx_app_command.specs.declared.words.RecordRange.{RecordRange}
+use Rattle.mx_app_command.specs.declared.command_line.CommandRequest.{CommandRequest}
+use Rattle.mx_app_command.specs.declared.command_line.CommandRequest.TheVariants.{Look, Run, Sweep, Turns}
+use Rattle.mx_app_command.specs.declared.command_line.RecordRange.{RecordRange}
 use Rattle.mx_app_db.specs.ScriptLine.{ScriptLine}
 use Rattle.mx_app_db.specs.declared.script.DebugLine.{DebugLine}
 use Rattle.mx_app_failure.specs.declared.failure.Failure.{Failure as Kind}
@@ -39,7 +39,7 @@ use Rattle.mx_app_run.specs.Run.{Runs}
 use Rattle.mx_app_turns.specs.Sweeping.{Sweeps}
 use Rattle.mx_app_turns.specs.declared.sweeping.Swept.{Swept}
 use Rattle.mx_app_turns.specs.Turned.{MakesTurns}
-use Rattle.mx_app_run.specs.declared.running.RunEnding.{RunEnding}
+use Rattle.mx_app_run.specs.declared.run_by_threads.RunEnding.{RunEnding}
 use Rattle.mx_turns.specs.declared.turns.Ending.{Ending}
 use Rattle.mx_walk.specs.Parts.{walk_shown}
 use Rattle.mx_walk.specs.Walks.{Walk}

@@ -5,7 +5,7 @@ use Rattle.std.specs.Io.KnownBytes.{Appends}
 use Rattle.std.proofs.lemmas.List.{append-nil}
 use Rattle.mx_app_start.proofs.SetupLemmas.{asked_on}
 use Rattle.mx_walk.specs.declared.progress.Part.{Part}
-use Rattle.mx_app_command.specs.declared.words.CommandRequest.{CommandRequest}
+use Rattle.mx_app_command.specs.declared.command_line.CommandRequest.{CommandRequest}
 use Rattle.mx_app_command.specs.Files.{names_file}
 use Rattle.mx_app_failure.specs.declared.failure.Failure.{Failure as Kind}
 use Rattle.mx_app_db.specs.Asked.{Asked, file_given}

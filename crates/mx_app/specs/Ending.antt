@@ -5,7 +5,7 @@ use Rattle.mx_app.specs.declared.ending.PrintedText.{PrintedText}
 use Rattle.mx_app.specs.declared.ending.PrintedText.TheVariants.{Symbols, Report, Other}
 use Rattle.mx_app.specs.declared.ending.DrivenEnding.{DrivenEnding}
 use Rattle.mx_app.specs.declared.ending.DrivenEnding.TheVariants.{Turns, Run}
-use Rattle.mx_app_run.specs.declared.running.RunEnding.TheVariants as runs
+use Rattle.mx_app_run.specs.declared.run_by_threads.RunEnding.TheVariants as runs
 use Rattle.mx_turns.specs.declared.turns.Ending.TheVariants as turns
 
 -- the last byte that was taken, after this many of these bytes

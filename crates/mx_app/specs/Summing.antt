@@ -2,9 +2,9 @@
 use Rattle.std.specs.Prelude.{◌≡◌, ◌⊎◌, ℕ, Bool, true, false, List, [], ◌∷◌, ◌++◌, Option, Some, None, Result, Ok, Err, option_map}
 use Rattle.std.specs.declared.io.ErrorKind.{ErrorKind}
 use Rattle.mx_app_command.specs.Files.{files_read, names_file}
-use Rattle.mx_app_command.specs.declared.words.CommandLine.{CommandLine}
-use Rattle.mx_app_command.specs.declared.words.CommandRequest.{CommandRequest}
-use Rattle.mx_app_command.specs.declared.words.CommandRequest.TheVariants.{Step, Run, Turns}
+use Rattle.mx_app_command.specs.declared.command_line.CommandLine.{CommandLine}
+use Rattle.mx_app_command.specs.declared.command_line.CommandRequest.{CommandRequest}
+use Rattle.mx_app_command.specs.declared.command_line.CommandRequest.TheVariants.{Step, Run, Turns}
 use Rattle.mx_app_failure.specs.declared.failure.Failure.{Failure as Kind}
 use Rattle.mx_app_failure.specs.declared.failure.Failure.TheVariants as failures
 use Rattle.mx_app_failure.specs.Failure.{failure_line, status_of}

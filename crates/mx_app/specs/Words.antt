@@ -7,11 +7,11 @@ use Rattle.clap.specs.Words.{kind_of, subcommand_of}
 use Rattle.clap.specs.declared.error.Error.{Error}
 use Rattle.clap.specs.declared.error.kind.ErrorKind.{ErrorKind as WordsErrorKind}
 use Rattle.clap.specs.declared.error.kind.ErrorKind.TheVariants as words
-use Rattle.mx_app_command.specs.declared.words.CommandLine.{CommandLine}
+use Rattle.mx_app_command.specs.declared.command_line.CommandLine.{CommandLine}
 use Rattle.mx_app_explain.specs.Explaining.{explained}
 use Rattle.mx_app_command.specs.Mistakes.{IsMistake, both_given}
-use Rattle.mx_app_command.specs.declared.words.Mistake.{Mistake}
-use Rattle.mx_app_command.specs.declared.words.Mistake.TheVariants as mistakes
+use Rattle.mx_app_command.specs.declared.command_line.Mistake.{Mistake}
+use Rattle.mx_app_command.specs.declared.command_line.Mistake.TheVariants as mistakes
 use Rattle.mx_app_command.specs.Words.{Asks, AsksForSilence, AsksForSums, AsksToExplain, mx_grammar}
 use Rattle.mx_app_failure.specs.declared.failure.Failure.{Failure as Kind}
 use Rattle.mx_app_failure.specs.declared.failure.Failure.TheVariants.{NotText, NoMemory}

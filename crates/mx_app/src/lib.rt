@@ -4,6 +4,7 @@
 
 mod asking;
 mod command_io;
+mod command_status;
 mod complaint;
 mod ending;
 mod explain;
@@ -11,10 +12,10 @@ mod named;
 mod performing;
 mod program;
 mod summing;
-mod words;
 
 pub use asking::texts_asked;
 pub use command_io::CommandIo;
+pub use command_status::perform_words;
 pub use complaint::Complaint;
 pub use ending::{DrivenEnding, NotingOutput, PrintedText, Terminals};
 pub use explain::explain_named;
@@ -26,4 +27,3 @@ pub use named::{as_named, dis_named, nm_named, one_named};
 pub use performing::{Done, perform};
 pub use program::run_program;
 pub use summing::{LineFailure, perform_line};
-pub use words::perform_words;

@@ -6,10 +6,10 @@ ghost use Rattle.mx_app.specs.Words.{words_failure_of};
 
 use crate::asking::{begin_with, texts_asked};
 use crate::command_io::CommandIo;
+use crate::command_status::perform_words;
 use crate::complaint::Complaint;
 use crate::ending::{NotingOutput, PrintedText, Terminals};
 use crate::performing::Done;
-use crate::words::perform_words;
 use mx_app_failure::Failure;
 use mx_app_start::{Channels, InputLines, RuntimeFiles, RuntimeProgress, RuntimeWriter};
 use mx_walk::Progress;

@@ -3,8 +3,8 @@ use Rattle.std.specs.Prelude.{◌||◌, ℕ, Bool, false, List, codes, Option, S
 use Rattle.std.specs.Str.{bytes_eq}
 use Rattle.mx_app_command.specs.declared.files.NamedWord.{NamedWord}
 use Rattle.mx_app_command.specs.declared.files.ReadWords.{ReadWords}
-use Rattle.mx_app_command.specs.declared.words.CommandRequest.{CommandRequest}
-use Rattle.mx_app_command.specs.declared.words.CommandRequest.TheVariants.{One, As, Dis, Nm, Explain, Step, Run, Turns, Sweep, Replay, Trace, Draw, Look, Db}
+use Rattle.mx_app_command.specs.declared.command_line.CommandRequest.{CommandRequest}
+use Rattle.mx_app_command.specs.declared.command_line.CommandRequest.TheVariants.{One, As, Dis, Nm, Explain, Step, Run, Turns, Sweep, Replay, Trace, Draw, Look, Db}
 
 -- A word of the command line that names a file: the word as help has it, and the name.
 pub record FileWord : Type 0 where

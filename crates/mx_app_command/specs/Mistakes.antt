@@ -3,8 +3,8 @@ use Rattle.std.specs.Prelude.{◌≡◌, ◌&&◌, Bool, true, false, is_some, c
 use Rattle.std.specs.Str.{bytes_eq}
 use Rattle.clap.specs.Words.{HasKind, Row, Text, fault_of, first_of, kind_of, subcommand_of}
 use Rattle.clap.specs.declared.error.kind.ErrorKind.TheVariants.{OutOfMemory}
-use Rattle.mx_app_command.specs.declared.words.Mistake.{Mistake}
-use Rattle.mx_app_command.specs.declared.words.Mistake.TheVariants.{Grammar, TicksAndEvents}
+use Rattle.mx_app_command.specs.declared.command_line.Mistake.{Mistake}
+use Rattle.mx_app_command.specs.declared.command_line.Mistake.TheVariants.{Grammar, TicksAndEvents}
 use Rattle.mx_app_command.specs.Words.{mx_grammar}
 
 -- these are the words of `turns` with both `--ticks` and `--events`

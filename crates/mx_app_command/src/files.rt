@@ -3,7 +3,7 @@
 ghost use Rattle.std.specs.Prelude.{◌≡◌, codes, option_map};
 ghost use Rattle.mx_app_command.specs.Files.{file_word, file_written, files_in, files_read, has_name, names, names_file, one_file, with_course, with_events, word_of, writes_over};
 
-use crate::words::CommandRequest;
+use crate::command_line::CommandRequest;
 
 /// A word of the command line that names a file: the word as help has it, and the file's name.
 #[derive(Clone, Copy)]

@@ -2,10 +2,10 @@
 //! help, with examples.
 #![tactic(auto)]
 
+mod command_line;
 mod files;
 mod grammar;
 mod help;
-mod words;
 
+pub use command_line::{CommandLine, CommandRequest, Mistake, RecordRange, command};
 pub use files::{NamedWord, ReadWords};
-pub use words::{CommandLine, CommandRequest, Mistake, RecordRange, command};

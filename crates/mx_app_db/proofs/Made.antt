@@ -16,7 +16,7 @@ use Rattle.mx_print_answers.specs.declared.refused.Refused.{Refused as Kind}
 use Rattle.mx_app_db.specs.Places.{place_found, breakpoints_after_break, breakpoints_after_clear}
 use Rattle.mx_app_db.specs.DebugLines.{DebuggedWorld, world_after_go, debug_line_kept, debug_line_made}
 use Rattle.mx_app_db.specs.DebugPerformed.{debug_does}
-use Rattle.mx_app_db.specs.declared.lines.DebugPerformer.{DebugPerformer}
+use Rattle.mx_app_db.specs.declared.debug_lines.DebugPerformer.{DebugPerformer}
 
 -- a world and breakpoints
 abbrev pub both : World → List Breakpoint → DebuggedWorld

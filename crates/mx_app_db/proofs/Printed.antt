@@ -10,7 +10,7 @@ use Rattle.mx_machine.specs.World.{World}
 use Rattle.mx_app_db.specs.DebugLines.{DebuggedWorld, debug_lines_made}
 use Rattle.mx_app_step.specs.Driving.{Driven, lines_done, lines_text}
 use Rattle.mx_app_db.specs.DebugPerformed.{debug_does, debug_prints, debugged}
-use Rattle.mx_app_db.specs.declared.lines.DebugPerformer.{DebugPerformer}
+use Rattle.mx_app_db.specs.declared.debug_lines.DebugPerformer.{DebugPerformer}
 use Rattle.mx_app_db.specs.LineTexts.{debug_line_text, debug_lines_text}
 use Rattle.mx_app_db.proofs.Made.{both}
 

@@ -3,7 +3,7 @@ use Rattle.std.specs.Prelude.{ℕ, List}
 use Rattle.mx_app_step.specs.Driving.{Driven}
 use Rattle.mx_app_db.specs.DebugLines.{DebuggedWorld, debug_line_kept, debug_line_made}
 use Rattle.mx_app_db.specs.LineTexts.{debug_line_text}
-use Rattle.mx_app_db.specs.declared.lines.DebugPerformer.{DebugPerformer}
+use Rattle.mx_app_db.specs.declared.debug_lines.DebugPerformer.{DebugPerformer}
 use Rattle.mx_app_db.specs.declared.script.DebugLine.{DebugLine}
 
 -- its world and its breakpoints

@@ -2,21 +2,21 @@
 //! nothing.
 #![tactic(auto)]
 
-mod driving;
-mod going;
+mod db_command;
+mod debug_lines;
+mod go_line;
 mod last_messages;
-mod lines;
 mod looks;
-mod places;
 mod script;
+mod script_breakpoints;
 
-pub use driving::db;
-pub use going::go;
+pub use db_command::db;
+pub use go_line::go;
 pub use mx_app_start::{
     Channels, Failure, InputLines, KeptFile, MemoryWriter, NamedFile, NamedFiles, Script, start,
 };
 pub use mx_app_step::{
     HistoryPart, NamedScript, Replayed, make_steps, replay, step, step_saved, trace,
 };
-pub use places::{clear_breakpoint, set_breakpoint};
 pub use script::{debug_script, own_words_are_apart};
+pub use script_breakpoints::{clear_breakpoint, set_breakpoint};

@@ -5,7 +5,7 @@ ghost use Rattle.mx_app_draw.specs.Document.{size_text, document_head, opening_t
 
 use crate::figures::push_value;
 use crate::scene_values::Scene;
-use crate::shown::{push_attribute, push_pair, push_shown};
+use crate::svg_text::{push_attribute, push_pair, push_shown};
 use crate::texts::push_title;
 use crate::values::{Drawing, Value};
 use std::alloc::{AllocError, Global};

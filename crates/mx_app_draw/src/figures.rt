@@ -6,7 +6,7 @@ ghost use Rattle.mx_app_draw.specs.Figures.{class, bar_text, anchored, placed, l
 use crate::classes::{anchor_word, arrow_class, bar_class, label_class};
 use crate::hints::{push_end, push_hint};
 use crate::scene_values::Scene;
-use crate::shown::{push_attribute, push_pair, push_shown};
+use crate::svg_text::{push_attribute, push_pair, push_shown};
 use crate::texts::push_words;
 use crate::values::{Anchor, Arrow, ArrowKind, Bar, Label, Mark, MarkKind, Value};
 use mx_print_report::push_decimal;

@@ -9,7 +9,7 @@ ghost use Rattle.std.specs.Prelude.{◌≡◌, ◌++◌, OnOk};
 ghost use Rattle.mx_app_draw.specs.Hints.{step_line, kept_hint, on_processor, standing_hint, placed_line, hint_line, hint_title, hint_text, end_text};
 
 use crate::scene_values::{Scene, Standing};
-use crate::shown::push_shown;
+use crate::svg_text::push_shown;
 use crate::texts::push_standing;
 use crate::values::Hint;
 use mx_look::{

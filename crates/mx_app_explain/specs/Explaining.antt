@@ -3,8 +3,8 @@ use Rattle.std.specs.Prelude.{◌++◌, ℕ, List, [], codes, Option, Some, None
 use Rattle.mx_text.specs.declared.error.BootError.{BootError}
 use Rattle.mx_text.specs.declared.error.BootError.TheVariants as lines
 use Rattle.mx_app_command.specs.Files.{FileWord, file_written, files_read}
-use Rattle.mx_app_command.specs.declared.words.CommandRequest.{CommandRequest}
-use Rattle.mx_app_command.specs.declared.words.CommandRequest.TheVariants.{Step, Run, Turns, Sweep, Db}
+use Rattle.mx_app_command.specs.declared.command_line.CommandRequest.{CommandRequest}
+use Rattle.mx_app_command.specs.declared.command_line.CommandRequest.TheVariants.{Step, Run, Turns, Sweep, Db}
 use Rattle.mx_app_failure.specs.declared.failure.About.{About}
 use Rattle.mx_app_failure.specs.declared.failure.About.TheVariants as about
 use Rattle.mx_app_failure.specs.declared.failure.FileFailure.{FileFailure}

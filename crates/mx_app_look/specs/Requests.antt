@@ -4,8 +4,8 @@ use Rattle.std.specs.Str.{bytes_eq, is_utf8}
 use Rattle.mx_text.specs.Fields.{fields, only, ◌>>=◌}
 use Rattle.mx_boot.specs.Script.{count_field, only_count}
 use Rattle.mx_app_look.specs.declared.point_request.PointRequest.TheVariants as point
-use Rattle.mx_walk.specs.declared.moves.PositionWord.{PositionWord}
-use Rattle.mx_walk.specs.declared.moves.PositionWord.TheVariants.{Below, End}
+use Rattle.mx_walk.specs.declared.destinations.PositionWord.{PositionWord}
+use Rattle.mx_walk.specs.declared.destinations.PositionWord.TheVariants.{Below, End}
 use Rattle.mx_app_look.specs.declared.request.Request.{Request}
 use Rattle.mx_app_look.specs.declared.request.Request.TheVariants as request
 use Rattle.mx_app_look.specs.declared.verb.Verb.{Verb}

@@ -27,9 +27,9 @@ use crate::sight::{Sight, say};
 use crate::verb::push_unknown;
 use crate::world_texts::{push_deliveries, push_processes, push_why};
 use mx_app_failure::Failure;
-use mx_walk::{PositionWord, back_from, forward_from, steps_back, steps_on};
-use mx_walk::{Position, Progress};
-use mx_walk::Walker;
+use mx_walk::{
+    Position, PositionWord, Progress, Walker, back_from, forward_from, steps_back, steps_on,
+};
 use std::alloc::{AllocError, Global};
 
 /// What `help` prints.

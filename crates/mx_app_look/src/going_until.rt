@@ -9,16 +9,15 @@ ghost use Rattle.mx_app_look.specs.Answers.{after, request_text, to_of};
 ghost use Rattle.mx_app_look.specs.Searches.{not_met};
 ghost use Rattle.mx_app_look.specs.Until.{has_service, has_slots, until_halt};
 
+use crate::asked_slot::slot_asked;
 use crate::happening::{Happening, happens};
 use crate::places::push_place;
 use crate::sight::{Sight, say};
-use crate::slots::slot_asked;
 use crate::world_texts::{Placed, see_record};
 use mx_app_failure::Failure;
 use mx_app_step::resting_step;
 use mx_look::push_record;
-use mx_walk::Progress;
-use mx_walk::Walker;
+use mx_walk::{Progress, Walker};
 use mx_word::NoMemory;
 use std::alloc::Global;
 

@@ -3,11 +3,11 @@
 #![tactic(auto)]
 
 mod answering;
+mod asked_slot;
 mod changes;
 mod going_until;
 mod halt_laws;
 mod happening;
-mod laws;
 mod marks;
 mod places;
 mod point_request;
@@ -17,15 +17,15 @@ mod request;
 mod searches;
 mod seeking;
 mod session;
+mod session_laws;
 mod showing;
 mod shown;
 mod sight;
-mod slots;
 mod until_request;
 mod verb;
 mod watches;
 mod world_texts;
 
 pub use halt_laws::{one_halt, searches_return};
-pub use laws::{one_session, why_is_traced};
 pub use session::{SessionWanted, look};
+pub use session_laws::{one_session, why_is_traced};

@@ -13,13 +13,11 @@ use mx_aout::Symbol;
 use mx_app_step::refusal_line;
 use mx_boot::lines_above;
 use mx_exec::Image;
-use mx_look::{Glance, push_code_line};
-use mx_look::{push_event, push_who};
+use mx_look::{Glance, push_code_line, push_event, push_who};
 use mx_machine::{Event, Machine, Record, Refusal};
 use mx_print_answers::symbols_of;
 use mx_print_report::{push_decimal, push_long};
-use mx_walk::{Position, next_event};
-use mx_walk::Walker;
+use mx_walk::{Position, Walker, next_event};
 use std::alloc::{AllocError, Global};
 
 /// Appends a position: `K`, or `K.J` inside the record below.

@@ -12,8 +12,8 @@ use crate::shown::{Shown, code, memory, registers, stack, variable};
 use crate::until_request::until_asked;
 use crate::verb::{Verb, verb_named};
 use mx_boot::{count, only_count};
-use mx_walk::PositionWord;
 use mx_text::{next_field, one_field};
+use mx_walk::PositionWord;
 
 /// How many bytes a line has at most.
 const LONGEST: usize = 4096;

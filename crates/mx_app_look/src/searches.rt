@@ -14,8 +14,7 @@ ghost use Rattle.mx_app_look.specs.Shows.{IsLastShown, IsNextShown, IsSearchShow
 use crate::changes::{all_bytes, push_changes};
 use crate::marks::{breaks_mark, bytes_mark, points_mark};
 use crate::points::Points;
-use mx_walk::{Mark, NextEvent, Position, Progress, is_up_to, next_event, position_before};
-use mx_walk::Walker;
+use mx_walk::{Mark, NextEvent, Position, Progress, Walker, is_up_to, next_event, position_before};
 use mx_word::NoMemory;
 use std::alloc::{AllocError, Global};
 

@@ -8,18 +8,17 @@ ghost use Rattle.mx_app_look.specs.Places.{place_text};
 ghost use Rattle.mx_app_look.specs.Seeking.{IsGoneBack, IsGoneOn, breaks_after, point_made, point_text, points_after, watches_after};
 ghost use Rattle.mx_app_look.specs.Shows.{IsLastShown, IsNextShown};
 
+use crate::asked_slot::{address_here, limit_here, slot_asked};
 use crate::places::push_place;
 use crate::point_request::PointRequest;
 use crate::points::Points;
 use crate::searches::{go_back_to_point, go_on_to_point};
 use crate::sight::Sight;
-use crate::slots::{address_here, limit_here, slot_asked};
 use crate::watches::Watch;
 use mx_app_failure::Failure;
 use mx_boot::AddressWord;
 use mx_print_answers::{Refused, push_done};
-use mx_walk::Progress;
-use mx_walk::Walker;
+use mx_walk::{Progress, Walker};
 use std::alloc::{AllocError, Global};
 
 /// Sets a breakpoint. Refuses if there is no such slot or symbol, or if it would be the 65th breakpoint, and

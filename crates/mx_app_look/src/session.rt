@@ -23,8 +23,7 @@ use crate::sight::Sight;
 use mx_app_failure::{Failure, print_text};
 use mx_app_start::Channels;
 use mx_app_step::{History, LineReader, Reader, Started, start};
-use mx_walk::Progress;
-use mx_walk::Walker;
+use mx_walk::{Progress, Walker};
 use std::alloc::Global;
 use std::io::Write;
 

@@ -6,8 +6,8 @@ ghost use Rattle.mx_walk.specs.Walks.{world_here};
 ghost use Rattle.mx_app_look.specs.Showing.{code_at, code_by, code_from, code_next, code_of, dword_line, shown_text, stack_by, stack_of, symbol_of_name, symbols_in, value_text, variable_by, variable_text};
 ghost use Rattle.mx_app_look.specs.Slots.{slot_asked};
 
+use crate::asked_slot::{address_here, slot_asked};
 use crate::shown::Shown;
-use crate::slots::{address_here, slot_asked};
 use mx_aout::Symbol;
 use mx_boot::{AddressWord, SymbolName};
 use mx_debug::DebugError;

@@ -14,12 +14,10 @@ ghost use Rattle.mx_app_look.specs.Until.{below};
 use mx_app_failure::Failure;
 use mx_app_step::resting_step;
 use mx_boot::report;
-use mx_look::Step;
-use mx_look::push_record;
+use mx_look::{Step, push_record};
 use mx_machine::Record;
 use mx_print_answers::push_messages;
-use mx_walk::{Position, Progress, steps_in};
-use mx_walk::Walker;
+use mx_walk::{Position, Progress, Walker, steps_in};
 use mx_word::NoMemory;
 use std::alloc::{AllocError, Global};
 

@@ -22,7 +22,7 @@ use Rattle.mx_dis.specs.declared.part.Part.{Part}
 use Rattle.mx_dis.specs.declared.part.Part.TheVariants.{Instruction}
 use Rattle.mx_dis.specs.Parting.{IsParting, total_size}
 use Rattle.mx_dis.specs.Listing.{lines_of}
-use Rattle.mx_app_program.specs.declared.going.Journey.{Journey}
+use Rattle.mx_app_program.specs.declared.round_trip.Journey.{Journey}
 
 -- ---- bytes in the code
 

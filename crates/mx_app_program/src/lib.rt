@@ -4,16 +4,16 @@
 
 mod assembly;
 mod error;
-mod going;
-mod laws;
+mod first_steps;
 mod listing;
 mod report;
-mod running;
+mod round_trip;
+mod round_trip_laws;
 
 pub use assembly::assemble_file;
 pub use error::AroundError;
-pub use going::{Journey, around};
-pub use laws::{code_keeps, listing_keeps};
+pub use first_steps::one;
 pub use listing::{print_listing, print_names};
 pub use report::print_one;
-pub use running::one;
+pub use round_trip::{Journey, around};
+pub use round_trip_laws::{code_keeps, listing_keeps};

@@ -6,7 +6,7 @@ ghost use Rattle.mx_aout.specs.File.{refusal_of};
 ghost use Rattle.mx_app_failure.specs.Failure.{IsWanting, Tells};
 ghost use Rattle.mx_app_program.specs.One.{IsPrinted, one_text};
 
-use crate::running::one;
+use crate::first_steps::one;
 use mx_app_failure::{About, Failure, print_text};
 use mx_image::{Runs, Stop};
 use mx_print_answers::{push_registers, push_stop};

@@ -6,8 +6,8 @@ use Rattle.mx_cpus.specs.declared.outside.OutsideCall.{OutsideCall}
 use Rattle.mx_cpus.specs.Gates.{GateCall}
 use Rattle.mx_cpus.specs.Seats.{SeatView}
 use Rattle.mx_cpus.specs.Outsiders.{AreEach, AreWholeWith, IsWholeIf, role_of}
-use Rattle.mx_app_run.specs.declared.running.RunEnding.{RunEnding}
-use Rattle.mx_app_run.specs.declared.running.RunEnding.TheVariants.{Full, Rest, Stopped}
+use Rattle.mx_app_run.specs.declared.run_by_threads.RunEnding.{RunEnding}
+use Rattle.mx_app_run.specs.declared.run_by_threads.RunEnding.TheVariants.{Full, Rest, Stopped}
 use Rattle.mx_app_run.specs.Run.{has_rested, is_full, run_ending}
 
 both_left : (a b : Bool) → true ≡ (a && b) → a ≡ true

@@ -19,8 +19,8 @@ use Rattle.mx_app_run.specs.Shows.{is_full_at, shows}
 use Rattle.mx_cpus.specs.declared.outside.OutsideCall.{OutsideCall}
 use Rattle.mx_app_step.specs.Report.{report_text}
 use Rattle.mx_boot.specs.Text.{saved_text}
-use Rattle.mx_app_run.specs.declared.running.RunEnding.{RunEnding}
-use Rattle.mx_app_run.specs.declared.running.RunEnding.TheVariants.{Full, Rest, Stopped}
+use Rattle.mx_app_run.specs.declared.run_by_threads.RunEnding.{RunEnding}
+use Rattle.mx_app_run.specs.declared.run_by_threads.RunEnding.TheVariants.{Full, Rest, Stopped}
 use Rattle.mx_app_failure.specs.declared.failure.Failure.{Failure as Kind}
 use Rattle.mx_app_failure.specs.declared.failure.Failure.TheVariants.{NoMemory}
 use Rattle.mx_app_failure.specs.Failure.{IsWanting}

@@ -2,15 +2,15 @@
 //! and its history, saved at the end.
 #![tactic(auto)]
 
-mod calls;
 mod gate;
-mod laws;
-mod running;
+mod outside_files;
+mod report_laws;
+mod run_by_threads;
 
-pub use calls::outside_calls;
 pub use gate::{RunGate, RunPlan};
-pub use laws::replay_again;
 pub use mx_app_start::{Channels, MemoryWriter, NamedFile, NamedFiles, NoProgress, setup_of};
 pub use mx_app_step::{Replayed, replay};
 pub use mx_boot::{report, saved_text};
-pub use running::{RunEnding, RunWanted, run};
+pub use outside_files::outside_calls;
+pub use report_laws::replay_again;
+pub use run_by_threads::{RunEnding, RunWanted, run};

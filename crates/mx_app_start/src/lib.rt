@@ -5,7 +5,6 @@
 mod channels;
 mod course;
 mod limits;
-mod lines;
 mod memory;
 mod named;
 mod noted;
@@ -17,11 +16,11 @@ mod replacing;
 mod runtime;
 mod setup;
 mod starting;
+mod typed_lines;
 mod writer;
 
 pub use channels::Channels;
 pub use course::{Course, History, Script};
-pub use lines::{InputLines, LineReader};
 pub use memory::{KeptFile, MemoryWriter};
 pub use mx_app_failure::{About, Failure, FileFailure, FileProblem};
 pub use mx_walk::{Part, Progress};
@@ -32,4 +31,5 @@ pub use reader::Reader;
 pub use runtime::{RuntimeFiles, RuntimeWriter};
 pub use setup::{config_of, setup_of, text_of};
 pub use starting::{Started, start};
+pub use typed_lines::{InputLines, LineReader};
 pub use writer::FileWriter;

@@ -2,18 +2,16 @@
 //! the records of a saved history, numbered or not.
 #![tactic(auto)]
 
-mod driving;
-mod laws;
-mod lines;
+mod driving_lines;
 mod printing;
 mod records;
 mod saving;
+mod script_lines;
 mod stepping;
+mod trace_laws;
 mod tracing;
 
-pub use driving::{Lines, Performs, print_lines};
-pub use laws::parts_of_a_trace_join;
-pub use lines::{NamedScript, perform_line, step};
+pub use driving_lines::{Lines, Performs, print_lines};
 pub use mx_app_failure::{Failure, print_text};
 pub use mx_app_start::{
     FileWriter, History, LineReader, Reader, RuntimeFiles, RuntimeWriter, Script, Started,
@@ -23,5 +21,7 @@ pub use mx_boot::{lines_above, report, saved_text};
 pub use printing::print_kernel_report;
 pub use records::{Replayed, perform_records, print_refusal, refusal_line, replay};
 pub use saving::{step_saved, write_history};
+pub use script_lines::{NamedScript, perform_line, step};
 pub use stepping::make_steps;
+pub use trace_laws::parts_of_a_trace_join;
 pub use tracing::{HistoryPart, first_records, look_record, resting_step, trace};

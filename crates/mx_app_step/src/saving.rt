@@ -20,9 +20,9 @@ ghost use Rattle.mx_app_step.specs.Kept.{history_made, lines_kept, text_kept, Is
 ghost use Rattle.mx_app_step.specs.Lines.{lines_made};
 ghost use Rattle.mx_app_step.specs.Numbered.{answers_text};
 
-use crate::driving::{Lines, print_said};
-use crate::lines::{NamedScript, ScriptPerformer};
+use crate::driving_lines::{Lines, print_said};
 use crate::printing::print_report;
+use crate::script_lines::{NamedScript, ScriptPerformer};
 use mx_app_failure::Failure;
 use mx_app_start::{Channels, FileWriter, Reader, Script, Started, spare_programs, start};
 use mx_boot::{ScriptLine, saved_text};

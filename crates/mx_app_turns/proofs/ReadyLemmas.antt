@@ -14,7 +14,7 @@ use Rattle.mx_machine.specs.Move.{moves}
 use Rattle.mx_machine.specs.World.{World, actors}
 use Rattle.mx_turns.proofs.MadeLemmas.{kept_boot}
 use Rattle.mx_turns.specs.declared.faults.FaultLine.{FaultLine}
-use Rattle.mx_turns.specs.declared.running.Sweep.{Sweep}
+use Rattle.mx_turns.specs.declared.faulted_run.Sweep.{Sweep}
 use Rattle.mx_turns.specs.Swept.{IsSwept}
 use Rattle.mx_app_turns.specs.Begun.{IsReady}
 use Rattle.mx_app_turns.specs.Sweeping.{SweepOf}

@@ -8,7 +8,7 @@ use Rattle.mx_app_failure.specs.declared.failure.Failure.{Failure as Kind}
 use Rattle.mx_app_step.specs.Config.{Config}
 use Rattle.mx_app_step.specs.Machine.{MachineState, world_of}
 use Rattle.mx_app_step.specs.Written.{Written}
-use Rattle.mx_turns.specs.declared.running.Sweep.{Sweep}
+use Rattle.mx_turns.specs.declared.faulted_run.Sweep.{Sweep}
 use Rattle.mx_app_turns.specs.declared.sweeping.Begun.{Begun}
 use Rattle.mx_app_turns.specs.declared.sweeping.Swept.{Swept}
 use Rattle.mx_app_turns.specs.Sweeping.{IsSweptThrough, IsUntold, SweepOf}

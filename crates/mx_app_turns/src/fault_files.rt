@@ -7,8 +7,8 @@ ghost use Rattle.mx_boot.specs.Reading.{AreLinesRead, TellsUnread};
 ghost use Rattle.mx_app_turns.specs.FaultLines.{fault_line, fault_line_of, kill_of_slot, slot_named};
 
 use mx_boot::{ReadsLine, Verb, count, read_lines, script_line_of, verb_named};
-use mx_turns::FaultLine;
 use mx_text::{BootError, next_field, two_fields};
+use mx_turns::FaultLine;
 use std::alloc::Global;
 
 /// The slot that `slot S` names.

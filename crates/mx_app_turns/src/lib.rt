@@ -5,16 +5,16 @@
 #![tactic(auto)]
 
 mod blocks;
-mod events;
+mod event_files;
 mod fault_files;
-mod laws;
 mod nothing_tested;
 mod sweeping;
 mod turning;
+mod turns_laws;
 
-pub use events::{OutsideEvents, outside_event_of, outside_events};
+pub use event_files::{OutsideEvents, outside_event_of, outside_events};
 pub use fault_files::fault_lines;
-pub use laws::{bound_is_not_met, turns_again};
 pub use nothing_tested::Untested;
 pub use sweeping::{SweepNames, SweepWanted, Swept, sweep};
 pub use turning::{TurnsNames, TurnsWanted, turns};
+pub use turns_laws::{bound_is_not_met, turns_again};

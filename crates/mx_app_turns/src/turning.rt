@@ -15,7 +15,7 @@ ghost use Rattle.mx_app_step.specs.Report.{report_text};
 ghost use Rattle.mx_app_step.specs.Written.{Written, kept};
 ghost use Rattle.mx_app_turns.specs.Turned.{IsBegun, IsNotBegun, IsTurned, MakesTurns, ShowsTurns, coming};
 
-use crate::events::OutsideEvents;
+use crate::event_files::OutsideEvents;
 use mx_app_failure::Failure;
 use mx_app_start::{Channels, FileWriter, Reader, setup_of, spare_programs, start};
 use mx_app_step::{print_kernel_report, write_history};

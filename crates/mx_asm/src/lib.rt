@@ -19,11 +19,11 @@
 #![tactic(auto)]
 
 mod assembling;
+mod assembly_laws;
 mod branch;
 mod emit;
 mod fault;
 mod hashing;
-mod laws;
 mod layout;
 mod numbered;
 mod program;
@@ -31,9 +31,9 @@ mod second;
 mod sizes;
 
 pub use assembling::assemble;
+pub use assembly_laws::{fault_is_one, program_is_one, program_or_fault};
 pub use branch::branch_bytes;
 pub use fault::{AsmError, Fault, Problem, problem_of};
 pub use hashing::HashedByText;
-pub use laws::{fault_is_one, program_is_one, program_or_fault};
 pub use layout::Layout;
 pub use sizes::{SectionOffset, SectionSizes};

@@ -47,7 +47,7 @@ use Rattle.mx_asm_statement.specs.Instructions.{instruction_if_formed, instructi
 use Rattle.mx_asm_statement.specs.Values.{whole_of}
 use Rattle.mx_asm_statement.specs.declared.sized_operand.SizedOperand.{SizedOperand}
 use Rattle.mx_asm_statement.specs.declared.pair.Pair.{Pair}
-use Rattle.mx_asm_statement.specs.declared.moves.ExtensionParts.{ExtensionParts}
+use Rattle.mx_asm_statement.specs.declared.move_forms.ExtensionParts.{ExtensionParts}
 use Rattle.mx_asm_statement.specs.Numbers.{is_out_of_range, low_bits, number_in, immediate_in, is_same, names_no_other, value_waiting}
 use Rattle.mx_asm_statement.specs.SizedOperands.{statement_of_insn, memory_named, sized_memory, sized_operand_of, operand_of_size, operand_beside, not_byte}
 use Rattle.mx_asm_statement.specs.Pairs.{pair_into_memory, operands_of}

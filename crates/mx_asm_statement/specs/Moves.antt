@@ -9,7 +9,7 @@ use Rattle.mx_asm_statement.specs.declared.argument.Argument.{Argument}
 use Rattle.mx_asm_statement.specs.declared.argument.Argument.TheVariants as arguments
 use Rattle.mx_asm_statement.specs.Items.{◌>>=◌}
 use Rattle.mx_asm_statement.specs.declared.statement.Statement.{Statement}
-use Rattle.mx_asm_statement.specs.declared.moves.ExtensionParts.{ExtensionParts}
+use Rattle.mx_asm_statement.specs.declared.move_forms.ExtensionParts.{ExtensionParts}
 use Rattle.mx_asm_statement.specs.Numbers.{value_waiting}
 use Rattle.mx_asm_statement.specs.SizedOperands.{statement_of_insn, memory_named, sized_operand_of, operand_beside}
 use Rattle.mx_asm_statement.specs.SizedOperands.{not_byte}

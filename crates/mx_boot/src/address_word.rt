@@ -3,8 +3,8 @@
 ghost use Rattle.std.specs.Prelude.{◌≡◌, position};
 ghost use Rattle.mx_boot.specs.Addresses.{address_of_word, is_plus, number_field, number_of_word, symbol_by_plus, symbol_name};
 
-use crate::numbers::count;
 use crate::place::SymbolName;
+use crate::script_numbers::count;
 use mx_text::{is_digit, number_up_to};
 
 /// An address in the memory of a slot's process, as a line names it.

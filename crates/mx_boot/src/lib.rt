@@ -4,6 +4,7 @@
 
 mod address_word;
 mod comment;
+mod config_reading;
 mod draft;
 mod history_laws;
 mod item;
@@ -11,10 +12,9 @@ mod items;
 mod kernels;
 mod logs;
 mod names;
-mod numbers;
 mod place;
-mod reading;
 mod saving;
+mod script_numbers;
 mod script_reading;
 mod scripts;
 mod service;
@@ -24,16 +24,16 @@ mod verb;
 
 pub use address_word::{AddressWord, address_named, symbol_name, word_number};
 pub use comment::before_byte;
+pub use config_reading::config;
 pub use history_laws::{history_again, one_history, one_text};
 pub use items::{before_comment, has_stray};
 pub use kernels::{report, save, saved_again, saved_text};
 pub use logs::{lines_above, log};
 pub(crate) use mx_machine::Config;
 pub use mx_text::BootError;
-pub use numbers::{actor, actor_and_count, count, only_actor, only_count};
 pub use place::{CodePlace, SymbolName, place_named};
-pub use reading::config;
 pub use saving::{SaveFault, save_history};
+pub use script_numbers::{actor, actor_and_count, count, only_actor, only_count};
 pub use script_reading::{ReadsLine, read_lines};
 pub use scripts::{ScriptLine, script, script_line_of};
 pub use sink::{Over, Sink, SinkFault};

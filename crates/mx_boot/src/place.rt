@@ -3,7 +3,7 @@
 ghost use Rattle.std.specs.Prelude.{◌≡◌, ◌<◌, ◌≤◌, length, Some, None};
 ghost use Rattle.mx_boot.specs.Places.{named_place, code_place_of};
 
-use crate::numbers::count;
+use crate::script_numbers::count;
 use arrayvec::ArrayVec;
 use mx_text::is_digit;
 use std::marker::Model;

@@ -6,7 +6,7 @@ ghost use Rattle.mx_text.specs.Fields.{fields};
 ghost use Rattle.mx_boot.specs.Reading.{AreLinesRead, TellsUnread};
 ghost use Rattle.mx_boot.specs.Script.{script_line_of, script_line};
 
-use crate::numbers::{actor_and_count, only_actor, only_count};
+use crate::script_numbers::{actor_and_count, only_actor, only_count};
 use crate::script_reading::{ReadsLine, read_lines};
 use crate::verb::{Verb, verb_named};
 use mx_text::{BootError, next_field};

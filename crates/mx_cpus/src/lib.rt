@@ -18,7 +18,6 @@
 
 mod blank;
 mod calling;
-mod driving;
 mod gate;
 mod locked;
 mod loops;
@@ -27,10 +26,10 @@ mod outside;
 mod progress;
 mod shared;
 mod side;
+mod threads;
 
 pub use blank::{Blank, boot};
 pub use calling::outsider;
-pub use driving::{drive, drive_with};
 pub use gate::{Gate, WatchingGate};
 pub use locked::{HowFar, Locked};
 pub use loops::{processor, respawner};
@@ -40,3 +39,4 @@ pub(crate) use mx_machine::{Kernel, Service};
 pub use naming::Naming;
 pub use outside::{Outside, OutsideCall};
 pub use shared::Shared;
+pub use threads::{drive, drive_with};

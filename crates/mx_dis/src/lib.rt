@@ -2,14 +2,14 @@
 //! line is appended to one `String`; parts aren't collected.
 #![tactic(auto)]
 
-mod laws;
 mod listing;
 mod name;
 mod part;
+mod parting_laws;
 mod symbols;
 
-pub use laws::{one_parting, parted_there};
 pub use listing::list;
 pub use name::before_zero;
 pub use part::{Part, first_part};
+pub use parting_laws::{one_parting, parted_there};
 pub use symbols::{names, push_symbol_name};

@@ -27,8 +27,8 @@ use Rattle.mx_encode.specs.declared.fields.RmFields as code_place
 use Rattle.mx_insn.specs.declared.row.OpcodeMap.{OpcodeMap}
 use Rattle.mx_insn.specs.declared.row.OpcodeMap.TheVariants as opcode_maps
 use Rattle.mx_encode.specs.declared.forms.Encoding.{Encoding}
-use Rattle.mx_encode.specs.declared.numbers.NumberForm.{NumberForm}
-use Rattle.mx_encode.specs.declared.numbers.NumberForm.TheVariants as number_forms
+use Rattle.mx_encode.specs.declared.field_numbers.NumberForm.{NumberForm}
+use Rattle.mx_encode.specs.declared.field_numbers.NumberForm.TheVariants as number_forms
 use Rattle.mx_encode.specs.declared.fields.Rm.{Rm}
 use Rattle.mx_encode.specs.declared.fields.Number.TheVariants as numbers
 use Rattle.mx_encode.specs.Numbers.{number_bytes}

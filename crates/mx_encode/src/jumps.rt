@@ -6,9 +6,9 @@ ghost use Rattle.mx_encode.specs.Choice.{jump_if, jump_choice, call_choice, jump
 ghost use Rattle.mx_encode.specs.Given.{is_wide, laid, GivesBytes, OperandFits};
 
 use crate::NoForm;
+use crate::field_numbers::{NumberForm, is_short, short, shortens};
 use crate::fields::Number;
 use crate::forms::Encoding;
-use crate::numbers::{NumberForm, is_short, short, shortens};
 use mx_insn::{Loop, Operand};
 use mx_word::{Condition, Size};
 

@@ -10,21 +10,21 @@ mod accumulator;
 mod bits;
 mod choice;
 mod encoding;
+mod field_numbers;
 mod fields;
 mod filled;
 mod forms;
 mod jumps;
-mod laws;
-mod numbers;
 mod operands;
 mod places;
 mod single;
+mod spelling_laws;
 mod writing;
 
 pub use encoding::encode;
+use field_numbers::NumberForm;
 pub use filled::{with_displacement, with_immediate};
-pub use laws::{chosen_spells, one_chosen, some_chosen, spelled_has_form};
-use numbers::NumberForm;
+pub use spelling_laws::{chosen_spells, one_chosen, some_chosen, spelled_has_form};
 
 /// What is asked for if a shorter form is possible. A mark has no effect if an instruction has nothing to
 /// widen.

@@ -4,9 +4,9 @@ ghost use Rattle.std.specs.Prelude.{◌≡◌, ◌<◌, ◌^◌};
 ghost use Rattle.mx_encode.specs.Choice.{arithmetic_immediate, arithmetic_choice, move_immediate, move_choice, test_choice, test_immediate, exchange_choice, load_address, multiply_choice, multiply_immediate, zero_extension, sign_extension};
 ghost use Rattle.mx_encode.specs.Given.{is_wide, laid, value_into, OperandFits, OperandsFit, ImmediateFits, WideImmediateFits};
 
+use crate::field_numbers::{NumberForm, arithmetic_number, short, shortens};
 use crate::fields::Number;
 use crate::forms::Encoding;
-use crate::numbers::{NumberForm, arithmetic_number, short, shortens};
 use mx_insn::{Extension, Immediate, Memory, Operand, OperandSize, Operands, WideImmediate};
 use mx_word::{Arithmetic, Register, Size};
 

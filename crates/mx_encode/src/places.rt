@@ -8,8 +8,8 @@ ghost use Rattle.mx_encode.specs.Numbers.{number_bytes};
 ghost use Rattle.mx_encode.specs.Places.{base_number, sib_of, rm_number, mode_after, mode_of, memory_place, place_written, can_index, can_stand, has_place};
 ghost use Rattle.mx_encode.specs.Given.{is_wide, sib_seen, place_seen};
 
+use crate::field_numbers::{NumberForm, is_short, scale_number};
 use crate::fields::{Number, Rm, RmFields, Sib};
-use crate::numbers::{NumberForm, is_short, scale_number};
 use mx_insn::{Index, Memory, Operand};
 use mx_word::{Register, Size};
 

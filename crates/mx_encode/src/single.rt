@@ -5,9 +5,9 @@ ghost use Rattle.mx_insn.specs.Table.{product_number};
 ghost use Rattle.mx_encode.specs.Choice.{step_choice, unary_choice, product_choice, shift_choice, set_condition, push_choice, push_immediate, pop_choice};
 ghost use Rattle.mx_encode.specs.Given.{is_wide, laid, step_form, OperandFits, CountFits};
 
+use crate::field_numbers::{NumberForm, shift_number, short, shortens};
 use crate::fields::Number;
 use crate::forms::Encoding;
-use crate::numbers::{NumberForm, shift_number, short, shortens};
 use mx_insn::{Count, Operand, OperandSize, Product};
 use mx_word::{Condition, Register, Shift, Size, Unary};
 

@@ -7,9 +7,9 @@ ghost use Rattle.mx_encode.specs.Numbers.{number_bytes};
 ghost use Rattle.mx_encode.specs.Places.{place_for};
 ghost use Rattle.mx_encode.specs.Given.{is_wide, RegFits, form_bytes, sib_seen, place_seen};
 
+use crate::field_numbers::NumberForm;
 use crate::fields::{Number, Rm, RmFields, Sib};
 use crate::forms::Encoding;
-use crate::numbers::NumberForm;
 use crate::places::place_of;
 use mx_insn::{ArrayVec, OpcodeMap, OperandSize, Repeat};
 

@@ -10,7 +10,7 @@ use Rattle.std.proofs.lemmas.Bool.Decides.{nat_tests}
 use Rattle.std.proofs.lemmas.Cmp.{nat_list_cmp_total, alike_right, same_from_slice_cmp}
 use Rattle.std.proofs.lemmas.List.Sorted.{searchable_from_sorted}
 use native.Mathlib.Numerals.{unary_clauses}
-use Rattle.mx_insn_words.specs.declared.named.Named.{Named}
+use Rattle.mx_insn_words.specs.declared.sorted_words.Named.{Named}
 use Rattle.mx_insn_words.specs.Named.{lookup, is_sorted}
 
 abbrev compared : List ℕ → List ℕ → Ordering

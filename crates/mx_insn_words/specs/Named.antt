@@ -2,7 +2,7 @@
 use Rattle.std.specs.Prelude.{ℕ, Bool, true, ◌&&◌, cond, List, [], ◌∷◌, Option, Some, None, nat_eq}
 use Rattle.std.specs.Ordering.{nat_cmp, is_lt}
 use Rattle.std.specs.Cmp.Lexicographic.{pointwise, slice_cmp}
-use Rattle.mx_insn_words.specs.declared.named.Named.{Named}
+use Rattle.mx_insn_words.specs.declared.sorted_words.Named.{Named}
 
 -- what the first row of a word has
 abbrev pub lookup : {T : Type 0} → List (Named T) → List ℕ → Option T

@@ -2,20 +2,20 @@
 //! operands.
 #![tactic(auto)]
 
-mod laws;
 mod mnemonic;
-mod named;
 mod number;
 mod operand;
 mod registers;
+mod sorted_words;
 mod start;
 mod statement;
+mod word_laws;
 mod written;
 
-pub use laws::{one_register_or_size, one_start};
 pub use mnemonic::{Mnemonic, Single};
 pub use number::{push_eight_digits, push_number};
 pub use registers::{register_named, size_named};
 pub use start::{Directive, Prefix, WordStart, mnemonic_named, start_named};
 pub use statement::push_statement;
+pub use word_laws::{one_register_or_size, one_start};
 pub use written::{Written, WrittenOperands};

@@ -4,7 +4,7 @@
 ghost use Rattle.std.specs.Prelude.{◌≡◌, false, MatchOption};
 ghost use Rattle.mx_insn_words.specs.Words.{is_early, word_of};
 
-use crate::named::Named;
+use crate::sorted_words::Named;
 use crate::start::{WordStart, other_word};
 use mx_insn::{Comparison, Loop, Plain, Product, Transfer};
 use mx_word::{Arithmetic, BitScan, BitTest, Condition, DoubleShift, Shift, Size, Unary};

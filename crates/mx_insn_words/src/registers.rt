@@ -5,7 +5,7 @@ ghost use Rattle.mx_word.specs.declared.size.Size.{Size};
 ghost use Rattle.mx_word.specs.declared.names.Register.{Register};
 ghost use Rattle.mx_insn_words.specs.Registers.{register_word, size_word};
 
-use crate::named::{Named, find_word};
+use crate::sorted_words::{Named, find_word};
 use mx_word::{Register, Size};
 
 /// The registers, with their sizes, byte for byte in order.

@@ -6,7 +6,7 @@ ghost use Rattle.mx_insn_words.specs.declared.start.WordStart.{WordStart};
 ghost use Rattle.mx_insn_words.specs.Words.{begins_early, is_operation, start_word, word_of};
 
 use crate::mnemonic::{Mnemonic, OPERATIONS};
-use crate::named::{Named, find_word};
+use crate::sorted_words::{Named, find_word};
 use mx_insn::{Comparison, Transfer};
 use mx_word::{Condition, Size};
 

@@ -16,12 +16,12 @@ use Rattle.mx_sched.specs.Proc.TableState.{TableState, process_at, with_state, w
 use Rattle.mx_sched.specs.Proc.TableState.{table_after_block, table_after_unblock, table_after_delivery}
 use Rattle.mx_sched.specs.Proc.TableState.{table_after_notice, pending_source}
 use Rattle.mx_sched.specs.Queueing.{table_after_queueing}
-use Rattle.mx_ipc.specs.declared.calls.Call.{Call}
-use Rattle.mx_ipc.specs.declared.calls.Call.TheVariants as call
-use Rattle.mx_ipc.specs.declared.calls.Party.{Party}
-use Rattle.mx_ipc.specs.declared.calls.Party.TheVariants.{Any, Hardware, Clock, System, Process}
-use Rattle.mx_ipc.specs.declared.calls.TrapAnswer.{TrapAnswer}
-use Rattle.mx_ipc.specs.declared.calls.TrapAnswer.TheVariants.{Done, Kernel}
+use Rattle.mx_ipc.specs.declared.trap_calls.Call.{Call}
+use Rattle.mx_ipc.specs.declared.trap_calls.Call.TheVariants as call
+use Rattle.mx_ipc.specs.declared.trap_calls.Party.{Party}
+use Rattle.mx_ipc.specs.declared.trap_calls.Party.TheVariants.{Any, Hardware, Clock, System, Process}
+use Rattle.mx_ipc.specs.declared.trap_calls.TrapAnswer.{TrapAnswer}
+use Rattle.mx_ipc.specs.declared.trap_calls.TrapAnswer.TheVariants.{Done, Kernel}
 use Rattle.mx_ipc.specs.Checks.{call_of, party_of, call_refusal}
 
 -- a process goes on with a result: EAX is it, and the process is queued

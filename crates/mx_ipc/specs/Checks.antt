@@ -10,10 +10,10 @@ use Rattle.mx_sched.specs.Proc.Sound.{HasBuffer}
 use Rattle.mx_sched.specs.Proc.Waits.{leads, Reaches}
 use Rattle.mx_sched.specs.Proc.TableState.{TableState, process_at, buffer_at, memory_at}
 use Rattle.mx_word.specs.Bits.{has_bit}
-use Rattle.mx_ipc.specs.declared.calls.Call.{Call}
-use Rattle.mx_ipc.specs.declared.calls.Call.TheVariants.{Send, Receive, Sendrec, Notify}
-use Rattle.mx_ipc.specs.declared.calls.Party.{Party}
-use Rattle.mx_ipc.specs.declared.calls.Party.TheVariants.{Any, Hardware, Clock, System, Process}
+use Rattle.mx_ipc.specs.declared.trap_calls.Call.{Call}
+use Rattle.mx_ipc.specs.declared.trap_calls.Call.TheVariants.{Send, Receive, Sendrec, Notify}
+use Rattle.mx_ipc.specs.declared.trap_calls.Party.{Party}
+use Rattle.mx_ipc.specs.declared.trap_calls.Party.TheVariants.{Any, Hardware, Clock, System, Process}
 
 -- the call that ECX numbers
 abbrev pub call_of : ℕ → Option Call

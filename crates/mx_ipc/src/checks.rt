@@ -5,7 +5,7 @@ ghost use Rattle.std.specs.Option.{ForSome};
 ghost use Rattle.mx_sched.specs.Proc.TableState.{process_at};
 ghost use Rattle.mx_ipc.specs.Checks.{party_of, to_pseudo, out_of_place, is_send, is_receive, is_notify, is_outside, is_masked, call_refusal, Passed, HasUsedSlot, MayBeSentTo, PassedProcess, process_refusal, party_refusal};
 
-use crate::calls::{Call, Party};
+use crate::trap_calls::{Call, Party};
 use mx_proc::{ANY, CLOCK, Errno, HARDWARE, MESSAGE_SIZE, SYSTEM, Slot, Table, generation_of};
 use mx_word::{Register, has_bit};
 

@@ -15,17 +15,17 @@ ghost use Rattle.mx_sched.specs.Proc.Endpoints.{names_slot};
 ghost use Rattle.mx_sched.specs.Proc.declared.process.State.TheVariants.{Home, Ready};
 ghost use Rattle.mx_ipc.specs.Checks.{Passed};
 ghost use Rattle.mx_ipc.specs.Calls.{goes_on, accepts, hears, table_after_send, table_after_release, table_after_taking, table_after_receive, table_after_sendrec, table_after_notifying, partner_of, table_after_checked_call, table_after_call, call_answer, table_after_trap, trap_answer, table_after_notify, call_answer_by, MayNotify};
-ghost use Rattle.mx_ipc.specs.declared.calls.Call.TheVariants as calls;
-ghost use Rattle.mx_ipc.specs.declared.calls.TrapAnswer.TheVariants.{Done, Kernel};
+ghost use Rattle.mx_ipc.specs.declared.trap_calls.Call.TheVariants as calls;
+ghost use Rattle.mx_ipc.specs.declared.trap_calls.TrapAnswer.TheVariants.{Done, Kernel};
 
-mod calls;
 mod checks;
+mod trap_calls;
 
-pub use calls::{Call, Party, TrapAnswer};
 use checks::check;
 use mx_proc::{Endpoint, Errno, Partner, Process, Slot, Source, State, Table, slot_of};
 pub use mx_sched::{enqueue, pick};
 use mx_word::Register;
+pub use trap_calls::{Call, Party, TrapAnswer};
 
 /// A process goes on with a result: it is put into EAX, and the process is queued.
 pub fn go_on(table: &mut Table, slot: Slot, value: u32)

@@ -20,10 +20,10 @@ use Rattle.mx_proc.specs.Partners.{order_of_source, lines_in_notification, first
 use Rattle.mx_proc.specs.States.{is_blocked, is_down}
 use Rattle.mx_proc.specs.Waits.{caller_of, leads}
 use Rattle.mx_proc.specs.TableState.{TableState, nobody, process_at, with_process, with_message, with_delivery_kept, table_after_delivery, table_after_notice, without_pending, source_endpoint, endpoint_of, pending_source}
-use Rattle.mx_ipc.specs.declared.calls.Call.{Call}
-use Rattle.mx_ipc.specs.declared.calls.Call.TheVariants as call
-use Rattle.mx_ipc.specs.declared.calls.Party.{Party}
-use Rattle.mx_ipc.specs.declared.calls.Party.TheVariants.{Any, Hardware, Clock, System, Process as Named}
+use Rattle.mx_ipc.specs.declared.trap_calls.Call.{Call}
+use Rattle.mx_ipc.specs.declared.trap_calls.Call.TheVariants as call
+use Rattle.mx_ipc.specs.declared.trap_calls.Party.{Party}
+use Rattle.mx_ipc.specs.declared.trap_calls.Party.TheVariants.{Any, Hardware, Clock, System, Process as Named}
 use Rattle.mx_word.specs.Bits.{has_bit}
 use Rattle.mx_ipc.specs.Checks.{call_of, party_of, call_refusal, first_error, call_number, of_party, of_process, out_of_place, to_pseudo, is_notify, is_outside, is_receive, is_send}
 use Rattle.mx_kcall.specs.Calls.{goes_on, accepts, hears, table_after_send, table_after_release, table_after_taking_from, table_after_taking, table_after_receive_by, table_after_receive, table_after_sendrec, table_after_notifying, partner_of, table_after_checked_call, table_after_call_by, table_after_call, call_answer_by, call_answer, table_after_trap_by, trap_answer_by, table_after_trap, trap_answer}

@@ -20,10 +20,10 @@ use Rattle.mx_proc.specs.Sound.{HasBuffer}
 use Rattle.mx_proc.specs.States.{is_blocked, is_ready, is_sending}
 use Rattle.mx_proc.specs.TableState.{TableState, buffer_at, endpoint_of, memory_at, message_of, nobody, pending_source, process_at, table_after_delivery, table_after_dequeue, table_after_unblock, with_result}
 use Rattle.mx_proc.specs.Waits.{caller_of, without_from}
-use Rattle.mx_ipc.specs.declared.calls.Call.{Call}
-use Rattle.mx_ipc.specs.declared.calls.Call.TheVariants as call
-use Rattle.mx_ipc.specs.declared.calls.Party.{Party}
-use Rattle.mx_ipc.specs.declared.calls.Party.TheVariants.{Any, Hardware, Clock, System, Process as Named}
+use Rattle.mx_ipc.specs.declared.trap_calls.Call.{Call}
+use Rattle.mx_ipc.specs.declared.trap_calls.Call.TheVariants as call
+use Rattle.mx_ipc.specs.declared.trap_calls.Party.{Party}
+use Rattle.mx_ipc.specs.declared.trap_calls.Party.TheVariants.{Any, Hardware, Clock, System, Process as Named}
 use Rattle.mx_ipc.specs.Checks.{call_of, call_refusal, checks, first_error, is_notify, is_outside, party_of}
 use Rattle.mx_kcall.specs.declared.request.KernelCall.{KernelCall}
 use Rattle.mx_kcall.specs.Effects.{Effect}

@@ -17,10 +17,10 @@ use Rattle.mx_proc.specs.Errors.{errno_bits}
 use Rattle.mx_proc.specs.States.{is_sending}
 use Rattle.mx_proc.specs.TableState.{TableState, memory_at, message_of, nobody, pending_source, process_at}
 use Rattle.mx_proc.specs.Waits.{caller_of}
-use Rattle.mx_ipc.specs.declared.calls.Call.{Call}
-use Rattle.mx_ipc.specs.declared.calls.Call.TheVariants as call
-use Rattle.mx_ipc.specs.declared.calls.Party.{Party}
-use Rattle.mx_ipc.specs.declared.calls.Party.TheVariants.{Any, Hardware, Clock, System, Process as Named}
+use Rattle.mx_ipc.specs.declared.trap_calls.Call.{Call}
+use Rattle.mx_ipc.specs.declared.trap_calls.Call.TheVariants as call
+use Rattle.mx_ipc.specs.declared.trap_calls.Party.{Party}
+use Rattle.mx_ipc.specs.declared.trap_calls.Party.TheVariants.{Any, Hardware, Clock, System, Process as Named}
 use Rattle.mx_ipc.specs.Checks.{call_of, party_of, call_refusal}
 use Rattle.mx_kcall.specs.Calls.{accepts, call_answer, hears, partner_of, trap_answer, trap_answer_by}
 use Rattle.mx_kcall.specs.Death.{table_after_taking_out, waiting_for}

@@ -24,10 +24,10 @@ use Rattle.mx_proc.specs.Queues.{first_ready}
 use Rattle.mx_proc.specs.States.{is_out, is_ready, is_sending}
 use Rattle.mx_proc.specs.TableState.{TableState, endpoint_of, message_of, pending_source, process_at, source_endpoint, table_after_block, table_after_delivery, table_after_dequeue, table_after_notice, table_after_unblock, table_with_first, table_with_last, with_message, with_pending, with_result, with_state}
 use Rattle.mx_proc.specs.Waits.{caller_of}
-use Rattle.mx_ipc.specs.declared.calls.Call.{Call}
-use Rattle.mx_ipc.specs.declared.calls.Call.TheVariants as call
-use Rattle.mx_ipc.specs.declared.calls.Party.{Party}
-use Rattle.mx_ipc.specs.declared.calls.Party.TheVariants.{Any, Hardware, Clock, System, Process as Named}
+use Rattle.mx_ipc.specs.declared.trap_calls.Call.{Call}
+use Rattle.mx_ipc.specs.declared.trap_calls.Call.TheVariants as call
+use Rattle.mx_ipc.specs.declared.trap_calls.Party.{Party}
+use Rattle.mx_ipc.specs.declared.trap_calls.Party.TheVariants.{Any, Hardware, Clock, System, Process as Named}
 use Rattle.mx_ipc.specs.Checks.{call_of, call_refusal, party_of}
 use Rattle.mx_kcall.specs.Calls.{accepts, call_answer, goes_on, hears, partner_of, trap_answer, table_after_call, table_after_call_by, table_after_checked_call, table_after_notifying, table_after_receive, table_after_receive_by, table_after_release, table_after_send, table_after_sendrec, table_after_taking, table_after_taking_from, table_after_trap, table_after_trap_by}
 use Rattle.mx_kcall.specs.Clock.{due_slots, table_after_ring, table_after_rings, table_after_tick}

@@ -14,10 +14,10 @@ use Rattle.mx_proc.specs.Partners.{order_of_source}
 use Rattle.mx_proc.specs.Serving.{with_alarm}
 use Rattle.mx_proc.specs.TableState.{TableState, pending_source, process_at, table_after_notice, table_with_first, table_with_last, with_pending, with_process, with_result, without_pending}
 use Rattle.mx_proc.specs.Waits.{caller_of}
-use Rattle.mx_ipc.specs.declared.calls.Call.{Call}
-use Rattle.mx_ipc.specs.declared.calls.Call.TheVariants as call
-use Rattle.mx_ipc.specs.declared.calls.Party.{Party}
-use Rattle.mx_ipc.specs.declared.calls.Party.TheVariants.{Any, Hardware, Clock, System, Process as Named}
+use Rattle.mx_ipc.specs.declared.trap_calls.Call.{Call}
+use Rattle.mx_ipc.specs.declared.trap_calls.Call.TheVariants as call
+use Rattle.mx_ipc.specs.declared.trap_calls.Party.{Party}
+use Rattle.mx_ipc.specs.declared.trap_calls.Party.TheVariants.{Any, Hardware, Clock, System, Process as Named}
 use Rattle.mx_ipc.specs.Checks.{call_of, party_of, call_refusal}
 use Rattle.mx_kcall.specs.Calls.{accepts, goes_on, hears, partner_of, table_after_notifying}
 use Rattle.mx_kcall.specs.Clock.{due_slots, is_due, table_after_ring}

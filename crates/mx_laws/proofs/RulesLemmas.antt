@@ -18,10 +18,10 @@ use Rattle.mx_proc.specs.Serving.{with_alarm, with_line, with_tick}
 use Rattle.mx_proc.specs.States.{is_out, is_ready, is_sending}
 use Rattle.mx_proc.specs.Waits.{caller_of}
 use Rattle.mx_proc.specs.TableState.{TableState, pending_source, process_at, table_after_delivery, table_after_notice, table_after_unblock, with_message, with_result}
-use Rattle.mx_ipc.specs.declared.calls.Call.{Call}
-use Rattle.mx_ipc.specs.declared.calls.Call.TheVariants as call
-use Rattle.mx_ipc.specs.declared.calls.Party.{Party}
-use Rattle.mx_ipc.specs.declared.calls.Party.TheVariants.{Any, Hardware, Clock, System, Process as Named}
+use Rattle.mx_ipc.specs.declared.trap_calls.Call.{Call}
+use Rattle.mx_ipc.specs.declared.trap_calls.Call.TheVariants as call
+use Rattle.mx_ipc.specs.declared.trap_calls.Party.{Party}
+use Rattle.mx_ipc.specs.declared.trap_calls.Party.TheVariants.{Any, Hardware, Clock, System, Process as Named}
 use Rattle.mx_ipc.specs.Checks.{call_of, call_refusal, party_of}
 use Rattle.mx_kcall.specs.declared.request.KernelCall.{KernelCall}
 use Rattle.mx_kcall.specs.declared.request.ReplyWords.{ReplyWords}

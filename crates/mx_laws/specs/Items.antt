@@ -17,10 +17,10 @@ use Rattle.mx_proc.specs.Messages.{notification}
 use Rattle.mx_proc.specs.Partners.{lines_in_notification}
 use Rattle.mx_proc.specs.Waits.{caller_of}
 use Rattle.mx_proc.specs.TableState.{TableState, process_at, message_of, memory_at, source_endpoint, table_after_delivery, pending_source}
-use Rattle.mx_ipc.specs.declared.calls.Call.{Call}
-use Rattle.mx_ipc.specs.declared.calls.Call.TheVariants as call
-use Rattle.mx_ipc.specs.declared.calls.Party.{Party}
-use Rattle.mx_ipc.specs.declared.calls.Party.TheVariants.{Process}
+use Rattle.mx_ipc.specs.declared.trap_calls.Call.{Call}
+use Rattle.mx_ipc.specs.declared.trap_calls.Call.TheVariants as call
+use Rattle.mx_ipc.specs.declared.trap_calls.Party.{Party}
+use Rattle.mx_ipc.specs.declared.trap_calls.Party.TheVariants.{Process}
 use Rattle.mx_kcall.specs.TrapAnswer.{TrapAnswer}
 use Rattle.mx_kcall.specs.TrapAnswer.TheVariants as trap_ends
 use Rattle.mx_ipc.specs.Checks.{call_of, party_of, call_refusal}

@@ -7,10 +7,10 @@ use Rattle.mx_proc.specs.declared.process.Source.{Source}
 use Rattle.mx_proc.specs.declared.process.Source.TheVariants as source
 use Rattle.mx_proc.specs.Waits.{caller_of}
 use Rattle.mx_proc.specs.TableState.{TableState, process_at, table_after_delivery, pending_source}
-use Rattle.mx_ipc.specs.declared.calls.Call.{Call}
-use Rattle.mx_ipc.specs.declared.calls.Call.TheVariants as call
-use Rattle.mx_ipc.specs.declared.calls.Party.{Party}
-use Rattle.mx_ipc.specs.declared.calls.Party.TheVariants.{Process}
+use Rattle.mx_ipc.specs.declared.trap_calls.Call.{Call}
+use Rattle.mx_ipc.specs.declared.trap_calls.Call.TheVariants as call
+use Rattle.mx_ipc.specs.declared.trap_calls.Party.{Party}
+use Rattle.mx_ipc.specs.declared.trap_calls.Party.TheVariants.{Process}
 use Rattle.mx_ipc.specs.Checks.{party_of, call_refusal}
 use Rattle.mx_kcall.specs.Calls.{accepts, goes_on, partner_of}
 

@@ -4,12 +4,12 @@
 
 mod gaps;
 mod kinds;
-mod laws;
-mod reading;
 mod scan;
 mod text;
+mod token_laws;
+mod token_reading;
 
 pub use kinds::{LexError, Mark, Token, TokenKind};
-pub use laws::{one_fault, one_reading, reading_or_fault};
-pub use reading::{tokens, tokens_in};
 pub use text::text_bytes;
+pub use token_laws::{one_fault, one_reading, reading_or_fault};
+pub use token_reading::{tokens, tokens_in};

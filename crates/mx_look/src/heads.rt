@@ -4,7 +4,7 @@ ghost use Rattle.std.specs.Prelude.{◌≡◌, ◌++◌, OnOk};
 ghost use Rattle.mx_look.specs.Trace.{event_text, call_name, call_text, stop_text, doom_text, return_text, take_text, subject_text, about_text, head_line};
 
 use crate::kernel_calls::push_request;
-use crate::words::{push_party, push_who};
+use crate::parties::{push_party, push_who};
 use crate::{CpuGlance, Glance, Step, about, held_after, held_before, is_doomed, slot_in};
 use mx_image::Stop;
 use mx_machine::Recorded;

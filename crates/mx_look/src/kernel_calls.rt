@@ -6,8 +6,8 @@ ghost use Rattle.std.specs.Str.{bytes_eq};
 ghost use Rattle.mx_kcall.specs.Rows.{calls, name_of, row_of};
 ghost use Rattle.mx_look.specs.KernelCalls.{answer_count, answer_text, other_type, request_name, request_text, request_type, request_words, row_by_digits, row_under};
 
-use crate::numbers::{push_result, push_spaced};
 use crate::refusals::request_reason;
+use crate::result_names::{push_result, push_spaced};
 use crate::{CpuGlance, Glance, asks_kernel};
 use mx_kcall::{CALLS, CallRow, FIRST_CALL, call_row, is_there};
 use mx_print_report::{push_counted, push_decimal};

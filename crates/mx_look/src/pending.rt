@@ -3,8 +3,8 @@
 ghost use Rattle.std.specs.Prelude.{◌≡◌, ◌++◌, OnOk};
 ghost use Rattle.mx_look.specs.Trace.{source_text, kept_line, kept_between, kept_lines};
 
+use crate::parties::{push_party, push_who, push_who_of};
 use crate::record_lines::push_margin;
-use crate::words::{push_party, push_who, push_who_of};
 use crate::{Glance, SlotGlance, Step, is_new_bit, slot_in};
 use mx_proc::{CLOCK, HARDWARE};
 use std::alloc::AllocError;

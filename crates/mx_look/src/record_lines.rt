@@ -6,9 +6,9 @@ ghost use Rattle.mx_look.specs.Numbers.{margin};
 ghost use Rattle.mx_look.specs.Trace.{answered, answer_line, byte_text, console_text, console_line, alarm_line, told_words, delivered_words, delivery_line, delivery_parties, result_part, changed, change_line, quantum_line};
 
 use crate::kernel_calls::push_answer;
-use crate::numbers::{push_result, push_spaced, used_count};
+use crate::parties::{push_party, push_who, push_who_of};
 use crate::refusals::push_refusal;
-use crate::words::{push_party, push_who, push_who_of};
+use crate::result_names::{push_result, push_spaced, used_count};
 use crate::{
     CpuGlance, SlotGlance, Step, delivery_to, gone_on, has_changed, has_rung, is_ready, is_renewed,
     kernel_call, slot_in,

@@ -5,8 +5,8 @@ ghost use Rattle.std.specs.Prelude.{◌≡◌, ◌++◌, OnOk, option_map};
 ghost use Rattle.mx_look.specs.Step.{slot_in};
 ghost use Rattle.mx_look.specs.Refusals.{is_pseudo, partner_text, denied_text, misnamed_text, trap_reason, refusal_part, asked_call, is_copy, invalid_text, names_service, absent_text, holds_in, outside_text, request_reason};
 
-use crate::numbers::errno_of;
-use crate::words::push_party;
+use crate::parties::push_party;
+use crate::result_names::errno_of;
 use crate::{CpuGlance, Glance, SlotGlance, Step, held_before, is_acted, slot_in};
 use mx_kcall::{CallName, call_row};
 use mx_print_report::push_counted;

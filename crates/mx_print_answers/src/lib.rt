@@ -8,7 +8,7 @@ mod refused;
 mod registers;
 mod runs;
 mod said;
-mod slots;
+mod slot_process;
 mod stops;
 
 pub use messages::{push_delivery, push_messages};
@@ -18,7 +18,7 @@ pub use refused::{Refused, push_done};
 pub use registers::push_registers;
 pub use runs::push_run;
 pub use said::{Said, said_of};
-pub use slots::{
+pub use slot_process::{
     address_asked, image_in, push_memory_at, push_memory_of, push_registers_of, slot_named,
     symbols_of,
 };

@@ -3,15 +3,15 @@
 #![tactic(auto)]
 
 mod doing;
-mod fields;
-mod numbers;
+mod printed_numbers;
+mod process_fields;
+mod process_words;
 mod reporting;
-mod words;
 
 pub use doing::{Awaited, Doing, Naming, doing_of};
-pub use fields::push_process;
-pub use numbers::{
+pub use printed_numbers::{
     push_counted, push_decimal, push_long, push_number, push_signed, push_two_digits,
 };
+pub use process_fields::push_process;
+pub use process_words::{kind_word, push_doing, push_name, push_named};
 pub use reporting::{push_console, push_count, report_of};
-pub use words::{kind_word, push_doing, push_name, push_named};

@@ -5,8 +5,8 @@ ghost use Rattle.std.specs.Fmt.{decimal};
 ghost use Rattle.mx_print_report.specs.Report.{slot_line, slot_lines, report_text};
 
 use crate::doing::Naming;
-use crate::fields::push_process;
-use crate::numbers::{push_decimal, push_number};
+use crate::printed_numbers::{push_decimal, push_number};
+use crate::process_fields::push_process;
 use mx_proc::{Console, Slot, Table};
 use mx_respawn::Service;
 use mx_word::NoMemory;

@@ -6,5 +6,5 @@ pub use Rattle.mx_ipc.specs.Proc
 pub use Rattle.mx_ipc.specs.Calls
 pub use Rattle.mx_ipc.specs.Checks
 pub use Rattle.mx_ipc.specs.Queueing
-pub use Rattle.mx_ipc.specs.declared.calls.TrapAnswer
+pub use Rattle.mx_ipc.specs.declared.trap_calls.TrapAnswer
 pub use Rattle.mx_load.specs.Segment

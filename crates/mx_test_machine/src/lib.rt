@@ -6,7 +6,7 @@ mod asking;
 #[cfg(test)]
 mod breakpoints;
 #[cfg(test)]
-mod calls;
+mod calls_by_hand;
 #[cfg(test)]
 mod commands;
 #[cfg(test)]
@@ -14,15 +14,15 @@ mod cuts;
 #[cfg(test)]
 mod debugging;
 #[cfg(test)]
-mod events;
+mod events_by_hand;
 #[cfg(test)]
 mod files;
+#[cfg(test)]
+mod kernel_numbers;
 #[cfg(test)]
 mod limits;
 #[cfg(test)]
 mod narrow;
-#[cfg(test)]
-mod numbers;
 #[cfg(test)]
 mod pages;
 #[cfg(test)]
@@ -34,4 +34,4 @@ mod texts;
 #[cfg(test)]
 mod traps;
 #[cfg(test)]
-mod windows;
+mod windows_by_hand;

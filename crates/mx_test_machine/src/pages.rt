@@ -1,7 +1,7 @@
 //! A message, kernel calls and their copies over the ends of pages.
 
-use crate::calls::{Trap, make_call, make_trap};
-use crate::numbers::{ALL_BUT_GRANT, ALL_TRAPS, OK, VIRCOPY, WHOIS};
+use crate::calls_by_hand::{Trap, make_call, make_trap};
+use crate::kernel_numbers::{ALL_BUT_GRANT, ALL_TRAPS, OK, VIRCOPY, WHOIS};
 use crate::tables::{add_image, word_at};
 use mx_exec::Image;
 use mx_kcall::After;

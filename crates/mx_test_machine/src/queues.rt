@@ -3,7 +3,7 @@
 ghost use Rattle.std.specs.Prelude.{◌≡◌};
 ghost use Rattle.mx_proc.specs.States.{is_out};
 
-use crate::numbers::{ALL_SENDS, ALL_TRAPS};
+use crate::kernel_numbers::{ALL_SENDS, ALL_TRAPS};
 use crate::tables::{Processes, table_of, word_at};
 use mx_ipc::{receive, send, sendrec};
 use mx_proc::{ANY, DeathCause, Masks, Partner, Rules, SYSTEM, Slot, Source, State, Table, Terms};

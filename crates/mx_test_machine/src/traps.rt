@@ -1,6 +1,6 @@
 //! Traps worked by hand after the book's rules and our own.
 
-use crate::numbers::{
+use crate::kernel_numbers::{
     ALL_TRAPS, EBADSRCDST, ECALLDENIED, EDEADDST, EFAULT, ELOCKED, NOTIFY, NOTIFY_MESSAGE, OK,
     RECEIVE, SEND, SENDREC,
 };

@@ -28,10 +28,10 @@ mod operand;
 #[cfg(test)]
 mod printed;
 #[cfg(test)]
-mod reading;
-#[cfg(test)]
 mod segment;
+#[cfg(test)]
+mod sound_lines;
 #[cfg(test)]
 mod statement;
 #[cfg(test)]
-mod words;
+mod statement_words;

@@ -24,7 +24,7 @@ use Rattle.mx_machine.proofs.ActorLemmas.{actors_after_events}
 use Rattle.mx_turns.proofs.MadeLemmas.{kept_boot, same_boot}
 use Rattle.mx_turns.proofs.TurnLemmas.{cpus_stay}
 use Rattle.mx_turns.specs.declared.faults.FaultLine.{FaultLine}
-use Rattle.mx_turns.specs.declared.running.Course.{Course}
+use Rattle.mx_turns.specs.declared.faulted_run.Course.{Course}
 use Rattle.mx_turns.specs.Faults.{fault_kept, fault_made, faults_kept, faults_made, kept_now, line_now, made_now}
 use Rattle.mx_turns.specs.Sweep.{coming, run_from, run_of}
 use Rattle.mx_turns.specs.Swept.{HasRun}

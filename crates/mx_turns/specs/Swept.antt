@@ -5,8 +5,8 @@ use Rattle.mx_machine.specs.Boot.{world_at_boot}
 use Rattle.mx_machine.specs.declared.history.Record.{Record}
 use Rattle.mx_machine.specs.History.{AreAccepted, events_of_history}
 use Rattle.mx_machine.specs.World.{World, actors}
-use Rattle.mx_turns.specs.declared.running.Course.{Course}
-use Rattle.mx_turns.specs.declared.running.Sweep.{Sweep}
+use Rattle.mx_turns.specs.declared.faulted_run.Course.{Course}
+use Rattle.mx_turns.specs.declared.faulted_run.Sweep.{Sweep}
 use Rattle.mx_turns.specs.Sweep.{Run}
 
 -- A sweep is of a machine that boots as this world: each record of the history is by an actor of the machine, and is

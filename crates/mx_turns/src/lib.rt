@@ -11,17 +11,17 @@
 
 mod booting;
 mod coming;
+mod faulted_run;
 mod faults;
-mod laws;
+mod joining_laws;
 mod offers;
 mod outcomes;
 mod outside;
-mod running;
 mod turns;
 
+pub use faulted_run::{Range, Sweep};
 pub use faults::FaultLine;
-pub use laws::{rest_is_still, turn_of_one, turns_join};
+pub use joining_laws::{rest_is_still, turn_of_one, turns_join};
 pub use outcomes::{Findings, Outcome, outcome_at};
 pub use outside::Outside;
-pub use running::{Range, Sweep};
 pub use turns::{Ending, make_turns};

@@ -10,7 +10,7 @@ ghost use Rattle.mx_turns.specs.Findings.{findings_of, is_refused, refusal_of};
 ghost use Rattle.mx_turns.specs.Swept.{HasRun, IsSwept};
 
 use crate::Ending;
-use crate::running::{Course, Sweep, run_at};
+use crate::faulted_run::{Course, Sweep, run_at};
 use mx_machine::{Kernel, Machine, Refusal, Service};
 use mx_print_answers::Said;
 use mx_print_report::{Naming, push_console, push_count, push_process};

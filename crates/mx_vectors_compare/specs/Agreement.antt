@@ -6,7 +6,7 @@ use Rattle.mx_decode.specs.Decode.{front}
 use Rattle.mx_exec.specs.Step.{one_step}
 use Rattle.mx_vectors_compare.specs.declared.case.Case.{Case}
 use Rattle.mx_vectors_compare.specs.Ends.{EndsAs, image_of_case}
-use Rattle.mx_vectors_compare.specs.declared.lines.Tally.{Tally}
+use Rattle.mx_vectors_compare.specs.declared.case_lines.Tally.{Tally}
 
 -- how many bytes the instruction at the front takes, or 0 if there is none
 abbrev pub decoded_length : Result (Insn × ℕ) DecodeFault → ℕ

@@ -5,8 +5,8 @@ use Rattle.std.specs.declared.io.ErrorKind.{ErrorKind}
 use Rattle.std.specs.declared.io.ErrorKind.TheVariants as kinds
 use Rattle.mx_vectors_compare.specs.declared.case.CaseError.{CaseError}
 use Rattle.mx_vectors_compare.specs.declared.case.CaseError.TheVariants as case_errors
-use Rattle.mx_vectors_compare.specs.declared.lines.CompareFailure.{CompareFailure as Kind}
-use Rattle.mx_vectors_compare.specs.declared.lines.CompareFailure.TheVariants.{Line, File, NoMemory}
+use Rattle.mx_vectors_compare.specs.declared.case_lines.CompareFailure.{CompareFailure as Kind}
+use Rattle.mx_vectors_compare.specs.declared.case_lines.CompareFailure.TheVariants.{Line, File, NoMemory}
 
 -- out of memory is no failure of the file
 abbrev pub case_failure_of_kind : ErrorKind → Kind

@@ -6,7 +6,7 @@ use Rattle.hex.specs.Hex.{decode_of}
 use Rattle.mx_exec.specs.declared.image.Outcome.{Outcome}
 use Rattle.mx_exec.specs.declared.image.Outcome.TheVariants.{Go, Trap, Fault}
 use Rattle.mx_vectors_compare.specs.declared.case.StepState.{StepState}
-use Rattle.mx_vectors_compare.specs.declared.reading.Fields.{Fields}
+use Rattle.mx_vectors_compare.specs.declared.case_reading.Fields.{Fields}
 use Rattle.mx_vectors_compare.specs.declared.case.Case.{Case}
 use Rattle.mx_vectors_compare.specs.declared.case.CaseError.{CaseError}
 use Rattle.mx_vectors_compare.specs.declared.case.CaseError.TheVariants.{Malformed, NoMemory}

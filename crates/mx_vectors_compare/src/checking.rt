@@ -7,7 +7,7 @@ ghost use Rattle.mx_exec.specs.Step.{one_step};
 ghost use Rattle.mx_vectors_compare.specs.Agreement.{DoesAgree, StepAgrees, decoded_length};
 ghost use Rattle.mx_vectors_compare.specs.Failure.{IsCaseWanting};
 
-use crate::lines::CompareFailure;
+use crate::case_lines::CompareFailure;
 use crate::telling::{tell_decoding, tell_end};
 use crate::{Case, image_of, is_end_same};
 use mx_decode::decode;

@@ -6,14 +6,14 @@
 #![tactic(auto)]
 
 mod case;
+mod case_lines;
+mod case_reading;
 mod checking;
 mod ends;
-mod lines;
-mod reading;
 mod telling;
 
 pub use case::{Case, CaseError, StepState};
+pub use case_lines::{CompareFailure, Tally, check_all};
+pub use case_reading::parse_case;
 pub use checking::check_case;
 pub use ends::{compared_flags, image_of, is_end_same, number_of, wanted_flags};
-pub use lines::{CompareFailure, Tally, check_all};
-pub use reading::parse_case;

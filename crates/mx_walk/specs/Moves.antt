@@ -1,7 +1,7 @@
 -- Where requests lead (our own).
 use Rattle.std.specs.Prelude.{ℕ, zero, suc, ◌+◌, ◌-◌, ◌==◌, ◌&&◌, Bool, if◌then◌else◌}
-use Rattle.mx_walk.specs.declared.moves.PositionWord.{PositionWord}
-use Rattle.mx_walk.specs.declared.moves.PositionWord.TheVariants.{Below, End}
+use Rattle.mx_walk.specs.declared.destinations.PositionWord.{PositionWord}
+use Rattle.mx_walk.specs.declared.destinations.PositionWord.TheVariants.{Below, End}
 use Rattle.mx_walk.specs.declared.positions.Position.{Position}
 use Rattle.mx_walk.specs.Positions.{is_position, is_up_to, next_position, position_before}
 use Rattle.mx_walk.specs.Walks.{Walk}

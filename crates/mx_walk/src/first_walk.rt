@@ -9,7 +9,7 @@ ghost use Rattle.mx_walk.specs.Positions.{HasHalted, IsAt, end_of, first};
 ghost use Rattle.mx_walk.specs.Parts.{walk_shown};
 
 use crate::checkpoints::Checkpoints;
-use crate::going::go_on;
+use crate::walking_forward::go_on;
 use crate::{FIRST, Position, Progress};
 use mx_machine::{Machine, Record};
 

@@ -15,28 +15,27 @@
 
 mod booting;
 mod checkpoints;
+mod destinations;
 mod either;
 mod first_walk;
-mod going;
-mod laws;
-mod moves;
+mod marked_steps;
+mod position_laws;
 mod positions;
 mod progress;
 mod quiet;
 mod records;
-mod running;
 mod seeking;
 mod several;
 mod showing;
 mod stopping;
 mod walker;
+mod walking_forward;
 mod watching;
 
 pub use checkpoints::{MOST_BYTES, MOST_CHECKPOINTS};
+pub use destinations::{PositionWord, back_from, forward_from, go_to_asked, steps_back, steps_on};
 pub use either::Either;
-pub use going::go_on;
-pub use laws::{events_are_made, positions_alternate, positions_replay};
-pub use moves::{PositionWord, back_from, forward_from, go_to_asked, steps_back, steps_on};
+pub use position_laws::{events_are_made, positions_alternate, positions_replay};
 pub use positions::{
     FIRST, NextEvent, Position, is_position, is_up_to, next_event, own_event, position_before,
     steps_in,
@@ -47,4 +46,5 @@ pub use seeking::{Mark, Sought, Way, seek, seek_last};
 pub use several::Several;
 pub use stopping::{CodePlace, Coming, Leaving};
 pub use walker::Walker;
+pub use walking_forward::go_on;
 pub use watching::{ByteChange, BytePlace, byte_in};

@@ -17,7 +17,7 @@ ghost use Rattle.mx_walk.specs.Parts.{walk_between, walk_shown};
 use crate::booting::boot_again;
 use crate::checkpoints::{Checkpoints, Stored, last_above, machine_of};
 use crate::first_walk::walk_first;
-use crate::going::go_on;
+use crate::walking_forward::go_on;
 use crate::watching::{ByteChange, BytePlace};
 use crate::{
     FIRST, Mark, Position, Progress, Sought, Way, is_up_to, make_event, next_event,

@@ -1,6 +1,6 @@
 use Rattle.std.proofs.Common.{◌∙◌, ap, Option}
 use Rattle.std.specs.Prelude.{option_map}
-use Rattle.mx_app_command.specs.declared.words.CommandRequest.TheVariants.{Step}
+use Rattle.mx_app_command.specs.declared.command_line.CommandRequest.TheVariants.{Step}
 use Rattle.mx_app_program.specs.One.{IsPrinted}
 use Rattle.mx_app_program.specs.Shown.{HasListing, HasNames, IsShown}
 use Rattle.mx_app.proofs.Doing.{as_asked, as_known, as_typed, assembled, debugs, draws, explains, looks, replays, runs, saved, shows, steps, swept, traces, turned}

@@ -1,0 +1,105 @@
+use Rattle.std.proofs.Common.{◌≡◌, ◌∙◌, ◌&&◌, not, Bool, true, false, ap, codes, map, subst, sym, List, refl, Result, Ok, Err, IfErr}
+use Rattle.std.specs.Prelude.{IsErrAnd, None, Option, Some, option_map, unwrap_or}
+use Rattle.clap.specs.Words.{Row, Text, found_of, kind_of, rows_of, subcommand_name_of, subcommand_of, subcommand_rows_of, takes}
+use Rattle.clap.specs.declared.error.Error.{Error}
+use Rattle.clap.specs.declared.error.kind.ErrorKind.TheVariants.{OutOfMemory}
+use Rattle.clap.specs.declared.parser.matches.ArgMatches.{ArgMatches}
+use Rattle.clap.specs.declared.parser.matches.ArgMatches.TheViews.{out-ArgMatches}
+use Rattle.mx_app_command.specs.declared.command_line.Mistake.{Mistake}
+use Rattle.mx_app_command.specs.declared.command_line.Mistake.TheVariants.{Grammar}
+use Rattle.mx_app_command.specs.Mistakes.{IsOutOfMemory, both_given}
+use Rattle.mx_app_command.specs.Words.{Asks, AsksBy, AsksForSilence, AsksForSums, AsksToExplain, IsAsked, IsFlag, MayHaveText, mx_grammar}
+use Rattle.mx_app_command.proofs.AskedWords.{words_asked}
+use Rattle.mx_app_command.proofs.command_line.command.Goals as goal
+
+-- an error that the grammar gives is want of memory, if the grammar takes the words
+passes_on : {A : Type 0} (r : Result A Mistake) (e : Error) (taken both : Bool) → IsErrAnd r (λ m. m ≡ Grammar e) → (taken ≡ true → kind_of e ≡ OutOfMemory) → IfErr r (λ m. (taken && not both) ≡ true → IsOutOfMemory m)
+passes_on (Ok x) e taken both is out = absurd is
+passes_on (Err m) e taken both is out = λ h. subst IsOutOfMemory (sym is) (out (left taken (not both) h))
+  where
+    left : (a b : Bool) → (a && b) ≡ true → a ≡ true
+    left true b h = refl
+    left false b h = h
+
+pub returns-in_err-matches-clause-passes : goal.returns-in_err-matches-clause-passes
+returns-in_err-matches-clause-passes c =
+    let words : List Text = map (λ s. s.now) c.args.words.now in
+    passes_on c.from_residual.result c.in_err-matches.field-0.0 (takes mx_grammar words) (both_given (subcommand_of mx_grammar words)) c.from_residual.ensures.1 c.in_err-matches.ensures.passes
+
+firsts : {X A B : Type 0} (f : X → A) (g : X → B) (o : Option X) → option_map f o ≡ option_map (λ (q : A × B). q.0) (option_map (λ x. (f x, g x)) o)
+firsts f g None = refl
+firsts f g (Some x) = refl
+
+-- the name of the subcommand comes with its rows
+name_of_rows : (m : ArgMatches) (p : Text × List Row) → subcommand_rows_of m ≡ Some p → subcommand_name_of m ≡ Some p.0
+name_of_rows m p e = firsts _ _ (out-ArgMatches m).subcommand ∙ ap (option_map (λ (q : Text × List Row). q.0)) e
+
+-- a name and rows that a parse found are those that the words name
+module _ (m : ArgMatches) (p : Text × List Row) (entered : subcommand_rows_of m ≡ Some p) (name : Text) (rows : List Row)
+    (named : Some name ≡ subcommand_name_of m) (rowed : Some rows ≡ option_map (λ (q : Text × List Row). q.1) (subcommand_rows_of m)) where
+  name_is : name ≡ p.0
+  name_is = ap (λ (o : Option Text). unwrap_or o p.0) (named ∙ name_of_rows m p entered)
+
+  rows_is : rows ≡ p.1
+  rows_is = ap (λ (o : Option (List Row)). unwrap_or o p.1) (rowed ∙ ap (option_map (λ (q : Text × List Row). q.1)) entered)
+
+pub request_of-requires : goal.request_of-requires
+request_of-requires c =
+    let words : List Text = map (λ s. s.now) c.args.words.now in
+    let asked = words_asked words c.in_ok-matches.ensures.kinds in
+    let entered : subcommand_rows_of c.in_ok-matches.matches ≡ Some (asked.0, asked.1) = (c.in_ok-matches.ensures.matches refl).1 ∙ asked.2 in
+    let rows = rows_of (found_of c.in-Some.found.now) in
+    let name_same = name_is c.in_ok-matches.matches (asked.0, asked.1) entered c.in-Some.name.now rows c.in-Some.ensures.name c.in-Some.ensures.rows in
+    let rows_same = rows_is c.in_ok-matches.matches (asked.0, asked.1) entered c.in-Some.name.now rows c.in-Some.ensures.name c.in-Some.ensures.rows in
+    subst (λ (n : Text). IsAsked n rows) (sym name_same) (subst (λ (r : List Row). IsAsked asked.0 r) (sym rows_same) asked.3)
+
+pub returns-clause-asks : goal.returns-clause-asks
+returns-clause-asks c =
+    let words : List Text = map (λ s. s.now) c.args.words.now in
+    let asked = words_asked words c.in_ok-matches.ensures.kinds in
+    let entered : subcommand_rows_of c.in_ok-matches.matches ≡ Some (asked.0, asked.1) = (c.in_ok-matches.ensures.matches refl).1 ∙ asked.2 in
+    let rows = rows_of (found_of c.in-Some.found.now) in
+    let name_same = name_is c.in_ok-matches.matches (asked.0, asked.1) entered c.in-Some.name.now rows c.in-Some.ensures.name c.in-Some.ensures.rows in
+    let rows_same = rows_is c.in_ok-matches.matches (asked.0, asked.1) entered c.in-Some.name.now rows c.in-Some.ensures.name c.in-Some.ensures.rows in
+    let by : AsksBy c.request_of.result asked.0 asked.1 =
+    subst (λ (r : List Row). AsksBy c.request_of.result asked.0 r) rows_same (subst (λ (n : Text). AsksBy c.request_of.result n rows) name_same c.request_of.ensures) in
+    subst (Asks c.request_of.result) (sym asked.2) by
+
+pub unreachable-requires : goal.unreachable-requires
+unreachable-requires c =
+    let words : List Text = map (λ s. s.now) c.args.words.now in
+    let asked = words_asked words c.in_ok-matches.ensures.kinds in
+    let entered : subcommand_rows_of c.in_ok-matches.matches ≡ Some (asked.0, asked.1) = (c.in_ok-matches.ensures.matches refl).1 ∙ asked.2 in
+    let met : None ≡ Some asked.1 = c.in-None.ensures.rows ∙ ap (option_map (λ (q : Text × List Row). q.1)) entered in
+    cc
+
+pub returns-clause-explains : goal.returns-clause-explains
+returns-clause-explains c =
+    let words : List Text = map (λ s. s.now) c.args.words.now in
+    let asked = words_asked words c.in_ok-matches.ensures.kinds in
+    let entered : subcommand_rows_of c.in_ok-matches.matches ≡ Some (asked.0, asked.1) = (c.in_ok-matches.ensures.matches refl).1 ∙ asked.2 in
+    let rows = rows_of (found_of c.in-Some.found.now) in
+    let rows_same = rows_is c.in_ok-matches.matches (asked.0, asked.1) entered c.in-Some.name.now rows c.in-Some.ensures.name c.in-Some.ensures.rows in
+    let by : IsFlag (codes "explain") asked.1 c.flag_asked.result = subst (λ (r : List Row). IsFlag (codes "explain") r c.flag_asked.result) rows_same c.flag_asked.ensures in
+    subst (AsksToExplain c.flag_asked.result) (sym asked.2) by
+
+pub returns-clause-silent : goal.returns-clause-silent
+returns-clause-silent c =
+    let words : List Text = map (λ s. s.now) c.args.words.now in
+    let asked = words_asked words c.in_ok-matches.ensures.kinds in
+    let entered : subcommand_rows_of c.in_ok-matches.matches ≡ Some (asked.0, asked.1) = (c.in_ok-matches.ensures.matches refl).1 ∙ asked.2 in
+    let rows = rows_of (found_of c.in-Some.found.now) in
+    let rows_same = rows_is c.in_ok-matches.matches (asked.0, asked.1) entered c.in-Some.name.now rows c.in-Some.ensures.name c.in-Some.ensures.rows in
+    let by : IsFlag (codes "no-explain") asked.1 c.flag_asked-in-Some.result = subst (λ (r : List Row). IsFlag (codes "no-explain") r c.flag_asked-in-Some.result) rows_same c.flag_asked-in-Some.ensures in
+    subst (AsksForSilence c.flag_asked-in-Some.result) (sym asked.2) by
+
+pub returns-clause-sums : goal.returns-clause-sums
+returns-clause-sums c =
+    let words : List Text = map (λ s. s.now) c.args.words.now in
+    let asked = words_asked words c.in_ok-matches.ensures.kinds in
+    let entered : subcommand_rows_of c.in_ok-matches.matches ≡ Some (asked.0, asked.1) = (c.in_ok-matches.ensures.matches refl).1 ∙ asked.2 in
+    let rows = rows_of (found_of c.in-Some.found.now) in
+    let rows_same = rows_is c.in_ok-matches.matches (asked.0, asked.1) entered c.in-Some.name.now rows c.in-Some.ensures.name c.in-Some.ensures.rows in
+    let sums : Option Text = option_map (λ s. s.now) c.value_if_asked.result in
+    let by : MayHaveText (codes "SUMS") asked.1 sums = subst (λ (r : List Row). MayHaveText (codes "SUMS") r sums) rows_same c.value_if_asked.ensures in
+    subst (AsksForSums sums) (sym asked.2) by

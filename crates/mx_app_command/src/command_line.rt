@@ -1,0 +1,484 @@
+//! The command line.
+
+ghost use Rattle.std.specs.Prelude.{◌≡◌, ◌&&◌, ◌⊎◌, ℕ, Bool, IfErr, IfOk, MatchResult, [], codes, false, is_some, map, not, option_map, true};
+ghost use Rattle.clap.specs.Words.{FailsBy, HasMatchesOf, fault_of, first_of, found_of, kind_of, rows_of, subcommand_of, takes};
+ghost use Rattle.mx_app_command.specs.Words.{Asks, AsksBy, AsksForSilence, AsksForSums, AsksToExplain, HasNumber, HasNumberOr, HasRange, HasText, IsFlag, MayHaveNumber, MayHaveRange, MayHaveSweep, MayHaveText, MayHaveTurns, IsAsked, IsHistoryAsked, IsMachineAsked, IsProgramAsked, IsOtherHistoryAsked, IsScriptAsked, is_following, is_machine, mx_grammar};
+ghost use Rattle.mx_app_command.specs.Mistakes.{IsMistake, IsOutOfMemory, both_given, has_both};
+
+use crate::grammar::grammar;
+use clap::error::ErrorKind;
+use clap::{ArgMatches, Error};
+use std::alloc::Global;
+
+/// Records of a history, by their places in it, of which the first is 1. Those that the history hasn't
+/// are none: a range past its end has no record, and neither has one that ends before it begins.
+#[derive(Clone, Copy)]
+pub struct RecordRange {
+    /// The first; 0 is as 1.
+    pub from: u32,
+    /// The last.
+    pub to: u32,
+}
+
+/// The most turns after each position, if none are given.
+const TURNS_AFTER: u32 = 1000;
+
+/// What the words of a command line ask for.
+#[derive(Clone, Copy)]
+pub enum CommandRequest<'a> {
+    /// `one FILE N`.
+    One {
+        file: &'a str,
+        steps: u32,
+    },
+    /// `as TEXT FILE`.
+    As {
+        text: &'a str,
+        file: &'a str,
+    },
+    /// `dis FILE`.
+    Dis {
+        file: &'a str,
+    },
+    /// `nm FILE`.
+    Nm {
+        file: &'a str,
+    },
+    /// `explain CONFIG`.
+    Explain {
+        config: &'a str,
+    },
+    /// `step CONFIG SCRIPT`, with `--save LOG` and `--numbered` or without.
+    Step {
+        config: &'a str,
+        script: &'a str,
+        save: Option<&'a str>,
+        numbered: bool,
+    },
+    /// `run CONFIG LOG`, with `--ticks T` or, for no ticks, without, and with `--events EVENTS` or without.
+    Run {
+        config: &'a str,
+        log: &'a str,
+        ticks: u32,
+        events: Option<&'a str>,
+    },
+    /// `turns CONFIG LOG`, with `--ticks T` or `--events EVENTS`, and with `--turns N`, or without.
+    Turns {
+        config: &'a str,
+        log: &'a str,
+        ticks: u32,
+        events: Option<&'a str>,
+        /// The most turns, which a history can't have if none are given.
+        bound: u32,
+    },
+    /// `sweep CONFIG LOG FAULT`, with `--turns N`, `--from A`, `--to B`, `--strict` and `--save FILE` or
+    /// without.
+    Sweep {
+        config: &'a str,
+        log: &'a str,
+        fault: &'a str,
+        /// The most turns after each position.
+        bound: u32,
+        /// The first position.
+        from: u32,
+        /// The last.
+        to: u32,
+        strict: bool,
+        save: Option<&'a str>,
+    },
+    /// `replay CONFIG LOG`.
+    Replay {
+        config: &'a str,
+        log: &'a str,
+    },
+    /// `trace CONFIG LOG`, with `--from A` and `--to B` or without.
+    Trace {
+        config: &'a str,
+        log: &'a str,
+        range: RecordRange,
+    },
+    /// `draw CONFIG LOG`, with `--from A` and `--to B` or without.
+    Draw {
+        config: &'a str,
+        log: &'a str,
+        range: RecordRange,
+    },
+    /// `look CONFIG LOG`.
+    Look {
+        config: &'a str,
+        log: &'a str,
+    },
+    /// `db CONFIG SCRIPT`.
+    Db {
+        config: &'a str,
+        script: &'a str,
+    },
+}
+
+/// What a command line asks for.
+#[derive(Clone, Copy)]
+pub struct CommandLine<'a> {
+    pub request: CommandRequest<'a>,
+    /// Whether a failure is to be explained, also if standard error is no terminal.
+    pub explains: bool,
+    /// Whether a failure is not to be explained, also if standard error is a terminal.
+    pub silent: bool,
+    /// The file of sums that is written, or that the machine has to have.
+    pub sums: Option<&'a str>,
+}
+
+/// Why the words of a command line ask for nothing.
+#[derive(Drop)]
+pub enum Mistake {
+    /// Help was asked for, or this is wrong with them by the grammar.
+    Grammar(Error),
+    /// `turns` has both `--ticks` and `--events`, and only one of them may be given.
+    TicksAndEvents,
+}
+
+impl From<Error> for Mistake {
+    ghost use Rattle.std.specs.Prelude.{◌≡◌};
+    ghost use Rattle.mx_app_command.specs.declared.command_line.Mistake.TheVariants as mistakes;
+
+    ghost from_gives = { λ error mistake. mistake ≡ mistakes.Grammar error };
+
+    fn from(error: Error) -> Mistake {
+        Mistake::Grammar(error)
+    }
+}
+
+/// The value that an argument has, which is there.
+fn value_asked<'a>(matches: &ArgMatches<'a>, id: &str) -> &'a str
+    requires { is_some (first_of id.now (rows_of (found_of matches.now))) ≡ true }
+    ensures { HasText id.now (rows_of (found_of matches.now)) result.now }
+{
+    matches.get_str(id).unwrap()
+}
+
+/// The value that an argument has, if it is there.
+fn value_if_asked<'a>(matches: &ArgMatches<'a>, id: &str) -> Option<&'a str>
+    ensures { MayHaveText id.now (rows_of (found_of matches.now)) (option_map (λ s. s.now) result) }
+{
+    matches.get_str(id)
+}
+
+/// The number that an argument has, which is there.
+fn number_asked(matches: &ArgMatches<'_>, id: &str) -> u32
+    requires { (n : ℕ) × HasNumber id.now (rows_of (found_of matches.now)) n }
+    ensures { HasNumber id.now (rows_of (found_of matches.now)) result }
+{
+    matches.get_one::<u32>(id).unwrap()
+}
+
+/// The number that an argument has, or another one if it isn't there.
+fn number_or(matches: &ArgMatches<'_>, id: &str, other: u32) -> u32
+    requires { MayHaveNumber id.now (rows_of (found_of matches.now)) }
+    ensures { HasNumberOr other id.now (rows_of (found_of matches.now)) result }
+{
+    matches.get_one::<u32>(id).unwrap_or(other)
+}
+
+/// The records that are asked for: all, but for what the arguments leave out.
+fn range_asked(matches: &ArgMatches<'_>) -> RecordRange
+    requires { MayHaveRange (rows_of (found_of matches.now)) }
+    ensures { HasRange (rows_of (found_of matches.now)) result }
+{
+    RecordRange {
+        from: number_or(matches, "A", 1),
+        to: number_or(matches, "B", u32::MAX),
+    }
+}
+
+/// Whether a flag is given.
+fn flag_asked(matches: &ArgMatches<'_>, id: &str) -> bool
+    ensures { IsFlag id.now (rows_of (found_of matches.now)) result }
+{
+    matches.get_flag(id)
+}
+
+/// What the words of a subcommand on one program ask for.
+fn program_request<'a>(name: &str, matches: &ArgMatches<'a>) -> CommandRequest<'a>
+    requires { IsProgramAsked name.now (rows_of (found_of matches.now)) }
+    ensures { AsksBy result name.now (rows_of (found_of matches.now)) }
+{
+    let file = value_asked(matches, "FILE");
+    if name == "one" {
+        let steps = number_asked(matches, "N");
+        CommandRequest::One { file, steps }
+    } else if name == "as" {
+        let text = value_asked(matches, "TEXT");
+        CommandRequest::As { text, file }
+    } else if name == "dis" {
+        CommandRequest::Dis { file }
+    } else {
+        CommandRequest::Nm { file }
+    }
+}
+
+/// What the words of a subcommand with a script ask for.
+fn script_request<'a>(name: &str, config: &'a str, matches: &ArgMatches<'a>) -> CommandRequest<'a>
+    requires config { HasText (codes "CONFIG") (rows_of (found_of matches.now)) config.now }
+    requires asked { IsScriptAsked name.now (rows_of (found_of matches.now)) }
+    ensures { AsksBy result name.now (rows_of (found_of matches.now)) }
+{
+    let script = value_asked(matches, "SCRIPT");
+    if name == "step" {
+        let save = value_if_asked(matches, "LOG");
+        let numbered = flag_asked(matches, "numbered");
+        CommandRequest::Step {
+            config,
+            script,
+            save,
+            numbered,
+        }
+    } else {
+        CommandRequest::Db { config, script }
+    }
+}
+
+/// What the words of `turns` ask for.
+fn turns_request<'a>(config: &'a str, log: &'a str, matches: &ArgMatches<'a>) -> CommandRequest<'a>
+    requires config { HasText (codes "CONFIG") (rows_of (found_of matches.now)) config.now }
+    requires log { HasText (codes "LOG") (rows_of (found_of matches.now)) log.now }
+    requires numbers { MayHaveTurns (rows_of (found_of matches.now)) }
+    ensures { AsksBy result (codes "turns") (rows_of (found_of matches.now)) }
+{
+    let ticks = number_or(matches, "T", 0);
+    let events = value_if_asked(matches, "EVENTS");
+    let bound = number_or(matches, "N", u32::MAX);
+    CommandRequest::Turns {
+        config,
+        log,
+        ticks,
+        events,
+        bound,
+    }
+}
+
+/// What the words of `sweep` ask for.
+fn sweep_request<'a>(config: &'a str, log: &'a str, matches: &ArgMatches<'a>) -> CommandRequest<'a>
+    requires config { HasText (codes "CONFIG") (rows_of (found_of matches.now)) config.now }
+    requires log { HasText (codes "LOG") (rows_of (found_of matches.now)) log.now }
+    requires asked { MayHaveSweep (rows_of (found_of matches.now)) }
+    ensures { AsksBy result (codes "sweep") (rows_of (found_of matches.now)) }
+{
+    let fault = value_asked(matches, "FAULT");
+    let bound = number_or(matches, "N", TURNS_AFTER);
+    let from = number_or(matches, "A", 0);
+    let to = number_or(matches, "B", u32::MAX);
+    let strict = flag_asked(matches, "strict");
+    let save = value_if_asked(matches, "FILE");
+    CommandRequest::Sweep {
+        config,
+        log,
+        fault,
+        bound,
+        from,
+        to,
+        strict,
+        save,
+    }
+}
+
+/// What the words of `run` ask for.
+fn run_request<'a>(config: &'a str, log: &'a str, matches: &ArgMatches<'a>) -> CommandRequest<'a>
+    requires config { HasText (codes "CONFIG") (rows_of (found_of matches.now)) config.now }
+    requires log { HasText (codes "LOG") (rows_of (found_of matches.now)) log.now }
+    requires ticks { MayHaveNumber (codes "T") (rows_of (found_of matches.now)) }
+    ensures { AsksBy result (codes "run") (rows_of (found_of matches.now)) }
+{
+    let ticks = number_or(matches, "T", 0);
+    let events = value_if_asked(matches, "EVENTS");
+    CommandRequest::Run {
+        config,
+        log,
+        ticks,
+        events,
+    }
+}
+
+/// What the words of a subcommand that prints records ask for.
+fn records_request<'a>(
+    name: &str,
+    config: &'a str,
+    log: &'a str,
+    matches: &ArgMatches<'a>,
+) -> CommandRequest<'a>
+    requires config { HasText (codes "CONFIG") (rows_of (found_of matches.now)) config.now }
+    requires log { HasText (codes "LOG") (rows_of (found_of matches.now)) log.now }
+    requires name { (name.now ≡ codes "trace") ⊎ (name.now ≡ codes "draw") }
+    requires range { MayHaveRange (rows_of (found_of matches.now)) }
+    ensures { AsksBy result name.now (rows_of (found_of matches.now)) }
+{
+    let range = range_asked(matches);
+    if name == "trace" {
+        CommandRequest::Trace { config, log, range }
+    } else {
+        CommandRequest::Draw { config, log, range }
+    }
+}
+
+/// What the words of a subcommand that only reads a history ask for.
+fn reading_request<'a>(
+    name: &str,
+    config: &'a str,
+    log: &'a str,
+    matches: &ArgMatches<'a>,
+) -> CommandRequest<'a>
+    requires config { HasText (codes "CONFIG") (rows_of (found_of matches.now)) config.now }
+    requires log { HasText (codes "LOG") (rows_of (found_of matches.now)) log.now }
+    requires asked { ((name.now ≡ codes "replay") ⊎ (name.now ≡ codes "look"))
+        ⊎ (((name.now ≡ codes "trace") ⊎ (name.now ≡ codes "draw"))
+        × MayHaveRange (rows_of (found_of matches.now))) }
+    ensures { AsksBy result name.now (rows_of (found_of matches.now)) }
+{
+    if name == "replay" {
+        CommandRequest::Replay { config, log }
+    } else if name == "look" {
+        CommandRequest::Look { config, log }
+    } else {
+        records_request(name, config, log, matches)
+    }
+}
+
+/// What the words of a subcommand with a history ask for, of one that isn't `run`.
+fn other_history_request<'a>(
+    name: &str,
+    config: &'a str,
+    log: &'a str,
+    matches: &ArgMatches<'a>,
+) -> CommandRequest<'a>
+    requires config { HasText (codes "CONFIG") (rows_of (found_of matches.now)) config.now }
+    requires log { HasText (codes "LOG") (rows_of (found_of matches.now)) log.now }
+    requires asked { IsOtherHistoryAsked name.now (rows_of (found_of matches.now)) }
+    ensures { AsksBy result name.now (rows_of (found_of matches.now)) }
+{
+    if name == "turns" {
+        turns_request(config, log, matches)
+    } else if name == "sweep" {
+        sweep_request(config, log, matches)
+    } else {
+        reading_request(name, config, log, matches)
+    }
+}
+
+/// What the words of a subcommand with a history ask for.
+fn history_request<'a>(name: &str, config: &'a str, matches: &ArgMatches<'a>) -> CommandRequest<'a>
+    requires config { HasText (codes "CONFIG") (rows_of (found_of matches.now)) config.now }
+    requires asked { IsHistoryAsked name.now (rows_of (found_of matches.now)) }
+    ensures { AsksBy result name.now (rows_of (found_of matches.now)) }
+{
+    let log = value_asked(matches, "LOG");
+    if name == "run" {
+        run_request(config, log, matches)
+    } else {
+        other_history_request(name, config, log, matches)
+    }
+}
+
+/// What the words of a subcommand on a machine ask for.
+fn machine_request<'a>(name: &str, matches: &ArgMatches<'a>) -> CommandRequest<'a>
+    requires { IsMachineAsked name.now (rows_of (found_of matches.now)) }
+    ensures { AsksBy result name.now (rows_of (found_of matches.now)) }
+{
+    let config = value_asked(matches, "CONFIG");
+    if name == "explain" {
+        CommandRequest::Explain { config }
+    } else if name == "step" || name == "db" {
+        script_request(name, config, matches)
+    } else {
+        history_request(name, config, matches)
+    }
+}
+
+/// Whether the subcommand of this name follows a history, or a script with breakpoints.
+fn is_following(name: &str) -> bool
+    ensures { result ≡ is_following name.now }
+{
+    name == "replay" || name == "trace" || name == "draw" || name == "look" || name == "db"
+}
+
+/// Whether the subcommand of this name works on a machine.
+fn is_machine(name: &str) -> bool
+    ensures { result ≡ is_machine name.now }
+{
+    name == "explain"
+        || name == "step"
+        || name == "run"
+        || name == "turns"
+        || name == "sweep"
+        || is_following(name)
+}
+
+/// What a subcommand's words ask for.
+fn request_of<'a>(name: &str, matches: &ArgMatches<'a>) -> CommandRequest<'a>
+    requires { IsAsked name.now (rows_of (found_of matches.now)) }
+    ensures { AsksBy result name.now (rows_of (found_of matches.now)) }
+{
+    if is_machine(name) {
+        machine_request(name, matches)
+    } else {
+        program_request(name, matches)
+    }
+}
+
+/// What clap finds in the words of a command line.
+fn matches_of<'a>(alloc: Global, words: &'a [&'a str]) -> Result<ArgMatches<'a>, Error>
+    ensures matches { IfOk result (λ m. HasMatchesOf mx_grammar (map (λ s. s.now) words.now) m) }
+    ensures passes { IfErr result (λ e. takes mx_grammar (map (λ s. s.now) words.now) ≡ true
+        → kind_of e ≡ ErrorKind.OutOfMemory) }
+    ensures kinds { FailsBy (fault_of mx_grammar (map (λ s. s.now) words.now)) result }
+{
+    grammar(alloc)?.try_get_matches_from(words)
+}
+
+/// Whether an argument is given.
+fn is_given(matches: &ArgMatches<'_>, id: &str) -> bool
+    ensures { result ≡ is_some (first_of id.now (rows_of (found_of matches.now))) }
+{
+    value_if_asked(matches, id).is_some()
+}
+
+/// Whether these are the words of `turns` with both `--ticks` and `--events`.
+fn has_both(name: &str, matches: &ArgMatches<'_>) -> bool
+    ensures { result ≡ has_both name.now (rows_of (found_of matches.now)) }
+{
+    name == "turns" && is_given(matches, "T") && is_given(matches, "EVENTS")
+}
+
+/// Reads the words of a command line, the program's own name first.
+pub fn command<'a>(alloc: Global, words: &'a [&'a str]) -> Result<CommandLine<'a>, Mistake>
+    ensures asks { IfOk result (λ l. Asks l.request
+        (subcommand_of mx_grammar (map (λ s. s.now) words.now))) }
+    ensures explains { IfOk result (λ l. AsksToExplain l.explains
+        (subcommand_of mx_grammar (map (λ s. s.now) words.now))) }
+    ensures silent { IfOk result (λ l. AsksForSilence l.silent
+        (subcommand_of mx_grammar (map (λ s. s.now) words.now))) }
+    ensures sums { IfOk result (λ l. AsksForSums (option_map (λ s. s.now) l.sums)
+        (subcommand_of mx_grammar (map (λ s. s.now) words.now))) }
+    ensures passes { IfErr result (λ m.
+        (takes mx_grammar (map (λ s. s.now) words.now)
+        && not (both_given (subcommand_of mx_grammar (map (λ s. s.now) words.now)))) ≡ true
+        → IsOutOfMemory m) }
+    ensures kinds { MatchResult result
+        (λ _. fault_of mx_grammar (map (λ s. s.now) words.now) ≡ [])
+        (IsMistake (map (λ s. s.now) words.now)) }
+    ensures apart { IfOk result (λ _.
+        both_given (subcommand_of mx_grammar (map (λ s. s.now) words.now)) ≡ false) }
+{
+    let matches = matches_of(alloc, words)?;
+    match matches.subcommand() {
+        Some((name, found)) => {
+            if has_both(name, found) {
+                return Err(Mistake::TicksAndEvents);
+            }
+            Ok(CommandLine {
+                request: request_of(name, found),
+                explains: flag_asked(found, "explain"),
+                silent: flag_asked(found, "no-explain"),
+                sums: value_if_asked(found, "SUMS"),
+            })
+        }
+        None => unreachable!(),
+    }
+}

@@ -1,5 +1,0 @@
-use Rattle.mx_app_program.proofs.Placing.{code_keeps}
-use Rattle.mx_app_program.proofs.laws.code_keeps.Goals as goal
-
-pub returns : goal.returns
-returns c = code_keeps

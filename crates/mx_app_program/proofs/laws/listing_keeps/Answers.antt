@@ -1,5 +1,0 @@
-use Rattle.mx_app_program.proofs.WayListing.{parts_keep}
-use Rattle.mx_app_program.proofs.laws.listing_keeps.Goals as goal
-
-pub returns : goal.returns
-returns c = parts_keep c.chosen_spells.ensures c.parted_there.ensures.spelled

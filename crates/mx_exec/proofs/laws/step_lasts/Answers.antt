@@ -1,5 +1,0 @@
-use Rattle.mx_exec.proofs.Lasting.{step_keeps}
-use Rattle.mx_exec.proofs.laws.step_lasts.Goals as goal
-
-pub returns : goal.returns
-returns c = step_keeps

@@ -1,5 +1,0 @@
-use Rattle.mx_lex.proofs.OneFault.{one_fault}
-use Rattle.mx_lex.proofs.laws.one_fault.Goals as goal
-
-pub returns : goal.returns
-returns c = one_fault

@@ -1,5 +1,0 @@
-use Rattle.mx_lex.proofs.Readings.{one_reading}
-use Rattle.mx_lex.proofs.laws.one_reading.Goals as goal
-
-pub returns : goal.returns
-returns c = one_reading

@@ -1,5 +1,0 @@
-use Rattle.mx_turns.proofs.LawLemmas.{rest_still}
-use Rattle.mx_turns.proofs.laws.rest_is_still.Goals as goal
-
-pub returns : goal.returns
-returns c = rest_still

@@ -1,5 +1,0 @@
-use Rattle.mx_turns.proofs.LawLemmas.{turns_joined}
-use Rattle.mx_turns.proofs.laws.turns_join.Goals as goal
-
-pub returns : goal.returns
-returns c = turns_joined
