@@ -5,7 +5,7 @@ ghost use Rattle.std.specs.List.{list_all};
 ghost use Rattle.mx_text.specs.Bytes.{is_letter, begins_name, is_word_byte};
 ghost use Rattle.mx_text.specs.Names.{padded_name, is_name, name_of};
 
-use crate::digits::is_digit;
+use crate::read_numbers::is_digit;
 
 /// A name of at most eight bytes, padded with zero bytes.
 #[derive(Clone, Copy, Debug, PartialEq, Eq, Hash)]

@@ -1,6 +1,6 @@
 use Rattle.std.proofs.Common.{◌≡◌, ◌<◌, take, drop}
 use Rattle.mx_text.specs.Numbers.{value_from, AreDigits}
-use Rattle.mx_text.proofs.digits.value_of.Given as goal
+use Rattle.mx_text.proofs.read_numbers.value_of.Given as goal
 
 abbrev pub invariant-loop-byte : goal.invariant-loop-byte
 invariant-loop-byte l = record {

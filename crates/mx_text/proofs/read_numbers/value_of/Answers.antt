@@ -4,7 +4,7 @@ use Rattle.std.proofs.lemmas.List.Elements.{All-more}
 use Rattle.mx_text.specs.Bytes.{digit_value}
 use Rattle.mx_text.specs.Numbers.{value_from}
 use Rattle.mx_text.proofs.Digits.{value_grows, value_step, bounded_product}
-use Rattle.mx_text.proofs.digits.value_of.Goals as goal
+use Rattle.mx_text.proofs.read_numbers.value_of.Goals as goal
 
 -- the product fits, as a step in between
 pub overflow_mul-more : goal.overflow_mul-more
