@@ -14,7 +14,7 @@ use std::fmt::Write;
 
 /// Appends where an address lies by a symbol: `top ` or `top+1f `.
 #[tactic(auto, unfolding(crate::specs::Code::place_text))]
-fn push_place(out: &mut String, symbol: &Symbol, at: u32) -> Result<(), AllocError>
+pub fn push_place(out: &mut String, symbol: &Symbol, at: u32) -> Result<(), AllocError>
     ensures { OnOk result (string_bytes out.new ≡ string_bytes out.old
         ++ place_text at symbol.now) }
 {

@@ -63,7 +63,7 @@ fn row_by_digits(rules: Rules, kind: u32) -> Option<&'static CallRow>
 
 /// Appends a type that no call has, and the call whose type it is if its digits are hexadecimal.
 #[tactic(auto, unfolding(crate::specs::KernelCalls::other_type))]
-fn push_other_type(out: &mut Vec<u8>, rules: Rules, kind: u32) -> Result<(), AllocError>
+pub fn push_other_type(out: &mut Vec<u8>, rules: Rules, kind: u32) -> Result<(), AllocError>
     ensures { OnOk result (out.new.items ≡ out.old.items ++ other_type rules kind) }
 {
     push_counted(out, b", type", kind)?;
@@ -92,11 +92,7 @@ fn push_request_words(out: &mut Vec<u8>, rules: Rules, words: &[u32; 9]) -> Resu
 
 /// Appends what a process asks of the kernel, if its trap does and the words lie inside its memory.
 #[tactic(auto, unfolding(crate::specs::KernelCalls::request_text))]
-pub(crate) fn push_request(
-    out: &mut Vec<u8>,
-    rules: Rules,
-    held: &CpuGlance,
-) -> Result<(), AllocError>
+pub fn push_request(out: &mut Vec<u8>, rules: Rules, held: &CpuGlance) -> Result<(), AllocError>
     ensures { OnOk result (out.new.items ≡ out.old.items ++ request_text rules held.now) }
 {
     match &held.image.words {

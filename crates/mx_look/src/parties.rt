@@ -39,11 +39,7 @@ fn push_named_party(out: &mut Vec<u8>, glance: &Glance, endpoint: u32) -> Result
 
 /// Appends whom an endpoint names.
 #[tactic(auto, unfolding(crate::specs::Words::party_text))]
-pub(crate) fn push_party(
-    out: &mut Vec<u8>,
-    glance: &Glance,
-    endpoint: u32,
-) -> Result<(), AllocError>
+pub fn push_party(out: &mut Vec<u8>, glance: &Glance, endpoint: u32) -> Result<(), AllocError>
     ensures { OnOk result (out.new.items ≡ out.old.items ++ party_text glance.now endpoint) }
 {
     match endpoint {

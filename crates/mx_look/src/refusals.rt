@@ -71,7 +71,7 @@ fn push_misnamed(out: &mut Vec<u8>, glance: &Glance, party: u32) -> Result<(), A
 
 /// Appends why a trap that was held is answered so, if an error doesn't say it alone.
 #[tactic(auto, unfolding(crate::specs::Refusals::trap_reason))]
-fn push_trap_reason(
+pub fn push_trap_reason(
     out: &mut Vec<u8>,
     glance: &Glance,
     held: &CpuGlance,
@@ -183,7 +183,7 @@ fn outside_text(glance: &Glance, request: &[u32; 9]) -> &'static [u8]
 
 /// Why a request is answered so, by the machine that has answered it.
 #[tactic(auto, unfolding(crate::specs::Refusals::request_reason))]
-pub(crate) fn request_reason(glance: &Glance, request: &[u32; 9], outcome: u32) -> &'static [u8]
+pub fn request_reason(glance: &Glance, request: &[u32; 9], outcome: u32) -> &'static [u8]
     ensures { result.now ≡ request_reason glance.now request.now outcome }
 {
     match errno_of(outcome) {

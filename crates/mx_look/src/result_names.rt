@@ -93,7 +93,7 @@ fn result_name(outcome: u32) -> &'static [u8]
 }
 
 /// Appends a result with its sign, and its name.
-pub(crate) fn push_result(out: &mut Vec<u8>, outcome: u32) -> Result<(), AllocError>
+pub fn push_result(out: &mut Vec<u8>, outcome: u32) -> Result<(), AllocError>
     ensures { OnOk result (out.new.items ≡ out.old.items ++ result_text outcome) }
 {
     push_signed(out, outcome)?;

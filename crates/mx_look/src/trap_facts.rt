@@ -53,7 +53,7 @@ fn is_trapped(held: &CpuGlance) -> bool
 
 /// What is brought back with a trap that is acted: its process isn't doomed.
 #[tactic(auto, unfolding(crate::specs::Going::acting))]
-pub(crate) fn acting(step: &Step) -> Option<&CpuGlance>
+pub fn acting(step: &Step) -> Option<&CpuGlance>
     ensures { MatchOption result (acting step.now ≡ None) (λ held. acting step.now
         ≡ Some held.now) }
 {
