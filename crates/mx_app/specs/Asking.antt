@@ -9,5 +9,6 @@ begin_with word words = false
 
 -- `help` before words is `--help` after them
 abbrev pub help_last : List (List ℕ) → List (List ℕ)
-help_last (own ∷ first ∷ rest) = if bytes_eq first (codes "help") then own ∷ rest ++ codes "--help" ∷ [] else own ∷ first ∷ rest
+help_last (own ∷ first ∷ rest) =
+    if bytes_eq first (codes "help") then own ∷ rest ++ codes "--help" ∷ [] else own ∷ first ∷ rest
 help_last words = words

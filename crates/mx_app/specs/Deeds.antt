@@ -21,7 +21,8 @@ nothing_done = record { asked = []; written = []; typed = []; shown = [] }
 
 -- THESE LOGS HAVE GROWN by what a command did: of files asked for and written, of typed lines, and of progress. Of what
 -- it did and of the texts that it may have printed this holds
-abbrev pub Does : {R F W L P : Type 0} → CommandIo R F W L P → CommandIo R F W L P → (R → List Asked) → (F → List Written) → (W → Option (List ℕ))
+abbrev pub Does : {R F W L P : Type 0} → CommandIo R F W L P → CommandIo R F W L P → (R → List Asked)
+    → (F → List Written) → (W → Option (List ℕ))
     → (L → List (Option (List ℕ))) → (P → List Part) → (Deeds → (List ℕ → Type 0) → Type 0) → Type 0
 Does old new asked written contents typed shown Holds =
     (d : Deeds)
@@ -32,8 +33,10 @@ Does old new asked written contents typed shown Holds =
     × Holds d (λ text. Appends (contents old.channels.out) (contents new.channels.out) text)
 
 -- THE SAME of a command that takes no lines and shows no progress, by the files that it asked for and wrote
-abbrev pub DoesUntyped : {R F W : Type 0} → Channels R F W → Channels R F W → (R → List Asked) → (F → List Written) → (W → Option (List ℕ))
+abbrev pub DoesUntyped : {R F W : Type 0} → Channels R F W → Channels R F W → (R → List Asked) → (F → List Written)
+    → (W → Option (List ℕ))
     → (List Asked → List Written → (List ℕ → Type 0) → Type 0) → Type 0
 DoesUntyped old new asked written contents Holds =
-    (qs : List Asked) × (ws : List Written) × (asked new.reader ≡ asked old.reader ++ qs) × (written new.files ≡ written old.files ++ ws)
+    (qs : List Asked) × (ws : List Written) × (asked new.reader ≡ asked old.reader ++ qs)
+    × (written new.files ≡ written old.files ++ ws)
     × Holds qs ws (λ text. Appends (contents old.out) (contents new.out) text)

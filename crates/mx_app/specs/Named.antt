@@ -12,13 +12,16 @@ use Rattle.mx_app_db.specs.Written.{Written}
 
 -- the file, which is this to the command, was missed, and the reason is the failure
 abbrev pub IsMissing : About → List ℕ → Asked → Result (Unit {0}) Kind → Type 0
-IsMissing about name q r = (kind : ErrorKind) × (q ≡ file_missed name kind) × (r ≡ Err (failure_if (problem_of_reading kind) about))
+IsMissing about name q r =
+    (kind : ErrorKind) × (q ≡ file_missed name kind) × (r ≡ Err (failure_if (problem_of_reading kind) about))
 
--- `one`, `dis` and `nm`: a file that is missed; or the failure of the one that was given; without a failure a text that it has is printed
+-- `one`, `dis` and `nm`: a file that is missed; or the failure of the one that was given; without a failure a text that
+-- it has is printed
 abbrev pub ShowsFile : (List ℕ → List ℕ → Type 0) → List ℕ → Asked → (List ℕ → Type 0) → Result (Unit {0}) Kind → Type 0
 ShowsFile Has name q Prints r =
     IsMissing Program name q r
-    ⊎ ((bytes : List ℕ) × (q ≡ file_given name bytes) × Tells (refusal_of bytes) r × OnOk r ((text : List ℕ) × Has bytes text × Prints text))
+    ⊎ ((bytes : List ℕ) × (q ≡ file_given name bytes) × Tells (refusal_of bytes) r
+        × OnOk r ((text : List ℕ) × Has bytes text × Prints text))
 
 -- what comes of a file that was to be written
 abbrev pub after_write : Result (Unit {0}) ErrorKind → Result (Unit {0}) Kind
@@ -35,4 +38,5 @@ IsAssembling file text ws r =
 abbrev pub Assembles : List ℕ → List ℕ → List Asked → List Written → Result (Unit {0}) Kind → Type 0
 Assembles text file qs ws r =
     (q : Asked) × (qs ≡ q ∷ [])
-    × (((ws ≡ []) × IsMissing Source text q r) ⊎ ((source : List ℕ) × (q ≡ file_given text source) × IsAssembling file source ws r))
+    × (((ws ≡ []) × IsMissing Source text q r)
+        ⊎ ((source : List ℕ) × (q ≡ file_given text source) × IsAssembling file source ws r))

@@ -81,15 +81,17 @@ run_status runs.Full = 0
 run_status runs.Stopped = 5
 
 abbrev pub done_after_run : Result RunEnding Kind → Result Done Kind
-done_after_run (Ok ending) = Ok (record { status = run_status ending; ending = Some (driven.Run ending); untested = None })
+done_after_run (Ok ending) =
+    Ok (record { status = run_status ending; ending = Some (driven.Run ending); untested = None })
 done_after_run (Err f) = Err f
 
--- a sweep is done; its status is 1 if the history is refused, and, if it is strict, if an outcome differs or nothing was
--- tested, which is told in any case
+-- a sweep is done; its status is 1 if the history is refused, and, if it is strict, if an outcome differs or nothing
+-- was tested, which is told in any case
 abbrev pub done_after_sweep : Bool → Result Swept Kind → Result Done Kind
 done_after_sweep strict (Ok swept.Alike) = Ok (with_status 0)
 done_after_sweep strict (Ok swept.Differs) = Ok (with_status (if strict then 1 else 0))
-done_after_sweep strict (Ok (swept.Nothing why)) = Ok (record { status = (if strict then 1 else 0); ending = None; untested = Some why })
+done_after_sweep strict (Ok (swept.Nothing why)) =
+    Ok (record { status = (if strict then 1 else 0); ending = None; untested = Some why })
 done_after_sweep strict (Ok swept.Refused) = Ok (with_status 1)
 done_after_sweep strict (Err f) = Err f
 
@@ -99,21 +101,26 @@ done_after_sweep strict (Err f) = Err f
 abbrev pub Steps : List ℕ → List ℕ → Bool → List Asked → (List ℕ → Type 0) → Result (Unit {0}) Kind → Type 0
 Steps config script numbered qs Prints (Ok u) =
     (c : Config) × (vs : List Service) × (said : List ScriptLine) × IsStart IsScript config script qs c vs said
-    × (let m = lines_made (world_at_boot c vs) c.cpus said in Prints (answers_text numbered m.0 ++ report_text m.1.table m.1.services))
+    × (let m = lines_made (world_at_boot c vs) c.cpus said in
+        Prints (answers_text numbered m.0 ++ report_text m.1.table m.1.services))
 Steps config script numbered qs Prints (Err f) = IsTold IsScript TellsScript config script qs f
 
 -- the steps, with the file of the script's history, which is written before the report is printed; a service's program
 -- isn't written over
-abbrev pub SavesSteps : List ℕ → List ℕ → List ℕ → Bool → List Asked → List Written → (List ℕ → Type 0) → Result (Unit {0}) Kind → Type 0
+abbrev pub SavesSteps : List ℕ → List ℕ → List ℕ → Bool → List Asked → List Written → (List ℕ → Type 0)
+    → Result (Unit {0}) Kind → Type 0
 SavesSteps config script log numbered qs ws Prints (Ok u) =
     (c : Config) × (vs : List Service) × (said : List ScriptLine) × IsStart IsScript config script qs c vs said
-    × (names_program c log ≡ false) × (ws ≡ kept log (saved_text c.rules (history_made (world_at_boot c vs) c.cpus said)) ∷ [])
-    × (let m = lines_made (world_at_boot c vs) c.cpus said in Prints (answers_text numbered m.0 ++ report_text m.1.table m.1.services))
+    × (names_program c log ≡ false)
+    × (ws ≡ kept log (saved_text c.rules (history_made (world_at_boot c vs) c.cpus said)) ∷ [])
+    × (let m = lines_made (world_at_boot c vs) c.cpus said in
+        Prints (answers_text numbered m.0 ++ report_text m.1.table m.1.services))
 SavesSteps config script log numbered qs ws Prints (Err f) =
     ((ws ≡ []) × IsNotStarted IsScript TellsScript config script qs f)
     ⊎ ((c : Config) × (vs : List Service) × (said : List ScriptLine) × IsStart IsScript config script qs c vs said
     × (SparesProgram c log ws Prints f
-    ⊎ ((names_program c log ≡ false) × IsUnsaved log (saved_text c.rules (history_made (world_at_boot c vs) c.cpus said)) ws f)))
+    ⊎ ((names_program c log ≡ false)
+        × IsUnsaved log (saved_text c.rules (history_made (world_at_boot c vs) c.cpus said)) ws f)))
 
 abbrev pub Debugs : List ℕ → List ℕ → List Asked → (List ℕ → Type 0) → Result (Unit {0}) Kind → Type 0
 Debugs config script qs Prints (Ok u) =
@@ -146,7 +153,8 @@ Draws config log range qs Prints (Err f) = IsTold IsSaved TellsSaved config log 
 -- a session over a history: what it prints is determined by the lines that are typed, which it takes up to `quit` or to
 -- the end of the input; it shows each record of the walk to the last position, with which it begins, and then those of
 -- the lines' walks
-abbrev pub Looks : List ℕ → List ℕ → Bool → List Asked → List (Option (List ℕ)) → List Part → (List ℕ → Type 0) → Result (Unit {0}) Kind → Type 0
+abbrev pub Looks : List ℕ → List ℕ → Bool → List Asked → List (Option (List ℕ)) → List Part → (List ℕ → Type 0)
+    → Result (Unit {0}) Kind → Type 0
 Looks config log asks qs typed ps Prints (Ok u) =
     (c : Config) × (vs : List Service) × (records : List Record) × (k : Walk) × (text : List ℕ) × (after : List Part)
     × IsStart IsSaved config log qs c vs records × IsBegun (world_at_boot c vs) records k
@@ -157,27 +165,33 @@ Looks config log asks qs typed ps Prints (Err f) = HasFailed config log qs ps f
 -- ---- requests
 
 -- a file is read, shown, and none is written
-abbrev pub Shows : (List ℕ → List ℕ → Type 0) → List ℕ → List Asked → List Written → (List ℕ → Type 0) → Result Done Kind → Type 0
+abbrev pub Shows : (List ℕ → List ℕ → Type 0) → List ℕ → List Asked → List Written → (List ℕ → Type 0)
+    → Result Done Kind → Type 0
 Shows Has name qs ws Prints r =
-    (q : Asked) × (d : Result (Unit {0}) Kind) × (qs ≡ q ∷ []) × (ws ≡ []) × ShowsFile Has name q Prints d × (r ≡ done_after_work d)
+    (q : Asked) × (d : Result (Unit {0}) Kind) × (qs ≡ q ∷ []) × (ws ≡ []) × ShowsFile Has name q Prints d
+    × (r ≡ done_after_work d)
 
 -- a configuration is read, its services are explained, and no file is written
 abbrev pub Explains : List ℕ → List Asked → List Written → (List ℕ → Type 0) → Result Done Kind → Type 0
 Explains name qs ws Prints r =
-    (q : Asked) × (d : Result (Unit {0}) Kind) × (qs ≡ q ∷ []) × (ws ≡ []) × ExplainsConfig name q Prints d × (r ≡ done_after_work d)
+    (q : Asked) × (d : Result (Unit {0}) Kind) × (qs ≡ q ∷ []) × (ws ≡ []) × ExplainsConfig name q Prints d
+    × (r ≡ done_after_work d)
 
 -- what is done of a request that takes no lines and shows no progress
 abbrev pub PerformsUntyped : CommandRequest → List Asked → List Written → (List ℕ → Type 0) → Result Done Kind → Type 0
-PerformsUntyped (One file steps) qs ws Prints r = Shows (λ bytes text. IsPrinted bytes steps text) file.now qs ws Prints r
+PerformsUntyped (One file steps) qs ws Prints r =
+    Shows (λ bytes text. IsPrinted bytes steps text) file.now qs ws Prints r
 PerformsUntyped (As text file) qs ws Prints r =
     (d : Result (Unit {0}) Kind) × Assembles text.now file.now qs ws d × Prints [] × (r ≡ done_after_work d)
 PerformsUntyped (Dis file) qs ws Prints r = Shows (λ bytes text. IsShown HasListing bytes text) file.now qs ws Prints r
 PerformsUntyped (Nm file) qs ws Prints r = Shows (λ bytes text. IsShown HasNames bytes text) file.now qs ws Prints r
 PerformsUntyped (Explain config) qs ws Prints r = Explains config.now qs ws Prints r
 PerformsUntyped (Step config script None numbered) qs ws Prints r =
-    (d : Result (Unit {0}) Kind) × (ws ≡ []) × Steps config.now script.now numbered qs Prints d × (r ≡ done_after_work d)
+    (d : Result (Unit {0}) Kind) × (ws ≡ []) × Steps config.now script.now numbered qs Prints d
+    × (r ≡ done_after_work d)
 PerformsUntyped (Step config script (Some log) numbered) qs ws Prints r =
-    (d : Result (Unit {0}) Kind) × SavesSteps config.now script.now log.now numbered qs ws Prints d × (r ≡ done_after_work d)
+    (d : Result (Unit {0}) Kind) × SavesSteps config.now script.now log.now numbered qs ws Prints d
+    × (r ≡ done_after_work d)
 PerformsUntyped (Run config log ticks events) qs ws Prints r = ⊥
 PerformsUntyped (Turns config log ticks events bound) qs ws Prints r = ⊥
 PerformsUntyped (Sweep config log fault bound from to strict save) qs ws Prints r = ⊥
@@ -191,25 +205,30 @@ PerformsUntyped (Look config log) qs ws Prints r = ⊥
 PerformsUntyped (Db config script) qs ws Prints r =
     (d : Result (Unit {0}) Kind) × (ws ≡ []) × Debugs config.now script.now qs Prints d × (r ≡ done_after_work d)
 
--- what is done of a request that writes over nothing that it reads, by what a command did, by what is printed, and by how it ends. Only a session takes lines;
--- it, turns and a sweep show progress. What the threads of a run show is no list, since they have no order: WasShown
--- holds of it.
-abbrev pub PerformsApart : (Part → Type 0) → CommandRequest → Bool → Deeds → (List ℕ → Type 0) → Result Done Kind → Type 0
+-- what is done of a request that writes over nothing that it reads, by what a command did, by what is printed, and by
+-- how it ends. Only a session takes lines; it, turns and a sweep show progress. What the threads of a run show is no
+-- list, since they have no order: WasShown holds of it.
+abbrev pub PerformsApart : (Part → Type 0) → CommandRequest → Bool → Deeds → (List ℕ → Type 0) → Result Done Kind
+    → Type 0
 PerformsApart WasShown (Look config log) asks did Prints r =
-    (d : Result (Unit {0}) Kind) × (did.written ≡ []) × Looks config.now log.now asks did.asked did.typed did.shown Prints d × (r ≡ done_after_work d)
+    (d : Result (Unit {0}) Kind) × (did.written ≡ [])
+    × Looks config.now log.now asks did.asked did.typed did.shown Prints d × (r ≡ done_after_work d)
 PerformsApart WasShown (Run config log ticks events) asks did Prints r =
     (did.typed ≡ []) × (did.shown ≡ []) × (d : Result RunEnding Kind)
     × Runs WasShown config.now (option_map (λ s. s.now) events) log.now ticks did.asked did.written Prints d
     × (r ≡ done_after_run d)
 PerformsApart WasShown (Turns config log ticks events bound) asks did Prints r =
     (did.typed ≡ []) × (d : Result Ending Kind)
-    × MakesTurns config.now (option_map (λ s. s.now) events) log.now ticks bound did.asked did.written did.shown Prints d
+    × MakesTurns config.now
+        (option_map (λ s. s.now) events) log.now ticks bound did.asked did.written did.shown Prints d
     × (r ≡ done_after_turns d)
 PerformsApart WasShown (Sweep config log fault bound from to strict save) asks did Prints r =
     (did.typed ≡ []) × (d : Result Swept Kind)
-    × Sweeps config.now log.now fault.now (option_map (λ s. s.now) save) from to bound did.asked did.written did.shown Prints d
+    × Sweeps config.now log.now fault.now
+        (option_map (λ s. s.now) save) from to bound did.asked did.written did.shown Prints d
     × (r ≡ done_after_sweep strict d)
-PerformsApart WasShown request asks did Prints r = (did.typed ≡ []) × (did.shown ≡ []) × PerformsUntyped request did.asked did.written Prints r
+PerformsApart WasShown request asks did Prints r =
+    (did.typed ≡ []) × (did.shown ≡ []) × PerformsUntyped request did.asked did.written Prints r
 
 -- the failure of a request that would write over what it reads
 abbrev pub over_read : Kind

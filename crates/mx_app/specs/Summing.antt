@@ -59,16 +59,19 @@ abbrev pub ComparesSums : List ℕ → List PartSum → Asked → Result (Unit {
 ComparesSums name sums q (Ok u) = q ≡ file_given name (sums_text sums)
 ComparesSums name sums q (Err f) =
     ((kind : ErrorKind) × (q ≡ file_missed name kind) × (f ≡ unread_of kind))
-    ⊎ (((text : List ℕ) × (part : MachinePart) × (q ≡ file_given name text) × (first_other sums text ≡ Some part) × (f ≡ OtherMachine part))
+    ⊎ (((text : List ℕ) × (part : MachinePart) × (q ≡ file_given name text) × (first_other sums text ≡ Some part)
+        × (f ≡ OtherMachine part))
     ⊎ ((text : List ℕ) × (q ≡ file_given name text) × (f ≡ NoMemory)))
 
 -- the machine has the sums of the file; or it has none, or the file has others
 abbrev pub IsCompared : List ℕ → List ℕ → List Asked → Result (Unit {0}) LineFailure → Type 0
 IsCompared config name qs (Ok u) =
-    (before : List Asked) × (c : Config) × (vs : List Service) × IsSetup config before c vs × (qs ≡ before ++ file_given name (sums_text (machine_sums c vs)) ∷ [])
+    (before : List Asked) × (c : Config) × (vs : List Service) × IsSetup config before c vs
+    × (qs ≡ before ++ file_given name (sums_text (machine_sums c vs)) ∷ [])
 IsCompared config name qs (Err (Request f)) = IsUnsummed config qs f
 IsCompared config name qs (Err (Sums f)) =
-    (before : List Asked) × (q : Asked) × (c : Config) × (vs : List Service) × IsSetup config before c vs × (qs ≡ before ++ q ∷ [])
+    (before : List Asked) × (q : Asked) × (c : Config) × (vs : List Service) × IsSetup config before c vs
+    × (qs ≡ before ++ q ∷ [])
     × ComparesSums name (machine_sums c vs) q (Err f)
 
 -- the sums were written to the file of this name, or they weren't
@@ -87,39 +90,52 @@ by_request (Ok done) = Ok done
 by_request (Err f) = Err (Request f)
 
 -- the request is done of a machine that has the file's sums, and of no other
-abbrev pub PerformsCompared : (Part → Type 0) → CommandRequest → List ℕ → Bool → Deeds → (List ℕ → Type 0) → Result Done LineFailure → Type 0
+abbrev pub PerformsCompared : (Part → Type 0) → CommandRequest → List ℕ → Bool → Deeds → (List ℕ → Type 0)
+    → Result Done LineFailure → Type 0
 PerformsCompared WasShown request name asks did Prints r =
     ((f : LineFailure) × IsIdle did Prints × IsCompared (first_name request) name did.asked (Err f) × (r ≡ Err f))
-    ⊎ ((before after : List Asked) × (d : Result Done Kind) × (did.asked ≡ before ++ after) × IsCompared (first_name request) name before (Ok tt)
+    ⊎ ((before after : List Asked) × (d : Result Done Kind) × (did.asked ≡ before ++ after)
+    × IsCompared (first_name request) name before (Ok tt)
     × Performs WasShown request asks (record did { asked = after }) Prints d × (r ≡ by_request d))
 
--- what was written after a request, and how the line ends: the sums of this text if the request is done, and nothing if it failed
+-- what was written after a request, and how the line ends: the sums of this text if the request is done, and nothing if
+-- it failed
 abbrev pub IsWrittenAfter : List ℕ → List ℕ → List Written → Result Done Kind → Result Done LineFailure → Type 0
 IsWrittenAfter name text ws (Err f) r = (ws ≡ []) × (r ≡ Err (Request f))
 IsWrittenAfter name text ws (Ok done) r =
     (w : Written) × (ws ≡ w ∷ [])
-    × ((WritesSums name text w (Ok tt) × (r ≡ Ok done)) ⊎ ((f : SumsFault) × WritesSums name text w (Err f) × (r ≡ Err (Sums f))))
+    × ((WritesSums name text w (Ok tt) × (r ≡ Ok done))
+        ⊎ ((f : SumsFault) × WritesSums name text w (Err f) × (r ≡ Err (Sums f))))
 
 -- the request is done of a machine that has sums, and then they are written
-abbrev pub PerformsSummed : (Part → Type 0) → CommandRequest → List ℕ → Bool → Deeds → (List ℕ → Type 0) → Result Done LineFailure → Type 0
+abbrev pub PerformsSummed : (Part → Type 0) → CommandRequest → List ℕ → Bool → Deeds → (List ℕ → Type 0)
+    → Result Done LineFailure → Type 0
 PerformsSummed WasShown request name asks did Prints r =
     ((f : Kind) × IsIdle did Prints × IsUnsummed (first_name request) did.asked f × (r ≡ Err (Request f)))
-    ⊎ ((before after : List Asked) × (c : Config) × (vs : List Service) × (first last : List Written) × (d : Result Done Kind)
+    ⊎ ((before after : List Asked) × (c : Config) × (vs : List Service) × (first last : List Written)
+    × (d : Result Done Kind)
     × (did.asked ≡ before ++ after) × (did.written ≡ first ++ last) × IsSetup (first_name request) before c vs
     × Performs WasShown request asks (record did { asked = after; written = first }) Prints d
     × IsWrittenAfter name (sums_text (machine_sums c vs)) last d r)
 
 -- with a file of sums: another word may not name it
-abbrev pub PerformsWith : (Part → Type 0) → CommandRequest → List ℕ → Bool → Deeds → (List ℕ → Type 0) → Result Done LineFailure → Type 0
+abbrev pub PerformsWith : (Part → Type 0) → CommandRequest → List ℕ → Bool → Deeds → (List ℕ → Type 0)
+    → Result Done LineFailure → Type 0
 PerformsWith WasShown request name asks did Prints r =
     ((names_file request name ≡ true) × (did.asked ≡ []) × IsIdle did Prints × (r ≡ Err (Sums NameTaken)))
-    ⊎ (((names_file request name ≡ false) × (writes_sums request ≡ true) × PerformsSummed WasShown request name asks did Prints r)
-    ⊎ ((names_file request name ≡ false) × (writes_sums request ≡ false) × PerformsCompared WasShown request name asks did Prints r))
+    ⊎ (((names_file request name ≡ false) × (writes_sums request ≡ true)
+        × PerformsSummed WasShown request name asks did Prints r)
+    ⊎ ((names_file request name ≡ false) × (writes_sums request ≡ false)
+        × PerformsCompared WasShown request name asks did Prints r))
 
-abbrev pub PerformsBy : (Part → Type 0) → CommandRequest → Option (List ℕ) → Bool → Deeds → (List ℕ → Type 0) → Result Done LineFailure → Type 0
-PerformsBy WasShown request None asks did Prints r = (d : Result Done Kind) × Performs WasShown request asks did Prints d × (r ≡ by_request d)
+abbrev pub PerformsBy : (Part → Type 0) → CommandRequest → Option (List ℕ) → Bool → Deeds → (List ℕ → Type 0)
+    → Result Done LineFailure → Type 0
+PerformsBy WasShown request None asks did Prints r =
+    (d : Result Done Kind) × Performs WasShown request asks did Prints d × (r ≡ by_request d)
 PerformsBy WasShown request (Some name) asks did Prints r = PerformsWith WasShown request name asks did Prints r
 
 -- WHAT IS DONE OF A COMMAND LINE, by what its request does
-abbrev pub PerformsLine : (Part → Type 0) → CommandLine → Bool → Deeds → (List ℕ → Type 0) → Result Done LineFailure → Type 0
-PerformsLine WasShown line asks did Prints r = PerformsBy WasShown line.request (option_map (λ s. s.now) line.sums) asks did Prints r
+abbrev pub PerformsLine : (Part → Type 0) → CommandLine → Bool → Deeds → (List ℕ → Type 0) → Result Done LineFailure
+    → Type 0
+PerformsLine WasShown line asks did Prints r =
+    PerformsBy WasShown line.request (option_map (λ s. s.now) line.sums) asks did Prints r

@@ -46,7 +46,8 @@ both_text =
     codes "error: the argument '--ticks <T>' cannot be used with '--events <EVENTS>'\n\n"
     ++ codes "Usage: mx turns [OPTIONS] <CONFIG> <LOG>\n\nFor more information, try '--help'.\n"
 
--- what standard error gets: of a mistake what clap says, which isn't pinned here; of a failure its line, and the line that explains it, or that there is no memory for this line
+-- what standard error gets: of a mistake what clap says, which isn't pinned here; of a failure its line, and the line
+-- that explains it, or that there is no memory for this line
 abbrev pub complaint_text : Complaint → Option (List ℕ)
 complaint_text (Mistaken e) = None
 complaint_text TicksAndEvents = Some both_text
@@ -58,7 +59,9 @@ complaint_text (Unexplained f) = Some (line_failure_line f ++ codes "\nmx: memor
 
 -- help was printed, or memory or output is wanting
 abbrev pub IsHelp : Result Done Complaint → Type 0
-IsHelp r = MatchResult r (λ done. done ≡ with_status 0) (λ complaint. (f : Kind) × IsWanting f × (complaint ≡ Failed (Request f)))
+IsHelp r =
+    MatchResult r (λ done. done ≡ with_status 0)
+        (λ complaint. (f : Kind) × IsWanting f × (complaint ≡ Failed (Request f)))
 
 -- what comes of an error, by its kind: lack of memory, help that was asked for, or a mistake
 abbrev pub ExplainsKind : WordsErrorKind → Error → Result Done Complaint → Type 0
@@ -77,7 +80,8 @@ AnswersMistake mistakes.TicksAndEvents r = r ≡ Err TicksAndEvents
 
 -- ---- all words
 
--- a failure is explained if the words ask for it, or if standard error is a terminal; not if they ask for no explanation
+-- a failure is explained if the words ask for it, or if standard error is a terminal; not if they ask for no
+-- explanation
 abbrev pub explains : CommandLine → Bool → Bool
 explains line shows = (line.explains || shows) && not line.silent
 
@@ -91,7 +95,8 @@ abbrev pub explained_line : CommandLine → LineFailure → List ℕ
 explained_line line (Request f) = explained line.request f
 explained_line line (Sums f) = fault_explained (word_or_nothing (option_map (λ s. s.now) line.sums)) f
 
--- a failure without more; or, if it is to be explained, with the line that explains it, unless there was no memory for this line
+-- a failure without more; or, if it is to be explained, with the line that explains it, unless there was no memory for
+-- this line
 abbrev pub IsComplaintOf : CommandLine → Bool → LineFailure → Complaint → Type 0
 IsComplaintOf line shows f c =
     ((explains line shows ≡ false) × (c ≡ Failed f))
@@ -106,9 +111,14 @@ IsAnswered line shows (Err f) r = (c : Complaint) × (r ≡ Err c) × IsComplain
 
 -- WHAT IS DONE OF WORDS: what the request does that they ask for; or, if something is wrong with them, nothing is asked
 -- for, written, typed or shown, and the mistake is answered
-abbrev pub IsPerformed : (Part → Type 0) → List (List ℕ) → Bool → Bool → Deeds → (List ℕ → Type 0) → Result Done Complaint → Type 0
+abbrev pub IsPerformed : (Part → Type 0) → List (List ℕ) → Bool → Bool → Deeds → (List ℕ → Type 0)
+    → Result Done Complaint → Type 0
 IsPerformed WasShown texts asks shows did Prints r =
-    ((line : CommandLine) × (d : Result Done LineFailure) × Asks line.request (subcommand_of mx_grammar texts) × AsksToExplain line.explains (subcommand_of mx_grammar texts)
-    × AsksForSilence line.silent (subcommand_of mx_grammar texts) × AsksForSums (option_map (λ s. s.now) line.sums) (subcommand_of mx_grammar texts) × (both_given (subcommand_of mx_grammar texts) ≡ false)
+    ((line : CommandLine) × (d : Result Done LineFailure) × Asks line.request (subcommand_of mx_grammar texts)
+    × AsksToExplain line.explains (subcommand_of mx_grammar texts)
+    × AsksForSilence line.silent (subcommand_of mx_grammar texts)
+    × AsksForSums (option_map (λ s. s.now) line.sums) (subcommand_of mx_grammar texts)
+    × (both_given (subcommand_of mx_grammar texts) ≡ false)
     × PerformsLine WasShown line asks did Prints d × IsAnswered line shows d r)
-    ⊎ ((m : Mistake) × IsMistake texts m × (did.asked ≡ []) × (did.written ≡ []) × (did.typed ≡ []) × (did.shown ≡ []) × AnswersMistake m r)
+    ⊎ ((m : Mistake) × IsMistake texts m × (did.asked ≡ []) × (did.written ≡ []) × (did.typed ≡ []) × (did.shown ≡ [])
+        × AnswersMistake m r)

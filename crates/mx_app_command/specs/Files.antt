@@ -95,4 +95,5 @@ abbrev pub word_of : NamedWord → FileWord
 word_of w = file_word w.label.now w.name.now
 
 abbrev pub files_in : ReadWords → FilesRead
-files_in r = record { first = word_of r.first; course = option_map word_of r.course; fault = option_map word_of r.fault }
+files_in r =
+    record { first = word_of r.first; course = option_map word_of r.course; fault = option_map word_of r.fault }

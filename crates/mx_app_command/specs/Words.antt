@@ -37,7 +37,8 @@ flag id = record (new_rule id) { long = Some id; action = Some SetTrue }
 
 -- a subcommand, by its name and its arguments; each may be asked to explain a failure, and not to explain it
 abbrev pub subcommand : Text → List Rule → Shape
-subcommand name arguments = record (new_shape name) { rules = arguments ++ flag (codes "explain") ∷ flag (codes "no-explain") ∷ [] }
+subcommand name arguments =
+    record (new_shape name) { rules = arguments ++ flag (codes "explain") ∷ flag (codes "no-explain") ∷ [] }
 
 -- a subcommand of one text, and of two, by its name and theirs
 abbrev pub of_one : Text → Text → Shape
@@ -64,37 +65,47 @@ one_shape = subcommand (codes "one") (required_text (codes "FILE") ∷ required_
 
 -- `step CONFIG SCRIPT --save LOG --numbered --sums SUMS`
 abbrev pub step_shape : Shape
-step_shape = subcommand (codes "step") (required_text (codes "CONFIG") ∷ required_text (codes "SCRIPT") ∷ after_name (codes "save") (codes "LOG") ∷ flag (codes "numbered") ∷ sums_rule ∷ [])
+step_shape =
+    subcommand (codes "step")
+        (required_text (codes "CONFIG") ∷ required_text (codes "SCRIPT") ∷ after_name (codes "save") (codes "LOG")
+            ∷ flag (codes "numbered") ∷ sums_rule ∷ [])
 
 -- `run CONFIG LOG --ticks T --events EVENTS --sums SUMS`
 abbrev pub run_shape : Shape
 run_shape =
     subcommand (codes "run")
-    (required_text (codes "CONFIG") ∷ required_text (codes "LOG") ∷ number_after (codes "ticks") (codes "T") ∷ after_name (codes "events") (codes "EVENTS") ∷ sums_rule ∷ [])
+    (required_text (codes "CONFIG") ∷ required_text (codes "LOG") ∷ number_after (codes "ticks") (codes "T")
+        ∷ after_name (codes "events") (codes "EVENTS") ∷ sums_rule ∷ [])
 
--- `turns CONFIG LOG --ticks T --events EVENTS --turns N --sums SUMS`; that only one of ticks and events is given, `Mistakes` has
+-- `turns CONFIG LOG --ticks T --events EVENTS --turns N --sums SUMS`; that only one of ticks and events is given,
+-- `Mistakes` has
 abbrev pub turns_shape : Shape
 turns_shape =
     subcommand (codes "turns")
-    (required_text (codes "CONFIG") ∷ required_text (codes "LOG") ∷ number_after (codes "ticks") (codes "T") ∷ after_name (codes "events") (codes "EVENTS") ∷ number_after (codes "turns") (codes "N") ∷ sums_rule ∷ [])
+    (required_text (codes "CONFIG") ∷ required_text (codes "LOG") ∷ number_after (codes "ticks") (codes "T")
+        ∷ after_name (codes "events") (codes "EVENTS") ∷ number_after (codes "turns") (codes "N") ∷ sums_rule ∷ [])
 
 -- `sweep CONFIG LOG FAULT --turns N --from A --to B --strict --save FILE --sums SUMS`
 abbrev pub sweep_shape : Shape
 sweep_shape =
     subcommand (codes "sweep")
-    (required_text (codes "CONFIG") ∷ required_text (codes "LOG") ∷ required_text (codes "FAULT") ∷ number_after (codes "turns") (codes "N") ∷ number_after (codes "from") (codes "A")
-    ∷ number_after (codes "to") (codes "B") ∷ flag (codes "strict") ∷ after_name (codes "save") (codes "FILE") ∷ sums_rule ∷ [])
+    (required_text (codes "CONFIG") ∷ required_text (codes "LOG") ∷ required_text (codes "FAULT")
+        ∷ number_after (codes "turns") (codes "N") ∷ number_after (codes "from") (codes "A")
+    ∷ number_after (codes "to") (codes "B") ∷ flag (codes "strict") ∷ after_name (codes "save") (codes "FILE")
+    ∷ sums_rule ∷ [])
 
 -- `NAME CONFIG LOG --from A --to B --sums SUMS`, what is printed of a history's records
 abbrev pub looking_shape : Text → Shape
 looking_shape name =
     subcommand name
-    (required_text (codes "CONFIG") ∷ required_text (codes "LOG") ∷ number_after (codes "from") (codes "A") ∷ number_after (codes "to") (codes "B") ∷ sums_rule ∷ [])
+    (required_text (codes "CONFIG") ∷ required_text (codes "LOG") ∷ number_after (codes "from") (codes "A")
+        ∷ number_after (codes "to") (codes "B") ∷ sums_rule ∷ [])
 
 -- one of the subcommands is wanted
 abbrev pub top_app : App
 top_app = record {
-  top = record (new_shape (codes "mx")) { subcommand_required = true; disable_help_subcommand = true; has_version = true };
+  top = record (new_shape (codes "mx")) { subcommand_required = true; disable_help_subcommand = true;
+      has_version = true };
   subs = [];
 }
 
@@ -192,15 +203,19 @@ AsksBy (Turns config log ticks events bound) name rows =
     × HasNumberOr 0 (codes "T") rows ticks × MayHaveText (codes "EVENTS") rows (option_map (λ s. s.now) events)
     × HasNumberOr 4294967295 (codes "N") rows bound
 AsksBy (Sweep config log fault bound from to strict save) name rows =
-    (name ≡ codes "sweep") × HasText (codes "CONFIG") rows config.now × HasText (codes "LOG") rows log.now × HasText (codes "FAULT") rows fault.now
-    × HasNumberOr 1000 (codes "N") rows bound × HasNumberOr 0 (codes "A") rows from × HasNumberOr 4294967295 (codes "B") rows to
+    (name ≡ codes "sweep") × HasText (codes "CONFIG") rows config.now × HasText (codes "LOG") rows log.now
+    × HasText (codes "FAULT") rows fault.now
+    × HasNumberOr 1000 (codes "N") rows bound × HasNumberOr 0 (codes "A") rows from
+    × HasNumberOr 4294967295 (codes "B") rows to
     × IsFlag (codes "strict") rows strict × MayHaveText (codes "FILE") rows (option_map (λ s. s.now) save)
 AsksBy (Replay config log) name rows =
     (name ≡ codes "replay") × HasText (codes "CONFIG") rows config.now × HasText (codes "LOG") rows log.now
 AsksBy (Trace config log range) name rows =
-    (name ≡ codes "trace") × HasText (codes "CONFIG") rows config.now × HasText (codes "LOG") rows log.now × HasRange rows range
+    (name ≡ codes "trace") × HasText (codes "CONFIG") rows config.now × HasText (codes "LOG") rows log.now
+    × HasRange rows range
 AsksBy (Draw config log range) name rows =
-    (name ≡ codes "draw") × HasText (codes "CONFIG") rows config.now × HasText (codes "LOG") rows log.now × HasRange rows range
+    (name ≡ codes "draw") × HasText (codes "CONFIG") rows config.now × HasText (codes "LOG") rows log.now
+    × HasRange rows range
 AsksBy (Look config log) name rows =
     (name ≡ codes "look") × HasText (codes "CONFIG") rows config.now × HasText (codes "LOG") rows log.now
 AsksBy (Db config script) name rows =

@@ -24,8 +24,10 @@ pub record DebuggedWorld : Type 0 where
 -- WHAT A LINE DOES. If it names no actor, `other` is its actor. A look does nothing
 unfoldable pub debug_line_made : ℕ → DebuggedWorld → DebugLine → DebuggedWorld
 debug_line_made other d (Plain l) = record d { world = (line_made d.world other l).1 }
-debug_line_made other d (Break s place) = record d { points = (breakpoints_after_break d.points (place_found d.world.services s place)).1 }
-debug_line_made other d (Clear s place) = record d { points = (breakpoints_after_clear d.points (place_found d.world.services s place)).1 }
+debug_line_made other d (Break s place) =
+    record d { points = (breakpoints_after_break d.points (place_found d.world.services s place)).1 }
+debug_line_made other d (Clear s place) =
+    record d { points = (breakpoints_after_clear d.points (place_found d.world.services s place)).1 }
 debug_line_made other d (Go c k) = record d { world = world_after_go d.world d.points c k (held_by d.world c) }
 debug_line_made other d (Show l) = d
 

@@ -18,5 +18,6 @@ pub record HasGone (w u : World) (points : List Breakpoint) (a k : ℕ) (h : Hal
 -- processor a holds nothing; or k isn't 0, and its process can make no step
 abbrev pub IsStuck : World → List Breakpoint → ℕ → ℕ → Refusal → Type 0
 IsStuck w points a k CpuEmpty = held_by w a ≡ None
-IsStuck w points a k AtStop = (l : HeldProcess) × (held_by w a ≡ Some l) × (k ≢ 0) × (steps_to_halt points l.slot k l.out ≡ 0)
+IsStuck w points a k AtStop =
+    (l : HeldProcess) × (held_by w a ≡ Some l) × (k ≢ 0) × (steps_to_halt points l.slot k l.out ≡ 0)
 IsStuck w points a k _ = ⊥

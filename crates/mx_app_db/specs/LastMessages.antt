@@ -1,5 +1,5 @@
--- The last deliveries, with their words (our own). A kernel records no words, so they are those that the receiver has at
--- its buffer now, if sender and type there are those of the delivery.
+-- The last deliveries, with their words (our own). A kernel records no words, so they are those that the receiver has
+-- at its buffer now, if sender and type there are those of the delivery.
 use Rattle.std.specs.Prelude.{ℕ, ◌-◌, ◌==◌, ◌&&◌, if◌then◌else◌, Bool, List, [], ◌++◌, codes, drop, length, slice_index, take, Option, Some, None}
 use Rattle.std.specs.Fmt.{decimal}
 use Rattle.std.specs.List.{flat_map}

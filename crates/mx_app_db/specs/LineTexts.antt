@@ -26,7 +26,9 @@ eip_of (Some l) = l.out.image.eip
 abbrev pub halt_text : List Breakpoint → ℕ → ℕ → HeldProcess → List ℕ
 halt_text points (suc k) zero l = refusal_line AtStop ++ codes "\n"
 halt_text points k n l =
-    halt_line n (cause_of (held_after n l.out).stop (is_reached points l.slot n (held_after n l.out))) (held_after n l.out).image.eip ++ codes "\n"
+    halt_line n (cause_of (held_after n l.out).stop (is_reached points l.slot n (held_after n l.out)))
+        (held_after n l.out).image.eip
+    ++ codes "\n"
 
 abbrev pub go_text : List Breakpoint → ℕ → Option HeldProcess → List ℕ
 go_text points k None = refusal_line CpuEmpty ++ codes "\n"
@@ -37,8 +39,10 @@ go_text points k (Some l) = halt_text points k (steps_to_halt points l.slot k l.
 -- WHAT A LINE PRINTS. If the line names no actor, `other` is its actor
 unfoldable pub debug_line_text : ℕ → DebuggedWorld → DebugLine → List ℕ
 debug_line_text other d (Plain l) = said_line (line_made d.world other l).0 ++ codes "\n"
-debug_line_text other d (Break s place) = done_line (breakpoints_after_break d.points (place_found d.world.services s place)).0
-debug_line_text other d (Clear s place) = done_line (breakpoints_after_clear d.points (place_found d.world.services s place)).0
+debug_line_text other d (Break s place) =
+    done_line (breakpoints_after_break d.points (place_found d.world.services s place)).0
+debug_line_text other d (Clear s place) =
+    done_line (breakpoints_after_clear d.points (place_found d.world.services s place)).0
 debug_line_text other d (Go c k) = go_text d.points k (held_by d.world c)
 debug_line_text other d (Show l) = look_text d.world l
 

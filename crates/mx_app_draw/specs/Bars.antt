@@ -85,4 +85,5 @@ Covers v strip s b c = IsTrue (begins v strip s b) × (b ≤ c) × (c < run_end 
 
 abbrev pub EachIsCovered : Scene → Strip → ℕ → Type 0
 EachIsCovered v strip s = (c : ℕ) → c ≤ strip.count →
-    (b : ℕ) × Covers v strip s b c × IsTrue (same_seen (seen_at v strip s b) (seen_at v strip s c)) × ((d : ℕ) → Covers v strip s d c → d ≡ b)
+    (b : ℕ) × Covers v strip s b c × IsTrue (same_seen (seen_at v strip s b) (seen_at v strip s c))
+    × ((d : ℕ) → Covers v strip s d c → d ≡ b)

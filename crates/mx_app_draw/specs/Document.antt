@@ -12,13 +12,16 @@ unfoldable pub size_text : ℕ → ℕ → List ℕ
 size_text width height = attribute (codes "width") width ++ attribute (codes "height") height
 
 abbrev pub document_head : List ℕ
-document_head = codes "<?xml version=\"1.0\" encoding=\"UTF-8\"?>\n<svg xmlns=\"http://www.w3.org/2000/svg\" version=\"1.1\""
+document_head =
+    codes "<?xml version=\"1.0\" encoding=\"UTF-8\"?>\n<svg xmlns=\"http://www.w3.org/2000/svg\" version=\"1.1\""
 
 unfoldable pub opening_text : ℕ → ℕ → List ℕ
-opening_text width height = document_head ++ size_text width height ++ codes " viewBox=\"0 0 " ++ pair width height ++ codes "\">\n"
+opening_text width height =
+    document_head ++ size_text width height ++ codes " viewBox=\"0 0 " ++ pair width height ++ codes "\">\n"
 
 abbrev pub description : List ℕ
-description = codes "<desc>Time runs from left to right, one column a record. Each service has a row, whose bars show its state; arrows are messages and notifications; the lowest row has what was written to the console. mx trace prints the same records in words.</desc>\n"
+description =
+    codes "<desc>Time runs from left to right, one column a record. Each service has a row, whose bars show its state; arrows are messages and notifications; the lowest row has what was written to the console. mx trace prints the same records in words.</desc>\n"
 
 unfoldable pub told_title : Scene → List ℕ
 told_title v = codes "<title>" ++ shown (title_text v) ++ codes "</title>\n" ++ description
@@ -60,5 +63,6 @@ values_text v values = flat_map (value_text v) values
 -- THE DRAWING OF A RUN
 unfoldable pub drawing_text : Scene → Drawing → List ℕ
 drawing_text v d =
-    opening_text d.width d.height ++ told_title v ++ letters_style ++ words_style ++ figures_style ++ dark_style ++ paper_text d.width d.height
+    opening_text d.width d.height ++ told_title v ++ letters_style ++ words_style ++ figures_style ++ dark_style
+    ++ paper_text d.width d.height
     ++ values_text v d.values.items ++ codes "</svg>\n"

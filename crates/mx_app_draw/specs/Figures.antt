@@ -30,7 +30,9 @@ unfoldable pub anchored : Anchor → List ℕ
 anchored a = codes " text-anchor=\"" ++ anchor_word a ++ codes "\">"
 
 unfoldable pub placed : Label → List ℕ
-placed l = class (codes "text") (label_class l.kind) ++ attribute (codes "x") l.x ++ attribute (codes "y") l.y ++ anchored l.anchor
+placed l =
+    class (codes "text") (label_class l.kind) ++ attribute (codes "x") l.x ++ attribute (codes "y") l.y
+    ++ anchored l.anchor
 
 unfoldable pub label_text : Scene → Label → List ℕ
 label_text v l = placed l ++ hint_text v l.hint ++ shown (text_words v l.text) ++ codes "</text>\n"
@@ -72,7 +74,8 @@ stem_text a = line_text a ++ codes "<circle" ++ circle a.x a.y 2 ++ codes "/>"
 
 unfoldable pub arrow_text : Scene → Arrow → List ℕ
 arrow_text v a =
-    class (codes "g") (arrow_class a.kind) ++ codes ">" ++ hint_text v a.hint ++ stem_text a ++ arrow_end a ++ codes "</g>\n"
+    class (codes "g") (arrow_class a.kind) ++ codes ">" ++ hint_text v a.hint ++ stem_text a ++ arrow_end a
+    ++ codes "</g>\n"
 
 -- ---- marks, drawn around 0 and moved
 
@@ -86,13 +89,15 @@ path_text m name path = class (codes "path") name ++ moved m ++ codes " d=\"" ++
 unfoldable pub death_text : Scene → Mark → List ℕ
 death_text v m =
     codes "<g" ++ moved m ++ codes ">" ++ hint_text v m.hint
-    ++ codes "<path class=\"halo\" d=\"M-5 -5L5 5M-5 5L5 -5\"/>" ++ codes "<path class=\"death\" d=\"M-5 -5L5 5M-5 5L5 -5\"/></g>\n"
+    ++ codes "<path class=\"halo\" d=\"M-5 -5L5 5M-5 5L5 -5\"/>"
+    ++ codes "<path class=\"death\" d=\"M-5 -5L5 5M-5 5L5 -5\"/></g>\n"
 
 abbrev pub mark_text_by : Scene → Mark → MarkKind → List ℕ
 mark_text_by v m marked.Tick = path_text m (codes "tick") (codes "M0 -6V6") ++ end_text v (codes "path") m.hint
 mark_text_by v m marked.Line = path_text m (codes "line") (codes "M-5 -5H5L0 5Z") ++ end_text v (codes "path") m.hint
 mark_text_by v m marked.Death = death_text v m
-mark_text_by v m marked.Birth = path_text m (codes "birth") (codes "M-5 0L0 -5L5 0L0 5Z") ++ end_text v (codes "path") m.hint
+mark_text_by v m marked.Birth =
+    path_text m (codes "birth") (codes "M-5 0L0 -5L5 0L0 5Z") ++ end_text v (codes "path") m.hint
 
 unfoldable pub mark_text : Scene → Mark → List ℕ
 mark_text v m = mark_text_by v m m.kind

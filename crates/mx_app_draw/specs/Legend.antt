@@ -28,10 +28,12 @@ IsCorner at = (at.x ≤ 60000) × (8 ≤ at.y) × (at.y ≤ 60000)
 
 unfoldable pub item_at : ℕ → Item
 item_at j =
-    if j == 0 then item.Out else if j == 1 then item.Doomed else if j == 2 then item.Ready else if j == 3 then item.Sending else
+    if j == 0 then item.Out else if j == 1 then item.Doomed else if j == 2 then item.Ready
+    else if j == 3 then item.Sending else
     if j == 4 then item.Calling else if j == 5 then item.Awaiting else if j == 6 then item.Receiving else
     if j == 7 then item.Message else if j == 8 then item.Notification else if j == 9 then item.Pending else
-    if j == 10 then item.Tick else if j == 11 then item.Line else if j == 12 then item.Death else if j == 13 then item.Birth else
+    if j == 10 then item.Tick else if j == 11 then item.Line else if j == 12 then item.Death
+    else if j == 13 then item.Birth else
     if j == 14 then item.Wrong else item.Unmade
 
 -- ---- the sample of an item
@@ -78,7 +80,8 @@ second_sample at _ = []
 
 unfoldable pub item_values : Point → Item → List Value
 item_values at i =
-    sample at i ∷ second_sample at i ++ label_at written.Key (at.x + 32) (at.y + 4) anchor.Start (text.Key i) hint.Nothing ∷ []
+    sample at i ∷ second_sample at i
+    ++ label_at written.Key (at.x + 32) (at.y + 4) anchor.Start (text.Key i) hint.Nothing ∷ []
 
 -- ---- the paper has room for some items in a row; the others come below
 

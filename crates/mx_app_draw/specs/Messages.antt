@@ -37,7 +37,10 @@ is_message Notification = false
 
 unfoldable pub type_note : Spot → ℕ → Delivery → List Value
 type_note at s d =
-    if is_message d.kind && not (d.message_type == 0) then note written.Note at s (text.Number d.message_type) (hint.Delivery at.place s) ∷ [] else []
+    if is_message d.kind
+        && not (d.message_type == 0) then note written.Note at s (text.Number d.message_type) (hint.Delivery at.place s)
+            ∷ []
+    else []
 
 abbrev pub delivery_by : Spot → ℕ → Option Delivery → List Value
 delivery_by at s None = []
@@ -54,7 +57,8 @@ is_kept x s place = both (λ v u. is_new_bit v u place) (slot_in x.before s) (sl
 
 unfoldable pub kept_arrow : Step → Spot → ℕ → ℕ → List Value
 kept_arrow x at s place =
-    if is_kept x s place then line_to at drawn.Pending (source_height at place) s (hint.Kept at.place s place) ∷ [] else []
+    if is_kept x s place then line_to at drawn.Pending (source_height at place) s (hint.Kept at.place s place) ∷ []
+    else []
 
 unfoldable pub kept_values : Step → Spot → ℕ → List Value
 kept_values x at s = flat_map (kept_arrow x at s) (range_with_len 0 34)

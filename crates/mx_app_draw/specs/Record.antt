@@ -21,7 +21,10 @@ console_row at = row at.top (at.services + 1)
 -- a byte: its character if it is one from ! to ~, else its two hexadecimal digits
 unfoldable pub byte_label : Spot → ℕ → Value
 byte_label at b =
-    if nat_lt 32 b && nat_lt b 127 then label_at written.Character at.x (console_row at + 5) anchor.Middle (text.Character b) (hint.Console at.place)
+    if nat_lt 32 b
+        && nat_lt b 127
+            then label_at written.Character at.x (console_row at + 5) anchor.Middle (text.Character b)
+                (hint.Console at.place)
     else label_at written.Byte at.x (console_row at + 4) anchor.Middle (text.Hexadecimal b) (hint.Console at.place)
 
 abbrev pub console_by : Spot → Option ℕ → List Value
@@ -49,4 +52,5 @@ freed x at = of_services at (freed_values x at)
 
 unfoldable pub record_values : Step → Spot → List Value
 record_values x at =
-    outside_values x at ++ fates x at ++ deliveries x at ++ all_kept x at ++ return_values x at ++ freed x at ++ console_values x at
+    outside_values x at ++ fates x at ++ deliveries x at ++ all_kept x at ++ return_values x at ++ freed x at
+    ++ console_values x at

@@ -73,7 +73,9 @@ abbrev pub has_failed_call : Step → ℕ → Bool
 has_failed_call x s = has_failed_by (kernel_call x) (slot_in x.after s)
 
 abbrev pub trap_manner : Step → ℕ → Manner
-trap_manner x s = if is_doomed_in x s then manner.Unmade else if has_gone_wrong x s || has_failed_call x s then manner.Wrong else manner.Plain
+trap_manner x s =
+    if is_doomed_in x s then manner.Unmade else if has_gone_wrong x s || has_failed_call x s then manner.Wrong
+    else manner.Plain
 
 -- how the deed ended. Only a trap can be left unmade, if its process was killed
 abbrev pub manner_by : Step → ℕ → Deed → Manner

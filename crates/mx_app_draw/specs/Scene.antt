@@ -23,7 +23,8 @@ after_or g (Some x) = x.after
 
 unfoldable pub world_at : Scene → ℕ → ℕ → Glance
 world_at v place c =
-    if c == 0 then before_or v.world (slice_get v.steps.items place) else after_or v.world (slice_get v.steps.items (place + c - 1))
+    if c == 0 then before_or v.world (slice_get v.steps.items place)
+    else after_or v.world (slice_get v.steps.items (place + c - 1))
 
 -- the number of the last record before a world
 abbrev pub number_before_or : ℕ → Option Step → ℕ
@@ -36,7 +37,8 @@ number_or first (Some x) = x.number
 
 unfoldable pub number_at : Scene → ℕ → ℕ → ℕ
 number_at v place c =
-    if c == 0 then number_before_or v.first (slice_get v.steps.items place) else number_or v.first (slice_get v.steps.items (place + c - 1))
+    if c == 0 then number_before_or v.first (slice_get v.steps.items place)
+    else number_or v.first (slice_get v.steps.items (place + c - 1))
 
 -- ---- what the picture shows of a slot
 

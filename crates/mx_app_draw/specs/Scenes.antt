@@ -28,7 +28,8 @@ drawn_of from x = if nat_lt x.number from then [] else x ∷ []
 -- THE STEPS THAT ARE DRAWN of records, of which the first has this number
 abbrev pub steps_drawn : ℕ → World → ℕ → List Record → List Step
 steps_drawn from w n [] = []
-steps_drawn from w n (x ∷ xs) = drawn_of from (step_of w n x) ++ steps_drawn from (world_after_events w (events_of x.actor x.event)) (n + 1) xs
+steps_drawn from w n (x ∷ xs) =
+    drawn_of from (step_of w n x) ++ steps_drawn from (world_after_events w (events_of x.actor x.event)) (n + 1) xs
 
 -- records that were accepted, or those above the first that is refused
 abbrev pub AreMade : World → List Record → Option (ℕ × Refusal) → List Record → Type 0
@@ -38,7 +39,8 @@ AreMade w records (Some p) made = IsRefusedAt w records p.0 p.1 × (made ≡ tak
 abbrev pub IsSeen : World → List Record → ℕ → Seen → Type 0
 IsSeen w records from seen =
     (made : List Record) × AreMade w records seen.refused made
-    × (seen.steps.items ≡ steps_drawn from w 1 made) × (seen.world ≡ glance_of (world_after_events w (events_of_history made)))
+    × (seen.steps.items ≡ steps_drawn from w 1 made)
+    × (seen.world ≡ glance_of (world_after_events w (events_of_history made)))
 
 -- of a number that doesn't fit into 32 bits, the largest that does
 abbrev pub told_number : ℕ → ℕ
@@ -50,7 +52,8 @@ refused_line above None = None
 refused_line above (Some p) = Some (told_number (above + p.0), p.1)
 
 -- THE SCENE of the records that were made of a history with this count: each field of it
-pub record IsSceneOf (w : World) (cpus count : ℕ) (made : List Record) (from : ℕ) (why : Option (ℕ × Refusal)) (v : Scene) : Type 0 where
+pub record IsSceneOf (w : World) (cpus count : ℕ) (made : List Record) (from : ℕ) (why : Option (ℕ × Refusal))
+    (v : Scene) : Type 0 where
   pub first : v.first ≡ max from 1
   pub total : v.total ≡ told_number count
   pub processors : v.processors ≡ cpus
@@ -61,7 +64,8 @@ pub record IsSceneOf (w : World) (cpus count : ℕ) (made : List Record) (from :
 
 abbrev pub IsHistoryScene : World → ℕ → ℕ → List Record → ℕ → Scene → Type 0
 IsHistoryScene w cpus total records from v =
-    (refused : Option (ℕ × Refusal)) × (made : List Record) × AreMade w records refused made × IsSceneOf w cpus total made from refused v
+    (refused : Option (ℕ × Refusal)) × (made : List Record) × AreMade w records refused made
+    × IsSceneOf w cpus total made from refused v
 
 -- a scene's picture as text
 abbrev pub IsPictureText : Scene → List ℕ → Type 0
@@ -79,7 +83,8 @@ IsDrawing w cpus total records from how Prints =
     × AreMade w records refused made × (how ≡ replayed_by refused)
     × IsSceneOf w cpus total made from refused v × IsPictureText v text × Prints text
 
--- WHAT IS PRINTED of a history: the picture of its records from `from` to the last that is drawn, or of those above the first that is refused
+-- WHAT IS PRINTED of a history: the picture of its records from `from` to the last that is drawn, or of those above the
+-- first that is refused
 abbrev pub IsDrawingPrinted : World → ℕ → List Record → ℕ → ℕ → Replayed → (List ℕ → Type 0) → Type 0
 IsDrawingPrinted w cpus records from to how Prints =
     IsDrawing w cpus (length records) (take (last_drawn from to) records) from how Prints

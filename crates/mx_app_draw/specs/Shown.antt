@@ -9,12 +9,14 @@ pair x y = decimal x ++ codes " " ++ decimal y
 
 -- & and the brackets are written by their names
 unfoldable pub escaped : ℕ → List ℕ
-escaped b = if b == 38 then codes "&amp;" else if b == 60 then codes "&lt;" else if b == 62 then codes "&gt;" else b ∷ []
+escaped b =
+    if b == 38 then codes "&amp;" else if b == 60 then codes "&lt;" else if b == 62 then codes "&gt;" else b ∷ []
 
 -- the end of the last line, and a space after a space
 abbrev pub is_left_out : List ℕ → ℕ → Bool
 is_left_out line i =
-    ((slice_index line i == 10) && (i + 1 == length line)) || (nat_lt 0 i && (slice_index line i == 32) && (slice_index line (i - 1) == 32))
+    ((slice_index line i == 10) && (i + 1 == length line))
+    || (nat_lt 0 i && (slice_index line i == 32) && (slice_index line (i - 1) == 32))
 
 unfoldable pub shown_byte : List ℕ → ℕ → List ℕ
 shown_byte line i = if is_left_out line i then [] else escaped (slice_index line i)

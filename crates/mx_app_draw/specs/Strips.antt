@@ -55,7 +55,8 @@ abbrev pub name_label : Strip → ℕ → Text → Value
 name_label strip r what = label_at written.Name 8 (row strip.top r + 4) anchor.Start what hint.Nothing
 
 abbrev pub end_label : Strip → ℕ → Text → Value
-end_label strip r what = label_at written.End (column (strip.count + 1) + 8) (row strip.top r + 4) anchor.Start what hint.Nothing
+end_label strip r what =
+    label_at written.End (column (strip.count + 1) + 8) (row strip.top r + 4) anchor.Start what hint.Nothing
 
 abbrev pub name_if : Strip → ℕ → Option Standing → List Value
 name_if strip s None = []
@@ -80,7 +81,8 @@ names v strip =
 -- what each record changed
 abbrev pub came_by : Scene → Strip → ℕ → Option Step → List Value
 came_by v strip i None = []
-came_by v strip i (Some x) = record_values x (record { place = strip.place + i; x = column (i + 1); top = strip.top; services = v.services })
+came_by v strip i (Some x) =
+    record_values x (record { place = strip.place + i; x = column (i + 1); top = strip.top; services = v.services })
 
 unfoldable pub came_at : Scene → Strip → ℕ → List Value
 came_at v strip i = came_by v strip i (step_at v strip i)
@@ -89,4 +91,5 @@ unfoldable pub came : Scene → Strip → List Value
 came v strip = flat_map (came_at v strip) (range_with_len 0 strip.count)
 
 unfoldable pub strip_values : Scene → ℕ → Strip → List Value
-strip_values v width strip = bands strip.top width v.services ++ axis v strip ++ names v strip ++ bars v strip ++ came v strip
+strip_values v width strip =
+    bands strip.top width v.services ++ axis v strip ++ names v strip ++ bars v strip ++ came v strip

@@ -65,7 +65,9 @@ deed_text d manner.Unmade = codes "(" ++ deed_word d ++ codes ")"
 
 abbrev pub refused_by : Option (ℕ × Refusal) → List ℕ
 refused_by None = []
-refused_by (Some p) = codes "line " ++ decimal p.0 ++ codes ": refused " ++ decimal (code_of_refusal p.1) ++ codes " " ++ name_of_refusal p.1
+refused_by (Some p) =
+    codes "line " ++ decimal p.0 ++ codes ": refused " ++ decimal (code_of_refusal p.1) ++ codes " "
+    ++ name_of_refusal p.1
 
 unfoldable pub refused_text : Scene → List ℕ
 refused_text v = refused_by v.refused

@@ -1,5 +1,5 @@
--- THE FAULT OF A LINE of a configuration (our own): the first place where another word is wanted. What lines above say is
--- no fault of a line here.
+-- THE FAULT OF A LINE of a configuration (our own): the first place where another word is wanted. What lines above say
+-- is no fault of a line here.
 use Rattle.std.specs.Prelude.{ℕ, ◌-◌, ◌&&◌, not, if◌then◌else◌, Bool, List, [], ◌∷◌, codes, Option, Some, None, is_some, Result, Ok, Err, slice_get}
 use Rattle.std.specs.List.{list_any}
 use Rattle.std.specs.Str.{bytes_eq, is_utf8}
@@ -109,7 +109,8 @@ fault_of_other word fs =
 
 -- THE FAULT of a line that has these words: the first that isn't as the form wants it
 abbrev pub fault_of_item : List ℕ → List (List ℕ) → Option Place
-fault_of_item word fs = if bytes_eq word (codes "service") then fault_after ServiceEnd (after_service fs) else fault_of_other word fs
+fault_of_item word fs =
+    if bytes_eq word (codes "service") then fault_after ServiceEnd (after_service fs) else fault_of_other word fs
 
 unfoldable pub fault_in : List (List ℕ) → Option Place
 fault_in [] = None

@@ -24,13 +24,15 @@ label_told (labels.After first second) = after_told first.now second.now
 
 -- the two words before a place, if they can be printed
 abbrev pub after_words : Option (List ℕ) → Option (List ℕ) → List ℕ
-after_words (Some first) (Some second) = if is_utf8 first then (if is_utf8 second then after_told first second else []) else []
+after_words (Some first) (Some second) =
+    if is_utf8 first then (if is_utf8 second then after_told first second else []) else []
 after_words first second = []
 
 -- a value is called by its name, and another word by the two words before it
 abbrev pub place_label : List (List ℕ) → ℕ → Option (List ℕ) → List ℕ
 place_label words before (Some name) = value_told name
-place_label words before None = if before == 0 then [] else after_words (slice_get words (before - 2)) (slice_get words (before - 1))
+place_label words before None =
+    if before == 0 then [] else after_words (slice_get words (before - 2)) (slice_get words (before - 1))
 
 -- ---- the whole
 
@@ -43,7 +45,8 @@ detail_told d = wanted_told (label_told d.label) d.wanted.now (found_told d.foun
 -- at a place of a configuration's line that has these words
 abbrev pub place_told : List (List ℕ) → Place → List ℕ
 place_told words place =
-    wanted_told (place_label words (words_before place) (value_name place)) (wanted_at place) (found_at (slice_get words (words_before place)))
+    wanted_told (place_label words (words_before place) (value_name place)) (wanted_at place)
+        (found_at (slice_get words (words_before place)))
 
 -- THE DETAIL of a configuration's line, if it has a fault of its own
 abbrev pub place_detail : List (List ℕ) → Option Place → Option (List ℕ)

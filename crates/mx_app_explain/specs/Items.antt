@@ -1,4 +1,5 @@
--- What a configuration says, as text, each item once and in one order (our own). The names of the programs' files have no part in it.
+-- What a configuration says, as text, each item once and in one order (our own). The names of the programs' files have
+-- no part in it.
 use Rattle.std.specs.Prelude.{ℕ, List, ◌++◌, codes}
 use Rattle.std.specs.Fmt.{decimal}
 use Rattle.std.specs.List.{before_first, flat_map}
@@ -25,7 +26,9 @@ machine_items c =
 
 -- the masks, as decimal numbers
 unfoldable pub mask_items : Terms → List ℕ
-mask_items t = codes " traps " ++ decimal t.masks.traps ++ codes " send " ++ decimal t.masks.sends ++ codes " calls " ++ decimal t.masks.calls
+mask_items t =
+    codes " traps " ++ decimal t.masks.traps ++ codes " send " ++ decimal t.masks.sends ++ codes " calls "
+    ++ decimal t.masks.calls
 
 unfoldable pub term_items : Terms → List ℕ
 term_items t =

@@ -1,4 +1,5 @@
--- What a configuration's services may do, in words (our own). The names of traps and of kernel calls are those of a trace.
+-- What a configuration's services may do, in words (our own). The names of traps and of kernel calls are those of a
+-- trace.
 use Rattle.std.specs.Prelude.{ℕ, ◌+◌, ◌==◌, if◌then◌else◌, List, [], ◌∷◌, ◌++◌, codes, length, Option, Some, None, slice_get}
 use Rattle.std.specs.List.{flat_map, range_with_len}
 use Rattle.std.specs.Fmt.{decimal}

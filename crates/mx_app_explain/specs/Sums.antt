@@ -1,4 +1,5 @@
--- The sums of a machine, and which part differs from a text of sums (our own; the form of a line is that of `sha256sum`).
+-- The sums of a machine, and which part differs from a text of sums (our own; the form of a line is that of
+-- `sha256sum`).
 use Rattle.std.specs.Prelude.{ℕ, if◌then◌else◌, List, [], ◌∷◌, ◌++◌, codes, length, take, drop, Option, Some, None, map}
 use Rattle.std.specs.List.{flat_map}
 use Rattle.std.specs.Option.{option_map_or}
@@ -44,7 +45,8 @@ sums_text sums = flat_map sum_line sums
 abbrev pub after_line : List ℕ → List ℕ → Option (List ℕ)
 after_line line text = if bytes_eq (take (length line) text) line then Some (drop (length line) text) else None
 
--- THE FIRST PART whose line the text hasn't at its place. If the text has more than all lines, that is the configuration
+-- THE FIRST PART whose line the text hasn't at its place. If the text has more than all lines, that is the
+-- configuration
 abbrev pub first_other : List PartSum → List ℕ → Option MachinePart
 first_other [] [] = None
 first_other [] (b ∷ bs) = Some Configuration

@@ -1,5 +1,5 @@
--- What is wanted in place of a word of a text for the assembler (our own words). A line is seen by its words; where none of
--- them is at fault by itself, nothing is said of a word.
+-- What is wanted in place of a word of a text for the assembler (our own words). A line is seen by its words; where
+-- none of them is at fault by itself, nothing is said of a word.
 use Rattle.std.specs.Prelude.{◌==◌, ◌||◌, ◌&&◌, ◌-◌, not, ℕ, Bool, true, false, if◌then◌else◌, List, [], ◌∷◌, codes, length, slice_index, Option, Some, None, is_none, is_some, option_map, slice_get, unwrap_or}
 use Rattle.std.specs.List.{list_any}
 use Rattle.std.specs.Str.{bytes_eq}
@@ -71,7 +71,8 @@ abbrev pub extra_word : Bool → List (List ℕ) → Option (List ℕ)
 extra_word ended [] = None
 extra_word ended (w ∷ ws) = if ended && not (is_mark_word w) then Some w else extra_word (may_end w) ws
 
--- outside of brackets are only numbers and marks, so that no register has a size; a bracket may be open before these words
+-- outside of brackets are only numbers and marks, so that no register has a size; a bracket may be open before these
+-- words
 abbrev pub lacks_register : Bool → List (List ℕ) → Bool
 lacks_register inside [] = true
 lacks_register inside (w ∷ ws) =
@@ -130,7 +131,8 @@ name_or (Some name) other = Some name
 name_or None other = other
 
 abbrev pub own_name : List ℕ → Option (List ℕ)
-own_name w = name_or (equal_name w) (name_or (order_name w) (name_or (single_name w) (name_or (stack_name w) (data_name w))))
+own_name w =
+    name_or (equal_name w) (name_or (order_name w) (name_or (single_name w) (name_or (stack_name w) (data_name w))))
 
 -- ---- advice
 
@@ -167,7 +169,8 @@ number_wanted w =
 
 -- a name of another assembler, a word with a capital letter, or another one
 abbrev pub word_wanted : List ℕ → List ℕ
-word_wanted w = unwrap_or (own_name w) (if list_any is_capital w then codes "lower case" else codes "an instruction or a directive")
+word_wanted w =
+    unwrap_or (own_name w) (if list_any is_capital w then codes "lower case" else codes "an instruction or a directive")
 
 abbrev pub number_advice : List (List ℕ) → Advised
 number_advice ws = about number_wanted problems.BadNumber (find_word sought.BadNumber ws)
@@ -188,7 +191,8 @@ operand_word_advice None ws = number_operand_advice (find_word sought.Number ws)
 -- an address without a size; or one of these
 abbrev pub size_advice : List (List ℕ) → Advised
 size_advice ws =
-    if lacks_size ws then (codes "byte, word or dword before the bracket, since no register says the size", Some (codes "["))
+    if lacks_size ws
+        then (codes "byte, word or dword before the bracket, since no register says the size", Some (codes "["))
     else operand_word_advice (find_word sought.FreeWord ws) ws
 
 -- a word too many; or one of these
@@ -198,7 +202,8 @@ extra_advice None ws = size_advice ws
 
 -- two addresses; or one of these
 abbrev pub address_advice : Option (List ℕ) → List (List ℕ) → Advised
-address_advice (Some w) ws = (codes "a register or a number in place of the second bracket, since no instruction has two", Some w)
+address_advice (Some w) ws =
+    (codes "a register or a number in place of the second bracket, since no instruction has two", Some w)
 address_advice None ws = extra_advice (extra_word false ws) ws
 
 abbrev pub operand_advice : List (List ℕ) → Advised

@@ -1,5 +1,5 @@
--- The words of a line of a text for the assembler, as one who mends it sees them (our own). A line at fault need not have
--- tokens, so it is parted without them.
+-- The words of a line of a text for the assembler, as one who mends it sees them (our own). A line at fault need not
+-- have tokens, so it is parted without them.
 use Rattle.std.specs.Prelude.{◌==◌, ◌||◌, ◌&&◌, not, nat_lt, ℕ, Bool, if◌then◌else◌, List, [], ◌∷◌, length, drop, slice_index, is_some}
 use Rattle.std.specs.List.{before_first, flat_map, list_any}
 use Rattle.std.specs.Str.{bytes_eq}
@@ -50,7 +50,8 @@ begins_with_digit w = is_digit (slice_index w 0)
 -- decimal, or hexadecimal after 0x
 abbrev pub is_number : List ℕ → Bool
 is_number w =
-    if nat_lt 2 (length w) && (slice_index w 0 == 48 && slice_index w 1 == 120) then is_some (number_up_to 4294967295 16 (drop 2 w))
+    if nat_lt 2 (length w)
+        && (slice_index w 0 == 48 && slice_index w 1 == 120) then is_some (number_up_to 4294967295 16 (drop 2 w))
     else is_some (number_up_to 4294967295 10 w)
 
 abbrev pub is_bad_number : List ℕ → Bool

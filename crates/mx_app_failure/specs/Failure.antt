@@ -46,7 +46,8 @@ failure_if None about = NoMemory
 
 -- of a file with a wrong line: its text is in the failure
 abbrev pub IsOfText : FileProblem → About → List ℕ → Kind → Type 0
-IsOfText p about text f = (v : Vec ℕ Global) × (f ≡ Of (record { problem = p; about = about; text = Some v })) × (v.items ≡ text)
+IsOfText p about text f =
+    (v : Vec ℕ Global) × (f ≡ Of (record { problem = p; about = about; text = Some v })) × (v.items ≡ text)
 
 -- of a file that is read
 abbrev pub problem_of_reading : ErrorKind → Option FileProblem
@@ -121,7 +122,8 @@ lines_told lines.NoMemory = codes "90 NoMemory"
 -- the words after "mx: " in the line of a file's failure
 abbrev pub problem_told : FileProblem → List ℕ
 problem_told (Refused e) = decimal (refusal_code e) ++ codes " " ++ refusal_name e
-problem_told (Faulty f) = decimal (problem_code f.problem) ++ codes " " ++ problem_name f.problem ++ codes " line " ++ decimal f.line
+problem_told (Faulty f) =
+    decimal (problem_code f.problem) ++ codes " " ++ problem_name f.problem ++ codes " line " ++ decimal f.line
 problem_told (Misstated e) = lines_told e
 problem_told p = codes "80 File"
 

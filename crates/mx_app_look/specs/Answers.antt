@@ -28,7 +28,8 @@ processes_text w = report_text w.table w.services ++ line_end (report_text w.tab
 -- ---- help
 
 abbrev pub help_text : List ℕ
-help_text = codes "forward [N], back [N]       by N records, or one\nstep [N], stepback [N]      by N events, or one: a step, or what a record does besides\ngoto K, goto K.J, goto end  below K records; and J steps of the next; the last position\nbreak SLOT ADDRESS          a breakpoint of the slot's process\nwatch SLOT ADDRESS N        watches N bytes of its memory, 1 to 16\npoints, clear               what is set; takes all of them away\ncontinue, reverse           on to the next breakpoint or change of watched bytes, or back\nuntil SLOT TYPE             on to a kernel call of the slot's process, as TIMES or 0x601\nuntil death SLOT            on to its death\nuntil message FROM TO       on to what one slot's process gets of another\nwhere, why                  the position again; what the record above did\nps, messages                the report; what was delivered\nregs [SLOT]                 registers of the slot's process\nmem SLOT ADDRESS N          N bytes of its memory\nlist [SLOT [ADDRESS]]       its code, from the address or from EIP on\nstack [SLOT [N]]            N dwords of its stack, or eight\nprint SLOT NAME             its variable of that name\nhelp, quit                  this; the end\nA record is one event; back N is N steps of a process, and then its return.\nA command may be shortened, as f or stepb. Without SLOT it is the process on the\nprocessor whose record is next. ADDRESS is a number, decimal or 0x.., or a symbol\nof the slot's program, as count or top+4.\n"
+help_text =
+    codes "forward [N], back [N]       by N records, or one\nstep [N], stepback [N]      by N events, or one: a step, or what a record does besides\ngoto K, goto K.J, goto end  below K records; and J steps of the next; the last position\nbreak SLOT ADDRESS          a breakpoint of the slot's process\nwatch SLOT ADDRESS N        watches N bytes of its memory, 1 to 16\npoints, clear               what is set; takes all of them away\ncontinue, reverse           on to the next breakpoint or change of watched bytes, or back\nuntil SLOT TYPE             on to a kernel call of the slot's process, as TIMES or 0x601\nuntil death SLOT            on to its death\nuntil message FROM TO       on to what one slot's process gets of another\nwhere, why                  the position again; what the record above did\nps, messages                the report; what was delivered\nregs [SLOT]                 registers of the slot's process\nmem SLOT ADDRESS N          N bytes of its memory\nlist [SLOT [ADDRESS]]       its code, from the address or from EIP on\nstack [SLOT [N]]            N dwords of its stack, or eight\nprint SLOT NAME             its variable of that name\nhelp, quit                  this; the end\nA record is one event; back N is N steps of a process, and then its return.\nA command may be shortened, as f or stepb. Without SLOT it is the process on the\nprocessor whose record is next. ADDRESS is a number, decimal or 0x.., or a symbol\nof the slot's program, as count or top+4.\n"
 
 -- ---- REQUESTS
 
@@ -64,8 +65,10 @@ request_text k (Forward n) = place_text (after k (Forward n))
 request_text k (Back n) = place_text (after k (Back n))
 request_text k (Step n) = place_text (after k (Step n))
 request_text k (StepBack n) = place_text (after k (StepBack n))
-request_text k (GoTo p) = if can_go k (position_asked k p) then place_text (after k (GoTo p)) else codes "refused 63 NoPosition\n"
-request_text k (Until h) = if has_slots k h then (until_halt k h).1 ++ place_text (after k (Until h)) else codes "refused 42 NoService\n"
+request_text k (GoTo p) =
+    if can_go k (position_asked k p) then place_text (after k (GoTo p)) else codes "refused 63 NoPosition\n"
+request_text k (Until h) =
+    if has_slots k h then (until_halt k h).1 ++ place_text (after k (Until h)) else codes "refused 42 NoService\n"
 request_text k Where = place_text k
 request_text k Why = why_text k
 request_text k Processes = processes_text (world_here k)
@@ -77,7 +80,8 @@ request_text k _ = []
 
 -- what each leaves in hand, and what it prints
 abbrev pub IsMade : Sight → Request → Sight → List ℕ → Type 0
-IsMade s (Point p) u text = (u ≡ record s { points = (point_made s p).1 }) × (text ≡ point_text (point_made s p).1 (point_made s p).0)
+IsMade s (Point p) u text =
+    (u ≡ record s { points = (point_made s p).1 }) × (text ≡ point_text (point_made s p).1 (point_made s p).0)
 IsMade s Continue u text = IsGoneOn s u text
 IsMade s Reverse u text = IsGoneBack s u text
 IsMade s r u text = (u ≡ record s { walker = after s.walker r }) × (text ≡ request_text s.walker r)

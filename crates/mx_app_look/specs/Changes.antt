@@ -28,7 +28,8 @@ bytes_of w x = listed_bytes w (places_of x)
 -- the line of a watch, if its bytes changed
 abbrev pub change_line : Watch → List ℕ → List ℕ → List ℕ
 change_line x before after = if pointwise nat_eq before after then [] else
-    codes "watch " ++ decimal x.slot ++ codes " " ++ eight_digits x.address ++ codes ":" ++ flat_map byte_field before ++ codes " ->" ++ flat_map byte_field after ++ codes "\n"
+    codes "watch " ++ decimal x.slot ++ codes " " ++ eight_digits x.address ++ codes ":" ++ flat_map byte_field before
+    ++ codes " ->" ++ flat_map byte_field after ++ codes "\n"
 
 -- a watch and its bytes, as they are in a world, and as they were seen
 abbrev pub seen_in : World → Watch → Watch × List ℕ

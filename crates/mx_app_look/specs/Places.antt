@@ -29,14 +29,16 @@ position_text p = decimal p.records ++ steps_text p.steps
 -- ---- the record below, with its number
 
 abbrev pub record_line : ℕ → Record → List ℕ
-record_line n x = codes ", record " ++ decimal n ++ codes ": " ++ decimal x.actor ++ codes " " ++ event_text x.event ++ codes "\n"
+record_line n x =
+    codes ", record " ++ decimal n ++ codes ": " ++ decimal x.actor ++ codes " " ++ event_text x.event ++ codes "\n"
 
 -- ---- the next step: whose it is, and its instruction
 
 abbrev pub process_line : World → Option HeldProcess → List ℕ
 process_line w None = []
 process_line w (Some l) =
-    who (glance_of w) l.slot ++ codes " " ++ code_line (symbols_by (slice_get w.services l.slot)) l.out.image l.out.image.eip
+    who (glance_of w) l.slot ++ codes " "
+    ++ code_line (symbols_by (slice_get w.services l.slot)) l.out.image l.out.image.eip
 
 -- of the event below, if it is a step
 abbrev pub step_line : World → Option (ℕ × Event) → List ℕ
@@ -55,4 +57,6 @@ rest_of_place k None = codes ", the end\n"
 rest_of_place k (Some x) = record_line (k.here.records + 1) x ++ below_line k (refusal_here k)
 
 unfoldable pub place_text : Walk → List ℕ
-place_text k = codes "at " ++ position_text k.here ++ codes " of " ++ decimal (length k.records) ++ rest_of_place k (slice_get k.records k.here.records)
+place_text k =
+    codes "at " ++ position_text k.here ++ codes " of " ++ decimal (length k.records)
+    ++ rest_of_place k (slice_get k.records k.here.records)

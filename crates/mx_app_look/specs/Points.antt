@@ -11,7 +11,9 @@ abbrev pub break_line : Breakpoint → List ℕ
 break_line p = codes "break " ++ decimal p.slot ++ codes " " ++ eight_digits p.address ++ codes "\n"
 
 abbrev pub watch_line : Watch → List ℕ
-watch_line x = codes "watch " ++ decimal x.slot ++ codes " " ++ eight_digits x.address ++ codes " " ++ decimal x.count ++ codes "\n"
+watch_line x =
+    codes "watch " ++ decimal x.slot ++ codes " " ++ eight_digits x.address ++ codes " " ++ decimal x.count
+    ++ codes "\n"
 
 -- the breakpoints, and then the watches
 abbrev pub points_text : Points → List ℕ

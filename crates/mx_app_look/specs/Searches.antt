@@ -41,7 +41,8 @@ IsHaltAfter k s p false h = IsHalt k s p h
 
 abbrev pub IsHaltBy : Walk → Points → Option (ℕ × Event) → Position × List ℕ → Type 0
 IsHaltBy k s None h = h ≡ (k.here, not_met)
-IsHaltBy k s (Some x) h = IsHaltAfter k s (next_position k.records k.here) (is_marked (changes_watched s) (world_here k) x) h
+IsHaltBy k s (Some x) h =
+    IsHaltAfter k s (next_position k.records k.here) (is_marked (changes_watched s) (world_here k) x) h
 
 -- the event that can be made here
 abbrev pub next_made : Walk → Option (ℕ × Event)

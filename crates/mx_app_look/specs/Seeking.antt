@@ -33,7 +33,8 @@ abbrev pub break_at : List Breakpoint → ℕ → Result ℕ Refused → Result 
 break_at bs slot (Err r) = (Err r, bs)
 break_at bs slot (Ok at) = break_added bs (with_point bs slot at)
 
-abbrev pub break_in : Walk → List Breakpoint → AddressWord → Result ℕ Refused → Result (Unit {0}) Refused × List Breakpoint
+abbrev pub break_in : Walk → List Breakpoint → AddressWord → Result ℕ Refused
+    → Result (Unit {0}) Refused × List Breakpoint
 break_in k bs at (Err r) = (Err r, bs)
 break_in k bs at (Ok slot) = break_at bs slot (address_asked (world_here k) slot at)
 
@@ -47,9 +48,11 @@ by_debugger (Err e, xs) = (Err (ByDebugger e), xs)
 
 abbrev pub watch_at : Walk → List Watched → ℕ → ℕ → Result ℕ Refused → Result (Unit {0}) Refused × List Watched
 watch_at k xs slot n (Err r) = (Err r, xs)
-watch_at k xs slot n (Ok at) = by_debugger (watch_set xs (limit_in (world_here k) slot) (record { slot = slot; address = at; count = n }))
+watch_at k xs slot n (Ok at) =
+    by_debugger (watch_set xs (limit_in (world_here k) slot) (record { slot = slot; address = at; count = n }))
 
-abbrev pub watch_in : Walk → List Watched → AddressWord → ℕ → Result ℕ Refused → Result (Unit {0}) Refused × List Watched
+abbrev pub watch_in : Walk → List Watched → AddressWord → ℕ → Result ℕ Refused
+    → Result (Unit {0}) Refused × List Watched
 watch_in k xs at n (Err r) = (Err r, xs)
 watch_in k xs at n (Ok slot) = watch_at k xs slot n (address_asked (world_here k) slot at)
 
@@ -58,8 +61,10 @@ watches_after k xs slot at n = watch_in k xs at n (slot_asked k (Some slot))
 
 -- whether a change is done, or why not; and what is set after it
 abbrev pub points_after : Walk → Points → PointRequest → Option (Result (Unit {0}) Refused) × Points
-points_after k s (Break slot at) = let r = breaks_after k s.breakpoints slot at in (Some r.0, record s { breakpoints = r.1 })
-points_after k s (Watch slot at n) = let r = watches_after k s.watches slot at n in (Some r.0, record s { watches = r.1 })
+points_after k s (Break slot at) =
+    let r = breaks_after k s.breakpoints slot at in (Some r.0, record s { breakpoints = r.1 })
+points_after k s (Watch slot at n) =
+    let r = watches_after k s.watches slot at n in (Some r.0, record s { watches = r.1 })
 points_after k s Show = (None, s)
 points_after k s Clear = (Some (Ok tt), record { breakpoints = []; watches = [] })
 

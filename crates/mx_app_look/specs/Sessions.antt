@@ -102,5 +102,6 @@ IsCutOff f = IsUntyped f ⊎ IsWanting f
 abbrev pub HasFailed : List ℕ → List ℕ → List Asked → List Part → Failure → Type 0
 HasFailed config log qs ps f =
     ((ps ≡ []) × IsNotStarted IsSaved TellsSaved config log qs f)
-    ⊎ ((c : Config) × (vs : List Service) × (records : List Record) × (last : Position) × IsStart IsSaved config log qs c vs records
+    ⊎ ((c : Config) × (vs : List Service) × (records : List Record) × (last : Position)
+    × IsStart IsSaved config log qs c vs records
     × IsLast (world_at_boot c vs) records last × HasGrown (walk_shown records last) ps × IsCutOff f)

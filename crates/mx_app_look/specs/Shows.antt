@@ -55,13 +55,14 @@ IsShownAfter k s p false ps = (more : List Part) × (ps ≡ shown_to k p ++ more
 
 abbrev pub IsShownFrom : Walk → Points → Option (ℕ × Event) → List Part → Type 0
 IsShownFrom k s None ps = ps ≡ []
-IsShownFrom k s (Some x) ps = IsShownAfter k s (next_position k.records k.here) (is_marked (changes_watched s) (world_here k) x) ps
+IsShownFrom k s (Some x) ps =
+    IsShownAfter k s (next_position k.records k.here) (is_marked (changes_watched s) (world_here k) x) ps
 
 abbrev pub IsNextShown : Walk → Points → List Part → Type 0
 IsNextShown k s ps = IsShownFrom k s (next_made k) ps
 
--- ---- a search back: from the first position to here, then to the halt; and if an event is met, past it and back again,
--- so that changed bytes are seen
+-- ---- a search back: from the first position to here, then to the halt; and if an event is met, past it and back
+-- again, so that changed bytes are seen
 
 abbrev pub return_shown : Walk → Position → Position → List Part
 return_shown k p q = shown_way k p q ++ shown_way k q p
@@ -70,7 +71,8 @@ abbrev pub IsLastShown : Walk → Points → List Part → Type 0
 IsLastShown k s ps =
     ((p : Position) × IsPosition k.records p × IsLastMarked (is_looked_for s) k.boot k.records p k.here
     × (ps ≡ (walk_shown k.records k.here ++ shown_to k p) ++ return_shown k p (next_position k.records p)))
-    ⊎ (IsPassed (is_looked_for s) k.boot k.records first k.here × (ps ≡ walk_shown k.records k.here ++ shown_to k first))
+    ⊎ (IsPassed (is_looked_for s) k.boot k.records first k.here
+        × (ps ≡ walk_shown k.records k.here ++ shown_to k first))
 
 -- ---- REQUESTS
 

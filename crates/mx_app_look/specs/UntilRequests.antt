@@ -39,4 +39,5 @@ delivery_asked fs = do
 abbrev pub until_asked : List (List ℕ) → Option Happening
 until_asked [] = None
 until_asked (f ∷ fs) =
-    if bytes_eq f (codes "death") then death_asked fs else if bytes_eq f (codes "message") then delivery_asked fs else call_asked f fs
+    if bytes_eq f (codes "death") then death_asked fs else if bytes_eq f (codes "message") then delivery_asked fs
+    else call_asked f fs

@@ -32,7 +32,9 @@ verb_word Where = codes "where"
 verb_word Why = codes "why"
 
 abbrev pub verbs : List Verb
-verbs = Back ∷ Break ∷ Clear ∷ Continue ∷ Forward ∷ GoTo ∷ Help ∷ Listing ∷ Memory ∷ Messages ∷ Points ∷ Print ∷ Processes ∷ Quit ∷ Registers ∷ Reverse ∷ Stack ∷ Step ∷ StepBack ∷ Until ∷ Watch ∷ Where ∷ Why ∷ []
+verbs =
+    Back ∷ Break ∷ Clear ∷ Continue ∷ Forward ∷ GoTo ∷ Help ∷ Listing ∷ Memory ∷ Messages ∷ Points ∷ Print ∷ Processes
+    ∷ Quit ∷ Registers ∷ Reverse ∷ Stack ∷ Step ∷ StepBack ∷ Until ∷ Watch ∷ Where ∷ Why ∷ []
 
 -- a word is a front of the verb's
 abbrev pub begins_verb : List ℕ → Verb → Bool

@@ -20,7 +20,8 @@ is_watch x y = (y.slot == x.slot) && (y.address == x.address) && (y.count == x.c
 
 -- with one more, eight at most over all slots; one that is there already isn't added again
 abbrev pub with_watch : List Watch → Watch → Option (List Watch)
-with_watch xs x = if list_any (is_watch x) xs then Some xs else if nat_lt (length xs) 8 then Some (xs ++ x ∷ []) else None
+with_watch xs x =
+    if list_any (is_watch x) xs then Some xs else if nat_lt (length xs) 8 then Some (xs ++ x ∷ []) else None
 
 abbrev pub watch_added : List Watch → Option (List Watch) → Result (Unit {0}) DebugError × List Watch
 watch_added xs None = (Err TooMany, xs)

@@ -40,7 +40,8 @@ abbrev pub AllAtAddress : List ℕ → LinesAbove → SectionSizes → List Line
 AllAtAddress code a s [] bs = ⊤
 AllAtAddress code a s (l ∷ ls) [] = ⊤
 AllAtAddress code a s (l ∷ ls) (b ∷ bs) =
-    StandIfText s.section code (address_of_offset a (section_offset_of s)) b × AllAtAddress code a (sizes_after s (statement_said l) (length b)) ls bs
+    StandIfText s.section code (address_of_offset a (section_offset_of s)) b
+    × AllAtAddress code a (sizes_after s (statement_said l) (length b)) ls bs
 
 -- ---- instructions in the listing
 
@@ -54,8 +55,10 @@ IsListed parts at b i = Spells b i × HasAt parts at i (length b)
 
 -- the instruction of a statement is listed; a directive has none
 abbrev pub StatementListed : LinesAbove → ℕ → Statement → List ℕ → List Part → Type 0
-StatementListed a at (says.Instruction i) b parts = (insn : Insn) × (named_under a i ≡ Some insn) × IsListed parts at b insn
-StatementListed a at (says.Branch k target) b parts = (x : ℕ) × (value_under a target ≡ Some x) × IsListed parts at b (branch_by k (distance (at + length b) x))
+StatementListed a at (says.Instruction i) b parts =
+    (insn : Insn) × (named_under a i ≡ Some insn) × IsListed parts at b insn
+StatementListed a at (says.Branch k target) b parts =
+    (x : ℕ) × (value_under a target ≡ Some x) × IsListed parts at b (branch_by k (distance (at + length b) x))
 StatementListed a at _ b parts = ⊤
 
 abbrev pub ListedIfText : Section → LinesAbove → ℕ → Statement → List ℕ → List Part → Type 0
@@ -75,7 +78,8 @@ AllListed parts a s [] bs = ⊤
 AllListed parts a s (l ∷ ls) [] = ⊤
 AllListed parts a s (l ∷ ls) (b ∷ bs) =
     ListedIfText s.section a (address_of_offset a (section_offset_of s)) (statement_said l) b parts
-    × (put_by_directive s.section (statement_said l) b ≡ [] → AllListed parts a (sizes_after s (statement_said l) (length b)) ls bs)
+    × (put_by_directive s.section (statement_said l) b ≡ []
+        → AllListed parts a (sizes_after s (statement_said l) (length b)) ls bs)
 
 -- ---- a text that is assembled
 

@@ -14,13 +14,15 @@ use Rattle.mx_print_answers.specs.Stops.{stop_text}
 
 -- the lines that are printed of an image after n steps that ended so
 abbrev pub one_text : ℕ → Stop → Image → List ℕ
-one_text count stop image = register_lines image ++ codes "stop " ++ stop_text stop ++ codes " after " ++ decimal count ++ codes "\n"
+one_text count stop image =
+    register_lines image ++ codes "stop " ++ stop_text stop ++ codes " after " ++ decimal count ++ codes "\n"
 
 -- the first refusal that applies; or the count, the stop and the image after at most n steps from the image of the
 -- program that the bytes are a file of, unless memory runs out
 abbrev pub Answers : Option FileError → List ℕ → ℕ → Result (ℕ × Stop × Image) FileError → Type 0
 Answers (Some e) b n r = r ≡ Err e
-Answers None b n (Ok r) = (p : Program) × FileIs b p × (run_of n (image_of_program p) ≡ record { count = r.0; stop = r.1; image = r.2 })
+Answers None b n (Ok r) =
+    (p : Program) × FileIs b p × (run_of n (image_of_program p) ≡ record { count = r.0; stop = r.1; image = r.2 })
 Answers None b n (Err e) = e ≡ NoMemory
 
 -- the text is what is printed of at most n steps of the program that the bytes are a file of

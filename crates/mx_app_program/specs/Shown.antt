@@ -19,7 +19,8 @@ abbrev pub IsShown : (Program → List ℕ → Type 0) → List ℕ → List ℕ
 IsShown Has b text = (p : Program) × FileIs b p × Has p text
 
 -- the first refusal that applies, or a text of the program that the bytes are a file of, unless memory runs out
-abbrev pub Shows : {S : Type 0} → (S → List ℕ) → (Program → List ℕ → Type 0) → Option FileError → List ℕ → Result S FileError → Type 0
+abbrev pub Shows : {S : Type 0} → (S → List ℕ) → (Program → List ℕ → Type 0) → Option FileError → List ℕ
+    → Result S FileError → Type 0
 Shows bytes_of Has (Some e) b r = r ≡ Err e
 Shows bytes_of Has None b (Ok text) = IsShown Has b (bytes_of text)
 Shows bytes_of Has None b (Err e) = e ≡ NoMemory

@@ -39,12 +39,14 @@ call_line others line = if nat_lt others 2 then None else call_of_fields (fields
 
 -- the calls of a file were read
 abbrev pub AreCallsGiven : List ℕ → Asked → ℕ → List OutsideCall → Type 0
-AreCallsGiven name q others xs = (text : List ℕ) × IsTextGiven name q text × AreLinesRead (call_line others) (lines text) xs
+AreCallsGiven name q others xs =
+    (text : List ℕ) × IsTextGiven name q text × AreLinesRead (call_line others) (lines text) xs
 
 -- why they weren't: the file is missed or no text, or its first line at fault
 abbrev pub IsCallsFault : List ℕ → Asked → ℕ → Kind → Type 0
 IsCallsFault name q others f =
-    IsNoTextGiven Course name q f ⊎ IsTextFaulty (λ text e. TellsUnread (call_line others) (lines text) e) Course name q f
+    IsNoTextGiven Course name q f
+    ⊎ IsTextFaulty (λ text e. TellsUnread (call_line others) (lines text) e) Course name q f
 
 -- 1 for a tick, and 0 for another call
 abbrev pub tick_of : OutsideCall → ℕ

@@ -12,19 +12,21 @@ is_full_at log records = nat_lt (log - records) 2
 abbrev pub may_end : ℕ → ℕ → Bool → Bool → Bool
 may_end log records at_rest is_done = (at_rest && is_done) || is_full_at log records
 
--- when it ends: at rest only if an earlier question came after all ticks and calls, at a full history only if an earlier
--- one came with it. There the outsider's wait ends too
+-- when it ends: at rest only if an earlier question came after all ticks and calls, at a full history only if an
+-- earlier one came with it. There the outsider's wait ends too
 abbrev pub is_settled : ℕ → ℕ → ℕ → HowFar → Bool → Bool → Bool → Bool
 is_settled respawner log actor far is_done was_past_all has_seen_full =
-    if is_full_at log far.records then has_seen_full && (is_done || nat_lt respawner actor) else far.at_rest && is_done && was_past_all
+    if is_full_at log far.records then has_seen_full && (is_done || nat_lt respawner actor)
+    else far.at_rest && is_done && was_past_all
 
 -- a loop sleeps a millisecond at most
 abbrev pub nap_after : ℕ → Bool → ℕ
 nap_after questions is_respawner = if is_respawner || nat_lt 16 questions then 1 else 0
 
--- A CALL OF THE GATE showed how many records the history has, of so many that it may have, if an actor saw it then; and a
--- loop that it ended may end
+-- A CALL OF THE GATE showed how many records the history has, of so many that it may have, if an actor saw it then; and
+-- a loop that it ended may end
 abbrev pub shows : (Part → Type 0) → ℕ → GateCall → Type 0
 shows WasShown log (seen_call actor records) = WasShown (record { done = records; all = log })
-shows WasShown log (asked_call actor records at_rest is_done goes_on) = goes_on ≡ false → may_end log records at_rest is_done ≡ true
+shows WasShown log (asked_call actor records at_rest is_done goes_on) =
+    goes_on ≡ false → may_end log records at_rest is_done ≡ true
 shows WasShown log _ = Unit {0}

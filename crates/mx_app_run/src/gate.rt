@@ -85,9 +85,9 @@ pub(crate) fn is_full_at(log: usize, records: usize) -> bool
     log.saturating_sub(records) < TURN
 }
 
-/// Whether a loop ends. The machine is at rest, its work is done, and an earlier question of it came after all ticks and
-/// calls: nothing can become ready then. Or the history is full, as at an earlier question of it; the outsider's wait
-/// ends then too.
+/// Whether a loop ends. The machine is at rest, its work is done, and an earlier question of it came after all ticks
+/// and calls: nothing can become ready then. Or the history is full, as at an earlier question of it; the outsider's
+/// wait ends then too.
 fn is_settled(plan: RunPlan, actor: u8, far: HowFar, is_done: bool, earlier: Earlier) -> bool
     ensures value { result ≡ is_settled plan.respawner plan.log
         actor far is_done earlier.is_past_all earlier.has_seen_full }

@@ -18,7 +18,8 @@ TellsScript text config e = TellsUnread script_line (lines text) e
 
 -- by the machine's actors; it boots by the rules that the text says, whatever the configuration says
 abbrev pub IsSaved : List ℕ → Config → Config → List Record → Type 0
-IsSaved text read config records = (rules : Rules) × IsHistory (read.cpus + read.others) text rules records × (config ≡ record read { rules = rules })
+IsSaved text read config records =
+    (rules : Rules) × IsHistory (read.cpus + read.others) text rules records × (config ≡ record read { rules = rules })
 
 abbrev pub TellsSaved : List ℕ → Config → BootError → Type 0
 TellsSaved text config e = TellsHistoryFault (config.cpus + config.others) text e

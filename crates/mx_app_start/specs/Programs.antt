@@ -1,4 +1,5 @@
--- The programs of a configuration, by the names of their files, and a history that is written over none of them (our own).
+-- The programs of a configuration, by the names of their files, and a history that is written over none of them (our
+-- own).
 use Rattle.std.specs.Prelude.{◌≡◌, ℕ, Bool, true, List, [], Some}
 use Rattle.std.specs.List.{list_any}
 use Rattle.std.specs.Str.{bytes_eq}

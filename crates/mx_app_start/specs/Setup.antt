@@ -30,7 +30,9 @@ IsTextGiven name q text = (q ≡ file_given name text) × ∥ IsUtf8 text ∥₁
 
 -- why they are none
 abbrev pub IsNoText : List ℕ → Asked → Option FileProblem → Type 0
-IsNoText name q p = IsFileMissed name q p ⊎ ((bytes : List ℕ) × (q ≡ file_given name bytes) × (¬ (IsUtf8 bytes)) × (p ≡ Some (problem_of_bytes bytes)))
+IsNoText name q p =
+    IsFileMissed name q p
+    ⊎ ((bytes : List ℕ) × (q ≡ file_given name bytes) × (¬ (IsUtf8 bytes)) × (p ≡ Some (problem_of_bytes bytes)))
 
 -- the failure says of which file, by what it is to the command
 abbrev pub IsNoTextGiven : About → List ℕ → Asked → Failure → Type 0
@@ -38,7 +40,8 @@ IsNoTextGiven about name q f = (p : Option FileProblem) × IsNoText name q p × 
 
 -- a text with this fault, as `Tells` has it
 abbrev pub IsTextFaulty : (List ℕ → BootError → Type 0) → About → List ℕ → Asked → Failure → Type 0
-IsTextFaulty Tells about name q f = (text : List ℕ) × (e : BootError) × IsTextGiven name q text × Tells text e × IsMisstated e about text f
+IsTextFaulty Tells about name q f =
+    (text : List ℕ) × (e : BootError) × IsTextGiven name q text × Tells text e × IsMisstated e about text f
 
 -- ---- a configuration
 
@@ -66,7 +69,8 @@ IsServiceRead line q v = (bytes : List ℕ) × (q ≡ file_given line.file bytes
 abbrev pub IsLineRefused : ServiceLine → Asked → Option FileProblem → Type 0
 IsLineRefused line q p =
     IsFileMissed line.file q p
-    ⊎ ((bytes : List ℕ) × (e : FileError) × (q ≡ file_given line.file bytes) × ReadsFile (refusal_of bytes) bytes (Err e) × (p ≡ problem_of_refusal e))
+    ⊎ ((bytes : List ℕ) × (e : FileError) × (q ≡ file_given line.file bytes)
+        × ReadsFile (refusal_of bytes) bytes (Err e) × (p ≡ problem_of_refusal e))
 
 -- each line's file was asked for, in order
 abbrev pub AreServicesRead : List ServiceLine → List Asked → List Service → Type 0
@@ -78,15 +82,18 @@ AreServicesRead _ _ _ = ⊥
 -- each of which was read
 abbrev pub IsFirstRefused : List ServiceLine → List Asked → ℕ → Option FileProblem → Type 0
 IsFirstRefused lines qs n p =
-    ((above below : List ServiceLine) × (line : ServiceLine) × (before : List Asked) × (q : Asked) × (services : List Service)
-    × (lines ≡ above ++ line ∷ below) × (length above ≡ n) × (qs ≡ before ++ q ∷ []) × AreServicesRead above before services × IsLineRefused line q p)
+    ((above below : List ServiceLine) × (line : ServiceLine) × (before : List Asked) × (q : Asked)
+    × (services : List Service)
+    × (lines ≡ above ++ line ∷ below) × (length above ≡ n) × (qs ≡ before ++ q ∷ [])
+    × AreServicesRead above before services × IsLineRefused line q p)
     ⊎ ((above below : List ServiceLine) × (services : List Service)
     × (lines ≡ above ++ below) × AreServicesRead above qs services × (p ≡ None))
 
 -- the failure has the name of the program's file
 abbrev pub IsServiceFailure : List ℕ → Option FileProblem → Failure → Type 0
 IsServiceFailure name None f = f ≡ NoMemory
-IsServiceFailure name (Some p) f = (s : String Global) × (string_bytes s ≡ name) × (f ≡ failure_if (Some p) (about.Service s))
+IsServiceFailure name (Some p) f =
+    (s : String Global) × (string_bytes s ≡ name) × (f ≡ failure_if (Some p) (about.Service s))
 
 abbrev pub IsServicesFault : List ServiceLine → List Asked → Failure → Type 0
 IsServicesFault lines qs f =
@@ -110,10 +117,12 @@ IsSetupFault name qs f =
 -- ---- and the text that drives the machine
 
 -- the text after them says this, as `Says` has it, and the machine boots by this configuration
-abbrev pub IsStart : {L : Type 0} → (List ℕ → Config → Config → List L → Type 0) → List ℕ → List ℕ → List Asked → Config → List Service → List L → Type 0
+abbrev pub IsStart : {L : Type 0} → (List ℕ → Config → Config → List L → Type 0) → List ℕ → List ℕ → List Asked → Config
+    → List Service → List L → Type 0
 IsStart Says config_name name qs config services lines =
     (before : List Asked) × (q : Asked) × (text : List ℕ) × (read : Config)
-    × (qs ≡ before ++ q ∷ []) × IsSetup config_name before read services × IsTextGiven name q text × Says text read config lines
+    × (qs ≡ before ++ q ∷ []) × IsSetup config_name before read services × IsTextGiven name q text
+    × Says text read config lines
 
 -- the first fault of all
 abbrev pub IsFirstFault : (List ℕ → Config → BootError → Type 0) → List ℕ → List ℕ → List Asked → Failure → Type 0
@@ -124,7 +133,9 @@ IsFirstFault Tells config_name name qs f =
     × (IsNoTextGiven about.Course name q f ⊎ IsTextFaulty (λ text e. Tells text config e) about.Course name q f))
 
 -- no machine was started: that fault; or, where there is none, out of memory
-abbrev pub IsNotStarted : {L : Type 0} → (List ℕ → Config → Config → List L → Type 0) → (List ℕ → Config → BootError → Type 0) → List ℕ → List ℕ → List Asked → Failure → Type 0
+abbrev pub IsNotStarted : {L : Type 0} → (List ℕ → Config → Config → List L → Type 0)
+    → (List ℕ → Config → BootError → Type 0) → List ℕ → List ℕ → List Asked → Failure → Type 0
 IsNotStarted {L} Says Tells config_name name qs f =
     IsFirstFault Tells config_name name qs f
-    ⊎ ((c : Config) × (services : List Service) × (said : List L) × IsStart Says config_name name qs c services said × (f ≡ NoMemory))
+    ⊎ ((c : Config) × (services : List Service) × (said : List L) × IsStart Says config_name name qs c services said
+        × (f ≡ NoMemory))

@@ -11,10 +11,12 @@ use Rattle.mx_app_start.specs.Setup.{IsNotStarted, IsStart}
 use Rattle.mx_app_start.specs.Written.{Written, kept, unkept}
 
 -- no machine was started; or one was, and it can't be printed, or memory is out
-abbrev pub IsTold : {L : Type 0} → (List ℕ → Config → Config → List L → Type 0) → (List ℕ → Config → BootError → Type 0) → List ℕ → List ℕ → List Asked → Failure → Type 0
+abbrev pub IsTold : {L : Type 0} → (List ℕ → Config → Config → List L → Type 0) → (List ℕ → Config → BootError → Type 0)
+    → List ℕ → List ℕ → List Asked → Failure → Type 0
 IsTold {L} Says Tells config name qs f =
     IsNotStarted Says Tells config name qs f
-    ⊎ ((c : Config) × (services : List Service) × (said : List L) × IsStart Says config name qs c services said × IsWanting f)
+    ⊎ ((c : Config) × (services : List Service) × (said : List L) × IsStart Says config name qs c services said
+        × IsWanting f)
 
 -- ---- a text that is saved before the report is printed
 

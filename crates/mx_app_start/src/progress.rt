@@ -72,8 +72,8 @@ impl<'a, R: Clock> ProgressLine<'a, R> {
         Some(u64::try_from(passed.as_millis()).unwrap_or(NEVER))
     }
 
-    /// Gives a new work its own second. A part begins one if the line was taken away since the last part, and this one's
-    /// number isn't higher, or it comes after a pause: a session waits for its reader between its lines.
+    /// Gives a new work its own second. A part begins one if the line was taken away since the last part, and this
+    /// one's number isn't higher, or it comes after a pause: a session waits for its reader between its lines.
     fn begin_if_new(&self, now: u64, done: u64) {
         let cleared = self.cleared.swap(NEVER, Ordering::SeqCst);
         let last = self.last.swap(done, Ordering::SeqCst);

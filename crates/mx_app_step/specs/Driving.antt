@@ -27,4 +27,5 @@ number_text false n = []
 -- what lines in a row print, if `prints` is what one prints; the first is line n
 abbrev pub lines_text : {S L : Type 0} → (S → L → S) → (S → L → List ℕ) → Bool → ℕ → S → List L → List ℕ
 lines_text does prints numbered n s [] = []
-lines_text does prints numbered n s (l ∷ ls) = (number_text numbered n ++ prints s l) ++ lines_text does prints numbered (n + 1) (does s l) ls
+lines_text does prints numbered n s (l ∷ ls) =
+    (number_text numbered n ++ prints s l) ++ lines_text does prints numbered (n + 1) (does s l) ls

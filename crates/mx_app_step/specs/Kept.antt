@@ -54,4 +54,5 @@ IsUnwritten name text ws f =
 -- why a history isn't written and then reported: the text isn't written, and nothing is printed; or the report wants
 -- memory or an output
 abbrev pub IsUnreported : List ℕ → List ℕ → List Written → (List ℕ → Type 0) → Failure → Type 0
-IsUnreported name text ws Prints f = (IsUnwritten name text ws f × Prints []) ⊎ ((ws ≡ kept name text ∷ []) × IsWanting f)
+IsUnreported name text ws Prints f =
+    (IsUnwritten name text ws f × Prints []) ⊎ ((ws ≡ kept name text ∷ []) × IsWanting f)

@@ -1,5 +1,5 @@
--- The answers to the lines of a script as they are printed: after their lines' numbers, or without (our own). Each line of a
--- script has an answer, so the answers' numbers are those of the lines.
+-- The answers to the lines of a script as they are printed: after their lines' numbers, or without (our own). Each line
+-- of a script has an answer, so the answers' numbers are those of the lines.
 use Rattle.std.specs.Prelude.{ℕ, ◌+◌, Bool, true, false, List, [], ◌∷◌, ◌++◌, codes}
 use Rattle.std.specs.Fmt.{decimal}
 use Rattle.mx_print_answers.specs.declared.said.Said.{Said}

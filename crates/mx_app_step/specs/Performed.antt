@@ -7,7 +7,8 @@ use Rattle.mx_app_step.specs.Kept.{event_of_line, kept_by}
 use Rattle.mx_app_step.specs.Lines.{line_made}
 
 abbrev pub script_does : {P : Type 0} → ℕ → Driven P → ScriptLine → Driven P
-script_does other d l = record d { world = (line_made d.world other l).1; kernel = kept_by d.kernel d.world (event_of_line other l) }
+script_does other d l =
+    record d { world = (line_made d.world other l).1; kernel = kept_by d.kernel d.world (event_of_line other l) }
 
 abbrev pub script_prints : {P : Type 0} → ℕ → Driven P → ScriptLine → List ℕ
 script_prints other d l = said_line (line_made d.world other l).0 ++ codes "\n"

@@ -16,14 +16,17 @@ use Rattle.mx_print_answers.specs.Said.{refusal_line}
 -- the first of these events that isn't accepted is refused for this
 abbrev pub IsFirstRefusal : World → List (ℕ × Event) → Refusal → Type 0
 IsFirstRefusal w [] r = ⊥
-IsFirstRefusal w (x ∷ xs) r = (event_refusal w x.0 x.1 ≡ Some r) ⊎ ((event_refusal w x.0 x.1 ≡ None) × IsFirstRefusal (world_after_event w x.0 x.1) xs r)
+IsFirstRefusal w (x ∷ xs) r =
+    (event_refusal w x.0 x.1 ≡ Some r)
+    ⊎ ((event_refusal w x.0 x.1 ≡ None) × IsFirstRefusal (world_after_event w x.0 x.1) xs r)
 
 -- the record of this number, counted from 1, is of an event that is refused, and those above it are accepted
 abbrev pub IsRefusedAt : World → List Record → ℕ → Refusal → Type 0
 IsRefusedAt w records n r =
     (above below : List Record) × (x : Record)
     × (records ≡ above ++ x ∷ below) × AreAccepted w (events_of_history above)
-    × IsFirstRefusal (world_after_events w (events_of_history above)) (events_of x.actor x.event) r × (n ≡ length above + 1)
+    × IsFirstRefusal (world_after_events w (events_of_history above)) (events_of x.actor x.event) r
+    × (n ≡ length above + 1)
 
 -- the line that is printed of it, by the record's line in the text
 abbrev pub refused_record_line : ℕ → Refusal → List ℕ
@@ -32,5 +35,7 @@ refused_record_line n r = codes "line " ++ decimal n ++ codes ": " ++ refusal_li
 -- what is printed of a history: the report on the world where it leads, or which of its events is refused
 abbrev pub IsReplayPrinted : World → List Record → Replayed → (List ℕ → Type 0) → Type 0
 IsReplayPrinted w records replayed.Whole Prints =
-    AreAccepted w (events_of_history records) × (let u = world_after_events w (events_of_history records) in Prints (report_text u.table u.services))
-IsReplayPrinted w records replayed.Refused Prints = (n : ℕ) × (r : Refusal) × IsRefusedAt w records n r × Prints (refused_record_line (lines_above w.table.rules + n) r)
+    AreAccepted w (events_of_history records)
+    × (let u = world_after_events w (events_of_history records) in Prints (report_text u.table u.services))
+IsReplayPrinted w records replayed.Refused Prints =
+    (n : ℕ) × (r : Refusal) × IsRefusedAt w records n r × Prints (refused_record_line (lines_above w.table.rules + n) r)

@@ -48,12 +48,14 @@ told_of from x = if nat_lt x.number from then [] else record_text x
 -- THE TRACE OF RECORDS, of which the first has this number
 abbrev pub trace_text : ℕ → World → ℕ → List Record → List ℕ
 trace_text from w n [] = []
-trace_text from w n (x ∷ xs) = told_of from (step_of w n x) ++ trace_text from (world_after_events w (events_of x.actor x.event)) (n + 1) xs
+trace_text from w n (x ∷ xs) =
+    told_of from (step_of w n x) ++ trace_text from (world_after_events w (events_of x.actor x.event)) (n + 1) xs
 
 -- the trace of records, or of those above the first that is refused
 abbrev pub IsTraced : World → List Record → ℕ → Option (ℕ × Refusal) → (List ℕ → Type 0) → Type 0
 IsTraced w records from None Prints = AreAccepted w (events_of_history records) × Prints (trace_text from w 1 records)
-IsTraced w records from (Some p) Prints = IsRefusedAt w records p.0 p.1 × Prints (trace_text from w 1 (take (p.0 - 1) records))
+IsTraced w records from (Some p) Prints =
+    IsRefusedAt w records p.0 p.1 × Prints (trace_text from w 1 (take (p.0 - 1) records))
 
 -- WHAT IS PRINTED of records: the trace, or that of those above the first that is refused, and its line
 abbrev pub IsTracePrinted : World → List Record → ℕ → Replayed → (List ℕ → Type 0) → Type 0
@@ -63,6 +65,8 @@ IsTracePrinted w records from replayed.Refused Prints =
     (n : ℕ) × (r : Refusal) × IsRefusedAt w records n r
     × Prints (trace_text from w 1 (take (n - 1) records) ++ refused_record_line (lines_above w.table.rules + n) r)
 
--- TWO PARTS OF A TRACE JOIN: what is printed from a to b, and then from the record after b to c, is what is printed from a to c
+-- TWO PARTS OF A TRACE JOIN: what is printed from a to b, and then from the record after b to c, is what is printed
+-- from a to c
 abbrev pub PartsJoin : World → List Record → ℕ → ℕ → ℕ → Type 0
-PartsJoin w records a b c = trace_text a w 1 (take b records) ++ trace_text (b + 1) w 1 (take c records) ≡ trace_text a w 1 (take c records)
+PartsJoin w records a b c =
+    trace_text a w 1 (take b records) ++ trace_text (b + 1) w 1 (take c records) ≡ trace_text a w 1 (take c records)

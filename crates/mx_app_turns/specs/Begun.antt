@@ -31,9 +31,12 @@ sweep_of s boot = record { boot = boot; other = s.other; records = s.records.now
 
 -- what a sweep is of, from what was read
 abbrev pub begun_of : Begun → ℕ → SweepOf
-begun_of b n = record { boot = world_of b.started.machine; other = b.started.other; records = b.started.lines.items; fault = b.fault.items; bound = n }
+begun_of b n =
+    record { boot = world_of b.started.machine; other = b.started.other; records = b.started.lines.items;
+        fault = b.fault.items; bound = n }
 
 -- what is done of it, or why it isn't finished
-abbrev pub IsDone : SweepOf → ℕ → ℕ → Option (List ℕ) → List Written → List Part → (List ℕ → Type 0) → Result Swept Kind → Type 0
+abbrev pub IsDone : SweepOf → ℕ → ℕ → Option (List ℕ) → List Written → List Part → (List ℕ → Type 0) → Result Swept Kind
+    → Type 0
 IsDone s from to save ws ps Prints (Ok how) = IsSweptThrough s from to save ws ps Prints how
 IsDone s from to save ws ps Prints (Err f) = IsUntold s from to save ws ps f

@@ -15,7 +15,9 @@ pub record Positions : Type 0 where
   pub differs : Option ℕ
 
 abbrev pub head_text : ℕ → ℕ → List ℕ
-head_text first last = if first == last then codes "position " ++ decimal first ++ codes "\n" else codes "positions " ++ decimal first ++ codes " to " ++ decimal last ++ codes "\n"
+head_text first last =
+    if first == last then codes "position " ++ decimal first ++ codes "\n"
+    else codes "positions " ++ decimal first ++ codes " to " ++ decimal last ++ codes "\n"
 
 -- the mark of a block, by its first position that differs
 abbrev pub mark_text : Option ℕ → List ℕ
@@ -36,7 +38,9 @@ longer b next = record b { last = next.last; differs = option_or b.differs next.
 -- BLOCKS: the first, which is open at its end, and those of n more positions from k on
 abbrev pub blocks_from : (ℕ → List ℕ) → (ℕ → Bool) → ℕ → ℕ → Positions → List Positions
 blocks_from f is zero k b = b ∷ []
-blocks_from f is (suc n) k b = if bytes_eq (f k) b.text then blocks_from f is n (k + 1) (longer b (block_at f is k)) else b ∷ blocks_from f is n (k + 1) (block_at f is k)
+blocks_from f is (suc n) k b =
+    if bytes_eq (f k) b.text then blocks_from f is n (k + 1) (longer b (block_at f is k))
+    else b ∷ blocks_from f is n (k + 1) (block_at f is k)
 
 -- those of n positions from k on
 abbrev pub blocks : (ℕ → List ℕ) → (ℕ → Bool) → ℕ → ℕ → List Positions
@@ -50,7 +54,8 @@ count_of is (suc n) k = (if is k then 1 else 0) + count_of is n (k + 1)
 
 abbrev pub total_text : ℕ → ℕ → ℕ → List ℕ
 total_text positions blocks alike =
-    decimal positions ++ codes " positions, " ++ decimal blocks ++ codes " blocks, " ++ decimal alike ++ codes " as without the fault\n"
+    decimal positions ++ codes " positions, " ++ decimal blocks ++ codes " blocks, " ++ decimal alike
+    ++ codes " as without the fault\n"
 
 -- a block as the code has it
 abbrev pub positions_of : Kept → Positions

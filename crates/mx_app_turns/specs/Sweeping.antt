@@ -37,9 +37,11 @@ use Rattle.mx_app_turns.specs.Untested.{untested_by}
 -- ---- what is read
 
 -- the configuration, its services, the history and then the fault were read
-abbrev pub IsBegun : List ℕ → List ℕ → List ℕ → List Asked → Config → List Service → List Record → List FaultLine → Type 0
+abbrev pub IsBegun : List ℕ → List ℕ → List ℕ → List Asked → Config → List Service → List Record → List FaultLine
+    → Type 0
 IsBegun config log fault qs c vs records said =
-    (before : List Asked) × (q : Asked) × (text : List ℕ) × (qs ≡ before ++ q ∷ []) × IsStart IsSaved config log before c vs records
+    (before : List Asked) × (q : Asked) × (text : List ℕ) × (qs ≡ before ++ q ∷ [])
+    × IsStart IsSaved config log before c vs records
     × IsTextGiven fault q text × AreLinesRead fault_line (lines text) said
 
 -- the first fault of these files: no machine was started; or the fault's file is missed or no text, or a line of it
@@ -47,7 +49,8 @@ IsBegun config log fault qs c vs records said =
 abbrev pub IsNotBegun : List ℕ → List ℕ → List ℕ → List Asked → Kind → Type 0
 IsNotBegun config log fault qs f =
     IsNotStarted IsSaved TellsSaved config log qs f
-    ⊎ ((before : List Asked) × (q : Asked) × (c : Config) × (vs : List Service) × (records : List Record) × (qs ≡ before ++ q ∷ [])
+    ⊎ ((before : List Asked) × (q : Asked) × (c : Config) × (vs : List Service) × (records : List Record)
+    × (qs ≡ before ++ q ∷ [])
     × IsStart IsSaved config log before c vs records
     × (IsNoTextGiven Fault fault q f ⊎ IsTextFaulty (λ text e. TellsUnread fault_line (lines text) e) Fault fault q f))
 
@@ -140,7 +143,8 @@ ended None total = if total.alike == total.positions then Alike else Differs
 
 -- HOW A SWEEP ENDS, by what was swept
 abbrev pub ending_of : SweepOf → ℕ → ℕ → Swept
-ending_of s from to = ended (untested_by (length s.fault) from to (total_in s from to) (refusal_at s from)) (total_in s from to)
+ending_of s from to =
+    ended (untested_by (length s.fault) from to (total_in s from to) (refusal_at s from)) (total_in s from to)
 
 -- what was shown of all positions; or, if the sweep failed, of the first n
 abbrev pub IsShown : {X : Type 0} → List Part → List Part → ℕ → Result X Kind → Type 0
@@ -149,28 +153,37 @@ IsShown before after all (Err f) = (n : ℕ) × (n ≤ all) × (after ≡ before
 
 -- WHAT IS DONE OF A HISTORY: a refused event of it is printed; or its positions are swept, shown and printed, and a
 -- history is saved
-abbrev pub IsSweptThrough : SweepOf → ℕ → ℕ → Option (List ℕ) → List Written → List Part → (List ℕ → Type 0) → Swept → Type 0
-IsSweptThrough s from to save ws ps Prints Refused = (ws ≡ []) × (ps ≡ []) × IsReplayPrinted s.boot s.records replayed.Refused Prints
+abbrev pub IsSweptThrough : SweepOf → ℕ → ℕ → Option (List ℕ) → List Written → List Part → (List ℕ → Type 0) → Swept
+    → Type 0
+IsSweptThrough s from to save ws ps Prints Refused =
+    (ws ≡ []) × (ps ≡ []) × IsReplayPrinted s.boot s.records replayed.Refused Prints
 IsSweptThrough s from to save ws ps Prints how =
-    (let n = positions_in s from to in ps ≡ parts_shown n n) × AreAccepted s.boot (events_of_history s.records) × (how ≡ ending_of s from to)
+    (let n = positions_in s from to in ps ≡ parts_shown n n) × AreAccepted s.boot (events_of_history s.records)
+    × (how ≡ ending_of s from to)
     × Prints (sweep_text s from to) × (ws ≡ saved_if (last_text s to) (positions_in s from to) save)
 
 -- why it isn't finished, after it was read: memory or standard output; or the file that is saved
 abbrev pub IsUntold : SweepOf → ℕ → ℕ → Option (List ℕ) → List Written → List Part → Kind → Type 0
 IsUntold s from to save ws ps f =
-    (n : ℕ) × (n ≤ positions_in s from to) × (ps ≡ parts_shown (positions_in s from to) n) × (((ws ≡ []) × IsWanting f) ⊎ IsUnsaved (last_text s to) save ws f)
+    (n : ℕ) × (n ≤ positions_in s from to) × (ps ≡ parts_shown (positions_in s from to) n)
+    × (((ws ≡ []) × IsWanting f) ⊎ IsUnsaved (last_text s to) save ws f)
 
 abbrev pub of : Config → List Service → List Record → List FaultLine → ℕ → SweepOf
-of c vs records said n = record { boot = world_at_boot c vs; other = c.cpus; records = records; fault = said; bound = n }
+of c vs records said n =
+    record { boot = world_at_boot c vs; other = c.cpus; records = records; fault = said; bound = n }
 
 -- WHAT `mx sweep` DOES
-abbrev pub Sweeps : List ℕ → List ℕ → List ℕ → Option (List ℕ) → ℕ → ℕ → ℕ → List Asked → List Written → List Part → (List ℕ → Type 0) → Result Swept Kind → Type 0
+abbrev pub Sweeps : List ℕ → List ℕ → List ℕ → Option (List ℕ) → ℕ → ℕ → ℕ → List Asked → List Written → List Part
+    → (List ℕ → Type 0) → Result Swept Kind → Type 0
 Sweeps config log fault save from to n qs ws ps Prints (Ok how) =
-    (c : Config) × (vs : List Service) × (records : List Record) × (said : List FaultLine) × IsBegun config log fault qs c vs records said
+    (c : Config) × (vs : List Service) × (records : List Record) × (said : List FaultLine)
+    × IsBegun config log fault qs c vs records said
     × (saves_program c save ≡ false) × IsSweptThrough (of c vs records said n) from to save ws ps Prints how
 Sweeps config log fault save from to n qs ws ps Prints (Err f) =
     ((ws ≡ []) × (ps ≡ []) × Prints [] × IsNotBegun config log fault qs f)
-    ⊎ (((c : Config) × (vs : List Service) × (records : List Record) × (said : List FaultLine) × IsBegun config log fault qs c vs records said
+    ⊎ (((c : Config) × (vs : List Service) × (records : List Record) × (said : List FaultLine)
+    × IsBegun config log fault qs c vs records said
     × (saves_program c save ≡ true) × (ws ≡ []) × (ps ≡ []) × Prints [] × (f ≡ over_program))
-    ⊎ ((c : Config) × (vs : List Service) × (records : List Record) × (said : List FaultLine) × IsBegun config log fault qs c vs records said
+    ⊎ ((c : Config) × (vs : List Service) × (records : List Record) × (said : List FaultLine)
+    × IsBegun config log fault qs c vs records said
     × (saves_program c save ≡ false) × IsUntold (of c vs records said n) from to save ws ps f))

@@ -34,9 +34,11 @@ use Rattle.mx_app_turns.specs.Events.{AreOutside, TellsOutside}
 
 -- THE TURNS of a configuration and its services, at most n, with these outside events to come, end at a kernel: it was
 -- booted so, its history has the records of what was made, and no others, and the turns end so.
-pub record IsTurned (c : Config) (vs : List Service) (n : ℕ) (coming : List Event) (k : BootAndHistory) (how : Ending) : Type 0 where
+pub record IsTurned (c : Config) (vs : List Service) (n : ℕ) (coming : List Event) (k : BootAndHistory)
+    (how : Ending) : Type 0 where
   pub boot : k.boot ≡ world_at_boot c vs
-  pub made : (let xs = (turns n (world_at_boot c vs) coming).made in k ≡ kept_along (record { boot = world_at_boot c vs; history = [] }) xs (moves (world_at_boot c vs) xs).0)
+  pub made : (let xs = (turns n (world_at_boot c vs) coming).made in
+      k ≡ kept_along (record { boot = world_at_boot c vs; history = [] }) xs (moves (world_at_boot c vs) xs).0)
   pub ending : how ≡ (turns n (world_at_boot c vs) coming).ending
   -- the report is of the world after them: a kernel's table, services and number of records are the machine's
   pub world : (let w = world_after_events (world_at_boot c vs) (turns n (world_at_boot c vs) coming).made in
@@ -62,28 +64,37 @@ IsBegun config (Some name) qs c vs events = IsStart AreOutside config name qs c 
 
 -- the first fault of these files; or, if there is none, out of memory
 abbrev pub IsNotBegun : List ℕ → Option (List ℕ) → List Asked → Kind → Type 0
-IsNotBegun config None qs f = IsSetupFault config qs f ⊎ ((c : Config) × (vs : List Service) × IsSetup config qs c vs × (f ≡ NoMemory))
+IsNotBegun config None qs f =
+    IsSetupFault config qs f ⊎ ((c : Config) × (vs : List Service) × IsSetup config qs c vs × (f ≡ NoMemory))
 IsNotBegun config (Some name) qs f = IsNotStarted AreOutside TellsOutside config name qs f
 
 -- WHAT `mx turns` DOES: it shows after each turn how many records the history has, of those that it may have; it writes
--- the text of the history of a machine's turns, whole, and prints the report on the machine after them; or it fails, and
--- this is why
-abbrev pub MakesTurns : List ℕ → Option (List ℕ) → List ℕ → ℕ → ℕ → List Asked → List Written → List Part → (List ℕ → Type 0) → Result Ending Kind → Type 0
+-- the text of the history of a machine's turns, whole, and prints the report on the machine after them; or it fails,
+-- and this is why
+abbrev pub MakesTurns : List ℕ → Option (List ℕ) → List ℕ → ℕ → ℕ → List Asked → List Written → List Part
+    → (List ℕ → Type 0) → Result Ending Kind → Type 0
 MakesTurns config events log ticks n qs ws ps Prints (Ok ending) =
     (c : Config) × (vs : List Service) × (xs : List Event) × (k : BootAndHistory) × IsBegun config events qs c vs xs
-    × (names_program c log ≡ false) × IsTurned c vs n (coming xs ticks) k ending × ShowsTurns c vs n (coming xs ticks) ps
+    × (names_program c log ≡ false) × IsTurned c vs n (coming xs ticks) k ending
+    × ShowsTurns c vs n (coming xs ticks) ps
     × (ws ≡ kept log (saved_text c.rules k.history) ∷ []) × Prints (report_text (replay k).table (replay k).services)
 MakesTurns config events log ticks n qs ws ps Prints (Err f) =
     ((ws ≡ []) × (ps ≡ []) × Prints [] × IsNotBegun config events qs f)
-    ⊎ (((c : Config) × (vs : List Service) × (xs : List Event) × IsBegun config events qs c vs xs × (ps ≡ []) × SparesProgram c log ws Prints f)
-    ⊎ ((c : Config) × (vs : List Service) × (xs : List Event) × (k : BootAndHistory) × (ending : Ending) × IsBegun config events qs c vs xs
-    × (names_program c log ≡ false) × IsTurned c vs n (coming xs ticks) k ending × ShowsTurns c vs n (coming xs ticks) ps
+    ⊎ (((c : Config) × (vs : List Service) × (xs : List Event) × IsBegun config events qs c vs xs × (ps ≡ [])
+        × SparesProgram c log ws Prints f)
+    ⊎ ((c : Config) × (vs : List Service) × (xs : List Event) × (k : BootAndHistory) × (ending : Ending)
+    × IsBegun config events qs c vs xs
+    × (names_program c log ≡ false) × IsTurned c vs n (coming xs ticks) k ending
+    × ShowsTurns c vs n (coming xs ticks) ps
     × IsUnreported log (saved_text c.rules k.history) ws Prints f))
 
 -- ---- its replay
 
 -- `mx replay` of the same configuration and services prints, of the text that was written, the same report
 abbrev pub TurnsReplay : Type 0
-TurnsReplay = (c d : Config) (vs : List Service) (n : ℕ) (xs : List Event) (k : BootAndHistory) (ending : Ending) (records : List Record) (how : Replayed) (before after : Option (List ℕ))
-    → IsTurned c vs n xs k ending → IsSaved (saved_text c.rules k.history) c d records → IsReplayPrinted (world_at_boot d vs) records how (λ text. Appends before after text)
+TurnsReplay =
+    (c d : Config) (vs : List Service) (n : ℕ) (xs : List Event) (k : BootAndHistory) (ending : Ending)
+        (records : List Record) (how : Replayed) (before after : Option (List ℕ))
+    → IsTurned c vs n xs k ending → IsSaved (saved_text c.rules k.history) c d records
+    → IsReplayPrinted (world_at_boot d vs) records how (λ text. Appends before after text)
     → (how ≡ Whole) × Appends before after (report_text (replay k).table (replay k).services)

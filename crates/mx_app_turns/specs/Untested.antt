@@ -22,6 +22,9 @@ untested_by lines from to total first =
 -- the line that says it, without its end
 abbrev pub untested_text : Untested → List ℕ
 untested_text NoLine = codes "mx: no position was tested: FAULT has no line"
-untested_text (NoPosition from to) = codes "mx: no position was tested: the history has none from " ++ decimal from ++ codes " to " ++ decimal to
-untested_text (Refused refusal) = codes "mx: no position was tested: FAULT was refused at each, first " ++ decimal (code_of_refusal refusal) ++ codes " " ++ name_of_refusal refusal
+untested_text (NoPosition from to) =
+    codes "mx: no position was tested: the history has none from " ++ decimal from ++ codes " to " ++ decimal to
+untested_text (Refused refusal) =
+    codes "mx: no position was tested: FAULT was refused at each, first " ++ decimal (code_of_refusal refusal)
+    ++ codes " " ++ name_of_refusal refusal
 untested_text Full = codes "mx: each position ends full: log in CONFIG"

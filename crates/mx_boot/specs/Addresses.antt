@@ -10,7 +10,8 @@ use Rattle.mx_boot.specs.declared.address_word.AddressWord.TheVariants.{Number, 
 
 -- a number of 32 bits: decimal as any other, or hexadecimal after 0x
 abbrev pub number_field : List ℕ → Option ℕ
-number_field word = if bytes_eq (take 2 word) (codes "0x") then number_up_to 4294967295 16 (drop 2 word) else count_field word
+number_field word =
+    if bytes_eq (take 2 word) (codes "0x") then number_up_to 4294967295 16 (drop 2 word) else count_field word
 
 -- a symbol's name has at most eight bytes (a.out.h)
 abbrev pub symbol_name : List ℕ → Option (List ℕ)
@@ -34,4 +35,5 @@ number_of_word word = do
 -- THE ADDRESS that a word is: a number begins with a digit
 abbrev pub address_of_word : List ℕ → Option AddressWord
 address_of_word [] = None
-address_of_word (b ∷ bs) = if is_digit b then number_of_word (b ∷ bs) else symbol_by_plus (position is_plus (b ∷ bs)) (b ∷ bs)
+address_of_word (b ∷ bs) =
+    if is_digit b then number_of_word (b ∷ bs) else symbol_by_plus (position is_plus (b ∷ bs)) (b ∷ bs)

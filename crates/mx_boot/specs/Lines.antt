@@ -37,7 +37,8 @@ is_service_too_many a item = false
 
 -- the first reason to refuse what line n sets
 abbrev pub item_refusal : ℕ → ItemsAbove → ConfigItem → Option BootError
-item_refusal n a item = if is_twice a item then Some (TwiceNamed n) else if is_service_too_many a item then Some (TooMany n) else None
+item_refusal n a item =
+    if is_twice a item then Some (TwiceNamed n) else if is_service_too_many a item then Some (TooMany n) else None
 
 abbrev pub items_with : ItemsAbove → ConfigItem → ItemsAbove
 items_with a (Cpus n) = record a { cpus = Some n }
@@ -67,13 +68,15 @@ AreItemsTaken a n (l ∷ ls) c = (b : ItemsAbove) × IsItemTaken a n l b × AreI
 
 abbrev pub IsFirstItemWrong : ItemsAbove → ℕ → List (List ℕ) → BootError → Type 0
 IsFirstItemWrong a n [] e = ⊥
-IsFirstItemWrong a n (l ∷ ls) e = IsItemWrong a n l e ⊎ ((b : ItemsAbove) × IsItemTaken a n l b × IsFirstItemWrong b (n + 1) ls e)
+IsFirstItemWrong a n (l ∷ ls) e =
+    IsItemWrong a n l e ⊎ ((b : ItemsAbove) × IsItemTaken a n l b × IsFirstItemWrong b (n + 1) ls e)
 
 -- ---- configurations
 
 -- the words for what a service gives its processes
 abbrev pub words_of_terms : Terms → TermWords
-words_of_terms t = record { masks = t.masks; level = t.level; best = t.best; quantum = t.quantum; restarts = t.restarts }
+words_of_terms t =
+    record { masks = t.masks; level = t.level; best = t.best; quantum = t.quantum; restarts = t.restarts }
 
 -- The service's line has these words.
 pub record IsLineOf (words : ServiceWords) (line : ServiceLine) : Type 0 where
@@ -105,7 +108,8 @@ IsConfig text config = (a : ItemsAbove) × SaysConfig text a × IsConfigOf a con
 abbrev pub HasConfigFault : List ℕ → BootError → Type 0
 HasConfigFault text e =
     IsFirstItemWrong nothing_above 1 (lines text) e
-    ⊎ ((a : ItemsAbove) × AreItemsTaken nothing_above 1 (lines text) a × (a.services ≡ []) × (e ≡ BadLine (last_line (lines text))))
+    ⊎ ((a : ItemsAbove) × AreItemsTaken nothing_above 1 (lines text) a × (a.services ≡ [])
+        × (e ≡ BadLine (last_line (lines text))))
 
 -- the error if no configuration is answered: the first fault, and out of memory only if there is none
 abbrev pub TellsConfigFault : List ℕ → BootError → Type 0

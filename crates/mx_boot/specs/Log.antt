@@ -79,23 +79,27 @@ lines_above Strict = 1
 -- a text is a history of a machine that was booted by these rules
 abbrev pub IsHistory : ℕ → List ℕ → Rules → List Record → Type 0
 IsHistory actors t rules records =
-    AreLinesRead (record_line actors) (record_lines (lines t)) records × (is_ended t ≡ true) × (rules ≡ rules_of_lines (lines t))
+    AreLinesRead (record_line actors) (record_lines (lines t)) records × (is_ended t ≡ true)
+    × (rules ≡ rules_of_lines (lines t))
 
 -- the line of this number is the first of the records' lines that is no record
 abbrev pub IsFirstNoRecord : ℕ → List ℕ → ℕ → Type 0
 IsFirstNoRecord actors t n =
-    (k : ℕ) × IsFirstUnread (record_line actors) (record_lines (lines t)) k × (n ≡ lines_above (rules_of_lines (lines t)) + k)
+    (k : ℕ) × IsFirstUnread (record_line actors) (record_lines (lines t)) k
+    × (n ≡ lines_above (rules_of_lines (lines t)) + k)
 
 -- the first line at fault: it is no record, or it is the last and isn't ended
 abbrev pub IsHistoryFault : ℕ → List ℕ → ℕ → Type 0
 IsHistoryFault actors t n =
     IsFirstNoRecord actors t n
-    ⊎ ((records : List Record) × AreLinesRead (record_line actors) (record_lines (lines t)) records × (is_ended t ≡ false) × (n ≡ length (lines t)))
+    ⊎ ((records : List Record) × AreLinesRead (record_line actors) (record_lines (lines t)) records
+        × (is_ended t ≡ false) × (n ≡ length (lines t)))
 
 -- the error of the records' lines if they aren't answered
 abbrev pub TellsNoRecords : ℕ → List ℕ → BootError → Type 0
 TellsNoRecords actors t (BadRecord n) = IsFirstNoRecord actors t n
-TellsNoRecords actors t NoMemory = (records : List Record) × AreLinesRead (record_line actors) (record_lines (lines t)) records
+TellsNoRecords actors t NoMemory =
+    (records : List Record) × AreLinesRead (record_line actors) (record_lines (lines t)) records
 TellsNoRecords actors t _ = ⊥
 
 -- the error if no history is answered: the first line at fault, and out of memory only if there is none

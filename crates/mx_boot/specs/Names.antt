@@ -6,4 +6,6 @@ use Rattle.mx_insn_words.specs.Registers.{register_word, size_word}
 
 -- a word is a register or names a size
 abbrev pub IsReserved : List ℕ → Type 0
-IsReserved word = ((size : Size) × (register : Register) × (word ≡ register_word size register)) ⊎ ((size : Size) × (word ≡ size_word size))
+IsReserved word =
+    ((size : Size) × (register : Register) × (word ≡ register_word size register))
+    ⊎ ((size : Size) × (word ≡ size_word size))

@@ -83,11 +83,12 @@ event_of recorded.Tick = events.Tick
 event_of (recorded.Kill e) = events.Kill e
 event_of (recorded.Respawn s) = events.Respawn s
 
--- A CALL THAT WAS ACCEPTED took the seat s and gave the seat t. It recorded this event: the seat's own records are longer
--- by it, and what was seen ends with it. All that was seen is accepted from the boot on. And at the replay of what was
--- seen before it, after the steps that a return counts, the table's move gives the answer, and the replay of what is seen
--- now.
-pub record IsAcceptedCall (boot : World) (s t : SeatView) (e : Recorded) (holding : Option Out) (IsAnswered : World → Answer → Type 0) : Type 0 where
+-- A CALL THAT WAS ACCEPTED took the seat s and gave the seat t. It recorded this event: the seat's own records are
+-- longer by it, and what was seen ends with it. All that was seen is accepted from the boot on. And at the replay of
+-- what was seen before it, after the steps that a return counts, the table's move gives the answer, and the replay of
+-- what is seen now.
+pub record IsAcceptedCall (boot : World) (s t : SeatView) (e : Recorded) (holding : Option Out)
+    (IsAnswered : World → Answer → Type 0) : Type 0 where
   pub follows : Follows s t
   pub history : IsAcceptedHistory boot t.seen
   pub mine : t.mine ≡ s.mine ++ record_of s.actor e ∷ []
@@ -97,11 +98,12 @@ pub record IsAcceptedCall (boot : World) (s t : SeatView) (e : Recorded) (holdin
   pub later : IsPrefix s.seen before
   pub allowed : AreAccepted (world_after boot before) (events_of s.actor e)
   pub answer : Answer
-  pub moves : move (world_after_events (world_after boot before) (steps_of s.actor e)) s.actor (event_of e) ≡ (Ok answer, world_after boot t.seen)
+  pub moves : move (world_after_events (world_after boot before) (steps_of s.actor e)) s.actor (event_of e)
+      ≡ (Ok answer, world_after boot t.seen)
   pub answered : IsAnswered (world_after boot before) answer
 
--- A CALL THAT WAS REFUSED recorded nothing, and the table refuses the event so at the replay of what is seen now, all of
--- which is accepted from the boot on.
+-- A CALL THAT WAS REFUSED recorded nothing, and the table refuses the event so at the replay of what is seen now, all
+-- of which is accepted from the boot on.
 pub record IsRefusedCall (boot : World) (s t : SeatView) (e : Event) (r : Refusal) : Type 0 where
   pub follows : Follows s t
   pub history : IsAcceptedHistory boot t.seen
@@ -121,11 +123,15 @@ pub record IsLentAt (w : World) (a : ℕ) (l : LoanView) : Type 0 where
 
 -- a take was accepted: the loan is what the table lends after it
 abbrev pub IsTakeCall : World → SeatView → SeatView → LoanView → Type 0
-IsTakeCall boot s t l = IsAcceptedCall boot s t recorded.Take (Some l.lent) (λ w answer. Unit {0}) × IsLentAt (world_after boot t.seen) t.actor l
+IsTakeCall boot s t l =
+    IsAcceptedCall boot s t recorded.Take (Some l.lent) (λ w answer. Unit {0})
+    × IsLentAt (world_after boot t.seen) t.actor l
 
 -- a loan was given back: the record has the loan's count, and before its steps the table shows as out what was lent
 abbrev pub IsGiveCall : World → SeatView → SeatView → LoanView → Type 0
-IsGiveCall boot s t l = IsAcceptedCall boot s t (recorded.Back l.out.count) None (λ w answer. (answer ≡ Returned l.out.count) × (lent_to (outs_of w) s.actor ≡ Some l.lent))
+IsGiveCall boot s t l =
+    IsAcceptedCall boot s t (recorded.Back l.out.count) None
+        (λ w answer. (answer ≡ Returned l.out.count) × (lent_to (outs_of w) s.actor ≡ Some l.lent))
 
 -- the loan is what this seat holds
 abbrev pub IsLoanOf : SeatView → LoanView → Type 0

@@ -13,9 +13,10 @@ use Rattle.mx_cpus.specs.Gates.{GateCall, held_call, given_call, asked_call, end
 
 -- ---- a question
 
--- The machine was asked whether it is at rest. Then the gate was shown how many records the seat has seen, and asked, with
--- that answer and with whether the actor's own work is done, whether its loop goes on.
-pub record IsAsked (boot : World) (WasCalled : GateCall → Type 0) (is_done : Bool) (s t : SeatView) (goes_on : Bool) : Type 0 where
+-- The machine was asked whether it is at rest. Then the gate was shown how many records the seat has seen, and asked,
+-- with that answer and with whether the actor's own work is done, whether its loop goes on.
+pub record IsAsked (boot : World) (WasCalled : GateCall → Type 0) (is_done : Bool) (s t : SeatView)
+    (goes_on : Bool) : Type 0 where
   pub rest : Bool
   pub rests : IsRestCall boot s t rest
   pub seen : WasCalled (seen_call s.actor (length t.seen))
@@ -54,7 +55,8 @@ pub record IsWait (boot : World) (WasCalled : GateCall → Type 0) (s t : SeatVi
 
 -- one thing more in a processor's loop, after n turns: a turn; or a wait, after which the loop went on
 abbrev pub IsOneMore : World → (GateCall → Type 0) → ℕ → SeatView → ℕ → SeatView → Type 0
-IsOneMore boot WasCalled n s m t = ((m ≡ n + 1) × IsTurn boot WasCalled n s t) ⊎ ((m ≡ n) × IsWait boot WasCalled s t true)
+IsOneMore boot WasCalled n s m t =
+    ((m ≡ n + 1) × IsTurn boot WasCalled n s t) ⊎ ((m ≡ n) × IsWait boot WasCalled s t true)
 
 -- the same, by the number that the next turn has
 abbrev pub IsOneMoreBy : World → (GateCall → Type 0) → ℕ → SeatView → SeatView → ℕ → Type 0
@@ -64,10 +66,12 @@ IsOneMoreBy boot WasCalled n s t next = (m : ℕ) × IsOneMore boot WasCalled n 
 abbrev pub IsLastTurn : World → (GateCall → Type 0) → SeatView → SeatView → Type 0
 IsLastTurn boot WasCalled s t = IsRefusedCall boot s t events.Take LogFull ⊎ IsWait boot WasCalled s t false
 
--- a processor's loop so far, from the seat s on: so many turns and waits in a row, of which n are turns, led to the seat t
+-- a processor's loop so far, from the seat s on: so many turns and waits in a row, of which n are turns, led to the
+-- seat t
 abbrev pub AreTurns : World → (GateCall → Type 0) → SeatView → ℕ → ℕ → SeatView → Type 0
 AreTurns boot WasCalled s zero n t = (n ≡ 0) × (t ≡ s)
-AreTurns boot WasCalled s (suc so_many) n t = (m : ℕ) × (u : SeatView) × AreTurns boot WasCalled s so_many m u × IsOneMore boot WasCalled m u n t
+AreTurns boot WasCalled s (suc so_many) n t =
+    (m : ℕ) × (u : SeatView) × AreTurns boot WasCalled s so_many m u × IsOneMore boot WasCalled m u n t
 
 -- A PROCESSOR'S LOOP from the seat s to the seat t: after some turns and waits a take is refused for a full history, or
 -- the gate ends it.
@@ -124,24 +128,27 @@ IsRound boot left s t = (u : SeatView) × IsTicked boot left s u × IsSweep boot
 
 -- a round that found the history full
 abbrev pub IsRoundToFull : World → ℕ → SeatView → SeatView → Type 0
-IsRoundToFull boot left s t = IsTickToFull boot left s t ⊎ ((u : SeatView) × IsTicked boot left s u × IsSweepToFull boot u t)
+IsRoundToFull boot left s t =
+    IsTickToFull boot left s t ⊎ ((u : SeatView) × IsTicked boot left s u × IsSweepToFull boot u t)
 
 -- a round, and a question to the gate after it. The respawner's work is done once no tick is left
 abbrev pub IsRoundAsked : World → (GateCall → Type 0) → ℕ → SeatView → SeatView → Bool → Type 0
-IsRoundAsked boot WasCalled left s t goes_on = (u : SeatView) × IsRound boot left s u × IsAsked boot WasCalled (nat_lt left 2) u t goes_on
+IsRoundAsked boot WasCalled left s t goes_on =
+    (u : SeatView) × IsRound boot left s u × IsAsked boot WasCalled (nat_lt left 2) u t goes_on
 
 -- what ends a respawner's loop: a round finds the history full, or the gate ends it
 abbrev pub IsLastRound : World → (GateCall → Type 0) → ℕ → SeatView → SeatView → Type 0
 IsLastRound boot WasCalled left s t = IsRoundToFull boot left s t ⊎ IsRoundAsked boot WasCalled left s t false
 
--- a respawner's loop so far, from the seat s on: n rounds in a row, after each of which the gate was asked, and the loop
--- went on, led to the seat t
+-- a respawner's loop so far, from the seat s on: n rounds in a row, after each of which the gate was asked, and the
+-- loop went on, led to the seat t
 abbrev pub AreRounds : World → (GateCall → Type 0) → ℕ → SeatView → ℕ → SeatView → Type 0
 AreRounds boot WasCalled ticks s zero t = t ≡ s
 AreRounds boot WasCalled ticks s (suc n) t =
     (u : SeatView) × AreRounds boot WasCalled ticks s n u × IsRoundAsked boot WasCalled (ticks - n) u t true
 
--- THE RESPAWNER'S LOOP from the seat s to the seat t: after some rounds one finds the history full, or the gate ends it.
+-- THE RESPAWNER'S LOOP from the seat s to the seat t: after some rounds one finds the history full, or the gate ends
+-- it.
 pub record IsRespawnerRun (boot : World) (WasCalled : GateCall → Type 0) (ticks : ℕ) (s t : SeatView) : Type 0 where
   pub rounds : ℕ
   pub last : SeatView
@@ -160,5 +167,6 @@ pub record IsServed (boot : World) (WasCalled : GateCall → Type 0) (cpus ticks
 -- each seat of a list that has a loop was served, in its place
 abbrev pub AreServed : World → (GateCall → Type 0) → ℕ → ℕ → List SeatView → List SeatView → Type 0
 AreServed boot WasCalled cpus ticks [] [] = Unit {0}
-AreServed boot WasCalled cpus ticks (s ∷ ss) (t ∷ ts) = (s.actor ≤ cpus → IsServed boot WasCalled cpus ticks s t) × AreServed boot WasCalled cpus ticks ss ts
+AreServed boot WasCalled cpus ticks (s ∷ ss) (t ∷ ts) =
+    (s.actor ≤ cpus → IsServed boot WasCalled cpus ticks s t) × AreServed boot WasCalled cpus ticks ss ts
 AreServed _ _ _ _ _ _ = ⊥

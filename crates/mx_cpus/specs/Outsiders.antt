@@ -29,7 +29,8 @@ IsLook boot s t = IsRestCall boot s t (is_resting boot t)
 
 -- The seat t has seen too little to go on: fewer than n records more than the seat s had, and no rest. So the gate was
 -- shown how many it has seen, and asked whether the loop goes on.
-pub record IsEarly (boot : World) (WasCalled : GateCall → Type 0) (n : ℕ) (s t : SeatView) (goes_on : Bool) : Type 0 where
+pub record IsEarly (boot : World) (WasCalled : GateCall → Type 0) (n : ℕ) (s t : SeatView)
+    (goes_on : Bool) : Type 0 where
   pub few : length t.seen - length s.seen < n
   pub busy : is_resting boot t ≡ false
   pub seen : WasCalled (seen_call t.actor (length t.seen))
@@ -47,7 +48,8 @@ abbrev pub IsEnough : World → ℕ → SeatView → SeatView → Type 0
 IsEnough boot n s t = (n ≤ length t.seen - length s.seen) ⊎ (is_resting boot t ≡ true)
 
 -- A WAIT for n records, from a first look on, of which the last look is t
-pub record IsWaiting (boot : World) (WasCalled : GateCall → Type 0) (n : ℕ) (s t : SeatView) (HasEnded : SeatView → SeatView → Type 0) : Type 0 where
+pub record IsWaiting (boot : World) (WasCalled : GateCall → Type 0) (n : ℕ) (s t : SeatView)
+    (HasEnded : SeatView → SeatView → Type 0) : Type 0 where
   pub first : SeatView
   pub begins : IsLook boot s first
   pub so_many : ℕ
@@ -60,7 +62,8 @@ IsWaited boot WasCalled n s t = IsWaiting boot WasCalled n s t (IsEnough boot n)
 
 -- the gate ends the loop
 abbrev pub IsStopped : World → (GateCall → Type 0) → ℕ → SeatView → SeatView → Type 0
-IsStopped boot WasCalled n s t = IsWaiting boot WasCalled n s t (λ first last. IsEarly boot WasCalled n first last false)
+IsStopped boot WasCalled n s t =
+    IsWaiting boot WasCalled n s t (λ first last. IsEarly boot WasCalled n first last false)
 
 -- ---- a call
 
@@ -95,15 +98,18 @@ AreMade boot WasCalled s (x ∷ xs) t = (u : SeatView) × IsMade boot WasCalled 
 -- questions in a row: so many times the gate was asked, since all calls are made, and the loop went on
 abbrev pub AreAsked : World → (GateCall → Type 0) → SeatView → ℕ → SeatView → Type 0
 AreAsked boot WasCalled s zero t = t ≡ s
-AreAsked boot WasCalled s (suc so_many) t = (u : SeatView) × AreAsked boot WasCalled s so_many u × IsAsked boot WasCalled true u t true
+AreAsked boot WasCalled s (suc so_many) t =
+    (u : SeatView) × AreAsked boot WasCalled s so_many u × IsAsked boot WasCalled true u t true
 
 -- the gate was asked again and again, until it ended the loop
 abbrev pub IsAskedToEnd : World → (GateCall → Type 0) → SeatView → SeatView → Type 0
-IsAskedToEnd boot WasCalled s t = (so_many : ℕ) × (u : SeatView) × AreAsked boot WasCalled s so_many u × IsAsked boot WasCalled true u t false
+IsAskedToEnd boot WasCalled s t =
+    (so_many : ℕ) × (u : SeatView) × AreAsked boot WasCalled s so_many u × IsAsked boot WasCalled true u t false
 
--- THE OUTSIDER'S LOOP from the seat s to the seat t: all calls were made, in order, and then the gate was asked until it
--- ended the loop; or those above one that ends the loop.
-pub record IsOutsiderRun (boot : World) (WasCalled : GateCall → Type 0) (xs : List OutsideCall) (s t : SeatView) : Type 0 where
+-- THE OUTSIDER'S LOOP from the seat s to the seat t: all calls were made, in order, and then the gate was asked until
+-- it ended the loop; or those above one that ends the loop.
+pub record IsOutsiderRun (boot : World) (WasCalled : GateCall → Type 0) (xs : List OutsideCall)
+    (s t : SeatView) : Type 0 where
   pub above : List OutsideCall
   pub last : SeatView
   pub made : AreMade boot WasCalled s above last
@@ -113,12 +119,14 @@ pub record IsOutsiderRun (boot : World) (WasCalled : GateCall → Type 0) (xs : 
 
 -- all calls were made, in order, and then the gate was asked until it ended the loop
 abbrev pub HasMadeAll : World → (GateCall → Type 0) → List OutsideCall → SeatView → SeatView → Type 0
-HasMadeAll boot WasCalled xs s t = (last : SeatView) × AreMade boot WasCalled s xs last × IsAskedToEnd boot WasCalled last t
+HasMadeAll boot WasCalled xs s t =
+    (last : SeatView) × AreMade boot WasCalled s xs last × IsAskedToEnd boot WasCalled last t
 
 -- one of the calls ended the loop, after those above it were made
 abbrev pub HasBrokenOff : World → (GateCall → Type 0) → List OutsideCall → SeatView → SeatView → Type 0
 HasBrokenOff boot WasCalled xs s t =
-    (above : List OutsideCall) × (x : OutsideCall) × (below : List OutsideCall) × (last : SeatView) × (xs ≡ above ++ x ∷ below) × AreMade boot WasCalled s above last × IsLast boot WasCalled x last t
+    (above : List OutsideCall) × (x : OutsideCall) × (below : List OutsideCall) × (last : SeatView)
+    × (xs ≡ above ++ x ∷ below) × AreMade boot WasCalled s above last × IsLast boot WasCalled x last t
 
 -- THE OUTSIDER'S LOOP, by whether it is whole
 abbrev pub IsOutsiderRunTo : World → (GateCall → Type 0) → List OutsideCall → SeatView → SeatView → Bool → Type 0
@@ -129,10 +137,11 @@ IsOutsiderRunTo boot WasCalled xs s t false = HasBrokenOff boot WasCalled xs s t
 abbrev pub AreSomeOf : List OutsideCall → List Recorded → Type 0
 AreSomeOf xs [] = Unit {0}
 AreSomeOf [] (e ∷ es) = ⊥
-AreSomeOf (x ∷ xs) (e ∷ es) = (((y : Event) × (event_of_call x ≡ Some y) × (e ≡ recorded_as y)) × AreSomeOf xs es) ⊎ AreSomeOf xs (e ∷ es)
+AreSomeOf (x ∷ xs) (e ∷ es) =
+    (((y : Event) × (event_of_call x ≡ Some y) × (e ≡ recorded_as y)) × AreSomeOf xs es) ⊎ AreSomeOf xs (e ∷ es)
 
--- The outsider's loop took the seat s and gave the seat t: it holds what it held, and its own records are longer by those
--- of some of its calls' events, in their order, and by nothing else.
+-- The outsider's loop took the seat s and gave the seat t: it holds what it held, and its own records are longer by
+-- those of some of its calls' events, in their order, and by nothing else.
 pub record HasMadeCalls (xs : List OutsideCall) (s t : SeatView) : Type 0 where
   pub follows : Follows s t
   pub held : t.held ≡ s.held
@@ -172,7 +181,8 @@ abbrev pub IsWholeAs : Role → World → (GateCall → Type 0) → List Outside
 IsWholeAs roles.Outsider boot WasCalled xs s t whole = IsOutsiderRunTo boot WasCalled xs s t whole
 IsWholeAs _ boot WasCalled xs s t whole = whole ≡ true
 
-abbrev pub IsWholeIf : Option Role → World → (GateCall → Type 0) → List OutsideCall → SeatView → SeatView → Bool → Type 0
+abbrev pub IsWholeIf : Option Role → World → (GateCall → Type 0) → List OutsideCall → SeatView → SeatView → Bool
+    → Type 0
 IsWholeIf None boot WasCalled xs s t whole = whole ≡ true
 IsWholeIf (Some r) boot WasCalled xs s t whole = IsWholeAs r boot WasCalled xs s t whole
 
@@ -201,13 +211,16 @@ abbrev pub AreDrivenWith : ℕ → ℕ → List OutsideCall → List SeatView �
 AreDrivenWith cpus ticks xs ss ts = AreEach (λ s t. IsDrivenIf (role_of s.actor cpus xs) ticks xs s t) ss ts
 
 -- WHAT THE LOOPS DID
-abbrev pub AreServedWith : World → (GateCall → Type 0) → ℕ → ℕ → List OutsideCall → List SeatView → List SeatView → Type 0
+abbrev pub AreServedWith : World → (GateCall → Type 0) → ℕ → ℕ → List OutsideCall → List SeatView → List SeatView
+    → Type 0
 AreServedWith boot WasCalled cpus ticks xs ss ts =
     AreEach (λ s t. IsServedIf (role_of s.actor cpus xs) boot WasCalled ticks xs s t) ss ts
 
 -- WHETHER ALL CALLS OF ALL LOOPS WERE MADE
-abbrev pub AreWholeWith : World → (GateCall → Type 0) → ℕ → List OutsideCall → List SeatView → List SeatView → Bool → Type 0
+abbrev pub AreWholeWith : World → (GateCall → Type 0) → ℕ → List OutsideCall → List SeatView → List SeatView → Bool
+    → Type 0
 AreWholeWith boot WasCalled cpus xs [] [] whole = whole ≡ true
 AreWholeWith boot WasCalled cpus xs (s ∷ ss) (t ∷ ts) whole =
-    (own : Bool) × (others : Bool) × (whole ≡ (own && others)) × IsWholeIf (role_of s.actor cpus xs) boot WasCalled xs s t own × AreWholeWith boot WasCalled cpus xs ss ts others
+    (own : Bool) × (others : Bool) × (whole ≡ (own && others))
+    × IsWholeIf (role_of s.actor cpus xs) boot WasCalled xs s t own × AreWholeWith boot WasCalled cpus xs ss ts others
 AreWholeWith _ _ _ _ _ _ _ = ⊥

@@ -43,8 +43,8 @@ impl<'s, M: Naming, G: WatchingGate, R> LoopContext<'s, M, G, R> {
 }
 
 impl<'s, M: Naming, G: WatchingGate, R: Wait> LoopContext<'s, M, G, R> {
-    /// Looks how far the machine is, shows it to the gate, and asks the gate whether the actor's loop goes on, by whether
-    /// the actor's own work is done.
+    /// Looks how far the machine is, shows it to the gate, and asks the gate whether the actor's loop goes on, by
+    /// whether the actor's own work is done.
     pub(crate) fn ask(
         &self,
         seat: ActorSeat,

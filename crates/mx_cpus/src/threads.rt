@@ -29,8 +29,8 @@ use std::sync::{OnceLock, Wait};
 use std::thread;
 use std::thread::{Promise, PromisedHandle, Scope, Threads};
 
-/// What a thread promises of its seat, by the one that it was started with, and of its gate: its end was reported; and, if
-/// its loop began, what it did, and whether it made all calls.
+/// What a thread promises of its seat, by the one that it was started with, and of its gate: its end was reported; and,
+/// if its loop began, what it did, and whether it made all calls.
 #[derive(Drop)]
 struct Follower<'s, M: Naming, G: WatchingGate> {
     from: Shown<ActorSeat>,
@@ -248,8 +248,9 @@ fn drive_all<'s, E, M: Naming + Send + Sync, G: WatchingGate + Sync, R: Threads 
 
 /// Runs the loops of all processors, that of the first other actor as respawner, and that of the second one as
 /// outsider if it has calls to make, each in a thread of its own, and gives the seats back in order once all have
-/// ended. The seats of further actors stay as they are. The end of each loop is reported to the gate. If no thread can be
-/// made for one, no loop begins, each is reported as ended, the answer is `NoMemory`, and the seats are spent. Answers too whether all calls were made. Takes no memory but that of the threads.
+/// ended. The seats of further actors stay as they are. The end of each loop is reported to the gate. If no thread can
+/// be made for one, no loop begins, each is reported as ended, the answer is `NoMemory`, and the seats are spent.
+/// Answers too whether all calls were made. Takes no memory but that of the threads.
 pub fn drive_with<M: Naming + Send + Sync, G: WatchingGate + Sync, R: Threads + Wait + Sync>(
     rt: &R,
     shared: &Shared<M>,
@@ -310,7 +311,8 @@ pub fn drive_with<M: Naming + Send + Sync, G: WatchingGate + Sync, R: Threads + 
 /// Runs the loops of all processors, and that of the first other actor as respawner, each in a
 /// thread of its own, and gives the seats back in order once all have ended. The seats of further
 /// actors stay as they are. The end of each loop is reported to the gate. If no thread can be made for
-/// one, no loop begins, each is reported as ended, the answer is `NoMemory`, and the seats are spent. Takes no memory but that of the threads.
+/// one, no loop begins, each is reported as ended, the answer is `NoMemory`, and the seats are spent. Takes no memory
+/// but that of the threads.
 pub fn drive<M: Naming + Send + Sync, G: Gate + Sync, R: Threads + Wait + Sync>(
     rt: &R,
     shared: &Shared<M>,

@@ -1,7 +1,8 @@
 //! A law of steps.
 //!
-//! A law is a function without arguments that does nothing. Its contract is a statement about the definitions alone, and
-//! is proved as any contract is. Who calls it knows the statement from there on; the call costs nothing when it runs.
+//! A law is a function without arguments that does nothing. Its contract is a statement about the definitions alone,
+//! and is proved as any contract is. Who calls it knows the statement from there on; the call costs nothing when it
+//! runs.
 
 ghost use Rattle.std.specs.Prelude.{◌≡◌};
 ghost use Rattle.mx_exec.specs.declared.image.Image.{Image};

@@ -51,8 +51,8 @@ pub enum Mnemonic {
     Compare(Comparison, Size),
 }
 
-/// The operations whose words begin with a letter before l, byte for byte in order. Two matches of half the rows take half
-/// the time to prove.
+/// The operations whose words begin with a letter before l, byte for byte in order. Two matches of half the rows take
+/// half the time to prove.
 macro_rules! early_operations {
     ($then:ident $($more:tt)*) => {
         $then! {

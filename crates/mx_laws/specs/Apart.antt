@@ -35,9 +35,11 @@ IsRefused (Some x) = Unit {0}
 
 -- under the strict rules q has no window open in which s may read what a copy takes
 abbrev pub IsClosedToReading : ℕ → TableState → ℕ → CopyRange → Type 0
-IsClosedToReading q t s c = (is_strict t.rules ≡ true) × (is_open allows_reading (window_of t q s) c.source.offset c.count ≡ false)
+IsClosedToReading q t s c =
+    (is_strict t.rules ≡ true) × (is_open allows_reading (window_of t q s) c.source.offset c.count ≡ false)
 
--- what a kernel call of s does copies nothing from q: it isn't a copy from q, or it is refused, or q is closed to its reading
+-- what a kernel call of s does copies nothing from q: it isn't a copy from q, or it is refused, or q is closed to its
+-- reading
 abbrev pub EffectIsApart : ℕ → TableState → ℕ → Effect → Option Errno → Type 0
 EffectIsApart q t s (Copies c) refusal = slot_of c.source.endpoint ≡ q → IsRefused refusal ⊎ IsClosedToReading q t s c
 EffectIsApart q t s _ refusal = Unit {0}
@@ -49,7 +51,8 @@ CopyIsApart q t s (Some r) refusal = EffectIsApart q t s (effect_of (known t s) 
 -- a trap that takes no message of q, or a kernel call that can't copy from it
 abbrev pub TrapIsApart : ℕ → TableState → ℕ → TrapAnswer → Type 0
 TrapIsApart q t s trap_ends.Done = IsNot q (sender_at_trap t s)
-TrapIsApart q t s trap_ends.Kernel = CopyIsApart q t s (kernel_call_under t.rules (message_words_at t s)) (kernel_call_refusal t s)
+TrapIsApart q t s trap_ends.Kernel =
+    CopyIsApart q t s (kernel_call_under t.rules (message_words_at t s)) (kernel_call_refusal t s)
 
 -- a turn of s that ends so: only a trap that is acted uses anything of another
 abbrev pub ReturnIsApart : ℕ → TableState → ℕ → Bool → Stop → Type 0
@@ -66,7 +69,9 @@ StepIsApart q (Some l) = IsNot q (Some l.slot)
 -- a return, of another process
 abbrev pub BackIsApart : ℕ → TableState → Option HeldProcess → Type 0
 BackIsApart q t None = Unit {0}
-BackIsApart q t (Some l) = IsNot q (Some l.slot) × ReturnIsApart q (table_after_coming_home t l) l.slot (is_doomed (process_at t l.slot).state) l.out.stop
+BackIsApart q t (Some l) =
+    IsNot q (Some l.slot)
+    × ReturnIsApart q (table_after_coming_home t l) l.slot (is_doomed (process_at t l.slot).state) l.out.stop
 
 -- APART: no step and no return of q, no message of q is taken, and nothing can be copied from it
 abbrev pub IsApart : ℕ → World → ℕ → Event → Type 0

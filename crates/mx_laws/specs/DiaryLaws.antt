@@ -28,21 +28,28 @@ pub record IsSlot (w : World) (s : ℕ) : Type 0 where
 
 -- an accepted event that puts no new process into slot s does to its image what its diary says
 abbrev pub IsWritten : World → ℕ → Event → ℕ → Type 0
-IsWritten w a e s = event_refusal w a e ≡ None → IsNoRespawnOf s e → image_now (world_after_event w a e) s ≡ play (diary w a e s) (image_now w s)
+IsWritten w a e s =
+    event_refusal w a e ≡ None → IsNoRespawnOf s e
+    → image_now (world_after_event w a e) s ≡ play (diary w a e s) (image_now w s)
 
 -- after an accepted respawn of slot s its image is the program of its service, loaded
 abbrev pub RespawnLoads : World → ℕ → ℕ → Service → Type 0
-RespawnLoads w a s v = event_refusal w a (Respawn s) ≡ None → slice_get w.services s ≡ Some v → image_now (world_after_event w a (Respawn s)) s ≡ image_of_program v.program
+RespawnLoads w a s v =
+    event_refusal w a (Respawn s) ≡ None → slice_get w.services s ≡ Some v
+    → image_now (world_after_event w a (Respawn s)) s ≡ image_of_program v.program
 
 -- at boot each image is the program of its service, loaded
 abbrev pub BootLoads : Config → List Service → ℕ → Service → Type 0
-BootLoads config services s v = slice_get services s ≡ Some v → image_now (world_at_boot config services) s ≡ image_of_program v.program
+BootLoads config services s v =
+    slice_get services s ≡ Some v → image_now (world_at_boot config services) s ≡ image_of_program v.program
 
 -- ---- runs
 
 -- a run without a new process in slot s does to its image what its diary says
 abbrev pub RunIsWritten : World → List (ℕ × Event) → ℕ → Type 0
-RunIsWritten w xs s = AreSound w xs → AreNoRespawnsOf s xs → s < length w.services → image_now (moves w xs).1 s ≡ play (diary_along w xs s) (image_now w s)
+RunIsWritten w xs s =
+    AreSound w xs → AreNoRespawnsOf s xs → s < length w.services
+    → image_now (moves w xs).1 s ≡ play (diary_along w xs s) (image_now w s)
 
 -- the image at the end of a life is the program with the diary played on it
 abbrev pub LifeIsWritten : Life → Type 0
@@ -50,21 +57,30 @@ LifeIsWritten x = IsLife x → image_of_life x ≡ play (diary_of_life x) (image
 
 -- A life begins at boot, with nothing in its diary,
 abbrev pub LifeBeginsAtBoot : Config → List Service → ℕ → Service → List (ℕ × Event) → Type 0
-LifeBeginsAtBoot config services s v xs = let w = world_at_boot config services in slice_get services s ≡ Some v → AreSound w xs → IsLife (record { world = w; slot = s; service = v; before = []; events = xs })
+LifeBeginsAtBoot config services s v xs =
+    let w = world_at_boot config services in
+    slice_get services s ≡ Some v → AreSound w xs
+        → IsLife (record { world = w; slot = s; service = v; before = []; events = xs })
 
 -- and after an accepted respawn of its slot, with nothing in it again
 abbrev pub LifeBeginsAgain : World → ℕ → ℕ → Service → List (ℕ × Event) → Type 0
-LifeBeginsAgain w a s v xs = let u = world_after_event w a (Respawn s) in event_refusal w a (Respawn s) ≡ None → slice_get w.services s ≡ Some v → AreSound u xs → IsLife (record { world = u; slot = s; service = v; before = []; events = xs })
+LifeBeginsAgain w a s v xs =
+    let u = world_after_event w a (Respawn s) in
+    event_refusal w a (Respawn s) ≡ None → slice_get w.services s ≡ Some v → AreSound u xs
+        → IsLife (record { world = u; slot = s; service = v; before = []; events = xs })
 
 -- two lives, on any machines and in any slots, that agree on program and diary end with equal images
 abbrev pub LivesAgree : Life → Life → Type 0
-LivesAgree x y = x.service.program ≡ y.service.program → diary_of_life x ≡ diary_of_life y → image_of_life x ≡ image_of_life y
+LivesAgree x y =
+    x.service.program ≡ y.service.program → diary_of_life x ≡ diary_of_life y → image_of_life x ≡ image_of_life y
 
 -- ---- kernels: each history of one is such a run
 
 -- the image of a kernel's slot is the program of its service with the diary of its generation played on it
 abbrev pub KernelTellsImage : BootAndHistory → ℕ → Service → Type 0
-KernelTellsImage k s v = slice_get k.boot.services s ≡ Some v → image_now (replay k) s ≡ play (diary_of_life (life_of k s v)) (image_of_program v.program)
+KernelTellsImage k s v =
+    slice_get k.boot.services s ≡ Some v
+    → image_now (replay k) s ≡ play (diary_of_life (life_of k s v)) (image_of_program v.program)
 
 -- two slots, of any two kernels, that agree on program and diary have equal images
 abbrev pub KernelsAgree : BootAndHistory → BootAndHistory → ℕ → ℕ → Service → Service → Type 0
@@ -85,7 +101,9 @@ CopyIsWhole w a e copy = copy_in w a e ≡ Some copy → length copy.bytes ≡ c
 
 -- under the strict rules the copy that an event makes goes through windows
 abbrev pub CopyIsThroughWindows : World → ℕ → Event → ℕ → CopyMade → Type 0
-CopyIsThroughWindows w a e s copy = is_strict w.table.rules ≡ true → caller_in w a e ≡ Some s → copy_in w a e ≡ Some copy → IsThroughWindows w.table s copy
+CopyIsThroughWindows w a e s copy =
+    is_strict w.table.rules ≡ true → caller_in w a e ≡ Some s → copy_in w a e ≡ Some copy
+    → IsThroughWindows w.table s copy
 
 -- ---- what others can't do
 
@@ -94,13 +112,16 @@ CopyIsThroughWindows w a e s copy = is_strict w.table.rules ≡ true → caller_
 -- limit stays, and all registers but EAX, which changes only if the process waits in a call. A step changes nothing;
 -- nor does any event if the process doesn't wait in a call and nothing is copied into it.
 pub record LeavesImage (w : World) (a : ℕ) (e : Event) (s : ℕ) : Type 0 where
-  pub bytes : (k : ℕ) → byte_of (image_now (world_after_event w a e) s) k ≢ byte_of (image_now w s) k → IsInBuffer w s k ⊎ IsInCopy s (copy_in w a e) k
+  pub bytes : (k : ℕ) → byte_of (image_now (world_after_event w a e) s) k ≢ byte_of (image_now w s) k
+      → IsInBuffer w s k ⊎ IsInCopy s (copy_in w a e) k
   pub windows : is_strict w.table.rules ≡ true → (k : ℕ) → IsInCopy s (copy_in w a e) k → IsOpenToWriting w.table s k
   pub limit : length (image_now (world_after_event w a e) s).memory ≡ length (image_now w s).memory
   pub rest : registers_and_code (image_now (world_after_event w a e) s) ≡ registers_and_code (image_now w s)
-  pub result : is_blocked (process_at w.table s).state ≡ false → (image_now (world_after_event w a e) s).regs.eax ≡ (image_now w s).regs.eax
+  pub result : is_blocked (process_at w.table s).state ≡ false
+      → (image_now (world_after_event w a e) s).regs.eax ≡ (image_now w s).regs.eax
   pub step : e ≡ Step → image_now (world_after_event w a e) s ≡ image_now w s
-  pub whole : is_blocked (process_at w.table s).state ≡ false → MissesSlot s (copy_in w a e) → image_now (world_after_event w a e) s ≡ image_now w s
+  pub whole : is_blocked (process_at w.table s).state ≡ false → MissesSlot s (copy_in w a e)
+      → image_now (world_after_event w a e) s ≡ image_now w s
 
 -- so does each accepted event of others
 abbrev pub OthersLeaveImage : World → ℕ → Event → ℕ → Type 0

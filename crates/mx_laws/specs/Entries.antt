@@ -54,7 +54,10 @@ pub record CopyMade : Type 0 where
   pub bytes : List ℕ
 
 abbrev pub copy_made : TableState → CopyRange → CopyMade
-copy_made t c = let from = slot_of c.source.endpoint in record { from = from; address = c.source.offset; to = slot_of c.target.endpoint; place = c.target.offset; count = c.count; bytes = part (memory_at t from) c.source.offset c.count }
+copy_made t c =
+    let from = slot_of c.source.endpoint in
+    record { from = from; address = c.source.offset; to = slot_of c.target.endpoint; place = c.target.offset;
+        count = c.count; bytes = part (memory_at t from) c.source.offset c.count }
 
 -- by what a kernel call does
 abbrev pub copy_of_effect : TableState → Effect → Option CopyMade
@@ -69,7 +72,8 @@ copy_by t s _ _ = None
 -- by the trap of s
 abbrev pub copy_at_trap : TableState → ℕ → TrapAnswer → Option CopyMade
 copy_at_trap t s trap_ends.Done = None
-copy_at_trap t s trap_ends.Kernel = copy_by t s (kernel_call_under t.rules (message_words_at t s)) (kernel_call_refusal t s)
+copy_at_trap t s trap_ends.Kernel =
+    copy_by t s (kernel_call_under t.rules (message_words_at t s)) (kernel_call_refusal t s)
 
 -- by the end of its turn
 abbrev pub copy_at_end : TableState → ℕ → Bool → Stop → Option CopyMade
@@ -78,7 +82,8 @@ copy_at_end t s _ _ = None
 
 abbrev pub copy_at_back : TableState → Option HeldProcess → Option CopyMade
 copy_at_back t None = None
-copy_at_back t (Some l) = copy_at_end (table_after_coming_home t l) l.slot (is_doomed (process_at t l.slot).state) l.out.stop
+copy_at_back t (Some l) =
+    copy_at_end (table_after_coming_home t l) l.slot (is_doomed (process_at t l.slot).state) l.out.stop
 
 -- THE COPY that an event makes
 abbrev pub copy_in : World → ℕ → Event → Option CopyMade
@@ -162,7 +167,8 @@ pub record IsThroughWindows (t : TableState) (s : ℕ) (copy : CopyMade) : Type 
 
 -- a byte of slot s in a window that it has open for writing, to some slot
 abbrev pub IsOpenToWriting : TableState → ℕ → ℕ → Type 0
-IsOpenToWriting t s k = (u : ℕ) × (x : Window) × (window_of t s u ≡ Some x) × (allows_writing x.access ≡ true) × IsInside x.place x.count k
+IsOpenToWriting t s k =
+    (u : ℕ) × (x : Window) × (window_of t s u ≡ Some x) × (allows_writing x.access ≡ true) × IsInside x.place x.count k
 
 -- all of an image but its memory and EAX, where results come
 abbrev pub registers_and_code : Image → Image

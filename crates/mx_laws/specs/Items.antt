@@ -41,7 +41,8 @@ use Rattle.mx_laws.specs.Diary.Item.{Result, Message, Copy}
 
 -- SEND to d: where d waits for it, the message and 0 for d, then 0 for the caller; else nothing yet
 abbrev pub items_of_send : TableState → ℕ → ℕ → List (ℕ × Item)
-items_of_send w s d = if accepts (process_at w d).state s then (d, Message (message_of w s)) ∷ (d, Result 0) ∷ (s, Result 0) ∷ [] else []
+items_of_send w s d =
+    if accepts (process_at w d).state s then (d, Message (message_of w s)) ∷ (d, Result 0) ∷ (s, Result 0) ∷ [] else []
 
 -- the bytes of a notification to d
 abbrev pub bytes_of_notice : TableState → ℕ → Source → List ℕ
@@ -49,7 +50,8 @@ bytes_of_notice w d x = notification (source_endpoint w x) w.uptime (lines_in_no
 
 -- a notification: to d, if it waits for one
 abbrev pub items_of_notifying : TableState → Source → ℕ → List (ℕ × Item)
-items_of_notifying w x d = if hears (process_at w d).state x then (d, Message (bytes_of_notice w d x)) ∷ (d, Result 0) ∷ [] else []
+items_of_notifying w x d =
+    if hears (process_at w d).state x then (d, Message (bytes_of_notice w d x)) ∷ (d, Result 0) ∷ [] else []
 
 -- a caller whose message was taken: 0 after a SEND, and after a SENDREC nothing yet
 abbrev pub items_of_release : ℕ → State → List (ℕ × Item)
@@ -59,7 +61,8 @@ items_of_release p _ = (p, Result 0) ∷ []
 -- the message of p comes to s
 abbrev pub items_of_taking : TableState → ℕ → Option ℕ → List (ℕ × Item)
 items_of_taking w s None = []
-items_of_taking w s (Some p) = (s, Message (message_of w p)) ∷ items_of_release p (process_at w p).state ++ (s, Result 0) ∷ []
+items_of_taking w s (Some p) =
+    (s, Message (message_of w p)) ∷ items_of_release p (process_at w p).state ++ (s, Result 0) ∷ []
 
 -- EDEADDST for each of these
 abbrev pub items_of_freeing : List ℕ → List (ℕ × Item)
@@ -73,7 +76,12 @@ items_of_receive w s p (Some x) = (s, Message (bytes_of_notice w s x)) ∷ (s, R
 
 -- SENDREC: the message for d, then what a receive from d takes
 abbrev pub items_of_sendrec : TableState → ℕ → ℕ → List (ℕ × Item)
-items_of_sendrec w s d = if accepts (process_at w d).state s then (let v = goes_on (table_after_delivery w s d) d 0 in (d, Message (message_of w s)) ∷ (d, Result 0) ∷ items_of_taking v s (caller_of s (partner.Only (source.Slot d)) v.waits)) else []
+items_of_sendrec w s d =
+    if accepts (process_at w d).state s
+        then (let v = goes_on (table_after_delivery w s d) d 0 in
+            (d, Message (message_of w s)) ∷ (d, Result 0)
+                ∷ items_of_taking v s (caller_of s (partner.Only (source.Slot d)) v.waits))
+    else []
 
 -- a call that passed the checks
 abbrev pub items_of_checked_call : TableState → ℕ → Call → Party → List (ℕ × Item)
@@ -100,7 +108,10 @@ items_of_death w s = items_of_freeing (waiting_for (table_after_taking_out w s) 
 
 -- what a kernel call does that others see in their images: a copy, or a death
 abbrev pub items_of_effect : TableState → Effect → List (ℕ × Item)
-items_of_effect w (Copies c) = (slot_of c.target.endpoint, Copy c.target.offset (part (memory_at w (slot_of c.source.endpoint)) c.source.offset c.count)) ∷ []
+items_of_effect w (Copies c) =
+    (slot_of c.target.endpoint,
+        Copy c.target.offset (part (memory_at w (slot_of c.source.endpoint)) c.source.offset c.count))
+    ∷ []
 items_of_effect w (Kills s) = items_of_death w s
 items_of_effect w _ = []
 
@@ -110,7 +121,9 @@ items_of_reply s result a = (s, Message (reply_bytes result a)) ∷ (s, Result 0
 
 -- a kernel call that isn't refused: who ends itself has no reply
 abbrev pub items_of_serving : TableState → ℕ → KernelCall → List (ℕ × Item)
-items_of_serving w s r = if ends_caller s r then items_of_death w s else items_of_effect w (effect_of (known w s) s r) ++ items_of_reply s 0 (words_of_reply w s r)
+items_of_serving w s r =
+    if ends_caller s r then items_of_death w s
+    else items_of_effect w (effect_of (known w s) s r) ++ items_of_reply s 0 (words_of_reply w s r)
 
 -- a kernel call; an error is in the reply
 abbrev pub items_of_kernel_call : TableState → ℕ → Option KernelCall → Option Errno → List (ℕ × Item)
@@ -120,8 +133,10 @@ items_of_kernel_call w s None None = []
 
 -- a trap of s, or its kernel call
 abbrev pub items_of_trap : TableState → ℕ → TrapAnswer → List (ℕ × Item)
-items_of_trap t s trap_ends.Done = let regs = (process_at t s).image.regs in items_of_trap_by t s (call_of regs.ecx) regs.eax
-items_of_trap t s trap_ends.Kernel = items_of_kernel_call t s (kernel_call_under t.rules (message_words_at t s)) (kernel_call_refusal t s)
+items_of_trap t s trap_ends.Done =
+    let regs = (process_at t s).image.regs in items_of_trap_by t s (call_of regs.ecx) regs.eax
+items_of_trap t s trap_ends.Kernel =
+    items_of_kernel_call t s (kernel_call_under t.rules (message_words_at t s)) (kernel_call_refusal t s)
 
 -- THE END OF A TURN of s
 abbrev pub items_of_end_of_turn : TableState → ℕ → Bool → Stop → List (ℕ × Item)

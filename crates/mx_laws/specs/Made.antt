@@ -43,4 +43,5 @@ told_deliveries x = told_of_slots x (range_with_len 0 32)
 
 -- THE DELIVERIES IN THE FACTS of a record are those that its event makes, each with the slot that it came to
 abbrev pub ToldAreMade : World → ℕ → Record → Type 0
-ToldAreMade w n x = told_deliveries (step_of w n x) ≡ map with_slot (deliveries_made (world_before w x) x.actor (own_event x.event))
+ToldAreMade w n x =
+    told_deliveries (step_of w n x) ≡ map with_slot (deliveries_made (world_before w x) x.actor (own_event x.event))

@@ -43,7 +43,8 @@ diary_after w a e s (Some r) before = before
 -- THE DIARY OF A GENERATION: of the process that slot s has after a run
 abbrev pub generation_diary : World → List (ℕ × Event) → ℕ → List Item → List Item
 generation_diary w [] s before = before
-generation_diary w (x ∷ xs) s before = generation_diary (move w x.0 x.1).1 xs s (diary_after w x.0 x.1 s (event_refusal w x.0 x.1) before)
+generation_diary w (x ∷ xs) s before =
+    generation_diary (move w x.0 x.1).1 xs s (diary_after w x.0 x.1 s (event_refusal w x.0 x.1) before)
 
 -- ---- lives
 

@@ -26,7 +26,10 @@ sender_of_receive w s p (Some x) = None
 
 -- a SENDREC takes an answer that waits already
 abbrev pub sender_of_sendrec : TableState → ℕ → ℕ → Option ℕ
-sender_of_sendrec w s d = if accepts (process_at w d).state s then caller_of s (partner.Only (source.Slot d)) (goes_on (table_after_delivery w s d) d 0).waits else None
+sender_of_sendrec w s d =
+    if accepts (process_at w d).state s
+        then caller_of s (partner.Only (source.Slot d)) (goes_on (table_after_delivery w s d) d 0).waits
+    else None
 
 abbrev pub sender_of_checked_call : TableState → ℕ → Call → Party → Option ℕ
 sender_of_checked_call w s call.Receive x = sender_of_receive w s (partner_of x) (pending_source w s (partner_of x))

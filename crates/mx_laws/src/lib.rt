@@ -1,4 +1,5 @@
-//! The laws of isolation and of looking at a run: functions without a body of their own, whose contracts are the promises.
+//! The laws of isolation and of looking at a run: functions without a body of their own, whose contracts are the
+//! promises.
 #![tactic(auto)]
 
 mod diary_laws;

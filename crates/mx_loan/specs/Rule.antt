@@ -53,7 +53,9 @@ out_with_note = 6
 
 -- it knows nothing
 abbrev pub spent_view : Knowledge
-spent_view = record { knows = false; history = []; lent = []; sits = false; actor = 0; mine = []; seen = []; held = None; founding = false; made = 0; actors = 0; phase = 0 }
+spent_view =
+    record { knows = false; history = []; lent = []; sits = false; actor = 0; mine = []; seen = []; held = None;
+        founding = false; made = 0; actors = 0; phase = 0 }
 
 -- the kernel's half: the history, and what is lent
 abbrev pub kernel_half : Knowledge → Knowledge
@@ -70,7 +72,8 @@ word_at_rest (Some x) = lent_out
 
 -- both halves in one seat, for a call: that of k as the kernel's, and that of v as an actor's
 abbrev pub joined_view : Knowledge → Knowledge → Knowledge
-joined_view k v = record (actor_half v) { knows = true; history = k.history; lent = k.lent; phase = word_at_rest v.held }
+joined_view k v =
+    record (actor_half v) { knows = true; history = k.history; lent = k.lent; phase = word_at_rest v.held }
 
 abbrev pub IsJoined : Knowledge → Type 0
 IsJoined v = (v.knows ≡ true) × (v.sits ≡ true) × (v.founding ≡ false)
@@ -97,11 +100,15 @@ newborn_view v = record spent_view { sits = true; actor = v.made }
 -- kernel lends it and what it holds
 pub data WordMeans (n : ℕ) (all mine : List Record) (lent held : Option Out) : Type 0 where
   home : n ≡ at_home → all ≡ mine → lent ≡ None → held ≡ None → WordMeans n all mine lent held
-  offer : (r : Record) (x : Out) → n ≡ offered → r.event ≡ Take → all ≡ mine ++ r ∷ [] → lent ≡ Some x → held ≡ None → WordMeans n all mine lent held
+  offer : (r : Record) (x : Out) → n ≡ offered → r.event ≡ Take → all ≡ mine ++ r ∷ [] → lent ≡ Some x → held ≡ None
+      → WordMeans n all mine lent held
   out : (x : Out) → n ≡ lent_out → all ≡ mine → lent ≡ Some x → held ≡ Some x → WordMeans n all mine lent held
-  back : (r : Record) (steps : ℕ) (x : Out) → n ≡ brought_back → r.event ≡ Back steps → mine ≡ all ++ r ∷ [] → lent ≡ Some x → held ≡ None → WordMeans n all mine lent held
-  home_with_note_due : (r : Record) → n ≡ home_with_note → all ≡ mine ++ r ∷ [] → lent ≡ None → held ≡ None → WordMeans n all mine lent held
-  out_with_note_due : (r : Record) (x : Out) → n ≡ out_with_note → all ≡ mine ++ r ∷ [] → lent ≡ Some x → held ≡ Some x → WordMeans n all mine lent held
+  back : (r : Record) (steps : ℕ) (x : Out) → n ≡ brought_back → r.event ≡ Back steps → mine ≡ all ++ r ∷ []
+      → lent ≡ Some x → held ≡ None → WordMeans n all mine lent held
+  home_with_note_due : (r : Record) → n ≡ home_with_note → all ≡ mine ++ r ∷ [] → lent ≡ None → held ≡ None
+      → WordMeans n all mine lent held
+  out_with_note_due : (r : Record) (x : Out) → n ≡ out_with_note → all ≡ mine ++ r ∷ [] → lent ≡ Some x → held ≡ Some x
+      → WordMeans n all mine lent held
 
 -- between two calls an actor is at home, or something is lent out to it
 abbrev pub IsResting : ℕ → Type 0
@@ -125,7 +132,8 @@ pub record ActorFacts (words : List ℕ) (log : List Record) (lent : List (Optio
 
 -- the rule for the first seat, while it still makes actors' seats: nothing has happened, and the actors from `made`
 -- on have no seat yet
-pub record FoundingFacts (words : List ℕ) (views : List Knowledge) (log : List Record) (lent : List (Option Out)) (v : Knowledge) : Type 0 where
+pub record FoundingFacts (words : List ℕ) (views : List Knowledge) (log : List Record) (lent : List (Option Out))
+    (v : Knowledge) : Type 0 where
   pub both : (v.knows ≡ true) × (v.sits ≡ false)
   pub empty : log ≡ []
   pub still : (b : ℕ) → slice_index words b ≡ 0
@@ -142,11 +150,14 @@ pub record RuleHolds (words : List ℕ) (views : List Knowledge) : Type 0 where
   pub kernel : ℕ
   pub place : ℕ → ℕ
   -- only this seat has the kernel's half, and it knows this history and this list
-  pub knows : (by : ℕ) (v : Knowledge) → get_elem? views by ≡ some v → v.knows ≡ true → (by ≡ kernel) × KernelFacts words log lent v
+  pub knows : (by : ℕ) (v : Knowledge) → get_elem? views by ≡ some v → v.knows ≡ true
+      → (by ≡ kernel) × KernelFacts words log lent v
   -- each actor's half is in one seat, and the actor's word relates it to the history and the list
-  pub sits : (by : ℕ) (v : Knowledge) → get_elem? views by ≡ some v → v.sits ≡ true → (by ≡ place v.actor) × ActorFacts words log lent v
+  pub sits : (by : ℕ) (v : Knowledge) → get_elem? views by ≡ some v → v.sits ≡ true
+      → (by ≡ place v.actor) × ActorFacts words log lent v
   -- only the kernel's seat makes actors' seats, before anything has happened
-  pub found : (by : ℕ) (v : Knowledge) → get_elem? views by ≡ some v → v.founding ≡ true → (by ≡ kernel) × FoundingFacts words views log lent v
+  pub found : (by : ℕ) (v : Knowledge) → get_elem? views by ≡ some v → v.founding ≡ true
+      → (by ≡ kernel) × FoundingFacts words views log lent v
 
 -- the rule for a view that has both halves, by that view only
 pub record JoinedFacts (v : Knowledge) : Type 0 where
@@ -163,11 +174,14 @@ value_of_shown (Some x) = Some x.value
 
 -- the kernel records that the actor takes a process, which it lends from then on
 abbrev pub view_after_offer : Knowledge → Announcement → Knowledge
-view_after_offer v x = record v { history = v.history ++ x.record ∷ []; lent = slice_set v.lent v.actor (value_of_shown x.lent); phase = offered }
+view_after_offer v x =
+    record v { history = v.history ++ x.record ∷ []; lent = slice_set v.lent v.actor (value_of_shown x.lent);
+        phase = offered }
 
 -- the actor notes it, and holds what is lent
 abbrev pub view_after_take : Knowledge → Announcement → Knowledge
-view_after_take v x = record v { mine = v.mine ++ x.record ∷ []; seen = v.history; held = value_of_shown x.lent; phase = lent_out }
+view_after_take v x =
+    record v { mine = v.mine ++ x.record ∷ []; seen = v.history; held = value_of_shown x.lent; phase = lent_out }
 
 -- the actor notes that it brings the process back, and holds nothing
 abbrev pub view_after_return : Knowledge → Announcement → Knowledge
@@ -175,7 +189,8 @@ view_after_return v x = record v { mine = v.mine ++ x.record ∷ []; held = None
 
 -- the kernel records it, and lends nothing
 abbrev pub view_after_close : Knowledge → Announcement → Knowledge
-view_after_close v x = record v { history = v.history ++ x.record ∷ []; lent = slice_set v.lent v.actor None; phase = at_home }
+view_after_close v x =
+    record v { history = v.history ++ x.record ∷ []; lent = slice_set v.lent v.actor None; phase = at_home }
 
 -- the kernel records another event of the actor
 abbrev pub view_after_record : Knowledge → Announcement → Knowledge
@@ -186,5 +201,8 @@ abbrev pub view_after_note : Knowledge → Announcement → Knowledge
 view_after_note v x = record v { mine = part_of v.history v.actor; seen = v.history; phase = word_at_rest v.held }
 
 -- a step makes the view what f gives of it and of what was announced
-abbrev pub StepMakes : (Knowledge → Announcement → Knowledge) → Step (Shown Announcement) → Me (Shown Announcement) Knowledge → ℕ → Me (Shown Announcement) Knowledge → Type 0
-StepMakes f s me n after = (x : Shown Announcement) × (s.said ≡ some x) × (after ≡ (f me.0 x.value, me.1)) × JoinedFacts me.0 × JoinedFacts (f me.0 x.value)
+abbrev pub StepMakes : (Knowledge → Announcement → Knowledge) → Step (Shown Announcement)
+    → Me (Shown Announcement) Knowledge → ℕ → Me (Shown Announcement) Knowledge → Type 0
+StepMakes f s me n after =
+    (x : Shown Announcement) × (s.said ≡ some x) × (after ≡ (f me.0 x.value, me.1)) × JoinedFacts me.0
+    × JoinedFacts (f me.0 x.value)

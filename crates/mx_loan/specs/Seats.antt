@@ -60,7 +60,9 @@ seat_of z a v = record { table = z; actor = a; mine = v.mine; seen = v.seen; hel
 -- a seat has only its actor's half: its word is 2 if it holds something, and its own records are all of its actor's
 -- that it has seen
 abbrev pub IsActorSeat : TableId → ℕ → Bool → Me (Shown Announcement) Knowledge → Type 0
-IsActorSeat z a holds me = (me ≡ (actor_half me.0, [])) × (me.0.actor ≡ a) × (a < z.words) × (word_at_rest me.0.held ≡ (if holds then 2 else 0)) × (me.0.mine ≡ part_of me.0.seen a)
+IsActorSeat z a holds me =
+    (me ≡ (actor_half me.0, [])) × (me.0.actor ≡ a) × (a < z.words)
+    × (word_at_rest me.0.held ≡ (if holds then 2 else 0)) × (me.0.mine ≡ part_of me.0.seen a)
 
 -- the kernel's half, as a desk
 abbrev pub desk_of : TableId → Knowledge → DeskView
@@ -89,7 +91,8 @@ desk_after_loan d r x = record { table = d.table; history = d.history ++ r ∷ [
 
 -- the seat after its own record, by which it sees all of the history and holds this
 abbrev pub seat_after_record : SeatView → DeskView → Record → Option Out → SeatView
-seat_after_record s d r x = record { table = s.table; actor = s.actor; mine = s.mine ++ r ∷ []; seen = d.history; held = x }
+seat_after_record s d r x =
+    record { table = s.table; actor = s.actor; mine = s.mine ++ r ∷ []; seen = d.history; held = x }
 
 abbrev pub desk_after_take : DeskView → ℕ → Out → DeskView
 desk_after_take d a o = desk_after_loan d (take_record a) (Some o)

@@ -39,7 +39,8 @@ operand_outside i m = operand_outside_by m (one_operand i)
 -- of the k dwords below a top, from above
 abbrev pub pushed_outside : ℕ → ℕ → Image → Option Access
 pushed_outside zero top m = None
-pushed_outside (suc k) top m = option_or (outside (dword_difference top 4) Dword m) (pushed_outside k (dword_difference top 4) m)
+pushed_outside (suc k) top m =
+    option_or (outside (dword_difference top 4) Dword m) (pushed_outside k (dword_difference top 4) m)
 
 -- of the k dwords from a top up
 abbrev pub popped_outside : ℕ → ℕ → Image → Option Access

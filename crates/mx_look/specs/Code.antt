@@ -18,7 +18,8 @@ use Rattle.mx_look.specs.Nearest.{nearest_symbol}
 
 -- its name, and how far the address lies after it
 unfoldable pub place_text : ℕ → Symbol → List ℕ
-place_text at s = name_text s.name ++ (if nat_lt s.value at then codes "+" ++ hexadecimal (at - s.value) else []) ++ codes " "
+place_text at s =
+    name_text s.name ++ (if nat_lt s.value at then codes "+" ++ hexadecimal (at - s.value) else []) ++ codes " "
 
 abbrev pub place_text_if : ℕ → Option Symbol → List ℕ
 place_text_if at None = []

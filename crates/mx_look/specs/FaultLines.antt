@@ -28,11 +28,13 @@ touched_text at count limit = codes ": " ++ eight_digits at ++ size_text at coun
 
 -- an access that isn't inside
 unfoldable pub access_text : ℕ → ℕ → ℕ → List ℕ
-access_text at count limit = touched_text at count limit ++ codes " is past the limit " ++ eight_digits (limit_number limit)
+access_text at count limit =
+    touched_text at count limit ++ codes " is past the limit " ++ eight_digits (limit_number limit)
 
 -- a target that isn't in the code
 unfoldable pub target_text : ℕ → ℕ → List ℕ
-target_text t limit = codes ": the target " ++ eight_digits t ++ codes " is past the code's limit " ++ eight_digits (limit_number limit)
+target_text t limit =
+    codes ": the target " ++ eight_digits t ++ codes " is past the code's limit " ++ eight_digits (limit_number limit)
 
 unfoldable pub reason_text : FaultGlance → FaultReason → List ℕ
 reason_text f (Outside a) = access_text a.at (bytes_in a.size) f.memory_limit

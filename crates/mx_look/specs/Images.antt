@@ -21,4 +21,5 @@ message_at memory at =
 
 -- trap and result, the memory's length, and the message at the buffer
 unfoldable pub image_glance : Image → ImageGlance
-image_glance m = record { eax = m.regs.eax; ecx = m.regs.ecx; limit = length m.memory; words = message_at m.memory m.regs.ebx }
+image_glance m =
+    record { eax = m.regs.eax; ecx = m.regs.ecx; limit = length m.memory; words = message_at m.memory m.regs.ebx }

@@ -1,4 +1,5 @@
--- Kernel calls, as a trace has them (our own), by the table of kernel calls. A type is that of a call only if the rules have it.
+-- Kernel calls, as a trace has them (our own), by the table of kernel calls. A type is that of a call only if the rules
+-- have it.
 use Rattle.std.specs.Prelude.{ℕ, ◌+◌, ◌-◌, ◌==◌, ◌&&◌, nat_le, if◌then◌else◌, List, [], ◌++◌, codes, take, drop, position, Option, Some, None, slice_index}
 use Rattle.std.specs.Fmt.{decimal}
 use Rattle.std.specs.Option.{option_map}
@@ -42,7 +43,8 @@ request_type name = option_map (λ n. first_call + n) (position (λ row. bytes_e
 
 -- the call whose type has these decimal digits, read in hexadecimal: 600 and 609 for 600 and 609 hex
 abbrev pub row_by_digits : Rules → ℕ → Option CallRow
-row_by_digits rules kind = if nat_le 600 kind && nat_le kind 609 then row_under rules (kind - 600 + first_call) else None
+row_by_digits rules kind =
+    if nat_le 600 kind && nat_le kind 609 then row_under rules (kind - 600 + first_call) else None
 
 abbrev pub hint : ℕ → Option CallRow → List ℕ
 hint kind None = []
@@ -78,5 +80,6 @@ answer_count (Some row) first = reply_count row.reply first
 unfoldable pub answer_text : Glance → List ℕ → List ℕ → List ℕ
 answer_text g request reply =
     codes "answer " ++ result_text (slice_index reply 1)
-    ++ (if slice_index reply 1 == 0 then words_from (answer_count (row_of (slice_index request 1)) (slice_index request 2)) reply
+    ++ (if slice_index reply 1 == 0
+        then words_from (answer_count (row_of (slice_index request 1)) (slice_index request 2)) reply
     else request_reason g request (slice_index reply 1))

@@ -1,5 +1,5 @@
--- WHY a trap or a kernel call is refused, in brackets after its result (our own): the check that has this error. Where several
--- have it, that is the first which says so.
+-- WHY a trap or a kernel call is refused, in brackets after its result (our own): the check that has this error. Where
+-- several have it, that is the first which says so.
 use Rattle.std.specs.Prelude.{ℕ, ◌+◌, ◌==◌, ◌&&◌, ◌||◌, not, nat_lt, nat_le, Bool, true, false, if◌then◌else◌, List, [], ◌++◌, codes, Option, Some, None, is_some, slice_index}
 use Rattle.std.specs.Fmt.{decimal}
 use Rattle.mx_word.specs.Bits.{has_bit}
@@ -76,11 +76,14 @@ is_copy _ = false
 
 -- EINVAL
 abbrev pub invalid_by : Option CallName → List ℕ → List ℕ
-invalid_by (Some calls.Irqctl) request = if nat_lt 1 (slice_index request 2) then codes " (p0, action)" else codes " (p1, line)"
-invalid_by (Some calls.Devio) request = if nat_lt 1 (slice_index request 2) then codes " (p0, action)" else codes " (p1, register)"
+invalid_by (Some calls.Irqctl) request =
+    if nat_lt 1 (slice_index request 2) then codes " (p0, action)" else codes " (p1, line)"
+invalid_by (Some calls.Devio) request =
+    if nat_lt 1 (slice_index request 2) then codes " (p0, action)" else codes " (p1, register)"
 invalid_by (Some calls.Vircopy) request = codes " (p4, count)"
 invalid_by (Some calls.Whois) request = codes " (p0, slot)"
-invalid_by (Some calls.Grant) request = if nat_lt 3 (slice_index request 5) then codes " (p3, access)" else codes " (p0, oneself)"
+invalid_by (Some calls.Grant) request =
+    if nat_lt 3 (slice_index request 5) then codes " (p3, access)" else codes " (p0, oneself)"
 invalid_by _ request = []
 
 unfoldable pub invalid_text : List ℕ → List ℕ
@@ -104,7 +107,8 @@ holds_in (Some u) at count = nat_le (at + count) u.image.limit
 -- EFAULT: of VIRCOPY the range that is copied from, or else the other
 unfoldable pub outside_text : Glance → List ℕ → List ℕ
 outside_text g request =
-    if is_copy (asked_call request) && holds_in (slot_in g (slot_of (slice_index request 2))) (slice_index request 3) (slice_index request 6)
+    if is_copy (asked_call request)
+        && holds_in (slot_in g (slot_of (slice_index request 2))) (slice_index request 3) (slice_index request 6)
     then codes " (p3, address)" else codes " (p1, address)"
 
 abbrev pub request_reason_by : Glance → List ℕ → Option Errno → List ℕ

@@ -27,11 +27,13 @@ both f _ _ = false
 
 -- WHAT IT DOES HAS CHANGED, otherwise than by a take
 abbrev pub has_changed : Step → ℕ → Bool
-has_changed x s = not (is_take x.event) && both (λ v u. not (same_doing v.doing u.doing)) (slot_in x.before s) (slot_in x.after s)
+has_changed x s =
+    not (is_take x.event) && both (λ v u. not (same_doing v.doing u.doing)) (slot_in x.before s) (slot_in x.after s)
 
 -- AN ALARM RINGS
 abbrev pub has_rung : Step → ℕ → Bool
-has_rung x s = is_tick x.event && both (λ v u. is_some v.alarm && is_none u.alarm) (slot_in x.before s) (slot_in x.after s)
+has_rung x s =
+    is_tick x.event && both (λ v u. is_some v.alarm && is_none u.alarm) (slot_in x.before s) (slot_in x.after s)
 
 -- ---- quanta
 

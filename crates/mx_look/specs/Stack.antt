@@ -56,7 +56,8 @@ and_rows symbols m at (Err e) rows = []
 -- the rows of this many dwords from an address on, up to where memory ends
 abbrev pub stack_rows : ℕ → List Symbol → Image → ℕ → List ℕ
 stack_rows zero symbols m at = []
-stack_rows (suc n) symbols m at = and_rows symbols m at (read_at m.memory at Dword) (stack_rows n symbols m (dword_sum at 4))
+stack_rows (suc n) symbols m at =
+    and_rows symbols m at (read_at m.memory at Dword) (stack_rows n symbols m (dword_sum at 4))
 
 -- THE STACK, from ESP on
 abbrev pub stack_text : ℕ → List Symbol → Image → List ℕ

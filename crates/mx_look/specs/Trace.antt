@@ -56,7 +56,8 @@ call_text n = name_or (decimal n) (call_name n)
 abbrev pub stop_text_by : Glance → CpuGlance → Stop → List ℕ
 stop_text_by g h stop.Spent = if nat_lt h.count h.budget then codes "early" else codes "spent"
 stop_text_by g h (stop.Fault v) = codes "fault " ++ decimal v
-stop_text_by g h stop.Trap = codes "trap " ++ call_text h.image.ecx ++ codes " " ++ party_text g h.image.eax ++ request_text g.rules h
+stop_text_by g h stop.Trap =
+    codes "trap " ++ call_text h.image.ecx ++ codes " " ++ party_text g h.image.eax ++ request_text g.rules h
 
 unfoldable pub stop_text : Glance → CpuGlance → List ℕ
 stop_text g h = stop_text_by g h h.stop
@@ -102,13 +103,16 @@ unfoldable pub about_text : Step → List ℕ
 about_text x = about_text_by x x.event
 
 unfoldable pub head_line : Step → List ℕ
-head_line x = decimal x.number ++ codes " " ++ decimal x.actor ++ codes " " ++ event_text x.event ++ codes ": " ++ about_text x ++ codes "\n"
+head_line x =
+    decimal x.number ++ codes " " ++ decimal x.actor ++ codes " " ++ event_text x.event ++ codes ": " ++ about_text x
+    ++ codes "\n"
 
 -- ---- what came of it
 
 -- a kernel call's caller that goes on has its answer in its buffer
 abbrev pub answered_by : Step → SlotGlance → Option (List ℕ) → Option (List ℕ) → List ℕ
-answered_by x u (Some request) (Some reply) = if is_ready u.doing then margin x ++ answer_text x.after request reply ++ codes "\n" else []
+answered_by x u (Some request) (Some reply) =
+    if is_ready u.doing then margin x ++ answer_text x.after request reply ++ codes "\n" else []
 answered_by x u _ _ = []
 
 unfoldable pub answered : Step → CpuGlance → SlotGlance → List ℕ
@@ -130,7 +134,8 @@ byte_text b = codes "0x" ++ two_digits b
 
 -- a byte, and its character from ! to ~
 unfoldable pub console_text : ℕ → List ℕ
-console_text b = codes "console " ++ byte_text b ++ (if nat_lt 32 b && nat_lt b 127 then codes " '" ++ b ∷ codes "'" else [])
+console_text b =
+    codes "console " ++ byte_text b ++ (if nat_lt 32 b && nat_lt b 127 then codes " '" ++ b ∷ codes "'" else [])
 
 abbrev pub console_line_by : Step → Option ℕ → List ℕ
 console_line_by x None = []
@@ -161,7 +166,8 @@ delivered_words seen = delivered_words_by seen
 
 -- what was delivered, from whom and to whom
 unfoldable pub delivery_parties : Step → Delivery → List ℕ
-delivery_parties x d = kind_word d.kind ++ codes " " ++ party_text x.after d.from ++ codes " to " ++ party_text x.after d.to
+delivery_parties x d =
+    kind_word d.kind ++ codes " " ++ party_text x.after d.from ++ codes " to " ++ party_text x.after d.to
 
 abbrev pub delivery_line_by : Step → ℕ → Option Delivery → List ℕ
 delivery_line_by x s None = []
@@ -175,10 +181,14 @@ delivery_line x s = delivery_line_by x s (delivery_to x s)
 -- the source that has a place among the pending bits
 unfoldable pub source_text : Glance → ℕ → List ℕ
 source_text g place =
-    if place == 0 then party_text g hardware_endpoint else if place == 1 then party_text g clock_endpoint else who g (place - 2)
+    if place == 0 then party_text g hardware_endpoint else if place == 1 then party_text g clock_endpoint
+    else who g (place - 2)
 
 unfoldable pub kept_line : Step → SlotGlance → SlotGlance → ℕ → List ℕ
-kept_line x v u place = if is_new_bit v u place then margin x ++ codes "notify " ++ source_text x.after place ++ codes " to " ++ who_of u ++ codes ", pending\n" else []
+kept_line x v u place =
+    if is_new_bit v u place then margin x ++ codes "notify " ++ source_text x.after place ++ codes " to " ++ who_of u
+        ++ codes ", pending\n"
+    else []
 
 unfoldable pub kept_between : Step → SlotGlance → SlotGlance → List ℕ
 kept_between x v u = flat_map (kept_line x v u) (range_with_len 0 34)
@@ -198,7 +208,9 @@ unfoldable pub result_part : Step → ℕ → List ℕ
 result_part x s = result_part_by x s (gone_on x s)
 
 unfoldable pub changed : Step → ℕ → SlotGlance → SlotGlance → List ℕ
-changed x s v u = margin x ++ who_of u ++ codes ": " ++ doing_text v.doing ++ codes " -> " ++ doing_text u.doing ++ result_part x s ++ codes "\n"
+changed x s v u =
+    margin x ++ who_of u ++ codes ": " ++ doing_text v.doing ++ codes " -> " ++ doing_text u.doing ++ result_part x s
+    ++ codes "\n"
 
 abbrev pub changed_if : Step → ℕ → Option SlotGlance → Option SlotGlance → List ℕ
 changed_if x s (Some v) (Some u) = changed x s v u
@@ -209,7 +221,8 @@ change_line x s = if has_changed x s then changed_if x s (slot_in x.before s) (s
 
 abbrev pub new_quantum : Step → Option SlotGlance → List ℕ
 new_quantum x None = []
-new_quantum x (Some u) = margin x ++ who_of u ++ codes ": quantum " ++ decimal u.ticks ++ codes " at level " ++ decimal u.level ++ codes "\n"
+new_quantum x (Some u) =
+    margin x ++ who_of u ++ codes ": quantum " ++ decimal u.ticks ++ codes " at level " ++ decimal u.level ++ codes "\n"
 
 unfoldable pub quantum_line : Step → ℕ → List ℕ
 quantum_line x s = if is_renewed x s then new_quantum x (slot_in x.after s) else []
@@ -232,4 +245,6 @@ unfoldable pub change_lines : Step → List ℕ
 change_lines x = of_slots (λ s. change_line x s ++ quantum_line x s)
 
 unfoldable pub record_text : Step → List ℕ
-record_text x = head_line x ++ fault_line x ++ answer_line x ++ console_line x ++ alarm_lines x ++ delivery_lines x ++ all_kept_lines x ++ change_lines x
+record_text x =
+    head_line x ++ fault_line x ++ answer_line x ++ console_line x ++ alarm_lines x ++ delivery_lines x
+    ++ all_kept_lines x ++ change_lines x

@@ -39,8 +39,10 @@ flag_field name value = codes " " ++ name ++ codes " " ++ decimal value
 
 unfoldable pub flag_fields : FlagValues → List ℕ
 flag_fields f =
-    flag_field (codes "CF") (from_bool f.carry) ++ flag_field (codes "PF") (from_bool f.parity) ++ flag_field (codes "AF") (from_bool f.auxiliary) ++ flag_field (codes "ZF") (from_bool f.zero)
-    ++ flag_field (codes "SF") (from_bool f.sign) ++ flag_field (codes "DF") (from_bool f.direction) ++ flag_field (codes "OF") (from_bool f.overflow)
+    flag_field (codes "CF") (from_bool f.carry) ++ flag_field (codes "PF") (from_bool f.parity)
+    ++ flag_field (codes "AF") (from_bool f.auxiliary) ++ flag_field (codes "ZF") (from_bool f.zero)
+    ++ flag_field (codes "SF") (from_bool f.sign) ++ flag_field (codes "DF") (from_bool f.direction)
+    ++ flag_field (codes "OF") (from_bool f.overflow)
 
 -- three lines: the registers, four a line, and EIP with the flags
 abbrev pub register_lines : Image → List ℕ

@@ -10,13 +10,15 @@ use Rattle.mx_print_report.specs.Words.{doing_text, named}
 
 -- the name, the number and the state of the process of a slot whose service has a name
 abbrev pub process_words : Naming → TableState → ℕ → List ℕ → List ℕ
-process_words by w s name = named name (number_of by w s) ++ codes " " ++ doing_text (doing_of by w s (process_at w s).state)
+process_words by w s name =
+    named name (number_of by w s) ++ codes " " ++ doing_text (doing_of by w s (process_at w s).state)
 
 -- the line of a slot whose service has a name
 abbrev pub slot_line : TableState → ℕ → List ℕ → List ℕ
 slot_line w s name =
     let p = process_at w s in
-    decimal s ++ 32 ∷ process_words Endpoints w s name ++ 32 ∷ decimal p.schedule.level ++ 32 ∷ decimal p.schedule.ticks ++ codes "\n"
+    decimal s ++ 32 ∷ process_words Endpoints w s name ++ 32 ∷ decimal p.schedule.level ++ 32 ∷ decimal p.schedule.ticks
+    ++ codes "\n"
 
 -- the lines of services, of which the first has this slot
 abbrev pub slot_lines : TableState → ℕ → List Service → List ℕ

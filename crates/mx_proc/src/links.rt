@@ -1,8 +1,8 @@
 //! Lists of slots, doubly linked by index: the ready lists and the caller queues are such lists.
 //!
 //! A slot is in at most one list, and there are 32 slots. So a link is a byte in an array, at the slot's index, and the
-//! lists take no memory after boot. To put a slot at an end or to take it out of the middle is some writes, however many
-//! are in the list; MINIX's own queues, linked in one direction, are searched for that.
+//! lists take no memory after boot. To put a slot at an end or to take it out of the middle is some writes, however
+//! many are in the list; MINIX's own queues, linked in one direction, are searched for that.
 //!
 //! A `Way` is one direction, and `Links` has two. The invariant: from each end the links lead through the same slots,
 //! in one order and in the other. A contract sees `Links` as a list of lists of slots. The two directions are alike, so

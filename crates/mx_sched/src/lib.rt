@@ -3,9 +3,9 @@
 //!
 //! Sixteen ready lists, list 0 is the highest, and the front of the highest that isn't empty runs next: MINIX 3's
 //! scheduler. Who gave up the processor with ticks left waits for others more than it works, and goes to the front of
-//! its list. Who used up its quantum gets a new one and goes to the end. If nobody else got a quantum since its last, it
-//! may be in a loop that keeps the others out, and goes one level down; else one level up again, at most to its best.
-//! So a driver that mostly waits stays high, and a program that only computes sinks, but comes back.
+//! its list. Who used up its quantum gets a new one and goes to the end. If nobody else got a quantum since its last,
+//! it may be in a loop that keeps the others out, and goes one level down; else one level up again, at most to its
+//! best. So a driver that mostly waits stays high, and a program that only computes sinks, but comes back.
 //!
 //! The order is part of the machine: a history made again has to pick the same processes. So nothing here asks a clock.
 //! A call takes the same time however many processes there are (`links.rt` of `mx_proc`).

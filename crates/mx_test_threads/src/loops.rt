@@ -491,8 +491,8 @@ fn has_ends(gate: &NotingGate, is_called: bool) -> bool {
     true
 }
 
-/// The end of each loop is reported once, and that of no actor that has no loop. The second other actor has one if there
-/// are calls for it to make, and then it makes them.
+/// The end of each loop is reported once, and that of no actor that has no loop. The second other actor has one if
+/// there are calls for it to make, and then it makes them.
 #[test]
 fn ends_are_told(rt: HostRuntime) -> Result<(), Fail> {
     for (others, calls) in [(1, CALLS), (2, &[]), (2, CALLS), (4, &[]), (4, CALLS)] {

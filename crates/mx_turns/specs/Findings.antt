@@ -27,4 +27,5 @@ is_full ending = false
 
 -- WHAT A POSITION TELLS, by its run with the fault and its run without it
 abbrev pub findings_of : Run → Run → Findings
-findings_of run without = record { is_alike = are_alike run without; refusal = refusal_of run.said; is_full = is_full run.ending }
+findings_of run without =
+    record { is_alike = are_alike run without; refusal = refusal_of run.said; is_full = is_full run.ending }

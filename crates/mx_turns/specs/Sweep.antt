@@ -71,7 +71,9 @@ abbrev pub run_of : World → ℕ → List Record → ℕ → List FaultLine →
 run_of boot other records n fault k =
     let above = world_after_events boot (events_of_history (take k records)) in
     let faulted = faults_made above other fault in
-    let kept = faults_kept (kept_of (record { boot = boot; history = [] }) boot (events_of_history (take k records))) above other fault in
+    let kept = faults_kept
+            (kept_of (record { boot = boot; history = [] }) boot
+                (events_of_history (take k records))) above other fault in
     let course = turns n faulted.1 (coming (drop k records)) in
     record {
       said = faulted.0;

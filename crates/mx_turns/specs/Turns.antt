@@ -43,7 +43,8 @@ world_after w o = world_after_events w o.made
 
 -- what comes of offers, if more are offered after them
 abbrev pub then_offered : World → Offered → List (ℕ × Event) → Offered
-then_offered w first xs = let next = offered (world_after w first) xs in record { made = first.made ++ next.made; full = next.full }
+then_offered w first xs =
+    let next = offered (world_after w first) xs in record { made = first.made ++ next.made; full = next.full }
 
 -- ---- a turn
 
@@ -91,7 +92,9 @@ pub record Course : Type 0 where
 
 -- what comes of a turn and of those after it
 abbrev pub then_turns : Offered → Course → Course
-then_turns t later = if t.full then record { made = t.made; ending = Full } else record { made = t.made ++ later.made; ending = later.ending }
+then_turns t later =
+    if t.full then record { made = t.made; ending = Full }
+    else record { made = t.made ++ later.made; ending = later.ending }
 
 -- nothing is left to do: no outside event is to come, and the machine is at rest
 abbrev pub is_over : World → List Event → Bool
@@ -118,7 +121,9 @@ refusable (x ∷ xs) = suc (refusable xs)
 
 -- each slot that is down is worn, so none gets a new process
 abbrev pub NoneToRespawn : World → Type 0
-NoneToRespawn w = (s : ℕ) (v : Service) → slice_get w.services s ≡ Some v → (not (is_down (process_at w.table s).state) || is_worn (process_at w.table s) v) ≡ true
+NoneToRespawn w =
+    (s : ℕ) (v : Service) → slice_get w.services s ≡ Some v
+    → (not (is_down (process_at w.table s).state) || is_worn (process_at w.table s) v) ≡ true
 
 -- processor 0 takes the process of slot s, makes its steps up to its stop, and brings it back
 abbrev pub round : World → ℕ → List (ℕ × Event)

@@ -3,8 +3,8 @@
 //!
 //! # A position of a sweep
 //!
-//! A machine is booted again, brought to the position, given the `FaultLine`s of the fault and run on by turns. The text
-//! of its outcome is compared with that of a machine that is run on without the fault.
+//! A machine is booted again, brought to the position, given the `FaultLine`s of the fault and run on by turns. The
+//! text of its outcome is compared with that of a machine that is run on without the fault.
 //!
 //! `specs/Turns.antt` says which events come of turns; `specs/Sweep.antt` what an outcome is, and how it is printed.
 #![tactic(auto)]

@@ -17,7 +17,8 @@ forward_from k n = if n == 0 then k.here else up_to_last k (record { records = k
 
 -- the start of the record that one is in, or of the one above; n times
 abbrev pub back_from : Walk → ℕ → Position
-back_from k n = if n == 0 then k.here else record { records = k.here.records - (if k.here.steps == 0 then n else n - 1); steps = 0 }
+back_from k n =
+    if n == 0 then k.here else record { records = k.here.records - (if k.here.steps == 0 then n else n - 1); steps = 0 }
 
 -- ---- by events
 

@@ -97,7 +97,9 @@ abbrev pub is_up_to : Position → Position → Bool
 is_up_to p q = if p.records == q.records then nat_le p.steps q.steps else nat_lt p.records q.records
 
 abbrev pub is_position : List Record → Position → Bool
-is_position records p = if nat_lt p.records (length records) then nat_le p.steps (first_steps (drop p.records records)) else (p.records == length records) && (p.steps == 0)
+is_position records p =
+    if nat_lt p.records (length records) then nat_le p.steps (first_steps (drop p.records records))
+    else (p.records == length records) && (p.steps == 0)
 
 -- ---- machines
 
@@ -136,7 +138,9 @@ IsStuck boot records p = (event_below records p ≡ None) ⊎ IsBlocked boot rec
 
 abbrev pub next_by : Position → List Record → Position
 next_by p [] = p
-next_by p (x ∷ xs) = if nat_lt p.steps (steps_in x.event) then record p { steps = p.steps + 1 } else record { records = p.records + 1; steps = 0 }
+next_by p (x ∷ xs) =
+    if nat_lt p.steps (steps_in x.event) then record p { steps = p.steps + 1 }
+    else record { records = p.records + 1; steps = 0 }
 
 -- THE NEXT POSITION, below the event that is below this one; the end stays
 unfoldable pub next_position : List Record → Position → Position
@@ -144,7 +148,9 @@ next_position records p = next_by p (drop p.records records)
 
 -- THE POSITION BEFORE, which isn't asked of the first
 unfoldable pub position_before : List Record → Position → Position
-position_before records p = if nat_lt 0 p.steps then record p { steps = p.steps - 1 } else record { records = p.records - 1; steps = first_steps (drop (p.records - 1) records) }
+position_before records p =
+    if nat_lt 0 p.steps then record p { steps = p.steps - 1 }
+    else record { records = p.records - 1; steps = first_steps (drop (p.records - 1) records) }
 
 -- how many events are below a position
 abbrev pub left_by : ℕ → List Record → ℕ

@@ -30,12 +30,14 @@ NoneMarkedOf f l n = (j : ℕ) → j < n → is_marked_after f l j ≡ false
 
 -- none of the first n steps of a process is, and who has looked at it before them has so before the next
 abbrev pub AreUnmarked : (HeldProcess → Out → Bool) → (HeldProcess → Type 0) → HeldProcess → ℕ → Type 0
-AreUnmarked f HasSeen l n = NoneMarkedOf f l n × ((j : ℕ) → j ≤ n → HasSeen l → HasSeen (with_out l (out_after_steps j l.out)))
+AreUnmarked f HasSeen l n =
+    NoneMarkedOf f l n × ((j : ℕ) → j ≤ n → HasSeen l → HasSeen (with_out l (out_after_steps j l.out)))
 
 -- HOW MANY STEPS A SEARCH ASKS FOR: those up to the first that is marked, but at most k
 abbrev pub steps_to_mark : (HeldProcess → Out → Bool) → ℕ → HeldProcess → ℕ
 steps_to_mark f zero l = 0
-steps_to_mark f (suc k) l = if f l (out_after_step l.out) then 1 else suc (steps_to_mark f k (with_out l (out_after_step l.out)))
+steps_to_mark f (suc k) l =
+    if f l (out_after_step l.out) then 1 else suc (steps_to_mark f k (with_out l (out_after_step l.out)))
 
 -- A process was run up to a step that is marked, the last of these; or no step is marked, and at most k could be made
 pub record HasRun (f : HeldProcess → Out → Bool) (k : ℕ) (l : HeldProcess) (made : ℕ) (met : Bool) : Type 0 where
