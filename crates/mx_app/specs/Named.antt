@@ -21,7 +21,7 @@ abbrev pub ShowsFile : (List ℕ → List ℕ → Type 0) → List ℕ → Asked
 ShowsFile Has name q Prints r =
     IsMissing Program name q r
     ⊎ ((bytes : List ℕ) × (q ≡ file_given name bytes) × Tells (refusal_of bytes) r
-        × OnOk r ((text : List ℕ) × Has bytes text × Prints text))
+    × OnOk r ((text : List ℕ) × Has bytes text × Prints text))
 
 -- what comes of a file that was to be written
 abbrev pub after_write : Result (Unit {0}) ErrorKind → Result (Unit {0}) Kind
@@ -39,4 +39,4 @@ abbrev pub Assembles : List ℕ → List ℕ → List Asked → List Written →
 Assembles text file qs ws r =
     (q : Asked) × (qs ≡ q ∷ [])
     × (((ws ≡ []) × IsMissing Source text q r)
-        ⊎ ((source : List ℕ) × (q ≡ file_given text source) × IsAssembling file source ws r))
+    ⊎ ((source : List ℕ) × (q ≡ file_given text source) × IsAssembling file source ws r))

@@ -102,7 +102,7 @@ abbrev pub Steps : List ℕ → List ℕ → Bool → List Asked → (List ℕ �
 Steps config script numbered qs Prints (Ok u) =
     (c : Config) × (vs : List Service) × (said : List ScriptLine) × IsStart IsScript config script qs c vs said
     × (let m = lines_made (world_at_boot c vs) c.cpus said in
-        Prints (answers_text numbered m.0 ++ report_text m.1.table m.1.services))
+    Prints (answers_text numbered m.0 ++ report_text m.1.table m.1.services))
 Steps config script numbered qs Prints (Err f) = IsTold IsScript TellsScript config script qs f
 
 -- the steps, with the file of the script's history, which is written before the report is printed; a service's program
@@ -114,13 +114,13 @@ SavesSteps config script log numbered qs ws Prints (Ok u) =
     × (names_program c log ≡ false)
     × (ws ≡ kept log (saved_text c.rules (history_made (world_at_boot c vs) c.cpus said)) ∷ [])
     × (let m = lines_made (world_at_boot c vs) c.cpus said in
-        Prints (answers_text numbered m.0 ++ report_text m.1.table m.1.services))
+    Prints (answers_text numbered m.0 ++ report_text m.1.table m.1.services))
 SavesSteps config script log numbered qs ws Prints (Err f) =
     ((ws ≡ []) × IsNotStarted IsScript TellsScript config script qs f)
     ⊎ ((c : Config) × (vs : List Service) × (said : List ScriptLine) × IsStart IsScript config script qs c vs said
     × (SparesProgram c log ws Prints f
     ⊎ ((names_program c log ≡ false)
-        × IsUnsaved log (saved_text c.rules (history_made (world_at_boot c vs) c.cpus said)) ws f)))
+    × IsUnsaved log (saved_text c.rules (history_made (world_at_boot c vs) c.cpus said)) ws f)))
 
 abbrev pub Debugs : List ℕ → List ℕ → List Asked → (List ℕ → Type 0) → Result (Unit {0}) Kind → Type 0
 Debugs config script qs Prints (Ok u) =
@@ -220,12 +220,12 @@ PerformsApart WasShown (Run config log ticks events) asks did Prints r =
 PerformsApart WasShown (Turns config log ticks events bound) asks did Prints r =
     (did.typed ≡ []) × (d : Result Ending Kind)
     × MakesTurns config.now
-        (option_map (λ s. s.now) events) log.now ticks bound did.asked did.written did.shown Prints d
+    (option_map (λ s. s.now) events) log.now ticks bound did.asked did.written did.shown Prints d
     × (r ≡ done_after_turns d)
 PerformsApart WasShown (Sweep config log fault bound from to strict save) asks did Prints r =
     (did.typed ≡ []) × (d : Result Swept Kind)
     × Sweeps config.now log.now fault.now
-        (option_map (λ s. s.now) save) from to bound did.asked did.written did.shown Prints d
+    (option_map (λ s. s.now) save) from to bound did.asked did.written did.shown Prints d
     × (r ≡ done_after_sweep strict d)
 PerformsApart WasShown request asks did Prints r =
     (did.typed ≡ []) × (did.shown ≡ []) × PerformsUntyped request did.asked did.written Prints r

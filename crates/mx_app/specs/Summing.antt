@@ -60,7 +60,7 @@ ComparesSums name sums q (Ok u) = q ≡ file_given name (sums_text sums)
 ComparesSums name sums q (Err f) =
     ((kind : ErrorKind) × (q ≡ file_missed name kind) × (f ≡ unread_of kind))
     ⊎ (((text : List ℕ) × (part : MachinePart) × (q ≡ file_given name text) × (first_other sums text ≡ Some part)
-        × (f ≡ OtherMachine part))
+    × (f ≡ OtherMachine part))
     ⊎ ((text : List ℕ) × (q ≡ file_given name text) × (f ≡ NoMemory)))
 
 -- the machine has the sums of the file; or it has none, or the file has others
@@ -105,7 +105,7 @@ IsWrittenAfter name text ws (Err f) r = (ws ≡ []) × (r ≡ Err (Request f))
 IsWrittenAfter name text ws (Ok done) r =
     (w : Written) × (ws ≡ w ∷ [])
     × ((WritesSums name text w (Ok tt) × (r ≡ Ok done))
-        ⊎ ((f : SumsFault) × WritesSums name text w (Err f) × (r ≡ Err (Sums f))))
+    ⊎ ((f : SumsFault) × WritesSums name text w (Err f) × (r ≡ Err (Sums f))))
 
 -- the request is done of a machine that has sums, and then they are written
 abbrev pub PerformsSummed : (Part → Type 0) → CommandRequest → List ℕ → Bool → Deeds → (List ℕ → Type 0)
@@ -124,9 +124,9 @@ abbrev pub PerformsWith : (Part → Type 0) → CommandRequest → List ℕ → 
 PerformsWith WasShown request name asks did Prints r =
     ((names_file request name ≡ true) × (did.asked ≡ []) × IsIdle did Prints × (r ≡ Err (Sums NameTaken)))
     ⊎ (((names_file request name ≡ false) × (writes_sums request ≡ true)
-        × PerformsSummed WasShown request name asks did Prints r)
+    × PerformsSummed WasShown request name asks did Prints r)
     ⊎ ((names_file request name ≡ false) × (writes_sums request ≡ false)
-        × PerformsCompared WasShown request name asks did Prints r))
+    × PerformsCompared WasShown request name asks did Prints r))
 
 abbrev pub PerformsBy : (Part → Type 0) → CommandRequest → Option (List ℕ) → Bool → Deeds → (List ℕ → Type 0)
     → Result Done LineFailure → Type 0

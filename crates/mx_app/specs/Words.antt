@@ -61,7 +61,7 @@ complaint_text (Unexplained f) = Some (line_failure_line f ++ codes "\nmx: memor
 abbrev pub IsHelp : Result Done Complaint → Type 0
 IsHelp r =
     MatchResult r (λ done. done ≡ with_status 0)
-        (λ complaint. (f : Kind) × IsWanting f × (complaint ≡ Failed (Request f)))
+    (λ complaint. (f : Kind) × IsWanting f × (complaint ≡ Failed (Request f)))
 
 -- what comes of an error, by its kind: lack of memory, help that was asked for, or a mistake
 abbrev pub ExplainsKind : WordsErrorKind → Error → Result Done Complaint → Type 0
@@ -121,4 +121,4 @@ IsPerformed WasShown texts asks shows did Prints r =
     × (both_given (subcommand_of mx_grammar texts) ≡ false)
     × PerformsLine WasShown line asks did Prints d × IsAnswered line shows d r)
     ⊎ ((m : Mistake) × IsMistake texts m × (did.asked ≡ []) × (did.written ≡ []) × (did.typed ≡ []) × (did.shown ≡ [])
-        × AnswersMistake m r)
+    × AnswersMistake m r)

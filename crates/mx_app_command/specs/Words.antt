@@ -67,15 +67,15 @@ one_shape = subcommand (codes "one") (required_text (codes "FILE") ∷ required_
 abbrev pub step_shape : Shape
 step_shape =
     subcommand (codes "step")
-        (required_text (codes "CONFIG") ∷ required_text (codes "SCRIPT") ∷ after_name (codes "save") (codes "LOG")
-            ∷ flag (codes "numbered") ∷ sums_rule ∷ [])
+    (required_text (codes "CONFIG") ∷ required_text (codes "SCRIPT") ∷ after_name (codes "save") (codes "LOG")
+    ∷ flag (codes "numbered") ∷ sums_rule ∷ [])
 
 -- `run CONFIG LOG --ticks T --events EVENTS --sums SUMS`
 abbrev pub run_shape : Shape
 run_shape =
     subcommand (codes "run")
     (required_text (codes "CONFIG") ∷ required_text (codes "LOG") ∷ number_after (codes "ticks") (codes "T")
-        ∷ after_name (codes "events") (codes "EVENTS") ∷ sums_rule ∷ [])
+    ∷ after_name (codes "events") (codes "EVENTS") ∷ sums_rule ∷ [])
 
 -- `turns CONFIG LOG --ticks T --events EVENTS --turns N --sums SUMS`; that only one of ticks and events is given,
 -- `Mistakes` has
@@ -83,14 +83,14 @@ abbrev pub turns_shape : Shape
 turns_shape =
     subcommand (codes "turns")
     (required_text (codes "CONFIG") ∷ required_text (codes "LOG") ∷ number_after (codes "ticks") (codes "T")
-        ∷ after_name (codes "events") (codes "EVENTS") ∷ number_after (codes "turns") (codes "N") ∷ sums_rule ∷ [])
+    ∷ after_name (codes "events") (codes "EVENTS") ∷ number_after (codes "turns") (codes "N") ∷ sums_rule ∷ [])
 
 -- `sweep CONFIG LOG FAULT --turns N --from A --to B --strict --save FILE --sums SUMS`
 abbrev pub sweep_shape : Shape
 sweep_shape =
     subcommand (codes "sweep")
     (required_text (codes "CONFIG") ∷ required_text (codes "LOG") ∷ required_text (codes "FAULT")
-        ∷ number_after (codes "turns") (codes "N") ∷ number_after (codes "from") (codes "A")
+    ∷ number_after (codes "turns") (codes "N") ∷ number_after (codes "from") (codes "A")
     ∷ number_after (codes "to") (codes "B") ∷ flag (codes "strict") ∷ after_name (codes "save") (codes "FILE")
     ∷ sums_rule ∷ [])
 
@@ -99,13 +99,16 @@ abbrev pub looking_shape : Text → Shape
 looking_shape name =
     subcommand name
     (required_text (codes "CONFIG") ∷ required_text (codes "LOG") ∷ number_after (codes "from") (codes "A")
-        ∷ number_after (codes "to") (codes "B") ∷ sums_rule ∷ [])
+    ∷ number_after (codes "to") (codes "B") ∷ sums_rule ∷ [])
 
 -- one of the subcommands is wanted
 abbrev pub top_app : App
 top_app = record {
-  top = record (new_shape (codes "mx")) { subcommand_required = true; disable_help_subcommand = true;
-      has_version = true };
+  top = record (new_shape (codes "mx")) {
+    subcommand_required = true;
+    disable_help_subcommand = true;
+    has_version = true;
+  };
   subs = [];
 }
 

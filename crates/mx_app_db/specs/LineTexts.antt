@@ -27,7 +27,7 @@ abbrev pub halt_text : List Breakpoint → ℕ → ℕ → HeldProcess → List 
 halt_text points (suc k) zero l = refusal_line AtStop ++ codes "\n"
 halt_text points k n l =
     halt_line n (cause_of (held_after n l.out).stop (is_reached points l.slot n (held_after n l.out)))
-        (held_after n l.out).image.eip
+    (held_after n l.out).image.eip
     ++ codes "\n"
 
 abbrev pub go_text : List Breakpoint → ℕ → Option HeldProcess → List ℕ

@@ -38,8 +38,8 @@ is_message Notification = false
 unfoldable pub type_note : Spot → ℕ → Delivery → List Value
 type_note at s d =
     if is_message d.kind
-        && not (d.message_type == 0) then note written.Note at s (text.Number d.message_type) (hint.Delivery at.place s)
-            ∷ []
+    && not (d.message_type == 0) then note written.Note at s (text.Number d.message_type) (hint.Delivery at.place s)
+    ∷ []
     else []
 
 abbrev pub delivery_by : Spot → ℕ → Option Delivery → List Value

@@ -22,9 +22,9 @@ console_row at = row at.top (at.services + 1)
 unfoldable pub byte_label : Spot → ℕ → Value
 byte_label at b =
     if nat_lt 32 b
-        && nat_lt b 127
-            then label_at written.Character at.x (console_row at + 5) anchor.Middle (text.Character b)
-                (hint.Console at.place)
+    && nat_lt b 127
+    then label_at written.Character at.x (console_row at + 5) anchor.Middle (text.Character b)
+    (hint.Console at.place)
     else label_at written.Byte at.x (console_row at + 4) anchor.Middle (text.Hexadecimal b) (hint.Console at.place)
 
 abbrev pub console_by : Spot → Option ℕ → List Value

@@ -46,7 +46,7 @@ detail_told d = wanted_told (label_told d.label) d.wanted.now (found_told d.foun
 abbrev pub place_told : List (List ℕ) → Place → List ℕ
 place_told words place =
     wanted_told (place_label words (words_before place) (value_name place)) (wanted_at place)
-        (found_at (slice_get words (words_before place)))
+    (found_at (slice_get words (words_before place)))
 
 -- THE DETAIL of a configuration's line, if it has a fault of its own
 abbrev pub place_detail : List (List ℕ) → Option Place → Option (List ℕ)

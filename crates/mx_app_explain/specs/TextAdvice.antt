@@ -192,7 +192,7 @@ operand_word_advice None ws = number_operand_advice (find_word sought.Number ws)
 abbrev pub size_advice : List (List ℕ) → Advised
 size_advice ws =
     if lacks_size ws
-        then (codes "byte, word or dword before the bracket, since no register says the size", Some (codes "["))
+    then (codes "byte, word or dword before the bracket, since no register says the size", Some (codes "["))
     else operand_word_advice (find_word sought.FreeWord ws) ws
 
 -- a word too many; or one of these

@@ -51,7 +51,7 @@ begins_with_digit w = is_digit (slice_index w 0)
 abbrev pub is_number : List ℕ → Bool
 is_number w =
     if nat_lt 2 (length w)
-        && (slice_index w 0 == 48 && slice_index w 1 == 120) then is_some (number_up_to 4294967295 16 (drop 2 w))
+    && (slice_index w 0 == 48 && slice_index w 1 == 120) then is_some (number_up_to 4294967295 16 (drop 2 w))
     else is_some (number_up_to 4294967295 10 w)
 
 abbrev pub is_bad_number : List ℕ → Bool

@@ -72,7 +72,7 @@ IsLastShown k s ps =
     ((p : Position) × IsPosition k.records p × IsLastMarked (is_looked_for s) k.boot k.records p k.here
     × (ps ≡ (walk_shown k.records k.here ++ shown_to k p) ++ return_shown k p (next_position k.records p)))
     ⊎ (IsPassed (is_looked_for s) k.boot k.records first k.here
-        × (ps ≡ walk_shown k.records k.here ++ shown_to k first))
+    × (ps ≡ walk_shown k.records k.here ++ shown_to k first))
 
 -- ---- REQUESTS
 

@@ -79,7 +79,7 @@ AllListed parts a s (l ∷ ls) [] = ⊤
 AllListed parts a s (l ∷ ls) (b ∷ bs) =
     ListedIfText s.section a (address_of_offset a (section_offset_of s)) (statement_said l) b parts
     × (put_by_directive s.section (statement_said l) b ≡ []
-        → AllListed parts a (sizes_after s (statement_said l) (length b)) ls bs)
+    → AllListed parts a (sizes_after s (statement_said l) (length b)) ls bs)
 
 -- ---- a text that is assembled
 

@@ -107,7 +107,7 @@ ComesTo WasShown c vs xs log ticks ws Prints r =
     ((ws ≡ []) × IsErrAnd r (λ f. f ≡ NoMemory))
     ⊎ ((k : BootAndHistory) × (whole : Bool) × IsRun WasShown c vs ticks xs whole k
     × ReportsRun log (saved_text c.rules k.history) ws (Prints (report_text (replay k).table (replay k).services))
-        (run_ending c.log ticks xs whole k) r)
+    (run_ending c.log ticks xs whole k) r)
 
 -- WHAT `mx run` DOES: it answers why no run is begun, and prints nothing; or, after its files were read, it spares a
 -- service's program that the history would be written over; or it runs what was read, and this comes of it
@@ -117,7 +117,7 @@ Runs WasShown config events log ticks qs ws Prints r =
     IsErrAnd r (λ f. (ws ≡ []) × Prints [] × IsNotCalled config events qs f)
     ⊎ ((c : Config) × (vs : List Service) × (xs : List OutsideCall) × IsCalled config events qs c vs xs
     × (IsErrAnd r (SparesProgram c log ws Prints)
-        ⊎ ((names_program c log ≡ false) × ComesTo WasShown c vs xs log ticks ws Prints r)))
+    ⊎ ((names_program c log ≡ false) × ComesTo WasShown c vs xs log ticks ws Prints r)))
 
 -- ---- its replay
 
@@ -132,7 +132,7 @@ RunsAreHistories =
 abbrev pub RunsReplay : Type 0
 RunsReplay =
     (c d : Config) (vs : List Service) (k : BootAndHistory) (records : List Record) (how : Replayed)
-        (before after : Option (List ℕ))
+    (before after : Option (List ℕ))
     → IsRunHistory c vs k → IsSaved (saved_text c.rules k.history) c d records
     → IsReplayPrinted (world_at_boot d vs) records how (λ text. Appends before after text)
     → (how ≡ Whole) × Appends before after (report_text (replay k).table (replay k).services)

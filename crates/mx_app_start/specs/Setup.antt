@@ -70,7 +70,7 @@ abbrev pub IsLineRefused : ServiceLine → Asked → Option FileProblem → Type
 IsLineRefused line q p =
     IsFileMissed line.file q p
     ⊎ ((bytes : List ℕ) × (e : FileError) × (q ≡ file_given line.file bytes)
-        × ReadsFile (refusal_of bytes) bytes (Err e) × (p ≡ problem_of_refusal e))
+    × ReadsFile (refusal_of bytes) bytes (Err e) × (p ≡ problem_of_refusal e))
 
 -- each line's file was asked for, in order
 abbrev pub AreServicesRead : List ServiceLine → List Asked → List Service → Type 0
@@ -138,4 +138,4 @@ abbrev pub IsNotStarted : {L : Type 0} → (List ℕ → Config → Config → L
 IsNotStarted {L} Says Tells config_name name qs f =
     IsFirstFault Tells config_name name qs f
     ⊎ ((c : Config) × (services : List Service) × (said : List L) × IsStart Says config_name name qs c services said
-        × (f ≡ NoMemory))
+    × (f ≡ NoMemory))

@@ -16,7 +16,7 @@ abbrev pub IsTold : {L : Type 0} → (List ℕ → Config → Config → List L 
 IsTold {L} Says Tells config name qs f =
     IsNotStarted Says Tells config name qs f
     ⊎ ((c : Config) × (services : List Service) × (said : List L) × IsStart Says config name qs c services said
-        × IsWanting f)
+    × IsWanting f)
 
 -- ---- a text that is saved before the report is printed
 

@@ -32,8 +32,13 @@ sweep_of s boot = record { boot = boot; other = s.other; records = s.records.now
 -- what a sweep is of, from what was read
 abbrev pub begun_of : Begun → ℕ → SweepOf
 begun_of b n =
-    record { boot = world_of b.started.machine; other = b.started.other; records = b.started.lines.items;
-        fault = b.fault.items; bound = n }
+    record {
+      boot = world_of b.started.machine;
+      other = b.started.other;
+      records = b.started.lines.items;
+      fault = b.fault.items;
+      bound = n;
+    }
 
 -- what is done of it, or why it isn't finished
 abbrev pub IsDone : SweepOf → ℕ → ℕ → Option (List ℕ) → List Written → List Part → (List ℕ → Type 0) → Result Swept Kind

@@ -13,8 +13,13 @@ one_if b = if b then 1 else 0
 -- the counts of one position
 abbrev pub total_one : Findings → Total
 total_one f =
-    record { positions = 1; blocks = 1; alike = one_if f.is_alike; refused = one_if (is_some f.refusal);
-        full = one_if f.is_full }
+    record {
+      positions = 1;
+      blocks = 1;
+      alike = one_if f.is_alike;
+      refused = one_if (is_some f.refusal);
+      full = one_if f.is_full;
+    }
 
 -- the counts of both
 abbrev pub both : Total → Total → Total

@@ -81,7 +81,7 @@ MakesTurns config events log ticks n qs ws ps Prints (Ok ending) =
 MakesTurns config events log ticks n qs ws ps Prints (Err f) =
     ((ws ≡ []) × (ps ≡ []) × Prints [] × IsNotBegun config events qs f)
     ⊎ (((c : Config) × (vs : List Service) × (xs : List Event) × IsBegun config events qs c vs xs × (ps ≡ [])
-        × SparesProgram c log ws Prints f)
+    × SparesProgram c log ws Prints f)
     ⊎ ((c : Config) × (vs : List Service) × (xs : List Event) × (k : BootAndHistory) × (ending : Ending)
     × IsBegun config events qs c vs xs
     × (names_program c log ≡ false) × IsTurned c vs n (coming xs ticks) k ending
@@ -94,7 +94,7 @@ MakesTurns config events log ticks n qs ws ps Prints (Err f) =
 abbrev pub TurnsReplay : Type 0
 TurnsReplay =
     (c d : Config) (vs : List Service) (n : ℕ) (xs : List Event) (k : BootAndHistory) (ending : Ending)
-        (records : List Record) (how : Replayed) (before after : Option (List ℕ))
+    (records : List Record) (how : Replayed) (before after : Option (List ℕ))
     → IsTurned c vs n xs k ending → IsSaved (saved_text c.rules k.history) c d records
     → IsReplayPrinted (world_at_boot d vs) records how (λ text. Appends before after text)
     → (how ≡ Whole) × Appends before after (report_text (replay k).table (replay k).services)

@@ -109,7 +109,7 @@ abbrev pub HasConfigFault : List ℕ → BootError → Type 0
 HasConfigFault text e =
     IsFirstItemWrong nothing_above 1 (lines text) e
     ⊎ ((a : ItemsAbove) × AreItemsTaken nothing_above 1 (lines text) a × (a.services ≡ [])
-        × (e ≡ BadLine (last_line (lines text))))
+    × (e ≡ BadLine (last_line (lines text))))
 
 -- the error if no configuration is answered: the first fault, and out of memory only if there is none
 abbrev pub TellsConfigFault : List ℕ → BootError → Type 0

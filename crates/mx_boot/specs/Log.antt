@@ -93,7 +93,7 @@ abbrev pub IsHistoryFault : ℕ → List ℕ → ℕ → Type 0
 IsHistoryFault actors t n =
     IsFirstNoRecord actors t n
     ⊎ ((records : List Record) × AreLinesRead (record_line actors) (record_lines (lines t)) records
-        × (is_ended t ≡ false) × (n ≡ length (lines t)))
+    × (is_ended t ≡ false) × (n ≡ length (lines t)))
 
 -- the error of the records' lines if they aren't answered
 abbrev pub TellsNoRecords : ℕ → List ℕ → BootError → Type 0

@@ -131,7 +131,7 @@ IsTakeCall boot s t l =
 abbrev pub IsGiveCall : World → SeatView → SeatView → LoanView → Type 0
 IsGiveCall boot s t l =
     IsAcceptedCall boot s t (recorded.Back l.out.count) None
-        (λ w answer. (answer ≡ Returned l.out.count) × (lent_to (outs_of w) s.actor ≡ Some l.lent))
+    (λ w answer. (answer ≡ Returned l.out.count) × (lent_to (outs_of w) s.actor ≡ Some l.lent))
 
 -- the loan is what this seat holds
 abbrev pub IsLoanOf : SeatView → LoanView → Type 0

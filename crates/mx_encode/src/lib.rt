@@ -1,6 +1,13 @@
 //! From an instruction to bytes: of all its forms the chosen `Encoding`, which is laid out as opcode, ModRM
 //! byte, displacement and immediate. `choice` finds the encoding, `operands`, `single`, `jumps` and their like
 //! make it, and `writing` writes its bytes.
+//!
+//! # One of several spellings
+//!
+//! Most instructions have more than one spelling in the table (`mx_insn`), as `83 C0 05` and `05 05 00 00 00`. The
+//! definition `Choice` says which one is taken, by the instruction and by whether its number is marked wide. It doesn't
+//! depend on an address, so the assembler knows each length before any address. That what is chosen spells the
+//! instruction, that only one is chosen, and when none is, are laws (`spelling_laws`).
 #![tactic(auto)]
 
 ghost use Rattle.std.specs.Prelude.{◌≡◌};

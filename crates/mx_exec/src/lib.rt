@@ -1,6 +1,17 @@
 //! One step: what one instruction, by its operation and operands (a `Source` is read, a `Place` written too), does
 //! to an `Image`, which is a process's registers, flags, memory and segment, up to a `TurnEnd`, and the next EIP; and
 //! copies of images, each for a purpose (`CopyFor`).
+//!
+//! # An operand is a type
+//!
+//! Each instruction is written once, over a `Source` and a `Place`. Those of a decoded instruction ask which form they
+//! have; those of a cached one (`mx_exec_cache`) are a register, a number or memory as the kind says, so the compiler
+//! leaves nothing of the question.
+//!
+//! # A fault changes nothing
+//!
+//! What may be refused is asked before anything is written. So there is no state to go back to: a fault is an answer,
+//! its vector. EIP is set at one place, after the instruction (`ending`), so no instruction has to put it back.
 #![tactic(auto)]
 
 pub mod arithmetic;

@@ -1,6 +1,18 @@
 //! The traps SEND, RECEIVE, SENDREC and NOTIFY: the checks of a call and of its other `Party`, delivery,
 //! blocking, going on with a result. Each of the four makes all six checks itself (`checks`), so its caller
 //! needs to know nothing of the destination.
+//!
+//! # Why nothing is buffered
+//!
+//! A message is copied once, from the sender's memory to the receiver's, when both are there (MINIX's rendezvous).
+//! Until then the sender waits with the message in its own memory. So the kernel has no buffers, no call takes memory,
+//! and who sends to one that doesn't receive stops only itself. A notification is one bit of the receiver, so who
+//! notifies never waits.
+//!
+//! # Why no two wait for each other
+//!
+//! A send is refused (`ELOCKED`) if a chain of waiting processes leads from its destination back to the sender. So chains
+//! of callers have no cycle, which is part of what a sound table is.
 #![tactic(auto)]
 
 ghost use Rattle.std.specs.Prelude.{◌≡◌, ◌≢◌, ℕ, ◌<◌, Some, None, true, false, length};

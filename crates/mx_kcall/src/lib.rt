@@ -2,6 +2,13 @@
 //! of replies; interrupt lines; and the clock with its alarms. `rows` has the table of calls. A call is refused
 //! by its type, then by the mask of calls, then by reasons of its own (`refusals`); else `serving` changes the
 //! table and writes the reply.
+//!
+//! # Why a call is a value, and what it does another
+//!
+//! The words of a request become a `KernelCall` once (`request`), so neither refusals nor service read them again. What
+//! may refuse a call, and what its reply says, depends on what a call may know of the table: no byte of a memory
+//! (`specs/Known`). What it does to the table is one of eight effects (`specs/Effects`). So the laws of isolation
+//! (`mx_laws`) go over effects and not over calls, and a new call with an old effect needs no new law.
 #![tactic(auto)]
 
 mod clock;

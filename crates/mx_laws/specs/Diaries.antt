@@ -68,8 +68,8 @@ abbrev pub diary_of_back : World → ℕ → Option HeldProcess → List Item
 diary_of_back w s None = []
 diary_of_back w s (Some l) =
     let items = items_for s
-            (items_of_end_of_turn (table_after_coming_home w.table l) l.slot
-                (is_doomed (process_at w.table l.slot).state) l.out.stop) in
+    (items_of_end_of_turn (table_after_coming_home w.table l) l.slot
+    (is_doomed (process_at w.table l.slot).state) l.out.stop) in
     if l.slot == s then items else unless_held (image_held_in s w.cpus) items
 
 -- THE DIARY of a slot over one event

@@ -60,14 +60,14 @@ abbrev pub LifeBeginsAtBoot : Config → List Service → ℕ → Service → Li
 LifeBeginsAtBoot config services s v xs =
     let w = world_at_boot config services in
     slice_get services s ≡ Some v → AreSound w xs
-        → IsLife (record { world = w; slot = s; service = v; before = []; events = xs })
+    → IsLife (record { world = w; slot = s; service = v; before = []; events = xs })
 
 -- and after an accepted respawn of its slot, with nothing in it again
 abbrev pub LifeBeginsAgain : World → ℕ → ℕ → Service → List (ℕ × Event) → Type 0
 LifeBeginsAgain w a s v xs =
     let u = world_after_event w a (Respawn s) in
     event_refusal w a (Respawn s) ≡ None → slice_get w.services s ≡ Some v → AreSound u xs
-        → IsLife (record { world = u; slot = s; service = v; before = []; events = xs })
+    → IsLife (record { world = u; slot = s; service = v; before = []; events = xs })
 
 -- two lives, on any machines and in any slots, that agree on program and diary end with equal images
 abbrev pub LivesAgree : Life → Life → Type 0

@@ -56,8 +56,14 @@ pub record CopyMade : Type 0 where
 abbrev pub copy_made : TableState → CopyRange → CopyMade
 copy_made t c =
     let from = slot_of c.source.endpoint in
-    record { from = from; address = c.source.offset; to = slot_of c.target.endpoint; place = c.target.offset;
-        count = c.count; bytes = part (memory_at t from) c.source.offset c.count }
+    record {
+      from = from;
+      address = c.source.offset;
+      to = slot_of c.target.endpoint;
+      place = c.target.offset;
+      count = c.count;
+      bytes = part (memory_at t from) c.source.offset c.count;
+    }
 
 -- by what a kernel call does
 abbrev pub copy_of_effect : TableState → Effect → Option CopyMade

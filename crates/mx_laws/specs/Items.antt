@@ -78,9 +78,9 @@ items_of_receive w s p (Some x) = (s, Message (bytes_of_notice w s x)) ∷ (s, R
 abbrev pub items_of_sendrec : TableState → ℕ → ℕ → List (ℕ × Item)
 items_of_sendrec w s d =
     if accepts (process_at w d).state s
-        then (let v = goes_on (table_after_delivery w s d) d 0 in
-            (d, Message (message_of w s)) ∷ (d, Result 0)
-                ∷ items_of_taking v s (caller_of s (partner.Only (source.Slot d)) v.waits))
+    then (let v = goes_on (table_after_delivery w s d) d 0 in
+    (d, Message (message_of w s)) ∷ (d, Result 0)
+    ∷ items_of_taking v s (caller_of s (partner.Only (source.Slot d)) v.waits))
     else []
 
 -- a call that passed the checks
@@ -108,10 +108,10 @@ items_of_death w s = items_of_freeing (waiting_for (table_after_taking_out w s) 
 
 -- what a kernel call does that others see in their images: a copy, or a death
 abbrev pub items_of_effect : TableState → Effect → List (ℕ × Item)
-items_of_effect w (Copies c) =
-    (slot_of c.target.endpoint,
-        Copy c.target.offset (part (memory_at w (slot_of c.source.endpoint)) c.source.offset c.count))
-    ∷ []
+items_of_effect w (Copies c) = (
+  slot_of c.target.endpoint,
+  Copy c.target.offset (part (memory_at w (slot_of c.source.endpoint)) c.source.offset c.count),
+) ∷ []
 items_of_effect w (Kills s) = items_of_death w s
 items_of_effect w _ = []
 

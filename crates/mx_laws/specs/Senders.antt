@@ -28,7 +28,7 @@ sender_of_receive w s p (Some x) = None
 abbrev pub sender_of_sendrec : TableState → ℕ → ℕ → Option ℕ
 sender_of_sendrec w s d =
     if accepts (process_at w d).state s
-        then caller_of s (partner.Only (source.Slot d)) (goes_on (table_after_delivery w s d) d 0).waits
+    then caller_of s (partner.Only (source.Slot d)) (goes_on (table_after_delivery w s d) d 0).waits
     else None
 
 abbrev pub sender_of_checked_call : TableState → ℕ → Call → Party → Option ℕ

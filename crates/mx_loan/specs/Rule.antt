@@ -54,8 +54,20 @@ out_with_note = 6
 -- it knows nothing
 abbrev pub spent_view : Knowledge
 spent_view =
-    record { knows = false; history = []; lent = []; sits = false; actor = 0; mine = []; seen = []; held = None;
-        founding = false; made = 0; actors = 0; phase = 0 }
+    record {
+      knows = false;
+      history = [];
+      lent = [];
+      sits = false;
+      actor = 0;
+      mine = [];
+      seen = [];
+      held = None;
+      founding = false;
+      made = 0;
+      actors = 0;
+      phase = 0;
+    }
 
 -- the kernel's half: the history, and what is lent
 abbrev pub kernel_half : Knowledge → Knowledge
@@ -175,8 +187,11 @@ value_of_shown (Some x) = Some x.value
 -- the kernel records that the actor takes a process, which it lends from then on
 abbrev pub view_after_offer : Knowledge → Announcement → Knowledge
 view_after_offer v x =
-    record v { history = v.history ++ x.record ∷ []; lent = slice_set v.lent v.actor (value_of_shown x.lent);
-        phase = offered }
+    record v {
+      history = v.history ++ x.record ∷ [];
+      lent = slice_set v.lent v.actor (value_of_shown x.lent);
+      phase = offered;
+    }
 
 -- the actor notes it, and holds what is lent
 abbrev pub view_after_take : Knowledge → Announcement → Knowledge

@@ -81,5 +81,5 @@ unfoldable pub answer_text : Glance → List ℕ → List ℕ → List ℕ
 answer_text g request reply =
     codes "answer " ++ result_text (slice_index reply 1)
     ++ (if slice_index reply 1 == 0
-        then words_from (answer_count (row_of (slice_index request 1)) (slice_index request 2)) reply
+    then words_from (answer_count (row_of (slice_index request 1)) (slice_index request 2)) reply
     else request_reason g request (slice_index reply 1))

@@ -108,7 +108,7 @@ holds_in (Some u) at count = nat_le (at + count) u.image.limit
 unfoldable pub outside_text : Glance → List ℕ → List ℕ
 outside_text g request =
     if is_copy (asked_call request)
-        && holds_in (slot_in g (slot_of (slice_index request 2))) (slice_index request 3) (slice_index request 6)
+    && holds_in (slot_in g (slot_of (slice_index request 2))) (slice_index request 3) (slice_index request 6)
     then codes " (p3, address)" else codes " (p1, address)"
 
 abbrev pub request_reason_by : Glance → List ℕ → Option Errno → List ℕ

@@ -187,7 +187,7 @@ source_text g place =
 unfoldable pub kept_line : Step → SlotGlance → SlotGlance → ℕ → List ℕ
 kept_line x v u place =
     if is_new_bit v u place then margin x ++ codes "notify " ++ source_text x.after place ++ codes " to " ++ who_of u
-        ++ codes ", pending\n"
+    ++ codes ", pending\n"
     else []
 
 unfoldable pub kept_between : Step → SlotGlance → SlotGlance → List ℕ

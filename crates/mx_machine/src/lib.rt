@@ -14,6 +14,17 @@
 //! # The machine of one thread
 //!
 //! `Machine::apply` makes one event, `Machine::run` a list of them.
+//!
+//! # Why a history is kept, and not what happened
+//!
+//! A contract sees a kernel as the machine at boot and the list of its records since then (`BootAndHistory`). Where the
+//! machine is now is what a replay of them gives: the invariant of `Kernel` says so of the state that it has
+//! (`CurrentState`), and no call replays anything. So there is one definition of what events do, and a run on one
+//! thread, a run by threads, a replay, a trace, a walk and a picture mean the same by it.
+//!
+//! A record says which event came, and of a process only how many steps it made: what it computed follows. So a record
+//! has a few bytes, however long its process ran. All memory for records is taken at boot. A `Take` wants room for two,
+//! so a `Back` is never refused for want of one.
 #![tactic(auto)]
 
 mod booting;

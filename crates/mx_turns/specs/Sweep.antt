@@ -72,8 +72,8 @@ run_of boot other records n fault k =
     let above = world_after_events boot (events_of_history (take k records)) in
     let faulted = faults_made above other fault in
     let kept = faults_kept
-            (kept_of (record { boot = boot; history = [] }) boot
-                (events_of_history (take k records))) above other fault in
+    (kept_of (record { boot = boot; history = [] }) boot
+    (events_of_history (take k records))) above other fault in
     let course = turns n faulted.1 (coming (drop k records)) in
     record {
       said = faulted.0;

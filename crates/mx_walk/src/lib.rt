@@ -10,7 +10,7 @@
 //! in each of some equal parts of the steps, and they are bounded in number and in bytes.
 //!
 //! A search (`seek`) goes on until a `Mark` marks an event, or is told to stop, or the history ends. Where the requests
-//! of a session lead a walker, by records, events or a `PositionWord`, is in `moves`.
+//! of a session lead a walker, by records, events or a `PositionWord`, is in `destinations`.
 #![tactic(auto)]
 
 mod booting;
