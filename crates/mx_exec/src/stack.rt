@@ -24,6 +24,7 @@ pub fn push(image: &mut Image, value: u32) -> TurnEnd
         result image.new }
 {
     let top = dword_difference(image.register(Register::Esp), 4);
+    // ESP moves only after the write: a fault leaves it where it was.
     match image.memory.write(top, Size::Dword, value) {
         Ok(()) => {
             image.set_register(Register::Esp, top);
@@ -69,6 +70,7 @@ pub fn pop(image: &mut Image, to: Register) -> TurnEnd
 {
     match top(image) {
         Ok(value) => {
+            // ESP moves first, so that POP ESP leaves what was popped.
             drop_bytes(image, 4);
             image.set_register(to, value);
             TurnEnd::Next
@@ -148,6 +150,7 @@ pub fn push_all(image: &mut Image) -> Result<(), Vector>
     ensures { Performs image.old (pushad image.old) result image.new }
 {
     let top = image.register(Register::Esp);
+    // All eight places are asked about before the first is written, so PUSHAD never stops half way.
     if !has_room(&image.memory, top) {
         return Err(STACK_FAULT);
     }
@@ -203,6 +206,7 @@ fn load_all(regs: &mut Regs, memory: &Segment, top: u32)
     regs.set(Size::Dword, Register::Edi, load(memory, top));
     regs.set(Size::Dword, Register::Esi, load(memory, b));
     regs.set(Size::Dword, Register::Ebp, load(memory, c));
+    // The ESP that PUSHAD wrote is skipped, as the manual says.
     regs.set(Size::Dword, Register::Esp, dword_sum(top, 32));
     regs.set(Size::Dword, Register::Ebx, load(memory, e));
     regs.set(Size::Dword, Register::Edx, load(memory, f));

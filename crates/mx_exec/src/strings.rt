@@ -146,6 +146,8 @@ pub fn iterate(
         image.eip = next;
         return Ok(false);
     }
+    // Each iteration is a step of its own, so a budget may end between two: ECX, ESI and EDI say how far the repeat
+    // is, and EIP stays at it.
     transfer_once(image, operation, size)?;
     count_down(image);
     if is_counted_out(image) {

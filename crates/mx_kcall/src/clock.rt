@@ -21,6 +21,7 @@ pub fn raise(table: &mut Table, line: u8)
     ensures settled { NoneComesHome table.old table.new }
 {
     table.sound();
+    // Of a line that nobody owns nothing is kept.
     if let Some(owner) = table.devices().owners[line as usize] {
         table.set_line(owner, line);
         notify(table, Source::Hardware, table.endpoint(owner));
@@ -47,6 +48,7 @@ fn ring(table: &mut Table, slot: Slot)
     ensures settled { NoneComesHome table.old table.new }
 {
     if is_due(table.uptime(), table.process(slot).alarm) {
+        // It rings once: its process sets the next one.
         table.set_alarm(slot, None);
         notify(table, Source::Clock, table.endpoint(slot));
     }

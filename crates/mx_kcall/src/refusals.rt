@@ -105,6 +105,7 @@ fn check_copied_bytes(table: &Table, slot: Slot, copy: CopyRange) -> Result<(), 
         first_error (drop 6 (kernel_call_reasons table.now slot (requests.Vircopy copy))) ≡ Some e) }
     ensures permitted { IfOk result (λ _. IsPermitted table.now (requests.Vircopy copy)) }
 {
+    // Windows are asked first: who has none learns nothing of how far another's memory goes.
     if is_barred(table, slot, Access::Read, copy.source, copy.count)
         || is_barred(table, slot, Access::Write, copy.target, copy.count)
     {
@@ -132,6 +133,7 @@ fn check_copy_target(table: &Table, slot: Slot, copy: CopyRange) -> Result<(), E
 {
     let target = check_endpoint(table, copy.target.endpoint)?;
     let source = table.slot_of(copy.source.endpoint);
+    // On a processor an image isn't in the table. The caller may ask again.
     if is_away(table, source) || is_away(table, target) {
         return Err(Errno::NotReady);
     }

@@ -202,9 +202,11 @@ fn serve(table: &mut Table, slot: Slot, request: KernelCall) -> After
     ensures console { table.new.devices.console.count ≤ table.old.devices.console.count + 1 }
 {
     if ends(slot, request) {
+        // Who kills itself exits, and nobody is there for a reply.
         die(table, slot, DeathCause::Exit);
         return After::Died;
     }
+    // The reply is of the table before the change: SETALARM answers what the old alarm had left.
     let words = answer(table, slot, request);
     change(table, slot, request);
     reply(table, slot, 0, words);

@@ -294,6 +294,7 @@ impl Segment {
             return Some(&[]);
         }
         let count = if limit - at < 15 { limit - at } else { 15 };
+        // Rare enough that the caller copies the bytes then, and nobody else does.
         if at % PAGE + count > PAGE {
             return None;
         }

@@ -44,6 +44,7 @@ pub struct Table {
 
 impl Drop for Table {
     fn drop(self) {
+        // By hand, so that it is a call: a derived drop is proved at each exit of each function that has a table.
         let Table {
             slots: _,
             ready: _,

@@ -6,7 +6,7 @@ use Rattle.mx_machine.specs.declared.events.Answer.{Answer}
 use Rattle.mx_machine.specs.World.{World}
 use Rattle.mx_machine.specs.Move.{move, moves, move_by, event_refusal, event_answer, world_after_event}
 use Rattle.mx_machine.specs.History.{AreAccepted, world_after_events, events_of_history, replay}
-use Rattle.mx_machine.proofs.history_laws.histories_replay.Goals as goal
+use Rattle.mx_machine.proofs.replay_laws.histories_replay.Goals as goal
 
 move-accepted : (w : World) (a : ℕ) (x : Event) → event_refusal w a x ≡ None → move w a x ≡ (Ok (event_answer w a x), world_after_event w a x)
 unfolding move

@@ -1,5 +1,5 @@
 use Rattle.mx_machine.proofs.StepLemmas.{step-changes}
-use Rattle.mx_machine.proofs.history_laws.steps_change_places.Goals as goal
+use Rattle.mx_machine.proofs.replay_laws.steps_change_places.Goals as goal
 
 pub returns : goal.returns
 returns c w cpu a x l h n = step-changes w cpu a x l h n
