@@ -132,6 +132,8 @@ impl Flags {
             left: 0,
             right: 0,
             counter: 0,
+            // The zero flag is read from the result alone, in one comparison: for a clear one any other number will
+            // do.
             result: 1 - u32::from(values.zero),
             carry: carry_of(values.carry),
             kind: Kind::Values,
@@ -227,6 +229,8 @@ impl Flags {
         ensures { result ≡ self.now.carry }
     {
         match self.carry {
+            // The operands were extended by their signs, which keeps what leaves a byte or a word: so no size is
+            // asked for.
             Carry::Difference => self.left < self.right,
             Carry::Sum => self.left.wrapping_add(self.right) < self.right,
             Carry::Clear => false,
@@ -353,6 +357,7 @@ impl Flags {
         ensures { result ≡ is_less self.now }
     {
         match self.kind {
+            // After a comparison, as mostly, the operands say it themselves.
             Kind::Difference => { signed(Size::Dword, self.left) < signed(Size::Dword, self.right) }
             _ => differ(self.sign(), self.overflow()),
         }
@@ -456,6 +461,7 @@ impl Flags {
         requires right { y < 2 ^ width size }
         ensures { result ≡ add_flags (width size) x y (from_bool carry) self.now }
     {
+        // Rare. A sum of three isn't found again from two operands.
         if carry {
             return Flags::from_values(self.sum_values(size, x, y, carry));
         }

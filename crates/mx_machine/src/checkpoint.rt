@@ -45,6 +45,7 @@ fn copy_held(alloc: Global, held: &Option<Out>, purpose: CopyFor) -> Result<Opti
         budget: out.budget,
         count: out.count,
         stop: out.stop,
+        // A cache only makes runs faster, and fills again.
         decoded: Decoded::nothing(),
     }))
 }

@@ -39,6 +39,7 @@ pub struct Kernel {
 
 impl Drop for Kernel {
     fn drop(self) {
+        // By hand, so that a drop is a call, as that of `Machine`.
         let Kernel {
             present: _,
             records: _,
