@@ -1,5 +1,15 @@
 //! Everything that is read or written as text about a machine, in one place: configurations with `ConfigItem`s
 //! and rules, scripts with `Verb`s, histories saved through a sink, reports.
+//!
+//! # Judged before memory is taken
+//!
+//! A text's lines are judged one by one without memory (`draft`), and only what is answered takes some. So the first
+//! line at fault is reported whatever memory there is, and a lack of memory means that no line is at fault.
+//!
+//! # Written and read by one definition
+//!
+//! What is saved of a history is read as that history (`history_laws`), and scripts, histories and the events of a run
+//! share their verbs (`verb`) and one loop over lines (`script_reading`).
 #![tactic(auto)]
 
 mod address_word;

@@ -1,5 +1,11 @@
 //! The words of instructions (`Mnemonic`, `Directive`), and how an instruction is printed, with its written
 //! operands.
+//!
+//! # One table for reading and printing
+//!
+//! A table has its rows in the order of their words, and each value once (`sorted_words`). A word is found by a binary
+//! search, whose contract is that a row has it or none has. So what is printed of an instruction is read as it again,
+//! and the two can't name an instruction differently: there is one place that names it.
 #![tactic(auto)]
 
 mod mnemonic;
