@@ -65,7 +65,7 @@ ESP 00001000 EBP 00000000 ESI 00000000 EDI 00000000
 EIP 0000000a CF 0 PF 0 AF 1 ZF 0 SF 0 DF 0 OF 0
 stop trap after 3
 
-A step is one instruction, or one turn of REP.
+A step is one instruction, or one iteration of REP.
 
 Status: 0 done, also if the program faults; 1 FILE is refused; 2 a mistake in the
 words; 3 FILE can't be read; 4 no memory. Formats: docs/use/REFERENCE.md.";

@@ -6,12 +6,12 @@ use Rattle.mx_text.specs.Fields.{fields, pair, ◌>>=◌}
 use Rattle.mx_text.specs.Lines.{lines}
 use Rattle.mx_text.specs.declared.error.BootError.{BootError}
 use Rattle.mx_boot.specs.declared.place.CodePlace.{CodePlace}
-use Rattle.mx_boot.specs.declared.verb.Verb.{Verb}
+use Rattle.mx_boot.specs.declared.event_kind.EventKind.{EventKind}
 use Rattle.mx_boot.specs.Config.{Config}
 use Rattle.mx_boot.specs.Places.{code_place_of}
 use Rattle.mx_boot.specs.Reading.{AreLinesRead, TellsUnread}
 use Rattle.mx_boot.specs.Script.{actor_and_count, count_field, script_line_of}
-use Rattle.mx_boot.specs.Verbs.{verb_of}
+use Rattle.mx_boot.specs.EventKinds.{event_kind_of}
 use Rattle.mx_app_db.specs.Looks.{look_of, look_words}
 use Rattle.mx_app_db.specs.declared.script.DebugLine.{DebugLine}
 use Rattle.mx_app_db.specs.declared.script.DebugLine.TheVariants.{Plain, Break, Clear, Go, Show}
@@ -51,8 +51,8 @@ own_line_of word fs =
     if bytes_eq word (codes "go") then go_asked fs else
     look_asked word fs
 
--- a line that begins with a verb of any script is one of any script
-abbrev pub debug_line_of : Option Verb → List ℕ → List (List ℕ) → Option DebugLine
+-- a line that begins with a kind of any script is one of any script
+abbrev pub debug_line_of : Option EventKind → List ℕ → List (List ℕ) → Option DebugLine
 debug_line_of (Some v) word fs = do
   plain ← script_line_of v fs
   Some (Plain plain)
@@ -60,7 +60,7 @@ debug_line_of None word fs = own_line_of word fs
 
 abbrev pub line_of_fields : List (List ℕ) → Option DebugLine
 line_of_fields [] = None
-line_of_fields (f ∷ fs) = debug_line_of (verb_of f) f fs
+line_of_fields (f ∷ fs) = debug_line_of (event_kind_of f) f fs
 
 -- WHAT A LINE of a debugger's script is read as
 abbrev pub debug_line : List ℕ → Option DebugLine
@@ -71,10 +71,10 @@ debug_line line = line_of_fields (fields line)
 abbrev pub own_words : List (List ℕ)
 own_words = codes "break" ∷ codes "clear" ∷ codes "go" ∷ look_words
 
--- none is a verb of any script, and none is there twice
+-- none is a kind of any script, and none is there twice
 abbrev pub are_apart : List (List ℕ) → Bool
 are_apart [] = true
-are_apart (w ∷ ws) = not (is_some (verb_of w)) && not (list_any (bytes_eq w) ws) && are_apart ws
+are_apart (w ∷ ws) = not (is_some (event_kind_of w)) && not (list_any (bytes_eq w) ws) && are_apart ws
 
 -- ---- whole scripts
 

@@ -6,7 +6,7 @@ use Rattle.std.specs.List.{flat_map}
 use Rattle.mx_look.specs.declared.glance.Glance.{Glance}
 use Rattle.mx_look.specs.declared.slot_glances.SlotGlance.{SlotGlance}
 use Rattle.mx_look.specs.Glances.{glance_of}
-use Rattle.mx_look.specs.Step.{slot_in}
+use Rattle.mx_look.specs.Transition.{slot_in}
 use Rattle.mx_machine.specs.World.{World}
 use Rattle.mx_print_answers.specs.Messages.{delivery_text}
 use Rattle.mx_proc.specs.EndpointNumbers.{slot_of}

@@ -2,7 +2,7 @@
 
 ghost use Rattle.std.specs.Prelude.{◌≡◌, ◌≤◌, ◌++◌, OnOk, length, string_bytes};
 ghost use Rattle.mx_app_step.specs.Machine.{world_of};
-ghost use Rattle.mx_look.specs.Step.{slot_in};
+ghost use Rattle.mx_look.specs.Transition.{slot_in};
 ghost use Rattle.mx_machine.specs.History.{replay};
 ghost use Rattle.mx_proc.specs.EndpointNumbers.{slot_of};
 ghost use Rattle.mx_app_db.specs.LastMessages.{if_of, is_of, kept_line, kept_words, last_lines, last_of, recorded, spaced, words_seen};

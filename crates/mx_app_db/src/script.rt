@@ -9,8 +9,8 @@ ghost use Rattle.mx_app_db.specs.DebugScript.{are_apart, debug_line, own_line_of
 use crate::looks::{Look, look_of};
 use mx_app_start::Course;
 use mx_boot::{
-    CodePlace, ReadsLine, ScriptLine, actor_and_count, count, place_named, read_lines,
-    script_line_of, verb_named,
+    CodePlace, ReadsLine, ScriptLine, actor_and_count, count, event_kind_named, place_named,
+    read_lines, script_line_of,
 };
 use mx_machine::Config;
 use mx_text::{BootError, next_field, two_fields};
@@ -106,8 +106,8 @@ impl ReadsLine for DebugReader {
 
     fn read(&self, line: &[u8]) -> Option<DebugLine> {
         let (word, rest) = next_field(line)?;
-        match verb_named(word) {
-            Some(verb) => Some(DebugLine::Plain(script_line_of(verb, rest)?)),
+        match event_kind_named(word) {
+            Some(kind) => Some(DebugLine::Plain(script_line_of(kind, rest)?)),
             None => own_line_of(word, rest),
         }
     }

@@ -3,7 +3,7 @@ use Rattle.std.proofs.Common.{ℕ, ◌+◌, ◌-◌, ◌*◌, ◌/◌, ◌%◌, 
 use Rattle.std.specs.Prelude.{◌==◌, is_some}
 use Rattle.mx_print_report.specs.declared.doing.Doing.{Doing}
 use Rattle.mx_print_report.specs.declared.doing.Doing.TheVariants as doing
-use Rattle.mx_look.specs.declared.step.Step.{Step}
+use Rattle.mx_look.specs.declared.transition.Transition.{Transition}
 use Rattle.mx_app_draw.specs.declared.values.Hint.{Hint}
 use Rattle.mx_app_draw.specs.declared.values.Hint.TheVariants as hint
 use Rattle.mx_app_draw.specs.declared.values.BarKind.TheVariants as kind
@@ -15,20 +15,20 @@ use Rattle.mx_app_draw.specs.declared.values.Item.TheVariants as item
 use Rattle.mx_app_draw.specs.declared.scene_values.Scene.{Scene}
 use Rattle.mx_app_draw.specs.declared.scene_values.Standing.{Standing}
 use Rattle.mx_app_draw.specs.declared.layout.Strip.{Strip}
-use Rattle.mx_app_draw.specs.declared.layout.Spot.{Spot}
+use Rattle.mx_app_draw.specs.declared.layout.Origin.{Origin}
 use Rattle.mx_app_draw.specs.declared.bars.Span.{Span}
 use Rattle.mx_app_draw.specs.declared.four_figures.Point.{Point}
 use Rattle.mx_app_draw.specs.FourFigures.{bar_at, label_at}
 use Rattle.mx_app_draw.specs.Inside.{IsInside}
 use Rattle.mx_app_draw.specs.Layout.{column, row, rows, strip_height, strip_top, strip_count, strip_at, paper_width, items_abreast, legend_top, paper_height}
 use Rattle.mx_app_draw.specs.Bars.{cpu_label, state_bar_by, state_bar, seen_at, begins, next_run, run_end, span_of, run_bar, bar_here, bars_of_slot, bars}
-use Rattle.mx_app_draw.specs.Strips.{band, bands, step_at, is_marked, axis_values, axis_by, axis_at, axis, name_if, end_if, name_values, service_names, names, came_by, came_at, came, strip_values}
+use Rattle.mx_app_draw.specs.Strips.{band, bands, transition_at, is_marked, axis_values, axis_by, axis_at, axis, name_if, end_if, name_values, service_names, names, came_by, came_at, came, strip_values}
 use Rattle.mx_app_draw.specs.Legend.{item_at, sample, second_sample, item_values, corner_of, legend_item, legend}
 use Rattle.mx_app_draw.specs.Picture.{strip_of, strips, refused_values, picture}
 use Rattle.std.proofs.Math.Nat.{mod-lt, div-mul-le_self, mul-le-mul_right}
 use Rattle.std.proofs.lemmas.Nat.{le-div}
 use Rattle.mx_app_draw.proofs.Runs.{next_within}
-use Rattle.mx_app_draw.proofs.Edges.{AllInside, all_in_row, all_if, all_of, SpotWithin, record_within}
+use Rattle.mx_app_draw.proofs.Edges.{AllInside, all_in_row, all_if, all_of, OriginWithin, record_within}
 
 pub record StripWithin (w h services : ℕ) (strip : Strip) : Type 0 where
   pub right : column (strip.count + 1) + 8 ≤ w
@@ -42,9 +42,9 @@ band_within w h services strip r p low =
     let below : strip.top + strip_height services ≤ h = p.below in
     all_if w h (r % 2 == 1) (bar_at kind.Band 0 (row strip.top r - 16) w 32 hint.Nothing ∷ []) [] ((omega arith, omega arith), tt) tt
 
-mark_within : (w h services : ℕ) (strip : Strip) (i number : ℕ) → StripWithin w h services strip → i < strip.count → AllInside w h (axis_values strip services i number)
+glyph_within : (w h services : ℕ) (strip : Strip) (i number : ℕ) → StripWithin w h services strip → i < strip.count → AllInside w h (axis_values strip services i number)
 unfolding axis_values
-mark_within w h services strip i number p low =
+glyph_within w h services strip i number p low =
     let below : strip.top + strip_height services ≤ h = p.below in
     let right : column (strip.count + 1) + 8 ≤ w = p.right in
     all_if w h (is_marked i number)
@@ -52,9 +52,9 @@ mark_within w h services strip i number p low =
     ∷ label_at written.Axis (column (i + 1)) (strip.top + 12) anchor.Middle (text.Number number) hint.Nothing ∷ [])
     [] ((omega arith, omega arith), ((omega arith, omega arith), tt)) tt
 
-axis_within : (w h : ℕ) (v : Scene) (strip : Strip) (i : ℕ) (x : Option Step) → StripWithin w h v.services strip → i < strip.count → AllInside w h (axis_by v strip i x)
+axis_within : (w h : ℕ) (v : Scene) (strip : Strip) (i : ℕ) (x : Option Transition) → StripWithin w h v.services strip → i < strip.count → AllInside w h (axis_by v strip i x)
 axis_within w h v strip i None p low = tt
-axis_within w h v strip i (Some x) p low = mark_within w h v.services strip i x.number p low
+axis_within w h v strip i (Some x) p low = glyph_within w h v.services strip i x.number p low
 
 name_within : (w h services : ℕ) (strip : Strip) (r : ℕ) → StripWithin w h services strip → r ≤ services + 1 → (8 ≤ w) × (row strip.top r + 4 ≤ h)
 name_within w h services strip r p low =
@@ -134,13 +134,13 @@ bars_within w h v strip p =
 
 -- ---- what came of its records, and the strip
 
-came_within : (w h : ℕ) (v : Scene) (strip : Strip) (i : ℕ) (x : Option Step) → StripWithin w h v.services strip → i < strip.count → AllInside w h (came_by v strip i x)
+came_within : (w h : ℕ) (v : Scene) (strip : Strip) (i : ℕ) (x : Option Transition) → StripWithin w h v.services strip → i < strip.count → AllInside w h (came_by v strip i x)
 came_within w h v strip i None p low = tt
 came_within w h v strip i (Some x) p low =
     let right : column (strip.count + 1) + 8 ≤ w = p.right in
     let below : strip.top + strip_height v.services ≤ h = p.below in
-    let at : Spot = record { place = strip.place + i; x = column (i + 1); top = strip.top; services = v.services } in
-    let inside : SpotWithin w h at = record { right = omega arith; below = omega arith } in
+    let at : Origin = record { place = strip.place + i; x = column (i + 1); top = strip.top; services = v.services } in
+    let inside : OriginWithin w h at = record { right = omega arith; below = omega arith } in
     record_within w h x at inside
 
 pub strip_within : (w h : ℕ) (v : Scene) (strip : Strip) → StripWithin w h v.services strip → AllInside w h (strip_values v w strip)
@@ -151,10 +151,10 @@ strip_within w h v strip p =
     (all_of w h _ _
     (all_of w h _ _
     (all_in_row w h (band strip.top w) (rows v.services) (λ r low. band_within w h v.services strip r p low))
-    (all_in_row w h (axis_at v strip) strip.count (λ i low. axis_within w h v strip i (step_at v strip i) p low)))
+    (all_in_row w h (axis_at v strip) strip.count (λ i low. axis_within w h v strip i (transition_at v strip i) p low)))
     (names_within w h v strip p))
     (bars_within w h v strip p))
-    (all_in_row w h (came_at v strip) strip.count (λ i low. came_within w h v strip i (step_at v strip i) p low))
+    (all_in_row w h (came_at v strip) strip.count (λ i low. came_within w h v strip i (transition_at v strip i) p low))
 
 -- ---- the legend
 
@@ -223,10 +223,10 @@ refused_within : (v : Scene) (w h : ℕ) → 20 ≤ h → AllInside w h (refused
 unfolding refused_values
 refused_within v w h high = all_if w h (is_some v.refused) (label_at written.Refused (w - 8) 20 anchor.End text.Refused hint.Nothing ∷ []) [] ((omega arith, high), tt) tt
 
-pub picture_within : (v : Scene) → AllInside (paper_width (length v.steps.items)) (paper_height v.services (length v.steps.items)) (picture v)
+pub picture_within : (v : Scene) → AllInside (paper_width (length v.transitions.items)) (paper_height v.services (length v.transitions.items)) (picture v)
 unfolding picture strips
 picture_within v =
-    let n = length v.steps.items in
+    let n = length v.transitions.items in
     let w = paper_width n in
     let h = paper_height v.services n in (
       (omega arith, omega arith),

@@ -7,9 +7,9 @@ use Rattle.mx_app_draw.specs.declared.values.Bar.{Bar}
 use Rattle.mx_app_draw.specs.declared.values.Arrow.{Arrow}
 use Rattle.mx_app_draw.specs.declared.values.ArrowKind.{ArrowKind}
 use Rattle.mx_app_draw.specs.declared.values.ArrowKind.TheVariants as drawn
-use Rattle.mx_app_draw.specs.declared.values.Mark.{Mark}
-use Rattle.mx_app_draw.specs.declared.values.MarkKind.{MarkKind}
-use Rattle.mx_app_draw.specs.declared.values.MarkKind.TheVariants as marked
+use Rattle.mx_app_draw.specs.declared.values.Glyph.{Glyph}
+use Rattle.mx_app_draw.specs.declared.values.GlyphKind.{GlyphKind}
+use Rattle.mx_app_draw.specs.declared.values.GlyphKind.TheVariants as glyphs
 use Rattle.mx_app_draw.specs.declared.values.Label.{Label}
 use Rattle.mx_app_draw.specs.declared.values.Value.{Value}
 use Rattle.mx_app_draw.specs.declared.values.Value.TheVariants as value
@@ -77,34 +77,34 @@ arrow_text v a =
     class (codes "g") (arrow_class a.kind) ++ codes ">" ++ hint_text v a.hint ++ stem_text a ++ arrow_end a
     ++ codes "</g>\n"
 
--- ---- marks, drawn around 0 and moved
+-- ---- glyphs, drawn around 0 and moved
 
-unfoldable pub moved : Mark → List ℕ
+unfoldable pub moved : Glyph → List ℕ
 moved m = codes " transform=\"translate(" ++ pair m.x m.y ++ codes ")\""
 
 -- of a class, and along a path
-unfoldable pub path_text : Mark → List ℕ → List ℕ → List ℕ
+unfoldable pub path_text : Glyph → List ℕ → List ℕ → List ℕ
 path_text m name path = class (codes "path") name ++ moved m ++ codes " d=\"" ++ path ++ codes "\""
 
-unfoldable pub death_text : Scene → Mark → List ℕ
+unfoldable pub death_text : Scene → Glyph → List ℕ
 death_text v m =
     codes "<g" ++ moved m ++ codes ">" ++ hint_text v m.hint
     ++ codes "<path class=\"halo\" d=\"M-5 -5L5 5M-5 5L5 -5\"/>"
     ++ codes "<path class=\"death\" d=\"M-5 -5L5 5M-5 5L5 -5\"/></g>\n"
 
-abbrev pub mark_text_by : Scene → Mark → MarkKind → List ℕ
-mark_text_by v m marked.Tick = path_text m (codes "tick") (codes "M0 -6V6") ++ end_text v (codes "path") m.hint
-mark_text_by v m marked.Line = path_text m (codes "line") (codes "M-5 -5H5L0 5Z") ++ end_text v (codes "path") m.hint
-mark_text_by v m marked.Death = death_text v m
-mark_text_by v m marked.Birth =
+abbrev pub glyph_text_by : Scene → Glyph → GlyphKind → List ℕ
+glyph_text_by v m glyphs.Tick = path_text m (codes "tick") (codes "M0 -6V6") ++ end_text v (codes "path") m.hint
+glyph_text_by v m glyphs.Line = path_text m (codes "line") (codes "M-5 -5H5L0 5Z") ++ end_text v (codes "path") m.hint
+glyph_text_by v m glyphs.Death = death_text v m
+glyph_text_by v m glyphs.Birth =
     path_text m (codes "birth") (codes "M-5 0L0 -5L5 0L0 5Z") ++ end_text v (codes "path") m.hint
 
-unfoldable pub mark_text : Scene → Mark → List ℕ
-mark_text v m = mark_text_by v m m.kind
+unfoldable pub glyph_text : Scene → Glyph → List ℕ
+glyph_text v m = glyph_text_by v m m.kind
 
 -- A VALUE
 unfoldable pub value_text : Scene → Value → List ℕ
 value_text v (value.Bar b) = bar_text v b
 value_text v (value.Arrow a) = arrow_text v a
-value_text v (value.Mark m) = mark_text v m
+value_text v (value.Glyph m) = glyph_text v m
 value_text v (value.Label l) = label_text v l

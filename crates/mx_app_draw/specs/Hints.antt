@@ -3,8 +3,8 @@
 use Rattle.std.specs.Prelude.{ℕ, nat_lt, if◌then◌else◌, List, [], ◌++◌, codes, Option, Some, None, slice_get}
 use Rattle.std.specs.Fmt.{decimal}
 use Rattle.mx_look.specs.declared.slot_glances.SlotGlance.{SlotGlance}
-use Rattle.mx_look.specs.declared.step.Step.{Step}
-use Rattle.mx_look.specs.Step.{slot_in}
+use Rattle.mx_look.specs.declared.transition.Transition.{Transition}
+use Rattle.mx_look.specs.Transition.{slot_in}
 use Rattle.mx_look.specs.FaultLines.{fault_line}
 use Rattle.mx_look.specs.Trace.{head_line, change_line, delivery_line, kept_line, console_line}
 use Rattle.mx_app_draw.specs.declared.scene_values.Scene.{Scene}
@@ -14,28 +14,28 @@ use Rattle.mx_app_draw.specs.declared.values.Hint.TheVariants.{Nothing, Record, 
 use Rattle.mx_app_draw.specs.Shown.{shown}
 use Rattle.mx_app_draw.specs.Texts.{standing_text}
 
-abbrev pub kept_by : Step → ℕ → Option SlotGlance → Option SlotGlance → List ℕ
+abbrev pub kept_by : Transition → ℕ → Option SlotGlance → Option SlotGlance → List ℕ
 kept_by x place (Some v) (Some u) = kept_line x v u place
 kept_by x place _ _ = []
 
-unfoldable pub kept_hint : Step → ℕ → ℕ → List ℕ
+unfoldable pub kept_hint : Transition → ℕ → ℕ → List ℕ
 kept_hint x s place = kept_by x place (slot_in x.before s) (slot_in x.after s)
 
 -- a line of the trace
-unfoldable pub step_line : Step → Hint → List ℕ
-step_line x (Record i) = head_line x ++ fault_line x
-step_line x (Change i s) = change_line x s
-step_line x (Delivery i s) = if nat_lt s 32 then delivery_line x s else []
-step_line x (Kept i s place) = kept_hint x s place
-step_line x (Console i) = console_line x
-step_line x _ = []
+unfoldable pub transition_line : Transition → Hint → List ℕ
+transition_line x (Record i) = head_line x ++ fault_line x
+transition_line x (Change i s) = change_line x s
+transition_line x (Delivery i s) = if nat_lt s 32 then delivery_line x s else []
+transition_line x (Kept i s place) = kept_hint x s place
+transition_line x (Console i) = console_line x
+transition_line x _ = []
 
-abbrev pub step_line_if : Hint → Option Step → List ℕ
-step_line_if h None = []
-step_line_if h (Some x) = step_line x h
+abbrev pub transition_line_if : Hint → Option Transition → List ℕ
+transition_line_if h None = []
+transition_line_if h (Some x) = transition_line x h
 
 unfoldable pub placed_line : Scene → ℕ → Hint → List ℕ
-placed_line v i h = step_line_if h (slice_get v.steps.items i)
+placed_line v i h = transition_line_if h (slice_get v.transitions.items i)
 
 abbrev pub on_processor : Option ℕ → List ℕ
 on_processor None = []

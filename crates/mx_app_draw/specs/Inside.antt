@@ -6,5 +6,5 @@ use Rattle.mx_app_draw.specs.declared.values.Value.TheVariants as value
 abbrev pub IsInside : ℕ → ℕ → Value → Type 0
 IsInside w h (value.Bar b) = (b.x + b.width ≤ w) × (b.y + b.height ≤ h)
 IsInside w h (value.Arrow a) = (a.x ≤ w) × (a.y ≤ h) × (a.to ≤ h)
-IsInside w h (value.Mark m) = (m.x ≤ w) × (m.y ≤ h)
+IsInside w h (value.Glyph m) = (m.x ≤ w) × (m.y ≤ h)
 IsInside w h (value.Label l) = (l.x ≤ w) × (l.y ≤ h)

@@ -6,8 +6,8 @@ use Rattle.mx_app_draw.specs.declared.values.BarKind.{BarKind}
 use Rattle.mx_app_draw.specs.declared.values.BarKind.TheVariants as kind
 use Rattle.mx_app_draw.specs.declared.values.ArrowKind.{ArrowKind}
 use Rattle.mx_app_draw.specs.declared.values.ArrowKind.TheVariants as drawn
-use Rattle.mx_app_draw.specs.declared.values.MarkKind.{MarkKind}
-use Rattle.mx_app_draw.specs.declared.values.MarkKind.TheVariants as marked
+use Rattle.mx_app_draw.specs.declared.values.GlyphKind.{GlyphKind}
+use Rattle.mx_app_draw.specs.declared.values.GlyphKind.TheVariants as glyphs
 use Rattle.mx_app_draw.specs.declared.values.LabelKind.{LabelKind}
 use Rattle.mx_app_draw.specs.declared.values.LabelKind.TheVariants as written
 use Rattle.mx_app_draw.specs.declared.values.Anchor.TheVariants as anchor
@@ -19,7 +19,7 @@ use Rattle.mx_app_draw.specs.declared.values.Text.{Text}
 use Rattle.mx_app_draw.specs.declared.values.Text.TheVariants as text
 use Rattle.mx_app_draw.specs.declared.values.Value.{Value}
 use Rattle.mx_app_draw.specs.declared.four_figures.Point.{Point}
-use Rattle.mx_app_draw.specs.FourFigures.{bar_at, arrow_at, mark_at, label_at}
+use Rattle.mx_app_draw.specs.FourFigures.{bar_at, arrow_at, glyph_at, label_at}
 use Rattle.mx_app_draw.specs.Layout.{items_abreast, legend_top}
 
 -- where an item can be: the left end, and the middle of its height
@@ -47,8 +47,8 @@ sample_cpu at = label_at written.Cpu (at.x + 12) (at.y + 4) anchor.Middle (text.
 abbrev pub sample_arrow : Point → ArrowKind → Value
 sample_arrow at k = arrow_at k (at.x + 12) (at.y - 8) (at.y + 6) hint.Nothing
 
-abbrev pub sample_mark : Point → MarkKind → Value
-sample_mark at k = mark_at k (at.x + 12) at.y hint.Nothing
+abbrev pub sample_glyph : Point → GlyphKind → Value
+sample_glyph at k = glyph_at k (at.x + 12) at.y hint.Nothing
 
 abbrev pub sample_text : Point → LabelKind → Text → Value
 sample_text at k what = label_at k (at.x + 12) (at.y + 4) anchor.Middle what hint.Nothing
@@ -64,10 +64,10 @@ sample at item.Receiving = sample_bar at kind.Receiving 1 2
 sample at item.Message = sample_arrow at drawn.Message
 sample at item.Notification = sample_arrow at drawn.Notification
 sample at item.Pending = sample_arrow at drawn.Pending
-sample at item.Tick = sample_mark at marked.Tick
-sample at item.Line = sample_mark at marked.Line
-sample at item.Death = sample_mark at marked.Death
-sample at item.Birth = sample_mark at marked.Birth
+sample at item.Tick = sample_glyph at glyphs.Tick
+sample at item.Line = sample_glyph at glyphs.Line
+sample at item.Death = sample_glyph at glyphs.Death
+sample at item.Birth = sample_glyph at glyphs.Birth
 sample at item.Wrong = sample_text at written.Bad (text.Deed (deed.Call 1) manner.Wrong)
 sample at item.Unmade = sample_text at written.Call (text.Deed (deed.Call 1) manner.Unmade)
 

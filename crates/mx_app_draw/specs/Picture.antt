@@ -17,7 +17,7 @@ use Rattle.mx_app_draw.specs.Legend.{legend}
 
 -- the runs that `picture` is for. Their pictures are at most 32,767 pixels wide and high, as viewers ask
 abbrev pub IsDrawable : Scene → Type 0
-IsDrawable v = (length v.steps.items ≤ 1000) × (v.services ≤ 32)
+IsDrawable v = (length v.transitions.items ≤ 1000) × (v.services ≤ 32)
 
 abbrev pub title : Value
 title = label_at written.Title 8 20 anchor.Start text.Title hint.Nothing
@@ -35,12 +35,12 @@ refused_values v width =
 
 unfoldable pub picture : Scene → List Value
 picture v =
-    let n = length v.steps.items in
+    let n = length v.transitions.items in
     title ∷ strips v (paper_width n) n ++ refused_values v (paper_width n) ++ legend v.services n
 
 abbrev pub IsPicture : Scene → Drawing → Type 0
 IsPicture v d =
-    let n = length v.steps.items in
+    let n = length v.transitions.items in
     (d.width ≡ paper_width n) × (d.height ≡ paper_height v.services n) × (d.values.items ≡ picture v)
 
 -- ---- laws
@@ -52,5 +52,5 @@ IsOnItsPaper d = All (IsInside d.width d.height) d.values.items
 -- in each strip each column of a service is in exactly one run of columns
 abbrev pub AllAreCovered : Scene → Type 0
 AllAreCovered v =
-    let n = length v.steps.items in
+    let n = length v.transitions.items in
     (k s : ℕ) → k < strip_count n → s < v.services → EachIsCovered v (strip_at v.services n k) s

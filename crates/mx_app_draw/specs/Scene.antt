@@ -1,44 +1,44 @@
--- What the picture shows of a run: its steps, and the worlds between them (our own).
+-- What the picture shows of a run: its transitions, and the worlds between them (our own).
 use Rattle.std.specs.Prelude.{ℕ, find, ◌+◌, ◌-◌, ◌==◌, ◌&&◌, Bool, true, false, Option, Some, None, slice_get, if◌then◌else◌}
 use Rattle.std.specs.List.{range_with_len}
 use Rattle.mx_look.specs.declared.slot_glances.SlotGlance.{SlotGlance}
 use Rattle.mx_look.specs.declared.glance.CpuGlance.{CpuGlance}
 use Rattle.mx_look.specs.declared.glance.Glance.{Glance}
-use Rattle.mx_look.specs.declared.step.Step.{Step}
-use Rattle.mx_look.specs.Step.{slot_in, cpu_in}
+use Rattle.mx_look.specs.declared.transition.Transition.{Transition}
+use Rattle.mx_look.specs.Transition.{slot_in, cpu_in}
 use Rattle.mx_look.specs.Doings.{same_doing}
 use Rattle.mx_app_draw.specs.declared.scene_values.Scene.{Scene}
 use Rattle.mx_app_draw.specs.declared.scene_values.Standing.{Standing}
 
--- ---- worlds. Take the strip whose first step has the index `place`: its column 0 has the world before that
--- step, and column c the world after the strip's c-th step
+-- ---- worlds. Take the strip whose first transition has the index `place`: its column 0 has the world before that
+-- transition, and column c the world after the strip's c-th transition
 
-abbrev pub before_or : Glance → Option Step → Glance
+abbrev pub before_or : Glance → Option Transition → Glance
 before_or g None = g
 before_or g (Some x) = x.before
 
-abbrev pub after_or : Glance → Option Step → Glance
+abbrev pub after_or : Glance → Option Transition → Glance
 after_or g None = g
 after_or g (Some x) = x.after
 
 unfoldable pub world_at : Scene → ℕ → ℕ → Glance
 world_at v place c =
-    if c == 0 then before_or v.world (slice_get v.steps.items place)
-    else after_or v.world (slice_get v.steps.items (place + c - 1))
+    if c == 0 then before_or v.world (slice_get v.transitions.items place)
+    else after_or v.world (slice_get v.transitions.items (place + c - 1))
 
 -- the number of the last record before a world
-abbrev pub number_before_or : ℕ → Option Step → ℕ
+abbrev pub number_before_or : ℕ → Option Transition → ℕ
 number_before_or first None = first - 1
 number_before_or first (Some x) = x.number - 1
 
-abbrev pub number_or : ℕ → Option Step → ℕ
+abbrev pub number_or : ℕ → Option Transition → ℕ
 number_or first None = first
 number_or first (Some x) = x.number
 
 unfoldable pub number_at : Scene → ℕ → ℕ → ℕ
 number_at v place c =
-    if c == 0 then number_before_or v.first (slice_get v.steps.items place)
-    else number_or v.first (slice_get v.steps.items (place + c - 1))
+    if c == 0 then number_before_or v.first (slice_get v.transitions.items place)
+    else number_or v.first (slice_get v.transitions.items (place + c - 1))
 
 -- ---- what the picture shows of a slot
 

@@ -6,7 +6,7 @@ use Rattle.mx_machine.specs.History.{AreAccepted, world_after_events, events_of,
 use Rattle.mx_machine.specs.World.{World}
 use Rattle.mx_app_step.specs.Log.{lines_above}
 use Rattle.mx_app_step.specs.Glances.{glance_of}
-use Rattle.mx_app_step.specs.Step.{Step}
+use Rattle.mx_app_step.specs.Transition.{Transition}
 use Rattle.mx_app_draw.specs.declared.scene_values.Scene.{Scene}
 use Rattle.mx_app_draw.specs.declared.values.Drawing.{Drawing}
 use Rattle.mx_app_draw.specs.Picture.{IsPicture}
@@ -14,22 +14,23 @@ use Rattle.mx_app_draw.specs.Document.{drawing_text}
 use Rattle.mx_app_step.specs.declared.records.Replayed.{Replayed}
 use Rattle.mx_app_step.specs.declared.records.Replayed.TheVariants as replayed
 use Rattle.mx_app_step.specs.Records.{IsRefusedAt}
-use Rattle.mx_app_step.specs.Traces.{step_of}
+use Rattle.mx_app_step.specs.Traces.{transition_of}
 use Rattle.mx_app_draw.specs.declared.seeing.Seen.{Seen}
 
 -- at most 1,000 records are drawn, the first of which is 1 if 0 is asked for
 abbrev pub last_drawn : ℕ → ℕ → ℕ
 last_drawn from to = min (max from 1 + 999) to
 
--- a step is drawn from `from` on
-abbrev pub drawn_of : ℕ → Step → List Step
+-- a transition is drawn from `from` on
+abbrev pub drawn_of : ℕ → Transition → List Transition
 drawn_of from x = if nat_lt x.number from then [] else x ∷ []
 
 -- THE STEPS THAT ARE DRAWN of records, of which the first has this number
-abbrev pub steps_drawn : ℕ → World → ℕ → List Record → List Step
-steps_drawn from w n [] = []
-steps_drawn from w n (x ∷ xs) =
-    drawn_of from (step_of w n x) ++ steps_drawn from (world_after_events w (events_of x.actor x.event)) (n + 1) xs
+abbrev pub transitions_drawn : ℕ → World → ℕ → List Record → List Transition
+transitions_drawn from w n [] = []
+transitions_drawn from w n (x ∷ xs) =
+    drawn_of from (transition_of w n x)
+    ++ transitions_drawn from (world_after_events w (events_of x.actor x.event)) (n + 1) xs
 
 -- records that were accepted, or those above the first that is refused
 abbrev pub AreMade : World → List Record → Option (ℕ × Refusal) → List Record → Type 0
@@ -39,7 +40,7 @@ AreMade w records (Some p) made = IsRefusedAt w records p.0 p.1 × (made ≡ tak
 abbrev pub IsSeen : World → List Record → ℕ → Seen → Type 0
 IsSeen w records from seen =
     (made : List Record) × AreMade w records seen.refused made
-    × (seen.steps.items ≡ steps_drawn from w 1 made)
+    × (seen.transitions.items ≡ transitions_drawn from w 1 made)
     × (seen.world ≡ glance_of (world_after_events w (events_of_history made)))
 
 -- of a number that doesn't fit into 32 bits, the largest that does
@@ -59,7 +60,7 @@ pub record IsSceneOf (w : World) (cpus count : ℕ) (made : List Record) (from :
   pub processors : v.processors ≡ cpus
   pub services : v.services ≡ length w.services
   pub world : v.world ≡ glance_of (world_after_events w (events_of_history made))
-  pub steps : v.steps.items ≡ steps_drawn from w 1 made
+  pub transitions : v.transitions.items ≡ transitions_drawn from w 1 made
   pub refused : v.refused ≡ refused_line (lines_above w.table.rules) why
 
 abbrev pub IsHistoryScene : World → ℕ → ℕ → List Record → ℕ → Scene → Type 0

@@ -1,7 +1,7 @@
 -- A STRIP (our own): bands, axis, names, bars, and what each record changed.
 use Rattle.std.specs.Prelude.{ℕ, ◌+◌, ◌-◌, ◌*◌, ◌%◌, ◌==◌, ◌&&◌, ◌||◌, not, if◌then◌else◌, Bool, List, [], ◌∷◌, ◌++◌, Option, Some, None, slice_get}
 use Rattle.std.specs.List.{flat_map, range_with_len}
-use Rattle.mx_look.specs.declared.step.Step.{Step}
+use Rattle.mx_look.specs.declared.transition.Transition.{Transition}
 use Rattle.mx_app_draw.specs.declared.values.Hint.TheVariants as hint
 use Rattle.mx_app_draw.specs.declared.values.BarKind.TheVariants as kind
 use Rattle.mx_app_draw.specs.declared.values.LabelKind.TheVariants as written
@@ -25,9 +25,9 @@ band top width r = if r % 2 == 1 then bar_at kind.Band 0 (row top r - 16) width 
 unfoldable pub bands : ℕ → ℕ → ℕ → List Value
 bands top width services = flat_map (band top width) (range_with_len 0 (rows services))
 
--- the step of a column
-abbrev pub step_at : Scene → Strip → ℕ → Option Step
-step_at v strip i = slice_get v.steps.items (strip.place + i)
+-- the transition of a column
+abbrev pub transition_at : Scene → Strip → ℕ → Option Transition
+transition_at v strip i = slice_get v.transitions.items (strip.place + i)
 
 -- every fifth record shows its number; so does a strip's first record, but not if the one after it does
 abbrev pub is_marked : ℕ → ℕ → Bool
@@ -40,12 +40,12 @@ axis_values strip services i number =
     ∷ label_at written.Axis (column (i + 1)) (strip.top + 12) anchor.Middle (text.Number number) hint.Nothing ∷ []
     else []
 
-abbrev pub axis_by : Scene → Strip → ℕ → Option Step → List Value
+abbrev pub axis_by : Scene → Strip → ℕ → Option Transition → List Value
 axis_by v strip i None = []
 axis_by v strip i (Some x) = axis_values strip v.services i x.number
 
 unfoldable pub axis_at : Scene → Strip → ℕ → List Value
-axis_at v strip i = axis_by v strip i (step_at v strip i)
+axis_at v strip i = axis_by v strip i (transition_at v strip i)
 
 unfoldable pub axis : Scene → Strip → List Value
 axis v strip = flat_map (axis_at v strip) (range_with_len 0 strip.count)
@@ -79,13 +79,13 @@ names v strip =
     ∷ end_label strip (v.services + 1) (text.Bytes (world_at v strip.place strip.count).written) ∷ []
 
 -- what each record changed
-abbrev pub came_by : Scene → Strip → ℕ → Option Step → List Value
+abbrev pub came_by : Scene → Strip → ℕ → Option Transition → List Value
 came_by v strip i None = []
 came_by v strip i (Some x) =
     record_values x (record { place = strip.place + i; x = column (i + 1); top = strip.top; services = v.services })
 
 unfoldable pub came_at : Scene → Strip → ℕ → List Value
-came_at v strip i = came_by v strip i (step_at v strip i)
+came_at v strip i = came_by v strip i (transition_at v strip i)
 
 unfoldable pub came : Scene → Strip → List Value
 came v strip = flat_map (came_at v strip) (range_with_len 0 strip.count)

@@ -6,7 +6,7 @@ use Rattle.mx_machine.specs.declared.events.Refusal.{Refusal}
 use Rattle.mx_machine.specs.Refusals.{code_of_refusal, name_of_refusal}
 use Rattle.mx_print_report.specs.Numbers.{two_digits}
 use Rattle.mx_print_report.specs.Words.{doing_text, named}
-use Rattle.mx_look.specs.declared.step.Step.{Step}
+use Rattle.mx_look.specs.declared.transition.Transition.{Transition}
 use Rattle.mx_look.specs.Trace.{call_name, name_or}
 use Rattle.mx_look.specs.KernelCalls.{request_name}
 use Rattle.mx_app_draw.specs.declared.scene_values.Scene.{Scene}
@@ -26,17 +26,17 @@ counted n word = decimal n ++ codes " " ++ word ++ (if n == 1 then [] else codes
 
 -- ---- the title
 
-abbrev pub span_by : Option Step → Option Step → List ℕ
+abbrev pub span_by : Option Transition → Option Transition → List ℕ
 span_by (Some x) (Some y) = codes "Records " ++ decimal x.number ++ codes " to " ++ decimal y.number
 span_by _ _ = codes "No record"
 
-unfoldable pub span_text : List Step → List ℕ
+unfoldable pub span_text : List Transition → List ℕ
 span_text xs = span_by (slice_get xs 0) (slice_get xs (length xs - 1))
 
 unfoldable pub title_text : Scene → List ℕ
 title_text v =
-    span_text v.steps.items ++ codes " of " ++ decimal v.total ++ codes ", " ++ counted v.services (codes "service")
-    ++ codes ", " ++ counted v.processors (codes "processor")
+    span_text v.transitions.items ++ codes " of " ++ decimal v.total ++ codes ", "
+    ++ counted v.services (codes "service") ++ codes ", " ++ counted v.processors (codes "processor")
 
 -- ---- who, and what it does
 
@@ -55,7 +55,7 @@ deed_word (deed.Fault v) = codes "fault " ++ decimal v
 deed_word (deed.Call n) = name_or (codes "trap") (call_name n)
 deed_word (deed.Kernel rules kind) = name_or (codes "type") (request_name rules kind)
 
--- with a mark if it went wrong, in brackets if it wasn't made
+-- with a glyph if it went wrong, in brackets if it wasn't made
 unfoldable pub deed_text : Deed → Manner → List ℕ
 deed_text d manner.Plain = deed_word d
 deed_text d manner.Wrong = deed_word d ++ codes "!"

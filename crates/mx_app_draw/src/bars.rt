@@ -4,7 +4,7 @@
 ghost use Rattle.std.specs.Prelude.{◌≡◌, ◌<◌, ◌≤◌, ◌+◌, ◌++◌, OnOk, IfSome};
 ghost use Rattle.mx_app_draw.specs.Bars.{IsWithin, part, cpu_label, state_bar, seen_at, begins, next_run, run_end, bar_here, bars_of_slot, bars};
 
-use crate::between_steps::{number_at, same_seen, standing_of, world_at};
+use crate::between_transitions::{number_at, same_seen, standing_of, world_at};
 use crate::four_figures::{Point, bar, label};
 use crate::layout::{Strip, column, row};
 use crate::{Anchor, BarKind, Hint, LabelKind, Scene, Standing, Text, Value};

@@ -1,68 +1,71 @@
 //! Ticks and interrupt lines; and processes that are killed, die, are born again, or go on with an error.
 
 ghost use Rattle.std.specs.Prelude.{◌≡◌, ◌<◌, ◌≤◌, ◌++◌, OnOk, IfSome};
-ghost use Rattle.mx_app_draw.specs.Fates.{IsOnPaper, height_of, line_to, note, outside_mark, outside_values, killer, is_gone, has_fallen, kill_values, middle_mark, death_values, birth_values, fate_values, freed_values};
+ghost use Rattle.mx_app_draw.specs.Fates.{IsOnPaper, height_of, line_to, note, outside_glyph, outside_values, killer, is_gone, has_fallen, kill_values, middle_glyph, death_values, birth_values, fate_values, freed_values};
 
-use crate::four_figures::{Point, arrow, label, mark};
-use crate::layout::{Spot, row, row_of, toward};
-use crate::{Anchor, ArrowKind, Hint, LabelKind, MarkKind, Text, Value};
-use mx_look::{Step, gone_on, held_before, is_acted, slot_in};
+use crate::four_figures::{Point, arrow, glyph, label};
+use crate::layout::{Origin, row, row_of, toward};
+use crate::{Anchor, ArrowKind, GlyphKind, Hint, LabelKind, Text, Value};
+use mx_look::{Transition, gone_on, held_before, is_acted, slot_in};
 use mx_machine::Recorded;
 use mx_print_report::Doing;
 use mx_proc::DeathCause;
 use std::alloc::AllocError;
 
 /// The height of the middle of a service's row. For a slot that is no service: of the row `outside`.
-pub(crate) fn height_of(spot: Spot, slot: u32) -> u32
-    requires { IsOnPaper spot }
-    ensures height { result ≡ height_of spot slot }
+pub(crate) fn height_of(origin: Origin, slot: u32) -> u32
+    requires { IsOnPaper origin }
+    ensures height { result ≡ height_of origin slot }
     ensures above { 40 ≤ result }
     ensures below { result ≤ 40000 }
 {
-    row(spot.top, row_of(spot.services, slot))
+    row(origin.top, row_of(origin.services, slot))
 }
 
 /// A vertical line from this height to the row of a service.
-pub(crate) fn line_to(spot: Spot, kind: ArrowKind, from: u32, slot: u32, hint: Hint) -> Value
-    requires { IsOnPaper spot }
-    ensures { result ≡ line_to spot kind from slot hint }
+pub(crate) fn line_to(origin: Origin, kind: ArrowKind, from: u32, slot: u32, hint: Hint) -> Value
+    requires { IsOnPaper origin }
+    ensures { result ≡ line_to origin kind from slot hint }
 {
-    let tail = Point { x: spot.x, y: from };
-    arrow(kind, tail, toward(from, height_of(spot, slot)), hint)
+    let tail = Point {
+        x: origin.x,
+        y: from,
+    };
+    arrow(kind, tail, toward(from, height_of(origin, slot)), hint)
 }
 
 /// A text next to the record, just above the middle of a service's row.
-pub(crate) fn note(kind: LabelKind, spot: Spot, slot: u32, text: Text, hint: Hint) -> Value
-    requires { IsOnPaper spot }
-    ensures { result ≡ note kind spot slot text hint }
+pub(crate) fn note(kind: LabelKind, origin: Origin, slot: u32, text: Text, hint: Hint) -> Value
+    requires { IsOnPaper origin }
+    ensures { result ≡ note kind origin slot text hint }
 {
     let beside = Point {
-        x: spot.x + 6,
-        y: height_of(spot, slot) - 8,
+        x: origin.x + 6,
+        y: height_of(origin, slot) - 8,
     };
     label(kind, beside, Anchor::Start, text, hint)
 }
 
-/// Appends a mark in the row `outside`, and a number above the mark.
-fn push_outside_mark(
+/// Appends a glyph in the row `outside`, and a number above the glyph.
+fn push_outside_glyph(
     out: &mut Vec<Value>,
-    spot: Spot,
-    kind: MarkKind,
+    origin: Origin,
+    kind: GlyphKind,
     number: u32,
 ) -> Result<(), AllocError>
-    requires { IsOnPaper spot }
-    ensures { OnOk result (out.new.items ≡ out.old.items ++ outside_mark spot kind number) }
+    requires { IsOnPaper origin }
+    ensures { OnOk result (out.new.items ≡ out.old.items ++ outside_glyph origin kind number) }
 {
     let middle = Point {
-        x: spot.x,
-        y: row(spot.top, 0),
+        x: origin.x,
+        y: row(origin.top, 0),
     };
     let above = Point {
-        x: spot.x,
+        x: origin.x,
         y: middle.y - 9,
     };
-    let hint = Hint::Record(spot.place);
-    out.push(mark(kind, middle, hint))?;
+    let hint = Hint::Record(origin.place);
+    out.push(glyph(kind, middle, hint))?;
     out.push(label(
         LabelKind::Note,
         above,
@@ -75,13 +78,17 @@ fn push_outside_mark(
 
 /// Appends a tick with the uptime, or an interrupt line with its number.
 #[tactic(auto, unfolding(crate::specs::Fates::outside_values))]
-pub(crate) fn push_outside(out: &mut Vec<Value>, step: &Step, spot: Spot) -> Result<(), AllocError>
-    requires { IsOnPaper spot }
-    ensures { OnOk result (out.new.items ≡ out.old.items ++ outside_values step.now spot) }
+pub(crate) fn push_outside(
+    out: &mut Vec<Value>,
+    transition: &Transition,
+    origin: Origin,
+) -> Result<(), AllocError>
+    requires { IsOnPaper origin }
+    ensures { OnOk result (out.new.items ≡ out.old.items ++ outside_values transition.now origin) }
 {
-    match step.event {
-        Recorded::Tick => push_outside_mark(out, spot, MarkKind::Tick, step.after.uptime),
-        Recorded::Line(line) => push_outside_mark(out, spot, MarkKind::Line, line),
+    match transition.event {
+        Recorded::Tick => push_outside_glyph(out, origin, GlyphKind::Tick, transition.after.uptime),
+        Recorded::Line(line) => push_outside_glyph(out, origin, GlyphKind::Line, line),
         _ => Ok(()),
     }
 }
@@ -89,15 +96,15 @@ pub(crate) fn push_outside(out: &mut Vec<Value>, step: &Step, spot: Spot) -> Res
 /// The height where the line of a kill begins: the row `outside` for an event, or the row of the process
 /// whose `Back` killed it.
 #[tactic(auto, unfolding(crate::specs::Fates::killer))]
-fn killer(step: &Step, spot: Spot, slot: u32) -> Option<u32>
-    requires { IsOnPaper spot }
-    ensures { result ≡ killer step.now spot slot }
+fn killer(transition: &Transition, origin: Origin, slot: u32) -> Option<u32>
+    requires { IsOnPaper origin }
+    ensures { result ≡ killer transition.now origin slot }
 {
-    match step.event {
-        Recorded::Kill(_) => Some(row(spot.top, 0)),
-        Recorded::Back(_) => match held_before(step) {
+    match transition.event {
+        Recorded::Kill(_) => Some(row(origin.top, 0)),
+        Recorded::Back(_) => match held_before(transition) {
             Some(held) if u32::from(held.slot) != slot => Some(height_of(
-                spot,
+                origin,
                 u32::from(held.slot),
             )),
             _ => None,
@@ -113,73 +120,86 @@ fn is_gone(doing: Doing) -> bool
     matches!(doing, Doing::Doomed | Doing::Down(_))
 }
 
-/// Whether a slot's process dies or gets doomed at this step. A doomed one that now dies doesn't count.
-fn has_fallen(step: &Step, slot: u32) -> bool
-    ensures { result ≡ has_fallen step.now slot }
+/// Whether a slot's process dies or gets doomed in this transition. A doomed one that now dies doesn't count.
+fn has_fallen(transition: &Transition, slot: u32) -> bool
+    ensures { result ≡ has_fallen transition.now slot }
 {
-    match (slot_in(&step.before, slot), slot_in(&step.after, slot)) {
+    match (
+        slot_in(&transition.before, slot),
+        slot_in(&transition.after, slot),
+    ) {
         (Some(before), Some(after)) => !is_gone(before.doing) && is_gone(after.doing),
         _ => false,
     }
 }
 
-/// Appends the line from a killer to this slot, if the slot's process is killed at this step.
+/// Appends the line from a killer to this slot, if the slot's process is killed in this transition.
 #[tactic(auto, unfolding(crate::specs::Fates::kill_values))]
-fn push_kill(out: &mut Vec<Value>, step: &Step, spot: Spot, slot: u32) -> Result<(), AllocError>
-    requires { IsOnPaper spot }
-    ensures { OnOk result (out.new.items ≡ out.old.items ++ kill_values step.now spot slot) }
+fn push_kill(
+    out: &mut Vec<Value>,
+    transition: &Transition,
+    origin: Origin,
+    slot: u32,
+) -> Result<(), AllocError>
+    requires { IsOnPaper origin }
+    ensures { OnOk result (out.new.items ≡ out.old.items ++ kill_values transition.now origin slot) }
 {
-    if !has_fallen(step, slot) {
+    if !has_fallen(transition, slot) {
         return Ok(());
     }
-    if let Some(from) = killer(step, spot, slot) {
-        let hint = Hint::Change(spot.place, slot);
-        out.push(line_to(spot, ArrowKind::Kill, from, slot, hint))?;
+    if let Some(from) = killer(transition, origin, slot) {
+        let hint = Hint::Change(origin.place, slot);
+        out.push(line_to(origin, ArrowKind::Kill, from, slot, hint))?;
     }
     Ok(())
 }
 
-/// A mark in the row of a service.
-fn middle_mark(spot: Spot, slot: u32, kind: MarkKind) -> Value
-    requires { IsOnPaper spot }
-    ensures { result ≡ middle_mark spot slot kind }
+/// A glyph in the row of a service.
+fn middle_glyph(origin: Origin, slot: u32, kind: GlyphKind) -> Value
+    requires { IsOnPaper origin }
+    ensures { result ≡ middle_glyph origin slot kind }
 {
     let middle = Point {
-        x: spot.x,
-        y: height_of(spot, slot),
+        x: origin.x,
+        y: height_of(origin, slot),
     };
-    mark(kind, middle, Hint::Change(spot.place, slot))
+    glyph(kind, middle, Hint::Change(origin.place, slot))
 }
 
 /// Appends the cross of a death, and the word for a kill if it was one.
 #[tactic(auto, unfolding(crate::specs::Fates::death_values))]
 fn push_death(
     out: &mut Vec<Value>,
-    spot: Spot,
+    origin: Origin,
     slot: u32,
     cause: DeathCause,
 ) -> Result<(), AllocError>
-    requires { IsOnPaper spot }
-    ensures { OnOk result (out.new.items ≡ out.old.items ++ death_values spot slot cause) }
+    requires { IsOnPaper origin }
+    ensures { OnOk result (out.new.items ≡ out.old.items ++ death_values origin slot cause) }
 {
-    out.push(middle_mark(spot, slot, MarkKind::Death))?;
+    out.push(middle_glyph(origin, slot, GlyphKind::Death))?;
     if matches!(cause, DeathCause::Kill) {
-        let hint = Hint::Change(spot.place, slot);
-        out.push(note(LabelKind::Bad, spot, slot, Text::Killed, hint))?;
+        let hint = Hint::Change(origin.place, slot);
+        out.push(note(LabelKind::Bad, origin, slot, Text::Killed, hint))?;
     }
     Ok(())
 }
 
 /// Appends the line and the diamond of a respawn, with the new endpoint.
 #[tactic(auto, unfolding(crate::specs::Fates::birth_values))]
-fn push_birth(out: &mut Vec<Value>, spot: Spot, slot: u32, endpoint: u32) -> Result<(), AllocError>
-    requires { IsOnPaper spot }
-    ensures { OnOk result (out.new.items ≡ out.old.items ++ birth_values spot slot endpoint) }
+fn push_birth(
+    out: &mut Vec<Value>,
+    origin: Origin,
+    slot: u32,
+    endpoint: u32,
+) -> Result<(), AllocError>
+    requires { IsOnPaper origin }
+    ensures { OnOk result (out.new.items ≡ out.old.items ++ birth_values origin slot endpoint) }
 {
-    let hint = Hint::Change(spot.place, slot);
-    out.push(line_to(spot, ArrowKind::Respawn, row(spot.top, 0), slot, hint))?;
-    out.push(middle_mark(spot, slot, MarkKind::Birth))?;
-    out.push(note(LabelKind::Note, spot, slot, Text::Number(endpoint), hint))?;
+    let hint = Hint::Change(origin.place, slot);
+    out.push(line_to(origin, ArrowKind::Respawn, row(origin.top, 0), slot, hint))?;
+    out.push(middle_glyph(origin, slot, GlyphKind::Birth))?;
+    out.push(note(LabelKind::Note, origin, slot, Text::Number(endpoint), hint))?;
     Ok(())
 }
 
@@ -187,22 +207,24 @@ fn push_birth(out: &mut Vec<Value>, spot: Spot, slot: u32, endpoint: u32) -> Res
 #[tactic(auto, unfolding(crate::specs::Fates::fate_values))]
 pub(crate) fn push_fate(
     out: &mut Vec<Value>,
-    step: &Step,
-    spot: Spot,
+    transition: &Transition,
+    origin: Origin,
     slot: u32,
 ) -> Result<(), AllocError>
-    requires { IsOnPaper spot }
-    ensures { OnOk result (out.new.items ≡ out.old.items ++ fate_values step.now spot slot) }
+    requires { IsOnPaper origin }
+    ensures { OnOk result (out.new.items ≡ out.old.items ++ fate_values transition.now origin slot) }
 {
-    push_kill(out, step, spot, slot)?;
-    let (Some(before), Some(after)) = (slot_in(&step.before, slot), slot_in(&step.after, slot))
-    else {
+    push_kill(out, transition, origin, slot)?;
+    let (Some(before), Some(after)) = (
+        slot_in(&transition.before, slot),
+        slot_in(&transition.after, slot),
+    ) else {
         return Ok(());
     };
     match (before.doing, after.doing) {
         (Doing::Down(_), Doing::Down(_)) => Ok(()),
-        (_, Doing::Down(cause)) => push_death(out, spot, slot, cause),
-        (Doing::Down(_), _) => push_birth(out, spot, slot, after.endpoint),
+        (_, Doing::Down(cause)) => push_death(out, origin, slot, cause),
+        (Doing::Down(_), _) => push_birth(out, origin, slot, after.endpoint),
         _ => Ok(()),
     }
 }
@@ -211,22 +233,22 @@ pub(crate) fn push_fate(
 #[tactic(auto, unfolding(crate::specs::Fates::freed_values))]
 pub(crate) fn push_freed(
     out: &mut Vec<Value>,
-    step: &Step,
-    spot: Spot,
+    transition: &Transition,
+    origin: Origin,
     slot: u32,
 ) -> Result<(), AllocError>
-    requires { IsOnPaper spot }
-    ensures { OnOk result (out.new.items ≡ out.old.items ++ freed_values step.now spot slot) }
+    requires { IsOnPaper origin }
+    ensures { OnOk result (out.new.items ≡ out.old.items ++ freed_values transition.now origin slot) }
 {
-    if is_acted(step, slot) {
+    if is_acted(transition, slot) {
         return Ok(());
     }
-    let Some(outcome) = gone_on(step, slot) else {
+    let Some(outcome) = gone_on(transition, slot) else {
         return Ok(());
     };
     if outcome != 0 {
-        let hint = Hint::Change(spot.place, slot);
-        out.push(note(LabelKind::Bad, spot, slot, Text::Outcome(outcome), hint))?;
+        let hint = Hint::Change(origin.place, slot);
+        out.push(note(LabelKind::Bad, origin, slot, Text::Outcome(outcome), hint))?;
     }
     Ok(())
 }

@@ -1,14 +1,14 @@
 //! The figures of a picture: each value's SVG element.
 
 ghost use Rattle.std.specs.Prelude.{◌≡◌, ◌++◌, OnOk};
-ghost use Rattle.mx_app_draw.specs.Figures.{class, bar_text, anchored, placed, label_text, point, circle, head_base, head_text, ring_text, arrow_end, line_text, stem_text, arrow_text, moved, path_text, death_text, mark_text, value_text};
+ghost use Rattle.mx_app_draw.specs.Figures.{class, bar_text, anchored, placed, label_text, point, circle, head_base, head_text, ring_text, arrow_end, line_text, stem_text, arrow_text, moved, path_text, death_text, glyph_text, value_text};
 
 use crate::classes::{anchor_word, arrow_class, bar_class, label_class};
 use crate::hints::{push_end, push_hint};
 use crate::scene_values::Scene;
 use crate::svg_text::{push_attribute, push_pair, push_shown};
 use crate::texts::push_words;
-use crate::values::{Anchor, Arrow, ArrowKind, Bar, Label, Mark, MarkKind, Value};
+use crate::values::{Anchor, Arrow, ArrowKind, Bar, Glyph, GlyphKind, Label, Value};
 use mx_print_report::push_decimal;
 use std::alloc::{AllocError, Global};
 
@@ -185,23 +185,23 @@ fn push_arrow(
     out.extend_from_slice(b"</g>\n")
 }
 
-/// Appends where a mark is.
+/// Appends where a glyph is.
 #[tactic(auto, unfolding(crate::specs::Figures::moved))]
-fn push_moved(out: &mut Vec<u8>, mark: Mark) -> Result<(), AllocError>
-    ensures { OnOk result (out.new.items ≡ out.old.items ++ moved mark) }
+fn push_moved(out: &mut Vec<u8>, glyph: Glyph) -> Result<(), AllocError>
+    ensures { OnOk result (out.new.items ≡ out.old.items ++ moved glyph) }
 {
     out.extend_from_slice(b" transform=\"translate(")?;
-    push_pair(out, u64::from(mark.x), u64::from(mark.y))?;
+    push_pair(out, u64::from(glyph.x), u64::from(glyph.y))?;
     out.extend_from_slice(b")\"")
 }
 
-/// Appends the begin of a mark that is one path.
+/// Appends the begin of a glyph that is one path.
 #[tactic(auto, unfolding(crate::specs::Figures::path_text))]
-fn push_path(out: &mut Vec<u8>, mark: Mark, class: &[u8], path: &[u8]) -> Result<(), AllocError>
-    ensures { OnOk result (out.new.items ≡ out.old.items ++ path_text mark class.now path.now) }
+fn push_path(out: &mut Vec<u8>, glyph: Glyph, class: &[u8], path: &[u8]) -> Result<(), AllocError>
+    ensures { OnOk result (out.new.items ≡ out.old.items ++ path_text glyph class.now path.now) }
 {
     push_class(out, b"path", class)?;
-    push_moved(out, mark)?;
+    push_moved(out, glyph)?;
     out.extend_from_slice(b" d=\"")?;
     out.extend_from_slice(path)?;
     out.push(b'"')?;
@@ -210,29 +210,39 @@ fn push_path(out: &mut Vec<u8>, mark: Mark, class: &[u8], path: &[u8]) -> Result
 
 /// Appends the cross of a death, on a ground that sets it off.
 #[tactic(auto, unfolding(crate::specs::Figures::death_text))]
-fn push_death(alloc: Global, out: &mut Vec<u8>, scene: &Scene, mark: Mark) -> Result<(), AllocError>
-    ensures { OnOk result (out.new.items ≡ out.old.items ++ death_text scene.now mark) }
+fn push_death(
+    alloc: Global,
+    out: &mut Vec<u8>,
+    scene: &Scene,
+    glyph: Glyph,
+) -> Result<(), AllocError>
+    ensures { OnOk result (out.new.items ≡ out.old.items ++ death_text scene.now glyph) }
 {
     out.extend_from_slice(b"<g")?;
-    push_moved(out, mark)?;
+    push_moved(out, glyph)?;
     out.push(b'>')?;
-    push_hint(alloc, out, scene, mark.hint)?;
+    push_hint(alloc, out, scene, glyph.hint)?;
     out.extend_from_slice(b"<path class=\"halo\" d=\"M-5 -5L5 5M-5 5L5 -5\"/>")?;
     out.extend_from_slice(b"<path class=\"death\" d=\"M-5 -5L5 5M-5 5L5 -5\"/></g>\n")
 }
 
-/// Appends a mark.
-#[tactic(auto, unfolding(crate::specs::Figures::mark_text))]
-fn push_mark(alloc: Global, out: &mut Vec<u8>, scene: &Scene, mark: Mark) -> Result<(), AllocError>
-    ensures { OnOk result (out.new.items ≡ out.old.items ++ mark_text scene.now mark) }
+/// Appends a glyph.
+#[tactic(auto, unfolding(crate::specs::Figures::glyph_text))]
+fn push_glyph(
+    alloc: Global,
+    out: &mut Vec<u8>,
+    scene: &Scene,
+    glyph: Glyph,
+) -> Result<(), AllocError>
+    ensures { OnOk result (out.new.items ≡ out.old.items ++ glyph_text scene.now glyph) }
 {
-    match mark.kind {
-        MarkKind::Tick => push_path(out, mark, b"tick", b"M0 -6V6")?,
-        MarkKind::Line => push_path(out, mark, b"line", b"M-5 -5H5L0 5Z")?,
-        MarkKind::Death => return push_death(alloc, out, scene, mark),
-        MarkKind::Birth => push_path(out, mark, b"birth", b"M-5 0L0 -5L5 0L0 5Z")?,
+    match glyph.kind {
+        GlyphKind::Tick => push_path(out, glyph, b"tick", b"M0 -6V6")?,
+        GlyphKind::Line => push_path(out, glyph, b"line", b"M-5 -5H5L0 5Z")?,
+        GlyphKind::Death => return push_death(alloc, out, scene, glyph),
+        GlyphKind::Birth => push_path(out, glyph, b"birth", b"M-5 0L0 -5L5 0L0 5Z")?,
     }
-    push_end(alloc, out, scene, b"path", mark.hint)
+    push_end(alloc, out, scene, b"path", glyph.hint)
 }
 
 /// Appends a value.
@@ -248,7 +258,7 @@ pub(crate) fn push_value(
     match value {
         Value::Bar(bar) => push_bar(alloc, out, scene, bar),
         Value::Arrow(arrow) => push_arrow(alloc, out, scene, arrow),
-        Value::Mark(mark) => push_mark(alloc, out, scene, mark),
+        Value::Glyph(glyph) => push_glyph(alloc, out, scene, glyph),
         Value::Label(label) => push_label(alloc, out, scene, label),
     }
 }

@@ -1,10 +1,10 @@
-//! The four figures of a picture: bars, arrows, marks and labels.
+//! The four figures of a picture: bars, arrows, glyphs and labels.
 
 ghost use Rattle.std.specs.Prelude.{◌≡◌};
-ghost use Rattle.mx_app_draw.specs.FourFigures.{bar_at, arrow_at, mark_at, label_at};
+ghost use Rattle.mx_app_draw.specs.FourFigures.{bar_at, arrow_at, glyph_at, label_at};
 
 use crate::{
-    Anchor, Arrow, ArrowKind, Bar, BarKind, Hint, Label, LabelKind, Mark, MarkKind, Text, Value,
+    Anchor, Arrow, ArrowKind, Bar, BarKind, Glyph, GlyphKind, Hint, Label, LabelKind, Text, Value,
 };
 
 /// A point of the paper: `x` pixels from the left, `y` pixels from the top.
@@ -42,10 +42,10 @@ pub(crate) fn arrow(kind: ArrowKind, at: Point, to: u32, hint: Hint) -> Value
 }
 
 /// A small figure around a point.
-pub(crate) fn mark(kind: MarkKind, at: Point, hint: Hint) -> Value
-    ensures { result ≡ mark_at kind at.x at.y hint }
+pub(crate) fn glyph(kind: GlyphKind, at: Point, hint: Hint) -> Value
+    ensures { result ≡ glyph_at kind at.x at.y hint }
 {
-    Value::Mark(Mark {
+    Value::Glyph(Glyph {
         kind,
         x: at.x,
         y: at.y,

@@ -6,44 +6,56 @@
 //! printed.
 
 ghost use Rattle.std.specs.Prelude.{◌≡◌, ◌++◌, OnOk};
-ghost use Rattle.mx_app_draw.specs.Hints.{step_line, kept_hint, on_processor, standing_hint, placed_line, hint_line, hint_title, hint_text, end_text};
+ghost use Rattle.mx_app_draw.specs.Hints.{transition_line, kept_hint, on_processor, standing_hint, placed_line, hint_line, hint_title, hint_text, end_text};
 
 use crate::scene_values::{Scene, Standing};
 use crate::svg_text::push_shown;
 use crate::texts::push_standing;
 use crate::values::Hint;
 use mx_look::{
-    Step, push_change, push_console_line, push_delivery, push_fault_line, push_head, push_kept,
-    slot_in,
+    Transition, push_change, push_console_line, push_delivery, push_fault_line, push_head,
+    push_kept, slot_in,
 };
 use mx_print_report::push_decimal;
 use std::alloc::{AllocError, Global};
 
 /// Appends the line of a notification that becomes pending for a slot, if it does.
 #[tactic(auto, unfolding(crate::specs::Hints::kept_hint))]
-fn push_kept_hint(out: &mut Vec<u8>, step: &Step, slot: u32, place: u32) -> Result<(), AllocError>
-    ensures { OnOk result (out.new.items ≡ out.old.items ++ kept_hint step.now slot place) }
+fn push_kept_hint(
+    out: &mut Vec<u8>,
+    transition: &Transition,
+    slot: u32,
+    place: u32,
+) -> Result<(), AllocError>
+    ensures { OnOk result (out.new.items ≡ out.old.items ++ kept_hint transition.now slot place) }
 {
-    match (slot_in(&step.before, slot), slot_in(&step.after, slot)) {
-        (Some(before), Some(after)) => push_kept(out, step, before, after, place),
+    match (
+        slot_in(&transition.before, slot),
+        slot_in(&transition.after, slot),
+    ) {
+        (Some(before), Some(after)) => push_kept(out, transition, before, after, place),
         _ => Ok(()),
     }
 }
 
-/// Appends the line of a step that a hint names.
-#[tactic(auto, unfolding(crate::specs::Hints::step_line))]
-fn push_step_line(out: &mut Vec<u8>, step: &Step, hint: Hint) -> Result<(), AllocError>
-    ensures { OnOk result (out.new.items ≡ out.old.items ++ step_line step.now hint) }
+/// Appends the line of a transition that a hint names.
+#[tactic(auto, unfolding(crate::specs::Hints::transition_line))]
+fn push_transition_line(
+    out: &mut Vec<u8>,
+    transition: &Transition,
+    hint: Hint,
+) -> Result<(), AllocError>
+    ensures { OnOk result (out.new.items ≡ out.old.items ++ transition_line transition.now hint) }
 {
     match hint {
         Hint::Record(_) => {
-            push_head(out, step)?;
-            push_fault_line(out, step)
+            push_head(out, transition)?;
+            push_fault_line(out, transition)
         }
-        Hint::Change(_, slot) => push_change(out, step, slot),
-        Hint::Delivery(_, slot) if slot < 32 => push_delivery(out, step, slot),
-        Hint::Kept(_, slot, place) => push_kept_hint(out, step, slot, place),
-        Hint::Console(_) => push_console_line(out, step),
+        Hint::Change(_, slot) => push_change(out, transition, slot),
+        Hint::Delivery(_, slot) if slot < 32 => push_delivery(out, transition, slot),
+        Hint::Kept(_, slot, place) => push_kept_hint(out, transition, slot, place),
+        Hint::Console(_) => push_console_line(out, transition),
         _ => Ok(()),
     }
 }
@@ -70,7 +82,7 @@ fn push_standing_hint(out: &mut Vec<u8>, seen: &Standing, number: u32) -> Result
     push_decimal(out, number)
 }
 
-/// Appends the line of the step at a place that a hint names, if there is one.
+/// Appends the line of the transition at a place that a hint names, if there is one.
 #[tactic(auto, unfolding(crate::specs::Hints::placed_line))]
 fn push_placed_line(
     out: &mut Vec<u8>,
@@ -80,8 +92,8 @@ fn push_placed_line(
 ) -> Result<(), AllocError>
     ensures { OnOk result (out.new.items ≡ out.old.items ++ placed_line scene.now place hint) }
 {
-    match scene.steps.get(place as usize) {
-        Some(step) => push_step_line(out, step, hint),
+    match scene.transitions.get(place as usize) {
+        Some(transition) => push_transition_line(out, transition, hint),
         None => Ok(()),
     }
 }

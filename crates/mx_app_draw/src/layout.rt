@@ -7,7 +7,7 @@ ghost use Rattle.mx_app_draw.specs.Layout.{column, row, rows, row_of, strip_top,
 /// How many records a strip has at most.
 pub(crate) const STRIP_RECORDS: u32 = 40;
 
-/// A strip: the index of its first step in the list of steps, the number of its steps, and its top.
+/// A strip: the index of its first transition in the list, the number of its transitions, and its top.
 #[derive(Clone, Copy)]
 pub(crate) struct Strip {
     pub(crate) place: u32,
@@ -15,10 +15,10 @@ pub(crate) struct Strip {
     pub(crate) top: u32,
 }
 
-/// Where a record is drawn: the index of its step in the list of steps, the `x` of its column, the top of
+/// Where a record is drawn: the index of its transition in the list, the `x` of its column, the top of
 /// its strip, and how many services the strip has.
 #[derive(Clone, Copy)]
-pub(crate) struct Spot {
+pub(crate) struct Origin {
     pub(crate) place: u32,
     pub(crate) x: u32,
     pub(crate) top: u32,

@@ -1,12 +1,12 @@
 //! The legend: a line for each figure, with a sample and its meaning.
 
 ghost use Rattle.std.specs.Prelude.{◌≡◌, ◌<◌, ◌≤◌, ◌++◌, OnOk};
-ghost use Rattle.mx_app_draw.specs.Legend.{IsCorner, item_at, sample_bar, sample_cpu, sample_arrow, sample_mark, sample_text, sample, item_values, corner_of, legend_item, legend};
+ghost use Rattle.mx_app_draw.specs.Legend.{IsCorner, item_at, sample_bar, sample_cpu, sample_arrow, sample_glyph, sample_text, sample, item_values, corner_of, legend_item, legend};
 
-use crate::four_figures::{Point, arrow, bar, label, mark};
+use crate::four_figures::{Point, arrow, bar, glyph, label};
 use crate::layout::{items_abreast, legend_top};
 use crate::{
-    Anchor, ArrowKind, BarKind, Deed, Hint, Item, LabelKind, Manner, MarkKind, Text, Value,
+    Anchor, ArrowKind, BarKind, Deed, GlyphKind, Hint, Item, LabelKind, Manner, Text, Value,
 };
 use std::alloc::AllocError;
 
@@ -71,16 +71,16 @@ fn sample_arrow(at: Point, kind: ArrowKind) -> Value
     arrow(kind, tail, at.y + 6, Hint::Nothing)
 }
 
-/// A mark.
-fn sample_mark(at: Point, kind: MarkKind) -> Value
+/// A glyph.
+fn sample_glyph(at: Point, kind: GlyphKind) -> Value
     requires { IsCorner at }
-    ensures { result ≡ sample_mark at kind }
+    ensures { result ≡ sample_glyph at kind }
 {
     let middle = Point {
         x: at.x + 12,
         y: at.y,
     };
-    mark(kind, middle, Hint::Nothing)
+    glyph(kind, middle, Hint::Nothing)
 }
 
 /// A text.
@@ -112,10 +112,10 @@ fn sample(at: Point, item: Item) -> Value
         Item::Message => sample_arrow(at, ArrowKind::Message),
         Item::Notification => sample_arrow(at, ArrowKind::Notification),
         Item::Pending => sample_arrow(at, ArrowKind::Pending),
-        Item::Tick => sample_mark(at, MarkKind::Tick),
-        Item::Line => sample_mark(at, MarkKind::Line),
-        Item::Death => sample_mark(at, MarkKind::Death),
-        Item::Birth => sample_mark(at, MarkKind::Birth),
+        Item::Tick => sample_glyph(at, GlyphKind::Tick),
+        Item::Line => sample_glyph(at, GlyphKind::Line),
+        Item::Death => sample_glyph(at, GlyphKind::Death),
+        Item::Birth => sample_glyph(at, GlyphKind::Birth),
         Item::Wrong => sample_text(at, LabelKind::Bad, Text::Deed(Deed::Call(1), Manner::Wrong)),
         Item::Unmade => sample_text(
             at,

@@ -1,10 +1,10 @@
-//! `mx draw`: the picture of a saved history. First a `Scene` is made of its steps (strips, spots, bars, hints, labels
-//! and deeds: calls that failed, fates, returns), then the picture of it, a list of values with whole coordinates on
-//! paper, and at last its text in SVG 1.1: texts, classes, attributes, fonts and strokes.
+//! `mx draw`: the picture of a saved history. First a `Scene` is made of its transitions (strips, origins, bars, hints,
+//! labels and deeds: calls that failed, fates, returns), then the picture of it, a list of values with whole
+//! coordinates on paper, and at last its text in SVG 1.1: texts, classes, attributes, fonts and strokes.
 #![tactic(auto)]
 
 mod bars;
-mod between_steps;
+mod between_transitions;
 mod came;
 mod classes;
 mod document;
@@ -30,7 +30,7 @@ pub use drawing::draw;
 pub(crate) use mx_look::Glance;
 pub use scene_values::{Scene, Standing};
 pub use values::{
-    Anchor, Arrow, ArrowKind, Bar, BarKind, Deed, Drawing, Hint, Item, Label, LabelKind, Manner,
-    Mark, MarkKind, Text, Value,
+    Anchor, Arrow, ArrowKind, Bar, BarKind, Deed, Drawing, Glyph, GlyphKind, Hint, Item, Label,
+    LabelKind, Manner, Text, Value,
 };
 pub use whole_picture::picture;

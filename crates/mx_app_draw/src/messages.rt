@@ -5,9 +5,9 @@ ghost use Rattle.mx_app_draw.specs.Fates.{IsOnPaper};
 ghost use Rattle.mx_app_draw.specs.Messages.{party_height, source_height, arrow_kind, type_note, delivery_values, is_kept, kept_arrow, kept_values};
 
 use crate::fates::{height_of, line_to, note};
-use crate::layout::{Spot, row};
+use crate::layout::{Origin, row};
 use crate::{ArrowKind, Hint, LabelKind, Text, Value};
-use mx_look::{Step, delivery_to, is_new_bit, slot_in};
+use mx_look::{Transition, delivery_to, is_new_bit, slot_in};
 use mx_proc::{Delivery, DeliveryKind, slot_of};
 use std::alloc::AllocError;
 
@@ -15,22 +15,22 @@ use std::alloc::AllocError;
 const SOURCES: u32 = 34;
 
 /// The middle of the row of the party that an endpoint names. HARDWARE and CLOCK have the row `outside`.
-fn party_height(spot: Spot, endpoint: u32) -> u32
-    requires { IsOnPaper spot }
-    ensures { result ≡ party_height spot endpoint }
+fn party_height(origin: Origin, endpoint: u32) -> u32
+    requires { IsOnPaper origin }
+    ensures { result ≡ party_height origin endpoint }
 {
-    height_of(spot, slot_of(endpoint))
+    height_of(origin, slot_of(endpoint))
 }
 
 /// The middle of the row of the source whose pending bit has this place.
-fn source_height(spot: Spot, place: u32) -> u32
-    requires { IsOnPaper spot }
-    ensures { result ≡ source_height spot place }
+fn source_height(origin: Origin, place: u32) -> u32
+    requires { IsOnPaper origin }
+    ensures { result ≡ source_height origin place }
 {
     if place < 2 {
-        row(spot.top, 0)
+        row(origin.top, 0)
     } else {
-        height_of(spot, place - 2)
+        height_of(origin, place - 2)
     }
 }
 
@@ -47,17 +47,17 @@ fn arrow_kind(kind: DeliveryKind) -> ArrowKind
 #[tactic(auto, unfolding(crate::specs::Messages::type_note))]
 fn push_type(
     out: &mut Vec<Value>,
-    spot: Spot,
+    origin: Origin,
     slot: u32,
     delivery: Delivery,
 ) -> Result<(), AllocError>
-    requires { IsOnPaper spot }
-    ensures { OnOk result (out.new.items ≡ out.old.items ++ type_note spot slot delivery) }
+    requires { IsOnPaper origin }
+    ensures { OnOk result (out.new.items ≡ out.old.items ++ type_note origin slot delivery) }
 {
     if matches!(delivery.kind, DeliveryKind::Message) && delivery.message_type != 0 {
         let text = Text::Number(delivery.message_type);
-        let hint = Hint::Delivery(spot.place, slot);
-        out.push(note(LabelKind::Note, spot, slot, text, hint))?;
+        let hint = Hint::Delivery(origin.place, slot);
+        out.push(note(LabelKind::Note, origin, slot, text, hint))?;
     }
     Ok(())
 }
@@ -66,28 +66,31 @@ fn push_type(
 #[tactic(auto, unfolding(crate::specs::Messages::delivery_values))]
 pub(crate) fn push_delivery(
     out: &mut Vec<Value>,
-    step: &Step,
-    spot: Spot,
+    transition: &Transition,
+    origin: Origin,
     slot: u32,
 ) -> Result<(), AllocError>
-    requires on_paper { IsOnPaper spot }
+    requires on_paper { IsOnPaper origin }
     requires slot { slot < 32 }
-    ensures { OnOk result (out.new.items ≡ out.old.items ++ delivery_values step.now spot slot) }
+    ensures { OnOk result (out.new.items ≡ out.old.items ++ delivery_values transition.now origin slot) }
 {
-    let Some(delivery) = delivery_to(step, slot) else {
+    let Some(delivery) = delivery_to(transition, slot) else {
         return Ok(());
     };
-    let from = party_height(spot, delivery.from);
-    let hint = Hint::Delivery(spot.place, slot);
-    out.push(line_to(spot, arrow_kind(delivery.kind), from, slot, hint))?;
-    push_type(out, spot, slot, delivery)
+    let from = party_height(origin, delivery.from);
+    let hint = Hint::Delivery(origin.place, slot);
+    out.push(line_to(origin, arrow_kind(delivery.kind), from, slot, hint))?;
+    push_type(out, origin, slot, delivery)
 }
 
 /// Whether a notification by the source with this place becomes pending for a slot.
-fn is_kept(step: &Step, slot: u32, place: u32) -> bool
-    ensures { result ≡ is_kept step.now slot place }
+fn is_kept(transition: &Transition, slot: u32, place: u32) -> bool
+    ensures { result ≡ is_kept transition.now slot place }
 {
-    match (slot_in(&step.before, slot), slot_in(&step.after, slot)) {
+    match (
+        slot_in(&transition.before, slot),
+        slot_in(&transition.after, slot),
+    ) {
         (Some(before), Some(after)) => is_new_bit(before, after, place),
         _ => false,
     }
@@ -97,18 +100,18 @@ fn is_kept(step: &Step, slot: u32, place: u32) -> bool
 #[tactic(auto, unfolding(crate::specs::Messages::kept_arrow))]
 fn push_kept_arrow(
     out: &mut Vec<Value>,
-    step: &Step,
-    spot: Spot,
+    transition: &Transition,
+    origin: Origin,
     slot: u32,
     place: u32,
 ) -> Result<(), AllocError>
-    requires { IsOnPaper spot }
-    ensures { OnOk result (out.new.items ≡ out.old.items ++ kept_arrow step.now spot slot place) }
+    requires { IsOnPaper origin }
+    ensures { OnOk result (out.new.items ≡ out.old.items ++ kept_arrow transition.now origin slot place) }
 {
-    if is_kept(step, slot, place) {
-        let from = source_height(spot, place);
-        let hint = Hint::Kept(spot.place, slot, place);
-        out.push(line_to(spot, ArrowKind::Pending, from, slot, hint))?;
+    if is_kept(transition, slot, place) {
+        let from = source_height(origin, place);
+        let hint = Hint::Kept(origin.place, slot, place);
+        out.push(line_to(origin, ArrowKind::Pending, from, slot, hint))?;
     }
     Ok(())
 }
@@ -116,15 +119,15 @@ fn push_kept_arrow(
 /// Appends the arrows of all notifications that become pending for a slot.
 pub(crate) fn push_kept(
     out: &mut Vec<Value>,
-    step: &Step,
-    spot: Spot,
+    transition: &Transition,
+    origin: Origin,
     slot: u32,
 ) -> Result<(), AllocError>
-    requires { IsOnPaper spot }
-    ensures { OnOk result (out.new.items ≡ out.old.items ++ kept_values step.now spot slot) }
+    requires { IsOnPaper origin }
+    ensures { OnOk result (out.new.items ≡ out.old.items ++ kept_values transition.now origin slot) }
 {
     for place in 0..SOURCES {
-        push_kept_arrow(out, step, spot, slot, place)?;
+        push_kept_arrow(out, transition, origin, slot, place)?;
     }
     Ok(())
 }

@@ -6,12 +6,12 @@ ghost use Rattle.mx_app_draw.specs.Returns.{trap_deed, deed_of, is_doomed_in, ha
 
 use crate::fates::height_of;
 use crate::four_figures::{Point, label};
-use crate::layout::Spot;
+use crate::layout::Origin;
 use crate::{Anchor, Deed, Hint, LabelKind, Manner, Text, Value};
 use mx_image::Stop;
 use mx_look::{
-    CpuGlance, SlotGlance, Step, asks_kernel, gone_on, held_before, is_acted, is_doomed, is_ready,
-    kernel_call, slot_in,
+    CpuGlance, SlotGlance, Transition, asks_kernel, gone_on, held_before, is_acted, is_doomed,
+    is_ready, kernel_call, slot_in,
 };
 use mx_machine::Recorded;
 use mx_proc::Rules;
@@ -48,21 +48,21 @@ fn deed_of(rules: Rules, held: &CpuGlance) -> Deed
     }
 }
 
-fn is_doomed_in(step: &Step, slot: u32) -> bool
-    ensures { result ≡ is_doomed_in step.now slot }
+fn is_doomed_in(transition: &Transition, slot: u32) -> bool
+    ensures { result ≡ is_doomed_in transition.now slot }
 {
-    match slot_in(&step.before, slot) {
+    match slot_in(&transition.before, slot) {
         Some(seen) => is_doomed(seen.doing),
         None => false,
     }
 }
 
 /// Whether the kernel answered a slot's trap with an error.
-fn has_gone_wrong(step: &Step, slot: u32) -> bool
-    ensures { result ≡ has_gone_wrong step.now slot }
+fn has_gone_wrong(transition: &Transition, slot: u32) -> bool
+    ensures { result ≡ has_gone_wrong transition.now slot }
 {
-    match gone_on(step, slot) {
-        Some(outcome) => outcome != 0 && is_acted(step, slot),
+    match gone_on(transition, slot) {
+        Some(outcome) => outcome != 0 && is_acted(transition, slot),
         None => false,
     }
 }
@@ -78,10 +78,10 @@ fn is_refused_answer(seen: &SlotGlance) -> bool
 }
 
 /// Whether the kernel answered a slot's kernel call with an error.
-fn has_failed_call(step: &Step, slot: u32) -> bool
-    ensures { result ≡ has_failed_call step.now slot }
+fn has_failed_call(transition: &Transition, slot: u32) -> bool
+    ensures { result ≡ has_failed_call transition.now slot }
 {
-    match (kernel_call(step), slot_in(&step.after, slot)) {
+    match (kernel_call(transition), slot_in(&transition.after, slot)) {
         (Some(_), Some(seen)) => is_refused_answer(seen),
         _ => false,
     }
@@ -90,15 +90,15 @@ fn has_failed_call(step: &Step, slot: u32) -> bool
 /// How the deed ended: well, with an error, or not made because the process was killed. Only a trap can be
 /// left unmade.
 #[tactic(auto, unfolding(crate::specs::Returns::manner_of))]
-fn manner_of(step: &Step, slot: u32, deed: Deed) -> Manner
-    ensures { result ≡ manner_of step.now slot deed }
+fn manner_of(transition: &Transition, slot: u32, deed: Deed) -> Manner
+    ensures { result ≡ manner_of transition.now slot deed }
 {
     match deed {
         Deed::Spent | Deed::Early | Deed::Fault(_) => Manner::Plain,
         Deed::Call(_) | Deed::Kernel(_, _) => {
-            if is_doomed_in(step, slot) {
+            if is_doomed_in(transition, slot) {
                 Manner::Unmade
-            } else if has_gone_wrong(step, slot) || has_failed_call(step, slot) {
+            } else if has_gone_wrong(transition, slot) || has_failed_call(transition, slot) {
                 Manner::Wrong
             } else {
                 Manner::Plain
@@ -116,27 +116,31 @@ fn deed_kind(deed: Deed, manner: Manner) -> LabelKind
     }
 }
 
-/// Appends what a process did, if the step is its `Back`.
+/// Appends what a process did, if the transition is its `Back`.
 #[tactic(auto, unfolding(crate::specs::Returns::return_values))]
-pub(crate) fn push_return(out: &mut Vec<Value>, step: &Step, spot: Spot) -> Result<(), AllocError>
-    requires { IsOnPaper spot }
-    ensures { OnOk result (out.new.items ≡ out.old.items ++ return_values step.now spot) }
+pub(crate) fn push_return(
+    out: &mut Vec<Value>,
+    transition: &Transition,
+    origin: Origin,
+) -> Result<(), AllocError>
+    requires { IsOnPaper origin }
+    ensures { OnOk result (out.new.items ≡ out.old.items ++ return_values transition.now origin) }
 {
-    let Recorded::Back(_) = step.event else {
+    let Recorded::Back(_) = transition.event else {
         return Ok(());
     };
-    let Some(held) = held_before(step) else {
+    let Some(held) = held_before(transition) else {
         return Ok(());
     };
     let slot = u32::from(held.slot);
-    let deed = deed_of(step.before.rules, held);
-    let manner = manner_of(step, slot, deed);
+    let deed = deed_of(transition.before.rules, held);
+    let manner = manner_of(transition, slot, deed);
     let below = Point {
-        x: spot.x - 4,
-        y: height_of(spot, slot) + 15,
+        x: origin.x - 4,
+        y: height_of(origin, slot) + 15,
     };
     let text = Text::Deed(deed, manner);
-    let hint = Hint::Record(spot.place);
+    let hint = Hint::Record(origin.place);
     out.push(label(deed_kind(deed, manner), below, Anchor::End, text, hint))?;
     Ok(())
 }

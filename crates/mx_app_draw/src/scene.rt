@@ -75,7 +75,7 @@ pub(crate) fn scene_of(
         processors: part.processors,
         services,
         world: seen.world,
-        steps: seen.steps,
+        transitions: seen.transitions,
         refused: refused_line(above, seen.refused),
     })
 }

@@ -1,6 +1,6 @@
 //! The scene: the run that a picture is drawn from.
 
-use mx_look::{Glance, Step};
+use mx_look::{Glance, Transition};
 use mx_machine::Refusal;
 use mx_print_report::Doing;
 use mx_text::Name;
@@ -16,8 +16,8 @@ pub struct Scene {
     pub services: u32,
     /// The world at the end.
     pub world: Glance,
-    pub steps: Vec<Step>,
-    /// The line of the record that is refused after these steps, and why.
+    pub transitions: Vec<Transition>,
+    /// The line of the record that is refused after these transitions, and why.
     pub refused: Option<(u32, Refusal)>,
 }
 

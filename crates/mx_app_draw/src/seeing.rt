@@ -1,8 +1,8 @@
 //! What is seen of a history's records.
 //!
-//! # As a trace, but with all steps
+//! # As a trace, but with all transitions
 //!
-//! The records are walked by `look_record`, as by `mx trace`. The steps are put into a list, since
+//! The records are walked by `look_record`, as by `mx trace`. The transitions are put into a list, since
 //! the size of the paper comes before the first value.
 
 ghost use Rattle.std.specs.Prelude.{◌≡◌, ◌<◌, ◌≤◌, ◌^◌, ◌++◌, All, IfOk, IfSome, OnOk, length};
@@ -11,8 +11,8 @@ ghost use Rattle.mx_machine.specs.declared.history.Record.{Record as Noted};
 ghost use Rattle.mx_machine.specs.World.{actors};
 ghost use Rattle.mx_app_draw.specs.Scenes.{IsSeen, drawn_of, last_drawn};
 
-use mx_app_step::{look_record, resting_step};
-use mx_look::{Glance, Step};
+use mx_app_step::{look_record, resting_transition};
+use mx_look::{Glance, Transition};
 use mx_machine::{Machine, Record, Refusal};
 use std::alloc::{AllocError, Global};
 
@@ -23,7 +23,7 @@ const MOST_DRAWN: u32 = 1000;
 #[derive(Drop)]
 pub(crate) struct Seen {
     /// The records that are drawn.
-    pub(crate) steps: Vec<Step>,
+    pub(crate) transitions: Vec<Transition>,
     /// The world after the records that were made.
     pub(crate) world: Glance,
     /// The number of the record that is refused, the first having the number 1, and why.
@@ -38,11 +38,15 @@ pub(crate) fn last_drawn(from: u32, to: u32) -> u32
 }
 
 /// Appends a step, if it is one from `from` on.
-fn keep_step(steps: &mut Vec<Step>, step: &Step, from: u32) -> Result<(), AllocError>
-    ensures { OnOk result (steps.new.items ≡ steps.old.items ++ drawn_of from step.now) }
+fn keep_transition(
+    transitions: &mut Vec<Transition>,
+    transition: &Transition,
+    from: u32,
+) -> Result<(), AllocError>
+    ensures { OnOk result (transitions.new.items ≡ transitions.old.items ++ drawn_of from transition.now) }
 {
-    if step.number >= from {
-        steps.push(*step)?;
+    if transition.number >= from {
+        transitions.push(*transition)?;
     }
     Ok(())
 }
@@ -59,26 +63,26 @@ pub(crate) fn see_records(
     ensures seen { IfOk result (λ seen. IsSeen (world_of machine.old) records.now from seen) }
     ensures few { IfOk result (λ seen. IfSome seen.refused (λ p. p.0 ≤ length records.now)) }
 {
-    let mut steps = Vec::new(alloc);
-    let mut step = resting_step(machine);
-    let mut world = step.after;
+    let mut transitions = Vec::new(alloc);
+    let mut transition = resting_transition(machine);
+    let mut world = transition.after;
     for (index, entry) in records.iter().enumerate() {
         let number = index as u32 + 1;
-        match look_record(machine, number, *entry, &mut step) {
-            Ok(()) => keep_step(&mut steps, &step, from)?,
+        match look_record(machine, number, *entry, &mut transition) {
+            Ok(()) => keep_transition(&mut transitions, &transition, from)?,
             Err(refusal) => {
                 let refused = Some((number as usize, refusal));
                 return Ok(Seen {
-                    steps,
+                    transitions,
                     world,
                     refused,
                 });
             }
         }
-        world = step.after;
+        world = transition.after;
     }
     Ok(Seen {
-        steps,
+        transitions,
         world,
         refused: None,
     })

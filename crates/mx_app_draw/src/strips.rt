@@ -2,15 +2,15 @@
 
 ghost use Rattle.std.specs.Prelude.{◌≡◌, ◌<◌, ◌≤◌, ◌++◌, None, Some, MatchOption, OnOk};
 ghost use Rattle.mx_app_draw.specs.Bars.{IsWithin};
-ghost use Rattle.mx_app_draw.specs.Strips.{band, bands, step_at, is_marked, axis_values, axis_at, axis, name_label, end_label, name_values, service_names, names, came_at, came, strip_values};
+ghost use Rattle.mx_app_draw.specs.Strips.{band, bands, transition_at, is_marked, axis_values, axis_at, axis, name_label, end_label, name_values, service_names, names, came_at, came, strip_values};
 
 use crate::bars::{push_bars, seen_at};
-use crate::between_steps::world_at;
+use crate::between_transitions::world_at;
 use crate::came::push_record;
 use crate::four_figures::{Point, bar, label};
-use crate::layout::{Spot, Strip, column, row, rows};
+use crate::layout::{Origin, Strip, column, row, rows};
 use crate::{Anchor, BarKind, Hint, LabelKind, Scene, Text, Value};
-use mx_look::Step;
+use mx_look::Transition;
 use std::alloc::AllocError;
 
 /// The `x` where names begin, in pixels.
@@ -55,7 +55,7 @@ fn is_marked(index: u32, number: u32) -> bool
 
 /// Appends a record's vertical line and its number above, if the record is marked.
 #[tactic(auto, unfolding(crate::specs::Strips::axis_values))]
-fn push_axis_mark(
+fn push_axis_number(
     out: &mut Vec<Value>,
     strip: Strip,
     services: u32,
@@ -87,11 +87,11 @@ fn push_axis_mark(
 }
 
 /// The step of a column.
-fn step_at(scene: &Scene, strip: Strip, index: u32) -> Option<&Step>
-    ensures { MatchOption result (step_at scene.now strip index ≡ None)
-        (λ step. step_at scene.now strip index ≡ Some step.now) }
+fn transition_at(scene: &Scene, strip: Strip, index: u32) -> Option<&Transition>
+    ensures { MatchOption result (transition_at scene.now strip index ≡ None)
+        (λ transition. transition_at scene.now strip index ≡ Some transition.now) }
 {
-    scene.steps.get(strip.place as usize + index as usize)
+    scene.transitions.get(strip.place as usize + index as usize)
 }
 
 /// Appends the line and the number of a step of a strip.
@@ -107,8 +107,8 @@ fn push_axis_at(
     requires index { index ≤ 40 }
     ensures { OnOk result (out.new.items ≡ out.old.items ++ axis_at scene.now strip index) }
 {
-    match step_at(scene, strip, index) {
-        Some(step) => push_axis_mark(out, strip, scene.services, index, step.number),
+    match transition_at(scene, strip, index) {
+        Some(transition) => push_axis_number(out, strip, scene.services, index, transition.number),
         None => Ok(()),
     }
 }
@@ -208,16 +208,16 @@ fn push_came_at(
     requires index { index ≤ 40 }
     ensures { OnOk result (out.new.items ≡ out.old.items ++ came_at scene.now strip index) }
 {
-    let Some(step) = step_at(scene, strip, index) else {
+    let Some(transition) = transition_at(scene, strip, index) else {
         return Ok(());
     };
-    let spot = Spot {
+    let origin = Origin {
         place: strip.place + index,
         x: column(index + 1),
         top: strip.top,
         services: scene.services,
     };
-    push_record(out, step, spot)
+    push_record(out, transition, origin)
 }
 
 /// Appends what the steps of a strip changed.

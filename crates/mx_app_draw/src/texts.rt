@@ -6,7 +6,7 @@ ghost use Rattle.mx_app_draw.specs.Texts.{counted, span_text, title_text, who_te
 
 use crate::scene_values::{Scene, Standing};
 use crate::values::{Deed, Item, Manner, Text};
-use mx_look::{Step, call_name, request_name};
+use mx_look::{Transition, call_name, request_name};
 use mx_print_report::{
     push_counted, push_decimal, push_doing, push_named, push_signed, push_two_digits,
 };
@@ -28,10 +28,10 @@ fn push_many(out: &mut Vec<u8>, count: u32, word: &[u8]) -> Result<(), AllocErro
 
 /// Appends which records are drawn.
 #[tactic(auto, unfolding(crate::specs::Texts::span_text))]
-fn push_span(out: &mut Vec<u8>, steps: &[Step]) -> Result<(), AllocError>
-    ensures { OnOk result (out.new.items ≡ out.old.items ++ span_text steps.now) }
+fn push_span(out: &mut Vec<u8>, transitions: &[Transition]) -> Result<(), AllocError>
+    ensures { OnOk result (out.new.items ≡ out.old.items ++ span_text transitions.now) }
 {
-    match (steps.first(), steps.last()) {
+    match (transitions.first(), transitions.last()) {
         (Some(first), Some(last)) => {
             out.extend_from_slice(b"Records ")?;
             push_decimal(out, first.number)?;
@@ -47,7 +47,7 @@ fn push_span(out: &mut Vec<u8>, steps: &[Step]) -> Result<(), AllocError>
 pub(crate) fn push_title(out: &mut Vec<u8>, scene: &Scene) -> Result<(), AllocError>
     ensures { OnOk result (out.new.items ≡ out.old.items ++ title_text scene.now) }
 {
-    push_span(out, scene.steps.as_slice())?;
+    push_span(out, scene.transitions.as_slice())?;
     out.extend_from_slice(b" of ")?;
     push_decimal(out, scene.total)?;
     out.extend_from_slice(b", ")?;
@@ -99,7 +99,7 @@ fn push_deed_word(out: &mut Vec<u8>, deed: Deed) -> Result<(), AllocError>
     }
 }
 
-/// Appends what a process did: with a mark if it went wrong, in brackets if it wasn't made.
+/// Appends what a process did: with a glyph if it went wrong, in brackets if it wasn't made.
 #[tactic(auto, unfolding(crate::specs::Texts::deed_text))]
 fn push_deed(out: &mut Vec<u8>, deed: Deed, manner: Manner) -> Result<(), AllocError>
     ensures { OnOk result (out.new.items ≡ out.old.items ++ deed_text deed manner) }

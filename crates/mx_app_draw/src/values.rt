@@ -1,4 +1,4 @@
-//! What is drawn: bars, arrows, marks and texts. Coordinates are whole numbers, from the top left.
+//! What is drawn: bars, arrows, glyphs and texts. Coordinates are whole numbers, from the top left.
 
 use crate::scene_values::Standing;
 use mx_proc::Rules;
@@ -71,7 +71,7 @@ pub struct Arrow {
 
 /// What a small figure shows.
 #[derive(Clone, Copy)]
-pub enum MarkKind {
+pub enum GlyphKind {
     Tick,
     /// An interrupt line is raised.
     Line,
@@ -81,8 +81,8 @@ pub enum MarkKind {
 
 /// A small figure around a point.
 #[derive(Clone, Copy)]
-pub struct Mark {
-    pub kind: MarkKind,
+pub struct Glyph {
+    pub kind: GlyphKind,
     pub x: u32,
     pub y: u32,
     pub hint: Hint,
@@ -206,7 +206,7 @@ pub struct Label {
 pub enum Value {
     Bar(Bar),
     Arrow(Arrow),
-    Mark(Mark),
+    Glyph(Glyph),
     Label(Label),
 }
 

@@ -32,7 +32,7 @@ fn push_strips(
     count: u32,
 ) -> Result<(), AllocError>
     requires drawable { IsDrawable scene.now }
-    requires count { count ≡ length scene.now.steps.items }
+    requires count { count ≡ length scene.now.transitions.items }
     ensures { OnOk result (out.new.items ≡ out.old.items ++ strips scene.now width count) }
 {
     for index in 0..strip_count(count) {
@@ -72,7 +72,7 @@ pub fn picture(alloc: Global, scene: &Scene) -> Result<Drawing, AllocError>
     ensures inside { IfOk result (λ drawing. IsOnItsPaper drawing) }
     ensures covered { AllAreCovered scene.now }
 {
-    let count = scene.steps.len() as u32;
+    let count = scene.transitions.len() as u32;
     let width = paper_width(count);
     let mut values = Vec::new(alloc);
     values.push(title())?;

@@ -2,9 +2,9 @@
 use Rattle.std.specs.Prelude.{ℕ, ◌-◌, ◌==◌, if◌then◌else◌, List, [], ◌++◌, codes, Option, Some, None, slice_get}
 use Rattle.std.specs.Str.{is_utf8}
 use Rattle.mx_app_explain.specs.ConfigFaults.{fault_in, words_at}
-use Rattle.mx_app_explain.specs.ConfigPlaces.{value_name, wanted_at, words_before}
+use Rattle.mx_app_explain.specs.ConfigFields.{value_name, wanted_at, words_before}
 use Rattle.mx_app_explain.specs.FoundWords.{field_told, found_at, found_told}
-use Rattle.mx_app_explain.specs.declared.config_place.Place.{Place}
+use Rattle.mx_app_explain.specs.declared.config_field.Field.{Field}
 use Rattle.mx_app_explain.specs.declared.detail.Detail.{Detail}
 use Rattle.mx_app_explain.specs.declared.detail.Label.{Label}
 use Rattle.mx_app_explain.specs.declared.detail.Label.TheVariants as labels
@@ -29,9 +29,9 @@ after_words (Some first) (Some second) =
 after_words first second = []
 
 -- a value is called by its name, and another word by the two words before it
-abbrev pub place_label : List (List ℕ) → ℕ → Option (List ℕ) → List ℕ
-place_label words before (Some name) = value_told name
-place_label words before None =
+abbrev pub field_label : List (List ℕ) → ℕ → Option (List ℕ) → List ℕ
+field_label words before (Some name) = value_told name
+field_label words before None =
     if before == 0 then [] else after_words (slice_get words (before - 2)) (slice_get words (before - 1))
 
 -- ---- the whole
@@ -43,18 +43,18 @@ abbrev pub detail_told : Detail → List ℕ
 detail_told d = wanted_told (label_told d.label) d.wanted.now (found_told d.found)
 
 -- at a place of a configuration's line that has these words
-abbrev pub place_told : List (List ℕ) → Place → List ℕ
-place_told words place =
-    wanted_told (place_label words (words_before place) (value_name place)) (wanted_at place)
+abbrev pub field_told : List (List ℕ) → Field → List ℕ
+field_told words place =
+    wanted_told (field_label words (words_before place) (value_name place)) (wanted_at place)
     (found_at (slice_get words (words_before place)))
 
 -- THE DETAIL of a configuration's line, if it has a fault of its own
-abbrev pub place_detail : List (List ℕ) → Option Place → Option (List ℕ)
-place_detail words None = None
-place_detail words (Some place) = Some (place_told words place)
+abbrev pub field_detail : List (List ℕ) → Option Field → Option (List ℕ)
+field_detail words None = None
+field_detail words (Some place) = Some (field_told words place)
 
 abbrev pub config_detail : List ℕ → ℕ → Option (List ℕ)
-config_detail text number = let words = words_at text number in place_detail words (fault_in words)
+config_detail text number = let words = words_at text number in field_detail words (fault_in words)
 
 -- THE DETAIL of a word of a text for the assembler: what is wanted, and the word
 abbrev pub word_detail : List ℕ → Option (List ℕ) → List ℕ

@@ -3,7 +3,7 @@ use Rattle.std.specs.Prelude.{ℕ, ◌==◌, ◌||◌, ◌&&◌, nat_lt, Bool, i
 use Rattle.std.specs.List.{list_any}
 use Rattle.std.specs.Str.{is_utf8}
 use Rattle.mx_app_explain.specs.declared.found_word.FoundWord.{FoundWord}
-use Rattle.mx_app_explain.specs.declared.found_word.FoundWord.TheVariants.{Unseen, Nothing, Word, Return, Mark, Bytes}
+use Rattle.mx_app_explain.specs.declared.found_word.FoundWord.TheVariants.{Unseen, Nothing, Word, Return, ByteOrderMark, Bytes}
 
 abbrev pub is_return : ℕ → Bool
 is_return b = b == 13

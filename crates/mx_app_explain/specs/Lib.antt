@@ -1,5 +1,5 @@
 pub mod ConfigFaults
-pub mod ConfigPlaces
+pub mod ConfigFields
 pub mod Details
 pub mod Explaining
 pub mod FoundWords

@@ -9,7 +9,7 @@ use Rattle.mx_asm.specs.declared.fault.Problem.{Problem}
 use Rattle.mx_asm.specs.declared.fault.Problem.TheVariants as problems
 use Rattle.mx_app_explain.specs.declared.text_advice.Sought.{Sought}
 use Rattle.mx_app_explain.specs.declared.text_advice.Sought.TheVariants as sought
-use Rattle.mx_app_explain.specs.TextWords.{begins_with_digit, is_bad_number, is_capital, is_close, is_equals, is_free_word, is_long_name, is_mark_word, is_odd_byte, is_open, is_quote, is_size, words_in}
+use Rattle.mx_app_explain.specs.TextWords.{begins_with_digit, is_bad_number, is_capital, is_close, is_equals, is_free_word, is_long_name, is_punctuation_word, is_odd_byte, is_open, is_quote, is_size, words_in}
 use Rattle.mx_app_explain.specs.Details.{word_detail}
 use Rattle.mx_app_explain.specs.Wanted.{problem_wanted}
 
@@ -64,19 +64,20 @@ only_free_word ws = do
 
 -- an operand may end with a word: no mark but the closing bracket, and no word that something has to follow
 abbrev pub may_end : List ℕ → Bool
-may_end w = is_close w || not (is_mark_word w || (is_size w || bytes_eq w (codes "short")))
+may_end w = is_close w || not (is_punctuation_word w || (is_size w || bytes_eq w (codes "short")))
 
 -- the first word that follows the end of an operand without a comma; an operand may have ended before these words
 abbrev pub extra_word : Bool → List (List ℕ) → Option (List ℕ)
 extra_word ended [] = None
-extra_word ended (w ∷ ws) = if ended && not (is_mark_word w) then Some w else extra_word (may_end w) ws
+extra_word ended (w ∷ ws) = if ended && not (is_punctuation_word w) then Some w else extra_word (may_end w) ws
 
 -- outside of brackets are only numbers and marks, so that no register has a size; a bracket may be open before these
 -- words
 abbrev pub lacks_register : Bool → List (List ℕ) → Bool
 lacks_register inside [] = true
 lacks_register inside (w ∷ ws) =
-    (inside || (is_mark_word w || begins_with_digit w)) && lacks_register ((inside || is_open w) && not (is_close w)) ws
+    (inside || (is_punctuation_word w || begins_with_digit w))
+    && lacks_register ((inside || is_open w) && not (is_close w)) ws
 
 -- an address whose size nothing says
 abbrev pub lacks_size : List (List ℕ) → Bool

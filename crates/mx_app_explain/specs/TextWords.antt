@@ -15,15 +15,15 @@ use Rattle.mx_insn_words.specs.Registers.{register_word, size_word}
 -- ---- words
 
 -- one of [ ] + - * , :
-abbrev pub is_mark : ℕ → Bool
-is_mark b = b == 91 || (b == 93 || (b == 43 || (b == 45 || (b == 42 || (b == 44 || b == 58)))))
+abbrev pub is_punctuation : ℕ → Bool
+is_punctuation b = b == 91 || (b == 93 || (b == 43 || (b == 45 || (b == 42 || (b == 44 || b == 58)))))
 
 abbrev pub is_blank : ℕ → Bool
 is_blank b = b == 32 || (b == 9 || b == 13)
 
 -- a mark is a word of its own, and any blank is a space; a semicolon begins a comment
 abbrev pub spaced_byte : ℕ → List ℕ
-spaced_byte b = if is_mark b then 32 ∷ b ∷ 32 ∷ [] else (if is_blank b then 32 ∷ [] else b ∷ [])
+spaced_byte b = if is_punctuation b then 32 ∷ b ∷ 32 ∷ [] else (if is_blank b then 32 ∷ [] else b ∷ [])
 
 abbrev pub with_spaces : List ℕ → List ℕ
 with_spaces line = flat_map spaced_byte (before_first (is_byte 59) line)
@@ -42,7 +42,7 @@ is_equals b = b == 61
 
 -- no part of a word, a mark or a directive
 abbrev pub is_odd_byte : ℕ → Bool
-is_odd_byte b = not (is_word_byte b || (is_mark b || b == 46))
+is_odd_byte b = not (is_word_byte b || (is_punctuation b || b == 46))
 
 abbrev pub begins_with_digit : List ℕ → Bool
 begins_with_digit w = is_digit (slice_index w 0)
@@ -60,8 +60,8 @@ is_bad_number w = begins_with_digit w && not (is_number w)
 abbrev pub is_long_name : List ℕ → Bool
 is_long_name w = begins_name (slice_index w 0) && nat_lt 8 (length w)
 
-abbrev pub is_mark_word : List ℕ → Bool
-is_mark_word w = is_mark (slice_index w 0)
+abbrev pub is_punctuation_word : List ℕ → Bool
+is_punctuation_word w = is_punctuation (slice_index w 0)
 
 abbrev pub is_capital : ℕ → Bool
 is_capital b = is_between 65 90 b

@@ -3,16 +3,16 @@
 ghost use Rattle.std.specs.Prelude.{◌≡◌, Err, Ok, Some, MatchResult};
 ghost use Rattle.mx_text.specs.Fields.{fields};
 ghost use Rattle.mx_app_explain.specs.ConfigFaults.{after_file, after_key, after_levels, after_mask, after_masks, after_name, after_number, after_service, end_fault, fault_after, fault_in, fault_of_other, number_at, word_at};
-ghost use Rattle.mx_app_explain.specs.declared.config_place.Place.TheVariants.{ItemEnd, ServiceEnd};
+ghost use Rattle.mx_app_explain.specs.declared.config_field.Field.TheVariants.{ItemEnd, ServiceEnd};
 
-use crate::config_place::{Key, Place};
+use crate::config_field::{Field, Key};
 use crate::text_words::is_reserved;
 use mx_boot::{has_stray, mask, number_between};
 use mx_text::{name_of, next_field};
 use std::str;
 
 /// The first word of a line, and what is after it; the line's end is a fault at this place.
-fn word_at(line: &[u8], place: Place) -> Result<(&[u8], &[u8]), Place>
+fn word_at(line: &[u8], place: Field) -> Result<(&[u8], &[u8]), Field>
     ensures { MatchResult result (λ p. word_at place (fields line.now)
         ≡ Ok (p.0.now, fields p.1.now)) (λ e. word_at place (fields line.now) ≡ Err e) }
 {
@@ -23,11 +23,11 @@ fn word_at(line: &[u8], place: Place) -> Result<(&[u8], &[u8]), Place>
 }
 
 /// What is after a key.
-fn after_key(line: &[u8], key: Key) -> Result<&[u8], Place>
+fn after_key(line: &[u8], key: Key) -> Result<&[u8], Field>
     ensures { MatchResult result (λ rest. after_key key (fields line.now) ≡ Ok (fields rest.now))
         (λ e. after_key key (fields line.now) ≡ Err e) }
 {
-    let place = Place::Key(key);
+    let place = Field::Key(key);
     let (word, rest) = word_at(line, place)?;
     if word == key.word().as_bytes() {
         Ok(rest)
@@ -37,11 +37,11 @@ fn after_key(line: &[u8], key: Key) -> Result<&[u8], Place>
 }
 
 /// What is after a key and its mask.
-fn after_mask(line: &[u8], key: Key) -> Result<&[u8], Place>
+fn after_mask(line: &[u8], key: Key) -> Result<&[u8], Field>
     ensures { MatchResult result (λ rest. after_mask key (fields line.now) ≡ Ok (fields rest.now))
         (λ e. after_mask key (fields line.now) ≡ Err e) }
 {
-    let place = Place::Value(key);
+    let place = Field::Value(key);
     let (word, rest) = word_at(after_key(line, key)?, place)?;
     if mask(word).is_some() {
         Ok(rest)
@@ -51,7 +51,7 @@ fn after_mask(line: &[u8], key: Key) -> Result<&[u8], Place>
 }
 
 /// The number at a place, and what is after it.
-fn number_at(line: &[u8], place: Place, least: u32, most: u32) -> Result<(u32, &[u8]), Place>
+fn number_at(line: &[u8], place: Field, least: u32, most: u32) -> Result<(u32, &[u8]), Field>
     ensures { MatchResult result (λ p. number_at place least most (fields line.now)
         ≡ Ok (p.0, fields p.1.now)) (λ e. number_at place least most (fields line.now) ≡ Err e) }
 {
@@ -63,44 +63,44 @@ fn number_at(line: &[u8], place: Place, least: u32, most: u32) -> Result<(u32, &
 }
 
 /// The number after a key, and what is after it.
-fn after_number(line: &[u8], key: Key, least: u32, most: u32) -> Result<(u32, &[u8]), Place>
+fn after_number(line: &[u8], key: Key, least: u32, most: u32) -> Result<(u32, &[u8]), Field>
     ensures { MatchResult result (λ p. after_number key least most (fields line.now)
         ≡ Ok (p.0, fields p.1.now)) (λ e. after_number key least most (fields line.now) ≡ Err e) }
 {
     let rest = after_key(line, key)?;
-    number_at(rest, Place::Value(key), least, most)
+    number_at(rest, Field::Value(key), least, most)
 }
 
 /// What is after a service's name.
 #[tactic(auto, unfolding(crate::specs::ConfigFaults::after_name))]
-fn after_name(line: &[u8]) -> Result<&[u8], Place>
+fn after_name(line: &[u8]) -> Result<&[u8], Field>
     ensures { MatchResult result (λ rest. after_name (fields line.now) ≡ Ok (fields rest.now))
         (λ e. after_name (fields line.now) ≡ Err e) }
 {
-    let (name, rest) = word_at(line, Place::Name)?;
+    let (name, rest) = word_at(line, Field::Name)?;
     if name_of(name).is_none() || is_reserved(name) {
-        return Err(Place::Name);
+        return Err(Field::Name);
     }
     Ok(rest)
 }
 
 /// What is after a service's name and file.
 #[tactic(auto, unfolding(crate::specs::ConfigFaults::after_file), using(crate::proofs::Printed::printed, crate::proofs::Printed::unprinted))]
-fn after_file(line: &[u8]) -> Result<&[u8], Place>
+fn after_file(line: &[u8]) -> Result<&[u8], Field>
     ensures { MatchResult result (λ rest. after_file (fields line.now) ≡ Ok (fields rest.now))
         (λ e. after_file (fields line.now) ≡ Err e) }
 {
     let rest = after_name(line)?;
-    let (file, rest) = word_at(rest, Place::File)?;
+    let (file, rest) = word_at(rest, Field::File)?;
     if has_stray(file) || str::from_utf8(file).is_err() {
-        return Err(Place::File);
+        return Err(Field::File);
     }
     Ok(rest)
 }
 
 /// What is after a service's three masks.
 #[tactic(auto, unfolding(crate::specs::ConfigFaults::after_masks))]
-fn after_masks(line: &[u8]) -> Result<&[u8], Place>
+fn after_masks(line: &[u8]) -> Result<&[u8], Field>
     ensures { MatchResult result (λ rest. after_masks (fields line.now) ≡ Ok (fields rest.now))
         (λ e. after_masks (fields line.now) ≡ Err e) }
 {
@@ -111,7 +111,7 @@ fn after_masks(line: &[u8]) -> Result<&[u8], Place>
 
 /// The number of restarts, and what is after it.
 #[tactic(auto, unfolding(crate::specs::ConfigFaults::after_levels))]
-fn after_levels(line: &[u8]) -> Result<(u32, &[u8]), Place>
+fn after_levels(line: &[u8]) -> Result<(u32, &[u8]), Field>
     ensures { MatchResult result (λ p. after_levels (fields line.now) ≡ Ok (p.0, fields p.1.now))
         (λ e. after_levels (fields line.now) ≡ Err e) }
 {
@@ -123,7 +123,7 @@ fn after_levels(line: &[u8]) -> Result<(u32, &[u8]), Place>
 
 /// The number of restarts, and what is after all that a service's line has.
 #[tactic(auto, unfolding(crate::specs::ConfigFaults::after_service))]
-fn after_service(line: &[u8]) -> Result<(u32, &[u8]), Place>
+fn after_service(line: &[u8]) -> Result<(u32, &[u8]), Field>
     ensures { MatchResult result (λ p. after_service (fields line.now) ≡ Ok (p.0, fields p.1.now))
         (λ e. after_service (fields line.now) ≡ Err e) }
 {
@@ -133,7 +133,7 @@ fn after_service(line: &[u8]) -> Result<(u32, &[u8]), Place>
 }
 
 /// The fault of a line of which so much was read: at the end, if a word is left.
-fn fault_after(read: Result<(u32, &[u8]), Place>, end: Place) -> Option<Place>
+fn fault_after(read: Result<(u32, &[u8]), Field>, end: Field) -> Option<Field>
     ensures { MatchResult read.entry (λ p. result ≡ end_fault end (fields p.1.now))
         (λ e. result ≡ Some e) }
 {
@@ -147,40 +147,40 @@ fn fault_after(read: Result<(u32, &[u8]), Place>, end: Place) -> Option<Place>
 }
 
 /// The fault of a service's line after its first word.
-fn service_fault(line: &[u8]) -> Option<Place>
+fn service_fault(line: &[u8]) -> Option<Field>
     ensures { result ≡ fault_after ServiceEnd (after_service (fields line.now)) }
 {
-    fault_after(after_service(line), Place::ServiceEnd)
+    fault_after(after_service(line), Field::ServiceEnd)
 }
 
 /// The fault of a line that has one number after its first word.
-fn number_fault(line: &[u8], place: Place, least: u32, most: u32) -> Option<Place>
+fn number_fault(line: &[u8], place: Field, least: u32, most: u32) -> Option<Field>
     ensures { result ≡ fault_after ItemEnd (number_at place least most (fields line.now)) }
 {
-    fault_after(number_at(line, place, least, most), Place::ItemEnd)
+    fault_after(number_at(line, place, least, most), Field::ItemEnd)
 }
 
 /// The fault of what is after an item's first word, which isn't `service`.
-fn other_fault(word: &[u8], rest: &[u8]) -> Option<Place>
+fn other_fault(word: &[u8], rest: &[u8]) -> Option<Field>
     ensures { result ≡ fault_of_other word.now (fields rest.now) }
 {
     if word == b"cpus".as_slice() {
-        number_fault(rest, Place::Cpus, 1, 8)
+        number_fault(rest, Field::Cpus, 1, 8)
     } else if word == b"others".as_slice() {
-        number_fault(rest, Place::Others, 1, 4)
+        number_fault(rest, Field::Others, 1, 4)
     } else if word == b"log".as_slice() {
-        number_fault(rest, Place::Log, 1, 1_048_576)
+        number_fault(rest, Field::Log, 1, 1_048_576)
     } else if word == b"rules".as_slice() {
-        number_fault(rest, Place::Rules, 1, 2)
+        number_fault(rest, Field::Rules, 1, 2)
     } else {
-        Some(Place::Item)
+        Some(Field::Item)
     }
 }
 
 /// The fault of a line up to its comment: the first place where another word is wanted. None if there is none,
 /// as in an empty line. What a name may not be, and what lines above say, isn't looked at.
 #[tactic(auto, unfolding(crate::specs::ConfigFaults::fault_in))]
-pub(crate) fn line_fault(line: &[u8]) -> Option<Place>
+pub(crate) fn line_fault(line: &[u8]) -> Option<Field>
     ensures { result ≡ fault_in (fields line.now) }
 {
     let (word, rest) = next_field(line)?;

@@ -4,11 +4,11 @@ ghost use Rattle.std.specs.Prelude.{◌≡◌, option_map, slice_get};
 ghost use Rattle.mx_text.specs.Fields.{fields};
 ghost use Rattle.mx_text.specs.Lines.{lines};
 ghost use Rattle.mx_app_explain.specs.ConfigFaults.{fault_in};
-ghost use Rattle.mx_app_explain.specs.ConfigPlaces.{value_name, words_before};
-ghost use Rattle.mx_app_explain.specs.Details.{after_words, config_detail, detail_told, label_told, place_detail, place_label, place_told};
+ghost use Rattle.mx_app_explain.specs.ConfigFields.{value_name, words_before};
+ghost use Rattle.mx_app_explain.specs.Details.{after_words, config_detail, detail_told, label_told, field_detail, field_label, field_told};
 
+use crate::config_field::Field;
 use crate::config_line::line_fault;
-use crate::config_place::Place;
 use crate::found_word::{FoundWord, found_at};
 use mx_boot::before_comment;
 use mx_text::{next_field, next_line};
@@ -113,9 +113,9 @@ fn after_words<'a>(first: Option<&'a [u8]>, second: Option<&'a [u8]>) -> Label<'
 }
 
 /// Where a place of a line is.
-fn place_label(line: &[u8], place: Place) -> Label<'_>
+fn field_label(line: &[u8], place: Field) -> Label<'_>
     ensures { label_told result
-        ≡ place_label (fields line.now) (words_before place) (value_name place) }
+        ≡ field_label (fields line.now) (words_before place) (value_name place) }
 {
     let before = place.words_before();
     match place.value_name() {
@@ -134,11 +134,11 @@ fn place_label(line: &[u8], place: Place) -> Label<'_>
 }
 
 /// What was wanted at a place of a configuration's line.
-fn place_detail(line: &[u8], place: Place) -> Detail<'_>
-    ensures { detail_told result ≡ place_told (fields line.now) place }
+fn field_detail(line: &[u8], place: Field) -> Detail<'_>
+    ensures { detail_told result ≡ field_told (fields line.now) place }
 {
     Detail {
-        label: place_label(line, place),
+        label: field_label(line, place),
         wanted: place.wanted_text(),
         found: found_at(word_after(line, place.words_before())),
     }
@@ -147,11 +147,11 @@ fn place_detail(line: &[u8], place: Place) -> Detail<'_>
 /// What was wanted of a configuration's line up to its comment. None if the line has no fault of its own.
 fn line_detail(line: &[u8]) -> Option<Detail<'_>>
     ensures { option_map detail_told result
-        ≡ place_detail (fields line.now) (fault_in (fields line.now)) }
+        ≡ field_detail (fields line.now) (fault_in (fields line.now)) }
 {
     match line_fault(line) {
         None => None,
-        Some(place) => Some(place_detail(line, place)),
+        Some(place) => Some(field_detail(line, place)),
     }
 }
 

@@ -17,7 +17,7 @@ pub enum FoundWord<'a> {
     /// A word with a carriage return.
     Return,
     /// A byte order mark.
-    Mark,
+    ByteOrderMark,
     /// A word with other bytes that can't be printed.
     Bytes,
 }
@@ -38,7 +38,10 @@ impl fmt::Display for FoundWord<'_> {
                 f,
                 ", stands a word with a carriage return: a line ends in a line feed alone"
             ),
-            FoundWord::Mark => write!(f, ", stands a byte order mark, which a text may not have"),
+            FoundWord::ByteOrderMark => write!(
+                f,
+                ", stands a byte order mark, which a text may not have"
+            ),
             FoundWord::Bytes => write!(f, ", stands a word with bytes that aren't printable"),
         }
     }
@@ -91,7 +94,7 @@ fn of_field(word: &[u8]) -> FoundWord<'_>
         return FoundWord::Return;
     }
     if is_marked(word) {
-        return FoundWord::Mark;
+        return FoundWord::ByteOrderMark;
     }
     if has_control(word) {
         return FoundWord::Bytes;

@@ -13,8 +13,8 @@
 
 mod allowed;
 mod comparing;
+mod config_field;
 mod config_line;
-mod config_place;
 mod detail;
 mod explaining;
 mod found_word;
@@ -28,7 +28,7 @@ mod text_words;
 mod wanted;
 
 pub use comparing::{first_other, own_sums_pass, passed_sums_are_own};
-pub use config_place::{Key, Place};
+pub use config_field::{Field, Key};
 pub use detail::{Detail, Label};
 pub use explaining::explain_failure;
 pub use found_word::FoundWord;

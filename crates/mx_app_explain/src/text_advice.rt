@@ -10,7 +10,7 @@ use crate::detail::{Detail, Label};
 use crate::found_word::{FoundWord, byte_at, found_at};
 use crate::text_words::{
     begins_with_digit, has_capital, has_equals, has_quote, is_bad_number, is_close, is_free_word,
-    is_long_name, is_mark_word, is_odd, is_open, is_size,
+    is_long_name, is_odd, is_open, is_punctuation_word, is_size,
 };
 use crate::wanted::problem_wanted;
 use mx_asm::Problem;
@@ -165,7 +165,7 @@ fn only_free_word(line: &[u8]) -> Option<&[u8]>
 fn may_end(word: &[u8]) -> bool
     ensures { result ≡ may_end word.now }
 {
-    is_close(word) || !(is_mark_word(word) || is_size(word) || word == b"short".as_slice())
+    is_close(word) || !(is_punctuation_word(word) || is_size(word) || word == b"short".as_slice())
 }
 
 /// The first word that follows the end of an operand without a comma.
@@ -175,7 +175,7 @@ fn extra_word(line: &[u8]) -> Option<&[u8]>
     let mut ended = false;
     let mut rest = line;
     while let Some((word, more)) = next_field(rest) {
-        if ended && !is_mark_word(word) {
+        if ended && !is_punctuation_word(word) {
             return Some(word);
         }
         ended = may_end(word);
@@ -191,7 +191,7 @@ fn lacks_register(line: &[u8]) -> bool
     let mut inside = false;
     let mut rest = line;
     while let Some((word, more)) = next_field(rest) {
-        if !inside && !is_mark_word(word) && !begins_with_digit(word) {
+        if !inside && !is_punctuation_word(word) && !begins_with_digit(word) {
             return false;
         }
         inside = (inside || is_open(word)) && !is_close(word);

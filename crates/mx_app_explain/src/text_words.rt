@@ -2,7 +2,7 @@
 
 ghost use Rattle.std.specs.Prelude.{◌≡◌, ◌++◌, IfOk, OnOk};
 ghost use Rattle.std.specs.List.{flat_map, list_any};
-ghost use Rattle.mx_app_explain.specs.TextWords.{begins_with_digit, is_bad_number, is_blank, is_capital, is_close, is_equals, is_free_word, is_long_name, is_mark, is_mark_word, is_number, is_odd_byte, is_open, is_quote, is_reserved, is_size, with_spaces, spaced_byte};
+ghost use Rattle.mx_app_explain.specs.TextWords.{begins_with_digit, is_bad_number, is_blank, is_capital, is_close, is_equals, is_free_word, is_long_name, is_punctuation, is_punctuation_word, is_number, is_odd_byte, is_open, is_quote, is_reserved, is_size, with_spaces, spaced_byte};
 
 use crate::found_word::byte_at;
 use mx_boot::before_byte;
@@ -11,8 +11,8 @@ use mx_text::{begins_name, is_digit, is_word_byte, number_up_to};
 use std::alloc::{AllocError, Global};
 
 /// Whether a byte is a mark: a word of its own.
-fn is_mark(byte: u8) -> bool
-    ensures { result ≡ is_mark byte }
+fn is_punctuation(byte: u8) -> bool
+    ensures { result ≡ is_punctuation byte }
 {
     byte == b'['
         || byte == b']'
@@ -33,7 +33,7 @@ fn is_blank(byte: u8) -> bool
 fn push_spaced(out: &mut Vec<u8>, byte: u8) -> Result<(), AllocError>
     ensures { OnOk result (out.new.items ≡ out.old.items ++ spaced_byte byte) }
 {
-    if is_mark(byte) {
+    if is_punctuation(byte) {
         out.push(b' ')?;
         out.push(byte)?;
         out.push(b' ')?;
@@ -62,7 +62,7 @@ pub(crate) fn with_spaces(alloc: Global, line: &[u8]) -> Result<Vec<u8>, AllocEr
 fn is_odd_byte(byte: u8) -> bool
     ensures { result ≡ is_odd_byte byte }
 {
-    !(is_word_byte(byte) || is_mark(byte) || byte == b'.')
+    !(is_word_byte(byte) || is_punctuation(byte) || byte == b'.')
 }
 
 /// Whether a word has a byte that is no part of any.
@@ -121,10 +121,10 @@ pub(crate) fn is_long_name(word: &[u8]) -> bool
     begins_name(byte_at(word, 0)) && word.len() > 8
 }
 
-pub(crate) fn is_mark_word(word: &[u8]) -> bool
-    ensures { result ≡ is_mark_word word.now }
+pub(crate) fn is_punctuation_word(word: &[u8]) -> bool
+    ensures { result ≡ is_punctuation_word word.now }
 {
-    is_mark(byte_at(word, 0))
+    is_punctuation(byte_at(word, 0))
 }
 
 pub(crate) fn is_size(word: &[u8]) -> bool

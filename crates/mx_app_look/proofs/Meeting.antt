@@ -2,7 +2,7 @@
 use Rattle.std.proofs.Common.{◌≡◌, ◌∙◌, ◌≤◌, ◌<◌, ◌++◌, ℕ, suc, ◌+◌, ◌-◌, cond, true, false, List, length, get_or, Option, Some, slice_get, find, ap, sym, arith}
 use Rattle.std.specs.List.{range_with_len}
 use Rattle.mx_machine.specs.declared.history.Record.{Record}
-use Rattle.mx_look.specs.declared.step.Step.{Step}
+use Rattle.mx_look.specs.declared.transition.Transition.{Transition}
 use Rattle.mx_look.specs.Trace.{record_text}
 use Rattle.mx_walk.specs.declared.positions.Position.{Position}
 use Rattle.mx_walk.specs.Walks.{Walk}
@@ -36,7 +36,7 @@ met_later k h n x lt e isnt = one_more k h n lt ∙ ap (λ b. cond b (Some n) (m
 
 -- ---- what a walker w sees that goes along the walk k
 
-module _ (k w : Walk) (h : Happening) (records : List Record) (n : ℕ) (x : Record) (s : Step)
+module _ (k w : Walk) (h : Happening) (records : List Record) (n : ℕ) (x : Record) (s : Transition)
     (there : w ≡ record k { here = w.here }) (same : records ≡ w.records) (lt : n < k.last.records) (few : k.last.records ≤ length k.records)
     (seen : s ≡ step_above w.boot w.records n (get_or records n x)) where
   abbrev y : Record
@@ -54,7 +54,7 @@ module _ (k w : Walk) (h : Happening) (records : List Record) (n : ℕ) (x : Rec
   -- it happens there, and nowhere above
   module _ (none : met_from k h n ≡ met k h) (is : happens h s ≡ true) where
     halt_is : until_halt k h ≡ (below n, why_text (record k { here = below n }))
-    halt_is = ap (λ (o : Option ℕ). halt_below k o) (sym none ∙ met_here k h n y lt read (ap (λ (t : Step). happens h t) (sym it_is) ∙ is))
+    halt_is = ap (λ (o : Option ℕ). halt_below k o) (sym none ∙ met_here k h n y lt read (ap (λ (t : Transition). happens h t) (sym it_is) ∙ is))
 
     pub halts_here : (u : Walk) → u ≡ record w { here = below n } → u ≡ record k { here = (until_halt k h).0 }
     halts_here u moved =
@@ -64,12 +64,12 @@ module _ (k w : Walk) (h : Happening) (records : List Record) (n : ℕ) (x : Rec
     pub appends_it : (out old new : List ℕ) → out ≡ old → new ≡ out ++ record_text s → new ≡ old ++ (until_halt k h).1
     appends_it out old new nothing added =
         let one : n + 1 ≡ suc n = omega arith in
-        let why : record_text s ≡ why_text (record k { here = below n }) = ap (λ (t : Step). record_text t) it_is ∙ sym (why_is (record k { here = below n }) n y one read) in
+        let why : record_text s ≡ why_text (record k { here = below n }) = ap (λ (t : Transition). record_text t) it_is ∙ sym (why_is (record k { here = below n }) n y one read) in
         added ∙ ap (λ t. t ++ record_text s) nothing ∙ ap (λ t. old ++ t) why ∙ ap (λ (p : Position × List ℕ). old ++ p.1) (sym halt_is)
 
   -- it doesn't
   pub goes_by : met_from k h n ≡ met k h → happens h s ≡ false → met_from k h (n + 1) ≡ met k h
-  goes_by none isnt = sym (met_later k h n y lt read (ap (λ (t : Step). happens h t) (sym it_is) ∙ isnt)) ∙ none
+  goes_by none isnt = sym (met_later k h n y lt read (ap (λ (t : Transition). happens h t) (sym it_is) ∙ isnt)) ∙ none
 
   pub goes_on : (u : Walk) → u ≡ record w { here = below n } → u ≡ record k { here = u.here }
   goes_on u moved =

@@ -12,7 +12,7 @@ use Rattle.mx_app_look.specs.Above.{why_text}
 use Rattle.mx_walk.specs.Moves.{back_from, can_go, forward_from, gone_to, position_asked, steps_back, steps_on}
 use Rattle.mx_app_look.specs.Places.{place_text}
 use Rattle.mx_app_look.specs.Seeking.{IsGoneBack, IsGoneOn, point_made, point_text}
-use Rattle.mx_app_look.specs.Showing.{shown_text}
+use Rattle.mx_app_look.specs.Showing.{query_text}
 use Rattle.mx_app_look.specs.Until.{has_slots, until_halt}
 
 -- ---- the report, whose last line ends
@@ -73,7 +73,7 @@ request_text k Where = place_text k
 request_text k Why = why_text k
 request_text k Processes = processes_text (world_here k)
 request_text k Messages = delivery_lines (world_here k).table.deliveries
-request_text k (Show s) = shown_text k s
+request_text k (Show s) = query_text k s
 request_text k Help = help_text
 request_text k Quit = []
 request_text k _ = []

@@ -1,6 +1,6 @@
 pub mod Verbs
 pub mod PointRequests
-pub mod Shown
+pub mod Queries
 pub mod UntilRequests
 pub mod Requests
 pub mod Watches

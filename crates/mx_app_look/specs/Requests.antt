@@ -11,8 +11,8 @@ use Rattle.mx_app_look.specs.declared.request.Request.TheVariants as request
 use Rattle.mx_app_look.specs.declared.verb.Verb.{Verb}
 use Rattle.mx_app_look.specs.declared.verb.Verb.TheVariants as verb
 use Rattle.mx_app_look.specs.PointRequests.{break_asked, watch_asked}
-use Rattle.mx_app_look.specs.declared.shown.Shown.{Shown}
-use Rattle.mx_app_look.specs.Shown.{code_of_fields, memory_of_fields, registers_of_fields, stack_of_fields, variable_of_fields}
+use Rattle.mx_app_look.specs.declared.query.Query.{Query}
+use Rattle.mx_app_look.specs.Queries.{code_of_fields, memory_of_fields, registers_of_fields, stack_of_fields, variable_of_fields}
 use Rattle.mx_app_look.specs.UntilRequests.{until_asked}
 use Rattle.mx_app_look.specs.Verbs.{verb_of}
 
@@ -45,7 +45,7 @@ without_fields [] r = Some r
 without_fields (f ∷ fs) r = None
 
 -- what is asked for of a slot's process, if the fields say that
-abbrev pub show : Option Shown → Option Request
+abbrev pub show : Option Query → Option Request
 show shown = do
   s ← shown
   Some (request.Show s)

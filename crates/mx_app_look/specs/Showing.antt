@@ -6,8 +6,8 @@ use Rattle.mx_look.specs.Lines.{code_lines}
 use Rattle.mx_look.specs.Stack.{stack_text}
 use Rattle.mx_look.specs.Variables.{variable_line, variable_named, variable_value}
 use Rattle.mx_boot.specs.declared.address_word.AddressWord.{AddressWord}
-use Rattle.mx_app_look.specs.declared.shown.Shown.{Shown}
-use Rattle.mx_app_look.specs.declared.shown.Shown.TheVariants.{Code, Memory, Registers, Stack, Variable}
+use Rattle.mx_app_look.specs.declared.query.Query.{Query}
+use Rattle.mx_app_look.specs.declared.query.Query.TheVariants.{Code, Memory, Registers, Stack, Variable}
 use Rattle.mx_machine.specs.World.{World}
 use Rattle.mx_print_answers.specs.DebugError.TheVariants.{NoSymbol}
 use Rattle.mx_print_answers.specs.Processes.{not_here}
@@ -76,9 +76,9 @@ variable_by w name (Err r) = refused_text r
 
 -- ---- WHAT IS SHOWN of a slot's process
 
-abbrev pub shown_text : Walk → Shown → List ℕ
-shown_text k (Registers s) = registers_of (world_here k) (slot_asked k s)
-shown_text k (Memory s a n) = memory_of (world_here k) a n (slot_asked k (Some s))
-shown_text k (Code s a) = code_by (world_here k) a (slot_asked k s)
-shown_text k (Stack s n) = stack_by (world_here k) n (slot_asked k s)
-shown_text k (Variable s name) = variable_by (world_here k) name (slot_asked k (Some s))
+abbrev pub query_text : Walk → Query → List ℕ
+query_text k (Registers s) = registers_of (world_here k) (slot_asked k s)
+query_text k (Memory s a n) = memory_of (world_here k) a n (slot_asked k (Some s))
+query_text k (Code s a) = code_by (world_here k) a (slot_asked k s)
+query_text k (Stack s n) = stack_by (world_here k) n (slot_asked k s)
+query_text k (Variable s name) = variable_by (world_here k) name (slot_asked k (Some s))

@@ -10,7 +10,7 @@ ghost use Rattle.mx_walk.specs.Positions.{IsPosition, IsUpTo};
 ghost use Rattle.mx_app_look.specs.declared.sight.Sight.{Sight as Seen};
 ghost use Rattle.mx_app_look.specs.Above.{why_text};
 ghost use Rattle.mx_app_look.specs.Answers.{IsMade, after, help_text, processes_text, request_text, to_of, walks};
-ghost use Rattle.mx_app_look.specs.Showing.{shown_text};
+ghost use Rattle.mx_app_look.specs.Showing.{query_text};
 ghost use Rattle.mx_print_answers.specs.Messages.{delivery_lines};
 ghost use Rattle.mx_app_look.specs.Places.{place_text};
 ghost use Rattle.mx_app_look.specs.Sessions.{IsAnswered, IsAnsweredBy, ends, is_quit, prompt_text};
@@ -19,10 +19,10 @@ ghost use Rattle.mx_app_look.specs.Verbs.{unknown_text};
 
 use crate::going_until::go_until;
 use crate::places::{push_place, push_position};
+use crate::query::Query;
 use crate::request::{Request, request_of};
 use crate::seeking::{go_back, go_on, perform_point};
 use crate::showing::push_shown;
-use crate::shown::Shown;
 use crate::sight::{Sight, say};
 use crate::verb::push_unknown;
 use crate::world_texts::{push_deliveries, push_processes, push_why};
@@ -138,13 +138,13 @@ fn show_deliveries(alloc: Global, sight: Sight) -> Result<(Sight, Vec<u8>), Fail
 }
 
 /// Answers what is asked for of a slot's process.
-fn show(alloc: Global, sight: Sight, shown: &Shown) -> Result<(Sight, Vec<u8>), Failure>
+fn show(alloc: Global, sight: Sight, query: &Query) -> Result<(Sight, Vec<u8>), Failure>
     ensures err { IfErr result IsWanting }
     ensures same { IfOk result (λ r. r.0 ≡ sight) }
-    ensures text { IfOk result (λ r. r.1.items ≡ shown_text sight.walker shown.now) }
+    ensures text { IfOk result (λ r. r.1.items ≡ query_text sight.walker query.now) }
 {
     let mut text = Vec::new(alloc);
-    push_shown(alloc, &mut text, &sight.walker, shown)?;
+    push_shown(alloc, &mut text, &sight.walker, query)?;
     Ok((sight, text))
 }
 
@@ -170,7 +170,7 @@ fn perform_here<P: Progress>(
         Request::Why => show_why(alloc, sight, progress),
         Request::Processes => show_processes(alloc, sight),
         Request::Messages => show_deliveries(alloc, sight),
-        Request::Show(shown) => show(alloc, sight, shown),
+        Request::Show(query) => show(alloc, sight, query),
         Request::Help => say(alloc, sight, HELP),
         Request::Nothing | Request::Quit => say(alloc, sight, ""),
         _ => unreachable!(),

@@ -15,7 +15,7 @@ use crate::places::push_place;
 use crate::sight::{Sight, say};
 use crate::world_texts::{Placed, see_record};
 use mx_app_failure::Failure;
-use mx_app_step::resting_step;
+use mx_app_step::resting_transition;
 use mx_look::push_record;
 use mx_walk::{Progress, Walker};
 use mx_word::NoMemory;
@@ -81,14 +81,14 @@ fn go_on_until<P: Progress>(
 {
     let last = walker.last();
     let from = walker.here().records;
-    let mut step = resting_step(walker.machine());
+    let mut transition = resting_transition(walker.machine());
     let mut walker = walker;
     for above in from..last.records {
         let entry = walker.records()[above];
         let placed = Placed { above, entry };
-        walker = see_record(alloc, walker, placed, &mut step, progress)?;
-        if happens(happening, &step) {
-            push_record(out, &step)?;
+        walker = see_record(alloc, walker, placed, &mut transition, progress)?;
+        if happens(happening, &transition) {
+            push_record(out, &transition)?;
             return Ok(walker);
         }
     }

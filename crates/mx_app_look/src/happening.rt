@@ -3,10 +3,10 @@
 ghost use Rattle.std.specs.Prelude.{◌≡◌};
 ghost use Rattle.std.specs.Option.{option_map};
 ghost use Rattle.mx_look.specs.Doings.{is_down, seen_is};
-ghost use Rattle.mx_look.specs.Step.{slot_in};
+ghost use Rattle.mx_look.specs.Transition.{slot_in};
 ghost use Rattle.mx_app_look.specs.Happenings.{calls, comes_from, dies, has_type, happens, is_delivered, called_by};
 
-use mx_look::{CpuGlance, Glance, Step, delivery_to, is_down, kernel_call, slot_in};
+use mx_look::{CpuGlance, Glance, Transition, delivery_to, is_down, kernel_call, slot_in};
 use mx_proc::{Delivery, slot_of};
 
 /// What `until` looks for in the records of a history.
@@ -41,10 +41,10 @@ fn is_called_by(call: Option<&CpuGlance>, slot: u32, kind: u32) -> bool
 }
 
 /// Whether a slot's process makes a kernel call of this type.
-fn calls(step: &Step, slot: u32, kind: u32) -> bool
-    ensures { result ≡ calls step.now slot kind }
+fn calls(transition: &Transition, slot: u32, kind: u32) -> bool
+    ensures { result ≡ calls transition.now slot kind }
 {
-    is_called_by(kernel_call(step), slot, kind)
+    is_called_by(kernel_call(transition), slot, kind)
 }
 
 /// Whether a slot's process is dead.
@@ -58,10 +58,10 @@ fn is_dead(glance: &Glance, slot: u32) -> bool
 }
 
 /// Whether a slot's process dies.
-fn dies(step: &Step, slot: u32) -> bool
-    ensures { result ≡ dies step.now slot }
+fn dies(transition: &Transition, slot: u32) -> bool
+    ensures { result ≡ dies transition.now slot }
 {
-    !is_dead(&step.before, slot) && is_dead(&step.after, slot)
+    !is_dead(&transition.before, slot) && is_dead(&transition.after, slot)
 }
 
 /// Whether a delivery is one of a slot's process.
@@ -75,19 +75,19 @@ fn comes_from(delivery: Option<Delivery>, slot: u32) -> bool
 }
 
 /// Whether a message or a notification comes from one slot's process to another's.
-fn is_delivered(step: &Step, from: u32, to: u32) -> bool
-    ensures { result ≡ is_delivered step.now from to }
+fn is_delivered(transition: &Transition, from: u32, to: u32) -> bool
+    ensures { result ≡ is_delivered transition.now from to }
 {
-    to < 32 && comes_from(delivery_to(step, to), from)
+    to < 32 && comes_from(delivery_to(transition, to), from)
 }
 
 /// Whether it happens in a record.
-pub(crate) fn happens(happening: Happening, step: &Step) -> bool
-    ensures { result ≡ happens happening step.now }
+pub(crate) fn happens(happening: Happening, transition: &Transition) -> bool
+    ensures { result ≡ happens happening transition.now }
 {
     match happening {
-        Happening::Call(slot, kind) => calls(step, slot, kind),
-        Happening::Death(slot) => dies(step, slot),
-        Happening::Delivery(from, to) => is_delivered(step, from, to),
+        Happening::Call(slot, kind) => calls(transition, slot, kind),
+        Happening::Death(slot) => dies(transition, slot),
+        Happening::Delivery(from, to) => is_delivered(transition, from, to),
     }
 }

@@ -8,7 +8,7 @@ ghost use Rattle.mx_app_look.specs.Requests.{count_or_one, request_by, request_o
 use crate::happening::Happening;
 use crate::point_request::{PointRequest, break_asked, watch_asked};
 use crate::position_word::position_named;
-use crate::shown::{Shown, code, memory, registers, stack, variable};
+use crate::query::{Query, code, memory, registers, stack, variable};
 use crate::until_request::until_asked;
 use crate::verb::{Verb, verb_named};
 use mx_boot::{count, only_count};
@@ -50,7 +50,7 @@ pub enum Request {
     /// The recorded deliveries.
     Messages,
     /// What is asked for of a slot's process.
-    Show(Shown),
+    Show(Query),
     /// The commands.
     Help,
     /// The end of the session.

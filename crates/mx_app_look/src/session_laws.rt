@@ -1,7 +1,7 @@
 //! Laws of sessions.
 
 ghost use Rattle.std.specs.Prelude.{◌≡◌, ◌<◌, ◌+◌, ◌++◌, ◌^◌, Bool, List, Option, Some, slice_get, take, ℕ};
-ghost use Rattle.mx_app_step.specs.Traces.{step_of};
+ghost use Rattle.mx_app_step.specs.Traces.{transition_of};
 ghost use Rattle.mx_machine.specs.History.{events_of_history, world_after_events};
 ghost use Rattle.mx_machine.specs.World.{World};
 ghost use Rattle.mx_machine.specs.declared.history.Record.{Record};
@@ -22,11 +22,11 @@ pub fn one_session()
         → begun_text asks j ++ s ≡ begun_text asks k ++ t }
 {}
 
-/// Law: what `why` shows of a record is the step that a trace shows.
+/// Law: what `why` shows of a record is the transition that a trace shows.
 pub fn why_is_traced()
     ensures { (boot : World) (records : List Record) (n : ℕ) (x : Record) → n + 1 < 2 ^ 32
         → slice_get records n ≡ Some x → step_above boot records n x
-        ≡ step_of (world_after_events boot (events_of_history (take n records))) (n + 1) x }
+        ≡ transition_of (world_after_events boot (events_of_history (take n records))) (n + 1) x }
 {
     positions_replay();
 }

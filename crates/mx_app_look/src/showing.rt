@@ -3,11 +3,11 @@
 ghost use Rattle.std.specs.Prelude.{◌≡◌, ◌++◌, OnOk, Some, option_copied, option_map, string_bytes};
 ghost use Rattle.mx_print_answers.specs.Slots.{address_asked, image_in, memory_of, refused_text, registers_of};
 ghost use Rattle.mx_walk.specs.Walks.{world_here};
-ghost use Rattle.mx_app_look.specs.Showing.{code_at, code_by, code_from, code_next, code_of, dword_line, shown_text, stack_by, stack_of, symbol_of_name, symbols_in, value_text, variable_by, variable_text};
+ghost use Rattle.mx_app_look.specs.Showing.{code_at, code_by, code_from, code_next, code_of, dword_line, query_text, stack_by, stack_of, symbol_of_name, symbols_in, value_text, variable_by, variable_text};
 ghost use Rattle.mx_app_look.specs.Slots.{slot_asked};
 
 use crate::asked_slot::{address_here, slot_asked};
-use crate::shown::Shown;
+use crate::query::Query;
 use mx_aout::Symbol;
 use mx_boot::{AddressWord, SymbolName};
 use mx_debug::DebugError;
@@ -249,16 +249,16 @@ fn push_variable_asked(
 }
 
 /// Writes what is asked for of a slot's process.
-fn push_asked(text: &mut String, walker: &Walker, shown: &Shown) -> Result<(), AllocError>
+fn push_asked(text: &mut String, walker: &Walker, query: &Query) -> Result<(), AllocError>
     ensures { OnOk result (string_bytes text.new ≡ string_bytes text.old
-        ++ shown_text walker.now shown.now) }
+        ++ query_text walker.now query.now) }
 {
-    match shown {
-        Shown::Registers(slot) => push_registers(text, walker, *slot),
-        Shown::Memory(slot, from, count) => push_memory(text, walker, *slot, from, *count),
-        Shown::Code(slot, from) => push_code(text, walker, *slot, from),
-        Shown::Stack(slot, count) => push_stack_asked(text, walker, *slot, *count),
-        Shown::Variable(slot, name) => push_variable_asked(text, walker, *slot, name),
+    match query {
+        Query::Registers(slot) => push_registers(text, walker, *slot),
+        Query::Memory(slot, from, count) => push_memory(text, walker, *slot, from, *count),
+        Query::Code(slot, from) => push_code(text, walker, *slot, from),
+        Query::Stack(slot, count) => push_stack_asked(text, walker, *slot, *count),
+        Query::Variable(slot, name) => push_variable_asked(text, walker, *slot, name),
     }
 }
 
@@ -267,11 +267,11 @@ pub(crate) fn push_shown(
     alloc: Global,
     out: &mut Vec<u8>,
     walker: &Walker,
-    shown: &Shown,
+    query: &Query,
 ) -> Result<(), AllocError>
-    ensures { OnOk result (out.new.items ≡ out.old.items ++ shown_text walker.now shown.now) }
+    ensures { OnOk result (out.new.items ≡ out.old.items ++ query_text walker.now query.now) }
 {
     let mut text = String::new(alloc);
-    push_asked(&mut text, walker, shown)?;
+    push_asked(&mut text, walker, query)?;
     out.extend_from_slice(text.as_bytes())
 }

@@ -12,9 +12,9 @@ ghost use Rattle.mx_app_look.specs.Shows.{record_shown, why_shown};
 ghost use Rattle.mx_app_look.specs.Until.{below};
 
 use mx_app_failure::Failure;
-use mx_app_step::resting_step;
+use mx_app_step::resting_transition;
 use mx_boot::report;
-use mx_look::{Step, push_record};
+use mx_look::{Transition, push_record};
 use mx_machine::Record;
 use mx_print_answers::push_messages;
 use mx_walk::{Position, Progress, Walker, steps_in};
@@ -31,19 +31,19 @@ pub(crate) struct Placed {
     pub entry: Record,
 }
 
-/// Goes to right below a record, and fills a step with it: the machine is looked at after the record's steps,
+/// Goes to right below a record, and fills a transition with it: the machine is looked at after the record's steps,
 /// and after its own event. Takes memory only to go back.
 pub(crate) fn see_record<P: Progress>(
     alloc: Global,
     walker: Walker,
     placed: Placed,
-    step: &mut Step,
+    transition: &mut Transition,
     progress: &mut P,
 ) -> Result<Walker, NoMemory>
     requires there { placed.above + 1 ≤ walker.last.records }
     requires entry { slice_get walker.records placed.above ≡ Some placed.entry }
     ensures walker { IfOk result (λ w. w ≡ record walker { here = below placed.above }) }
-    ensures step { OnOk result (step.new
+    ensures transition { OnOk result (transition.new
         ≡ step_above walker.boot walker.records placed.above placed.entry) }
     ensures shown { OnOk result (P.shown progress.new
         ≡ P.shown progress.old ++ record_shown walker placed.above placed.entry) }
@@ -55,16 +55,16 @@ pub(crate) fn see_record<P: Progress>(
         steps: steps_in(entry.event),
     };
     let walker = walker.go_to(alloc, begun, progress)?;
-    step.before.look(walker.machine());
+    transition.before.look(walker.machine());
     let made = Position {
         records: above + 1,
         steps: 0,
     };
     let walker = walker.go_to(alloc, made, progress)?;
-    step.after.look(walker.machine());
-    step.number = ((above + 1) % NUMBERS) as u32;
-    step.actor = entry.actor;
-    step.event = entry.event;
+    transition.after.look(walker.machine());
+    transition.number = ((above + 1) % NUMBERS) as u32;
+    transition.actor = entry.actor;
+    transition.event = entry.event;
     Ok(walker)
 }
 
@@ -87,9 +87,9 @@ fn push_record_above<P: Progress>(
     ensures grown { IfErr result (λ _. HasGrown (P.shown progress.old) (P.shown progress.new)) }
 {
     let here = walker.here();
-    let mut step = resting_step(walker.machine());
-    let walker = see_record(alloc, walker, placed, &mut step, progress)?;
-    push_record(out, &step)?;
+    let mut transition = resting_transition(walker.machine());
+    let walker = see_record(alloc, walker, placed, &mut transition, progress)?;
+    push_record(out, &transition)?;
     Ok(walker.go_to(alloc, here, progress)?)
 }
 

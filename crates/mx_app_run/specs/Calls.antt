@@ -4,7 +4,7 @@ use Rattle.std.specs.Str.{bytes_eq}
 use Rattle.mx_text.specs.Fields.{fields, ◌>>=◌}
 use Rattle.mx_text.specs.Lines.{lines}
 use Rattle.mx_boot.specs.Reading.{AreLinesRead, TellsUnread}
-use Rattle.mx_boot.specs.Script.{after_verb, only_count}
+use Rattle.mx_boot.specs.Script.{after_event_word, only_count}
 use Rattle.mx_machine.specs.declared.events.Event.{Event}
 use Rattle.mx_machine.specs.declared.events.Event.TheVariants as events
 use Rattle.mx_cpus.specs.declared.outside.OutsideCall.{OutsideCall}
@@ -30,7 +30,7 @@ call_of_fields (f ∷ fs) =
       n ← only_count fs
       Some (Wait n))
     else (do
-      e ← after_verb outside_event_of (f ∷ fs)
+      e ← after_event_word outside_event_of (f ∷ fs)
       call_of_event e)
 
 -- what a line says, if there is an actor to make the call: the second one that is no processor

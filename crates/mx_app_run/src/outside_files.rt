@@ -7,7 +7,7 @@ ghost use Rattle.mx_boot.specs.Reading.{AreLinesRead, TellsUnread};
 ghost use Rattle.mx_app_run.specs.Calls.{call_line, call_of_event, call_of_fields, tick_of, ticks_of};
 
 use mx_app_turns::outside_event_of;
-use mx_boot::{ReadsLine, only_count, read_lines, verb_named};
+use mx_boot::{ReadsLine, event_kind_named, only_count, read_lines};
 use mx_cpus::OutsideCall;
 use mx_machine::Event;
 use mx_text::{BootError, next_field};
@@ -37,8 +37,8 @@ fn call_of(line: &[u8]) -> Option<OutsideCall>
     if word == b"wait".as_slice() {
         return Some(OutsideCall::Wait(only_count(rest)?));
     }
-    let verb = verb_named(word)?;
-    call_of_event(outside_event_of(verb, rest)?)
+    let kind = event_kind_named(word)?;
+    call_of_event(outside_event_of(kind, rest)?)
 }
 
 /// Reads the lines of a file for a machine with so many actors that are no processors.

@@ -8,7 +8,7 @@ use std::{fs, io};
 
 /// Where a file's new bytes go.
 #[derive(Drop)]
-enum Place {
+enum Destination {
     /// Into a new file in the same folder, with the permissions of the regular file, if there is one.
     Part(Option<Permissions>),
     /// Into the file itself: a device, a pipe, what a link leads to.
@@ -16,18 +16,18 @@ enum Place {
 }
 
 /// Where the new bytes of the file that has a name go.
-fn place_of(rt: &impl Files, name: &str) -> Place {
+fn destination_of(rt: &impl Files, name: &str) -> Destination {
     match fs::symlink_metadata(rt, name) {
         Ok(metadata) => {
             if metadata.is_file() {
-                Place::Part(Some(metadata.permissions()))
+                Destination::Part(Some(metadata.permissions()))
             } else {
-                Place::Itself
+                Destination::Itself
             }
         }
         Err(error) => match error.kind() {
-            io::ErrorKind::NotFound => Place::Part(None),
-            _ => Place::Itself,
+            io::ErrorKind::NotFound => Destination::Part(None),
+            _ => Destination::Itself,
         },
     }
 }
@@ -68,7 +68,7 @@ pub(crate) fn replace_file<R: Files>(
     name: &str,
     bytes: &[u8],
 ) -> io::Result<()> {
-    let Place::Part(permissions) = place_of(rt, name) else {
+    let Destination::Part(permissions) = destination_of(rt, name) else {
         return fs::write(rt, name, bytes);
     };
     let Ok(part) = part_name(alloc, name) else {

@@ -6,7 +6,7 @@ use Rattle.std.specs.Io.KnownBytes.{Appends}
 use Rattle.mx_text.specs.Fields.{◌>>=◌, fields}
 use Rattle.mx_app_start.specs.Config.{Config}
 use Rattle.mx_app_start.specs.Service.{Service}
-use Rattle.mx_boot.specs.Script.{actor_field, after_verb}
+use Rattle.mx_boot.specs.Script.{actor_field, after_event_word}
 use Rattle.mx_app_start.specs.Log.{record_by, record_line, record_of, recorded_of}
 use Rattle.mx_app_start.specs.Report.{report_text}
 use Rattle.mx_machine.specs.declared.history.Record.{Record}
@@ -32,9 +32,9 @@ by_event : (n a : ℕ) (x : Option Recorded) (r : Record) → (x >>= (λ y. reco
 by_event n a None r h = absurd cc
 by_event n a (Some x) r h = by_made (nat_lt a n) n a x r refl h
 
-by_actor : (n : ℕ) (fs : List (List ℕ)) (a : Option ℕ) (r : Record) → (a >>= (λ b. after_verb recorded_of fs >>= (λ y. record_by n b y))) ≡ Some r → r.actor < n
+by_actor : (n : ℕ) (fs : List (List ℕ)) (a : Option ℕ) (r : Record) → (a >>= (λ b. after_event_word recorded_of fs >>= (λ y. record_by n b y))) ≡ Some r → r.actor < n
 by_actor n fs None r h = absurd cc
-by_actor n fs (Some a) r h = by_event n a (after_verb recorded_of fs) r h
+by_actor n fs (Some a) r h = by_event n a (after_event_word recorded_of fs) r h
 
 by_fields : (n : ℕ) (fs : List (List ℕ)) (r : Record) → record_of n fs ≡ Some r → r.actor < n
 by_fields n [] r h = absurd cc

@@ -13,13 +13,13 @@ use Rattle.mx_machine.specs.Move.{event_refusal, world_after_event}
 use Rattle.mx_machine.specs.World.{World}
 use Rattle.mx_look.specs.Glance.{Glance}
 use Rattle.mx_look.specs.Glances.{glance_of}
-use Rattle.mx_look.specs.Step.{Step}
+use Rattle.mx_look.specs.Transition.{Transition}
 use Rattle.mx_app_start.specs.Config.{Config}
 use Rattle.mx_app_start.specs.Service.{Service}
 use Rattle.mx_machine.specs.Boot.{world_at_boot}
 use Rattle.mx_app_step.specs.declared.records.Replayed.{Replayed}
 use Rattle.mx_app_step.specs.Records.{IsRefusedAt}
-use Rattle.mx_app_step.specs.Traces.{steps_before, step_of, told_of, trace_text, IsTracePrinted}
+use Rattle.mx_app_step.specs.Traces.{steps_before, transition_of, told_of, trace_text, IsTracePrinted}
 use Rattle.mx_app_step.proofs.RecordLemmas.{after_both}
 use Rattle.mx_walk.specs.Positions.{HasMade, own_event, steps_in, steps_of}
 use Rattle.mx_walk.proofs.EventsIn.{parts_of}
@@ -28,25 +28,25 @@ use Rattle.mx_walk.proofs.Made.{made_as, then_one}
 -- ---- the trace, one record more
 
 trace_more : (from : ℕ) (w : World) (n k : ℕ) (xs : List Record) (x : Record) → k ≡ n + length xs
-    → trace_text from w n (xs ++ x ∷ []) ≡ trace_text from w n xs ++ told_of from (step_of (world_after_events w (events_of_history xs)) k x)
+    → trace_text from w n (xs ++ x ∷ []) ≡ trace_text from w n xs ++ told_of from (transition_of (world_after_events w (events_of_history xs)) k x)
 trace_more from w n k [] x e =
     let here : n ≡ k = omega (arith, e) in
-    append-nil (told_of from (step_of w n x)) ∙ ap (λ (m : ℕ). told_of from (step_of w m x)) here
+    append-nil (told_of from (transition_of w n x)) ∙ ap (λ (m : ℕ). told_of from (transition_of w m x)) here
 trace_more from w n k (y ∷ ys) x e =
     let u = world_after_events w (events_of y.actor y.event) in
     let next : k ≡ n + 1 + length ys = omega (arith, e) in
-    ap (λ (t : List ℕ). told_of from (step_of w n y) ++ t) (trace_more from u (n + 1) k ys x next)
-    ∙ sym (append_assoc (told_of from (step_of w n y)) (trace_text from u (n + 1) ys) (told_of from (step_of (world_after_events u (events_of_history ys)) k x)))
-    ∙ ap (λ (v : World). (told_of from (step_of w n y) ++ trace_text from u (n + 1) ys) ++ told_of from (step_of v k x)) (sym (after_both w (events_of y.actor y.event) (events_of_history ys)))
+    ap (λ (t : List ℕ). told_of from (transition_of w n y) ++ t) (trace_more from u (n + 1) k ys x next)
+    ∙ sym (append_assoc (told_of from (transition_of w n y)) (trace_text from u (n + 1) ys) (told_of from (transition_of (world_after_events u (events_of_history ys)) k x)))
+    ∙ ap (λ (v : World). (told_of from (transition_of w n y) ++ trace_text from u (n + 1) ys) ++ told_of from (transition_of v k x)) (sym (after_both w (events_of y.actor y.event) (events_of_history ys)))
 
-pub next_printed : (from : ℕ) (w v : World) (records : List Record) (i n : ℕ) (d : Record) (x : Step) (a b c : Option (List ℕ)) → i < length records
-    → n ≡ i + 1 → v ≡ world_after_events w (events_of_history (take i records)) → x ≡ step_of v n (get_or records i d)
+pub next_printed : (from : ℕ) (w v : World) (records : List Record) (i n : ℕ) (d : Record) (x : Transition) (a b c : Option (List ℕ)) → i < length records
+    → n ≡ i + 1 → v ≡ world_after_events w (events_of_history (take i records)) → x ≡ transition_of v n (get_or records i d)
     → Appends a b (trace_text from w 1 (take i records)) → Appends b c (told_of from x)
     → Appends a c (trace_text from w 1 (take (i + 1) records))
 next_printed from w v records i n d x a b c within e world is so_far more =
     let at : n ≡ 1 + length (take i records) = omega (arith, e, length-take-le i records (omega arith)) in
     let same : trace_text from w 1 (take i records) ++ told_of from x ≡ trace_text from w 1 (take (i + 1) records) =
-    ap (λ (s : Step). trace_text from w 1 (take i records) ++ told_of from s) (is ∙ ap (λ (y : World). step_of y n (get_or records i d)) world)
+    ap (λ (s : Transition). trace_text from w 1 (take i records) ++ told_of from s) (is ∙ ap (λ (y : World). transition_of y n (get_or records i d)) world)
     ∙ sym (ap (λ (rs : List Record). trace_text from w 1 rs) (take_more records i d within) ∙ trace_more from w 1 n (take i records) (get_or records i d) at) in
     subst (λ (t : List ℕ). Appends a c t) same (Appends-trans a b c (trace_text from w 1 (take i records)) (told_of from x) so_far more)
 
@@ -58,14 +58,14 @@ pub look_made : (w v u : World) (x : Record) (n : ℕ) (e : Event) → n ≡ ste
 look_made w v u x n e many own begun accepted after =
     made_as w u _ (events_of x.actor x.event) (parts_of x.actor x.event) (then_one w v u n (steps_in x.event) x.actor event.Step e (own_event x.event) begun many accepted after own)
 
-abbrev step_as : ℕ → Record → Glance → Glance → Step
-step_as n x g h = record { number = n; before = g; actor = x.actor; event = x.event; after = h }
+abbrev transition_as : ℕ → Record → Glance → Glance → Transition
+transition_as n x g h = record { number = n; before = g; actor = x.actor; event = x.event; after = h }
 
-pub step_is : (w v u : World) (n : ℕ) (x : Record) (b f : Glance) → b ≡ glance_of v → v ≡ world_after_events w (steps_before x.actor x.event)
-    → f ≡ glance_of u → u ≡ world_after_events w (events_of x.actor x.event) → step_as n x b f ≡ step_of w n x
-step_is w v u n x b f is behind also after =
-    ap (λ (g : Glance). step_as n x g f) (is ∙ ap glance_of behind)
-    ∙ ap (λ (h : Glance). step_as n x (glance_of (world_after_events w (steps_before x.actor x.event))) h) (also ∙ ap glance_of after)
+pub transition_is : (w v u : World) (n : ℕ) (x : Record) (b f : Glance) → b ≡ glance_of v → v ≡ world_after_events w (steps_before x.actor x.event)
+    → f ≡ glance_of u → u ≡ world_after_events w (events_of x.actor x.event) → transition_as n x b f ≡ transition_of w n x
+transition_is w v u n x b f is behind also after =
+    ap (λ (g : Glance). transition_as n x g f) (is ∙ ap glance_of behind)
+    ∙ ap (λ (h : Glance). transition_as n x (glance_of (world_after_events w (steps_before x.actor x.event))) h) (also ∙ ap glance_of after)
 
 -- ---- at the end
 

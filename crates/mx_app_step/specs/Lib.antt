@@ -22,4 +22,4 @@ pub use Rattle.mx_app_start.specs.Text
 pub use Rattle.mx_app_start.specs.Log
 pub use Rattle.mx_look.specs.Glances
 pub use Rattle.mx_look.specs.Glance
-pub use Rattle.mx_look.specs.Step
+pub use Rattle.mx_look.specs.Transition

@@ -9,7 +9,7 @@ use Rattle.mx_machine.specs.declared.history.Recorded.TheVariants as recorded
 use Rattle.mx_machine.specs.History.{AreAccepted, world_after_events, events_of, events_of_history}
 use Rattle.mx_machine.specs.World.{World}
 use Rattle.mx_look.specs.Glances.{glance_of}
-use Rattle.mx_look.specs.Step.{Step}
+use Rattle.mx_look.specs.Transition.{Transition}
 use Rattle.mx_look.specs.Trace.{record_text}
 use Rattle.mx_app_step.specs.declared.records.Replayed.{Replayed}
 use Rattle.mx_app_step.specs.declared.records.Replayed.TheVariants as replayed
@@ -21,9 +21,9 @@ pub use Rattle.mx_walk.specs.Positions.{own_event}
 abbrev pub steps_before : ℕ → Recorded → List (ℕ × Event)
 steps_before a e = steps_of a (steps_in e)
 
--- A RECORD AS A STEP, from a world: it is looked at after the steps, and after its own event
-abbrev pub step_of : World → ℕ → Record → Step
-step_of w n x = record {
+-- A RECORD AS A TRANSITION, from a world: it is looked at after the steps, and after its own event
+abbrev pub transition_of : World → ℕ → Record → Transition
+transition_of w n x = record {
   number = n;
   before = glance_of (world_after_events w (steps_before x.actor x.event));
   actor = x.actor;
@@ -32,8 +32,8 @@ step_of w n x = record {
 }
 
 -- nothing happens, and a world is seen as it is
-abbrev pub resting_step : World → Step
-resting_step w = record {
+abbrev pub resting_transition : World → Transition
+resting_transition w = record {
   number = 0;
   before = glance_of w;
   actor = 0;
@@ -41,15 +41,15 @@ resting_step w = record {
   after = glance_of w;
 }
 
--- what is printed of a step: nothing of one before `from`
-abbrev pub told_of : ℕ → Step → List ℕ
+-- what is printed of a transition: nothing of one before `from`
+abbrev pub told_of : ℕ → Transition → List ℕ
 told_of from x = if nat_lt x.number from then [] else record_text x
 
 -- THE TRACE OF RECORDS, of which the first has this number
 abbrev pub trace_text : ℕ → World → ℕ → List Record → List ℕ
 trace_text from w n [] = []
 trace_text from w n (x ∷ xs) =
-    told_of from (step_of w n x) ++ trace_text from (world_after_events w (events_of x.actor x.event)) (n + 1) xs
+    told_of from (transition_of w n x) ++ trace_text from (world_after_events w (events_of x.actor x.event)) (n + 1) xs
 
 -- the trace of records, or of those above the first that is refused
 abbrev pub IsTraced : World → List Record → ℕ → Option (ℕ × Refusal) → (List ℕ → Type 0) → Type 0

@@ -24,4 +24,4 @@ pub use saving::{step_saved, write_history};
 pub use script_lines::{NamedScript, perform_line, step};
 pub use stepping::make_steps;
 pub use trace_laws::parts_of_a_trace_join;
-pub use tracing::{HistoryPart, first_records, look_record, resting_step, trace};
+pub use tracing::{HistoryPart, first_records, look_record, resting_transition, trace};

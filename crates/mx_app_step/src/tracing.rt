@@ -15,24 +15,24 @@ ghost use Rattle.mx_machine.specs.Boot.{world_at_boot};
 ghost use Rattle.mx_machine.specs.History.{AreAccepted, world_after_events, events_of};
 ghost use Rattle.mx_machine.specs.World.{actors};
 ghost use Rattle.mx_app_step.specs.Records.{IsFirstRefusal};
-ghost use Rattle.mx_app_step.specs.Traces.{IsTracePrinted, IsTraced, resting_step, step_of, told_of};
+ghost use Rattle.mx_app_step.specs.Traces.{IsTracePrinted, IsTraced, resting_transition, transition_of, told_of};
 
 use crate::records::{Replayed, print_refusal};
 use mx_app_failure::{Failure, print_text};
 use mx_app_start::{History, Reader, start};
 use mx_boot::lines_above;
-use mx_look::{Glance, Step, push_record};
+use mx_look::{Glance, Transition, push_record};
 use mx_machine::{Machine, Record, Recorded, Refusal};
 use mx_walk::{make_event, make_steps, own_event, steps_in};
 use std::alloc::Global;
 use std::io::Write;
 
-/// A step to be filled: nothing happens, and the machine is seen as it is.
-pub fn resting_step(machine: &Machine) -> Step
-    ensures { result ≡ resting_step (world_of machine.now) }
+/// A transition to be filled: nothing happens, and the machine is seen as it is.
+pub fn resting_transition(machine: &Machine) -> Transition
+    ensures { result ≡ resting_transition (world_of machine.now) }
 {
     let glance = Glance::of(machine);
-    Step {
+    Transition {
         number: 0,
         before: glance,
         actor: 0,
@@ -41,55 +41,55 @@ pub fn resting_step(machine: &Machine) -> Step
     }
 }
 
-/// Makes a record, and fills a step with it: the machine is looked at after the record's steps, and
+/// Makes a record, and fills a transition with it: the machine is looked at after the record's steps, and
 /// after its own event.
 pub fn look_record(
     machine: &mut Machine,
     number: u32,
     entry: Record,
-    step: &mut Step,
+    transition: &mut Transition,
 ) -> Result<(), Refusal>
     requires { entry.actor < actors (world_of machine.old) }
     ensures ok { OnOk result (AreAccepted (world_of machine.old) (events_of entry.actor entry.event)
         × (world_of machine.new
         ≡ world_after_events (world_of machine.old) (events_of entry.actor entry.event))) }
-    ensures step { OnOk result (step.new ≡ step_of (world_of machine.old) number entry) }
+    ensures transition { OnOk result (transition.new ≡ transition_of (world_of machine.old) number entry) }
     ensures err { IfErr result
         (IsFirstRefusal (world_of machine.old) (events_of entry.actor entry.event)) }
 {
     if let Err(halted) = make_steps(machine, entry.actor, steps_in(entry.event)) {
         return Err(halted.refusal);
     }
-    step.before.look(machine);
+    transition.before.look(machine);
     make_event(machine, entry.actor, own_event(entry.event))?;
-    step.after.look(machine);
-    step.number = number;
-    step.actor = entry.actor;
-    step.event = entry.event;
+    transition.after.look(machine);
+    transition.number = number;
+    transition.actor = entry.actor;
+    transition.event = entry.event;
     Ok(())
 }
 
-/// Prints a step, or nothing if it is before `from`. What was in the text is lost.
-fn print_step<W: Write>(
+/// Prints a transition, or nothing if it is before `from`. What was in the text is lost.
+fn print_transition<W: Write>(
     text: &mut Vec<u8>,
-    step: &Step,
+    transition: &Transition,
     from: u32,
     out: &mut W,
 ) -> Result<(), Failure>
     ensures err { IfErr result IsWanting }
     ensures bytes { OnOk result (Appends (W.contents out.old) (W.contents out.new)
-        (told_of from step.now)) }
+        (told_of from transition.now)) }
 {
     text.clear();
-    if step.number >= from {
-        push_record(text, step)?;
+    if transition.number >= from {
+        push_record(text, transition)?;
     }
     print_text(text.as_slice(), out)
 }
 
 /// Prints what each record did from `from` on, up to the first record that is refused. Answers the
 /// number of this one, the first having the number 1, and why.
-fn print_steps<W: Write>(
+fn print_transitions<W: Write>(
     alloc: Global,
     machine: &mut Machine,
     records: &[Record],
@@ -104,12 +104,12 @@ fn print_steps<W: Write>(
         Appends (W.contents out.old) (W.contents out.new) text)) }
     ensures few { IfOk result (λ refused. IfSome refused (λ p. p.0 ≤ length records.now)) }
 {
-    let mut step = resting_step(machine);
+    let mut transition = resting_transition(machine);
     let mut text = Vec::new(alloc);
     for (index, entry) in records.iter().enumerate() {
         let number = index as u32 + 1;
-        match look_record(machine, number, *entry, &mut step) {
-            Ok(()) => print_step(&mut text, &step, from, out)?,
+        match look_record(machine, number, *entry, &mut transition) {
+            Ok(()) => print_transition(&mut text, &transition, from, out)?,
             Err(refusal) => return Ok(Some((number as usize, refusal))),
         }
     }
@@ -133,7 +133,7 @@ fn print_trace<W: Write>(
         Appends (W.contents out.old) (W.contents out.new) text)) }
 {
     let above = lines_above(machine.rules());
-    match print_steps(alloc, machine, records, from, out)? {
+    match print_transitions(alloc, machine, records, from, out)? {
         None => Ok(Replayed::Whole),
         Some((number, refusal)) => {
             print_refusal(alloc, above + number, refusal, out)?;

@@ -6,7 +6,7 @@ use Rattle.std.specs.List.{flat_map}
 use Rattle.std.specs.Str.{bytes_eq}
 use Rattle.mx_app_turns.specs.declared.blocks.Block.{Block as Kept}
 
--- Positions in a row whose outcomes are printed alike, and the first of them that differs from the run without the
+-- Positions in a row whose trials are printed alike, and the first of them that differs from the run without the
 -- fault, if there is one.
 pub record Positions : Type 0 where
   pub first : ℕ

@@ -3,9 +3,9 @@ use Rattle.std.specs.Prelude.{ℕ, if◌then◌else◌, List, Option, Some, None
 use Rattle.std.specs.Str.{bytes_eq}
 use Rattle.mx_text.specs.Fields.{fields, pair, ◌>>=◌}
 use Rattle.mx_boot.specs.declared.scripts.ScriptLine.{ScriptLine}
-use Rattle.mx_boot.specs.declared.verb.Verb.{Verb}
-use Rattle.mx_boot.specs.declared.verb.Verb.TheVariants as verbs
-use Rattle.mx_boot.specs.Script.{after_verb, count_field, script_line_of}
+use Rattle.mx_boot.specs.declared.event_kind.EventKind.{EventKind}
+use Rattle.mx_boot.specs.declared.event_kind.EventKind.TheVariants as kinds
+use Rattle.mx_boot.specs.Script.{after_event_word, count_field, script_line_of}
 use Rattle.mx_turns.specs.declared.faults.FaultLine.{FaultLine}
 use Rattle.mx_turns.specs.declared.faults.FaultLine.TheVariants.{Plain, KillSlot}
 
@@ -16,8 +16,8 @@ slot_named fs = do
   if bytes_eq p.0 (codes "slot") then count_field p.1 else None
 
 -- `kill slot S`
-abbrev pub kill_of_slot : Verb → List (List ℕ) → Option FaultLine
-kill_of_slot verbs.Kill fs = do
+abbrev pub kill_of_slot : EventKind → List (List ℕ) → Option FaultLine
+kill_of_slot kinds.Kill fs = do
   s ← slot_named fs
   Some (KillSlot s)
 kill_of_slot _ fs = None
@@ -27,10 +27,10 @@ abbrev pub plain_or : Option ScriptLine → Option FaultLine → Option FaultLin
 plain_or (Some line) other = Some (Plain line)
 plain_or None other = other
 
--- what a line says that begins with a verb and goes on with these fields: what it says in a script, or `kill slot S`
-abbrev pub fault_line_of : Verb → List (List ℕ) → Option FaultLine
-fault_line_of verb fs = plain_or (script_line_of verb fs) (kill_of_slot verb fs)
+-- what a line says that begins with a kind and goes on with these fields: what it says in a script, or `kill slot S`
+abbrev pub fault_line_of : EventKind → List (List ℕ) → Option FaultLine
+fault_line_of kind fs = plain_or (script_line_of kind fs) (kill_of_slot kind fs)
 
 -- what a line of a fault says
 abbrev pub fault_line : List ℕ → Option FaultLine
-fault_line line = after_verb fault_line_of (fields line)
+fault_line line = after_event_word fault_line_of (fields line)

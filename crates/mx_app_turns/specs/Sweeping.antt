@@ -23,9 +23,9 @@ use Rattle.mx_app_step.specs.Setup.{IsNoTextGiven, IsNotStarted, IsStart, IsText
 use Rattle.mx_app_step.specs.Written.{Written, kept}
 use Rattle.mx_app_step.specs.declared.records.Replayed.TheVariants as replayed
 use Rattle.mx_turns.specs.declared.faults.FaultLine.{FaultLine}
-use Rattle.mx_turns.specs.declared.outcomes.Findings.{Findings}
+use Rattle.mx_turns.specs.declared.trials.Findings.{Findings}
 use Rattle.mx_turns.specs.Findings.{findings_of}
-use Rattle.mx_turns.specs.Sweep.{Run, outcome_text, run_of}
+use Rattle.mx_turns.specs.Sweep.{Run, trial_text, run_of}
 use Rattle.mx_app_turns.specs.Blocks.{Positions, blocks, count_of, swept_text}
 use Rattle.mx_app_turns.specs.declared.blocks.Total.{Total}
 use Rattle.mx_app_turns.specs.declared.sweeping.Swept.{Swept}
@@ -77,7 +77,7 @@ abbrev pub run_without : SweepOf → ℕ → Run
 run_without s k = run_of s.boot s.other s.records s.bound [] k
 
 abbrev pub text_at : SweepOf → ℕ → List ℕ
-text_at s k = outcome_text (run_at s k)
+text_at s k = trial_text (run_at s k)
 
 -- what a position tells of the fault
 abbrev pub findings_at : SweepOf → ℕ → Findings
@@ -136,7 +136,7 @@ abbrev pub IsUnsaved : List ℕ → Option (List ℕ) → List Written → Kind 
 IsUnsaved text None ws f = ⊥
 IsUnsaved text (Some name) ws f = IsUnwritten name text ws f
 
--- nothing was tested; or each position has the outcome that it has without the fault, or one hasn't
+-- nothing was tested; or each position has the result that it has without the fault, or one hasn't
 abbrev pub ended : Option Untested → Total → Swept
 ended (Some why) total = Nothing why
 ended None total = if total.alike == total.positions then Alike else Differs

@@ -2,7 +2,7 @@
 use Rattle.std.specs.Prelude.{ℕ, ◌+◌, ◌<◌, ◌^◌, if◌then◌else◌, Bool, Some, None, is_some, Vec}
 use Rattle.std.specs.Global.{Global}
 use Rattle.std.specs.Option.{option_or}
-use Rattle.mx_turns.specs.declared.outcomes.Findings.{Findings}
+use Rattle.mx_turns.specs.declared.trials.Findings.{Findings}
 use Rattle.mx_app_turns.specs.declared.blocks.Block.{Block}
 use Rattle.mx_app_turns.specs.declared.blocks.Total.{Total}
 use Rattle.mx_app_turns.specs.declared.sweeping.Tally.{Tally}

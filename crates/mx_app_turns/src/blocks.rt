@@ -1,4 +1,4 @@
-//! Blocks: positions in a row whose outcomes are printed alike.
+//! Blocks: positions in a row whose trials are printed alike.
 
 ghost use Rattle.std.specs.Prelude.{◌≡◌, ◌++◌, if◌then◌else◌, IfOk, None, OnOk, Some, string_bytes};
 ghost use Rattle.mx_app_turns.specs.Blocks.{block_text, head_text, mark_text, positions_of, total_text};
@@ -7,7 +7,7 @@ ghost use Rattle.mx_app_turns.specs.Tallied.{both, has_room, total_one};
 use mx_turns::Findings;
 use std::alloc::{AllocError, Global};
 
-/// Positions in a row whose outcomes are printed alike, and how. The first of them that has another outcome
+/// Positions in a row whose trials are printed alike, and how. The first of them that has another result
 /// without the fault, if there is one.
 #[derive(Drop)]
 pub(crate) struct Block {
@@ -79,7 +79,7 @@ pub(crate) fn push_block(alloc: Global, text: &mut Vec<u8>, block: &Block) -> Re
 pub(crate) struct Total {
     pub positions: usize,
     pub blocks: usize,
-    /// How many have the outcome that they have without the fault.
+    /// How many have the result that they have without the fault.
     pub alike: usize,
     /// How many refused each line of the fault.
     pub refused: usize,

@@ -7,22 +7,22 @@ ghost use Rattle.mx_boot.specs.Reading.{AreLinesRead, TellsUnread};
 ghost use Rattle.mx_app_turns.specs.Events.{outside_event_of, outside_line};
 
 use mx_app_start::Course;
-use mx_boot::{ReadsLine, Verb, only_count, read_lines, verb_named};
+use mx_boot::{EventKind, ReadsLine, event_kind_named, only_count, read_lines};
 use mx_machine::{Config, Event};
 use mx_text::{BootError, next_field};
 use std::alloc::Global;
 
-/// The outside event that a line names, if it begins with a verb and goes on like this: `line L`, `tick` or `kill E`.
-pub fn outside_event_of(verb: Verb, rest: &[u8]) -> Option<Event>
-    ensures { result ≡ outside_event_of verb (fields rest.now) }
+/// The outside event that a line names, if it begins with a kind and goes on like this: `line L`, `tick` or `kill E`.
+pub fn outside_event_of(kind: EventKind, rest: &[u8]) -> Option<Event>
+    ensures { result ≡ outside_event_of kind (fields rest.now) }
 {
-    match verb {
-        Verb::Line => Some(Event::Line(only_count(rest)?)),
-        Verb::Tick => match next_field(rest) {
+    match kind {
+        EventKind::Line => Some(Event::Line(only_count(rest)?)),
+        EventKind::Tick => match next_field(rest) {
             None => Some(Event::Tick),
             Some(_) => None,
         },
-        Verb::Kill => Some(Event::Kill(only_count(rest)?)),
+        EventKind::Kill => Some(Event::Kill(only_count(rest)?)),
         _ => None,
     }
 }
@@ -39,8 +39,8 @@ impl ReadsLine for EventReader {
 
     fn read(&self, line: &[u8]) -> Option<Event> {
         let (word, rest) = next_field(line)?;
-        let verb = verb_named(word)?;
-        outside_event_of(verb, rest)
+        let kind = event_kind_named(word)?;
+        outside_event_of(kind, rest)
     }
 }
 

@@ -6,7 +6,7 @@ ghost use Rattle.mx_text.specs.Lines.{lines};
 ghost use Rattle.mx_boot.specs.Reading.{AreLinesRead, TellsUnread};
 ghost use Rattle.mx_app_turns.specs.FaultLines.{fault_line, fault_line_of, kill_of_slot, slot_named};
 
-use mx_boot::{ReadsLine, Verb, count, read_lines, script_line_of, verb_named};
+use mx_boot::{EventKind, ReadsLine, count, event_kind_named, read_lines, script_line_of};
 use mx_text::{BootError, next_field, two_fields};
 use mx_turns::FaultLine;
 use std::alloc::Global;
@@ -23,23 +23,23 @@ fn slot_named(line: &[u8]) -> Option<u32>
     }
 }
 
-/// What a line says that begins with a verb and goes on with the name of a slot.
-fn kill_of_slot(verb: Verb, rest: &[u8]) -> Option<FaultLine>
-    ensures { result ≡ kill_of_slot verb (fields rest.now) }
+/// What a line says that begins with a kind and goes on with the name of a slot.
+fn kill_of_slot(kind: EventKind, rest: &[u8]) -> Option<FaultLine>
+    ensures { result ≡ kill_of_slot kind (fields rest.now) }
 {
-    match verb {
-        Verb::Kill => Some(FaultLine::KillSlot(slot_named(rest)?)),
+    match kind {
+        EventKind::Kill => Some(FaultLine::KillSlot(slot_named(rest)?)),
         _ => None,
     }
 }
 
-/// What a line says that begins with a verb and goes on like this.
-fn fault_line_of(verb: Verb, rest: &[u8]) -> Option<FaultLine>
-    ensures { result ≡ fault_line_of verb (fields rest.now) }
+/// What a line says that begins with a kind and goes on like this.
+fn fault_line_of(kind: EventKind, rest: &[u8]) -> Option<FaultLine>
+    ensures { result ≡ fault_line_of kind (fields rest.now) }
 {
-    match script_line_of(verb, rest) {
+    match script_line_of(kind, rest) {
         Some(line) => Some(FaultLine::Plain(line)),
-        None => kill_of_slot(verb, rest),
+        None => kill_of_slot(kind, rest),
     }
 }
 
@@ -55,8 +55,8 @@ impl ReadsLine for FaultReader {
 
     fn read(&self, line: &[u8]) -> Option<FaultLine> {
         let (word, rest) = next_field(line)?;
-        let verb = verb_named(word)?;
-        fault_line_of(verb, rest)
+        let kind = event_kind_named(word)?;
+        fault_line_of(kind, rest)
     }
 }
 

@@ -41,7 +41,7 @@ use mx_app_start::{
 use mx_app_step::{perform_records, print_refusal, write_history};
 use mx_boot::lines_above;
 use mx_machine::{Config, Machine, Record, Refusal};
-use mx_turns::{FaultLine, Findings, Outcome, Range, Sweep, outcome_at};
+use mx_turns::{FaultLine, Findings, Range, Sweep, Trial, trial_at};
 use mx_walk::{Part, Progress};
 use std::alloc::Global;
 use std::io::Write;
@@ -69,7 +69,7 @@ pub struct SweepWanted<'a> {
 /// How a sweep ended.
 #[derive(Clone, Copy, PartialEq, Eq)]
 pub enum Swept {
-    /// Each position has the outcome that it has without the fault.
+    /// Each position has the result that it has without the fault.
     Alike,
     /// A position hasn't.
     Differs,
@@ -223,14 +223,14 @@ struct Done {
     refusal: Option<Refusal>,
 }
 
-/// The outcome of a position of a sweep. It is shown then that the position is done.
-fn outcome_shown<P: Progress>(
+/// The trial of a position of a sweep. It is shown then that the position is done.
+fn trial_shown<P: Progress>(
     alloc: Global,
     machine: Machine,
     sweep: Sweep<'_>,
     position: usize,
     progress: &mut P,
-) -> Result<Outcome, Failure>
+) -> Result<Trial, Failure>
     requires swept { IsSwept sweep machine.kernel.boot }
     requires from { sweep.range.from ≤ position }
     requires end { position < sweep.range.end }
@@ -245,7 +245,7 @@ fn outcome_shown<P: Progress>(
         ++ record { done = position - range.from + 1; all = range.end - range.from } ∷ []) }
     ensures same { IfErr result (λ _. P.shown progress.new ≡ P.shown progress.old) }
 {
-    let outcome = outcome_at(alloc, machine, sweep, position)?;
+    let outcome = trial_at(alloc, machine, sweep, position)?;
     progress.show(Part {
         done: position - sweep.range.from + 1,
         all: sweep.range.end - sweep.range.from,
@@ -253,10 +253,10 @@ fn outcome_shown<P: Progress>(
     Ok(outcome)
 }
 
-/// Sweeps positions, of which the first has this outcome, and prints their blocks.
+/// Sweeps positions, of which the first has this trial, and prints their blocks.
 fn print_more<P: Progress, W: Write>(
     alloc: Global,
-    first: Outcome,
+    first: Trial,
     sweep: Sweep<'_>,
     progress: &mut P,
     out: &mut W,
@@ -291,7 +291,7 @@ fn print_more<P: Progress, W: Write>(
     let mut tally = Tally::one(range.from, first.text, first.findings);
     progress.show(Part { done: 1, all });
     for position in range.from + 1..range.end {
-        let outcome = outcome_shown(alloc, machine, sweep, position, progress)?;
+        let outcome = trial_shown(alloc, machine, sweep, position, progress)?;
         machine = outcome.machine;
         let next = Tally::one(position, outcome.text, outcome.findings);
         tally.push(alloc, next, progress, out)?;
@@ -338,7 +338,7 @@ fn print_positions<P: Progress, W: Write>(
             refusal: None,
         });
     }
-    let first = outcome_at(alloc, machine, sweep, sweep.range.from)?;
+    let first = trial_at(alloc, machine, sweep, sweep.range.from)?;
     print_more(alloc, first, sweep, progress, out)
 }
 
@@ -564,8 +564,8 @@ fn sweep_begun<R: Drop, F: FileWriter + Drop, W: Write + Drop, P: Progress>(
 
 /// Replays a saved history; then, for each of its positions that is wanted, boots the machine again, makes the
 /// records above the position, does what the fault's lines say, and makes turns. Prints what comes of each,
-/// positions in a row with the same lines as one block, with a mark if one of them has another outcome without the
-/// fault, and how many have the outcome that they have without it. Then writes the history of the last position's run
+/// positions in a row with the same lines as one block, with a mark if one of them has another result without the
+/// fault, and how many have the result that they have without it. Then writes the history of the last position's run
 /// to the file `save`, if it is named. If an event of the saved history is refused, prints that as `replay` does, and
 /// nothing is swept. If `save` has the name of a service's program, nothing is swept, printed or written. After each
 /// position `progress` is shown how many are done.

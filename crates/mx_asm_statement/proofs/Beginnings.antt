@@ -85,7 +85,7 @@ entry_agrees (items.Register s r ∷ ts) = none_agrees beginnings.Entry
 entry_agrees (items.Size s ∷ ts) = none_agrees beginnings.Entry
 entry_agrees (items.Long ∷ ts) = none_agrees beginnings.Entry
 entry_agrees (items.Other ∷ ts) = none_agrees beginnings.Entry
-entry_agrees (items.Mark m ∷ ts) = none_agrees beginnings.Entry
+entry_agrees (items.Punctuation m ∷ ts) = none_agrees beginnings.Entry
 entry_agrees (items.Number n ∷ ts) = none_agrees beginnings.Entry
 
 directive_agrees : (d : Directive) (text : Option (List ℕ)) (ts : List Item) → Agrees (beginning_after d) (after_directive d text ts)
@@ -117,7 +117,7 @@ named_agrees b (Some (items.Register z r)) o h = none_agrees b
 named_agrees b (Some (items.Size z)) o h = none_agrees b
 named_agrees b (Some items.Long) o h = none_agrees b
 named_agrees b (Some items.Other) o h = none_agrees b
-named_agrees b (Some (items.Mark m)) o h = none_agrees b
+named_agrees b (Some (items.Punctuation m)) o h = none_agrees b
 named_agrees b (Some (items.Number n)) o h = none_agrees b
 
 -- the beginning of a line is that of its statement

@@ -74,7 +74,7 @@ entry_fits (items.Register s r ∷ ts) = none_fits
 entry_fits (items.Size s ∷ ts) = none_fits
 entry_fits (items.Long ∷ ts) = none_fits
 entry_fits (items.Other ∷ ts) = none_fits
-entry_fits (items.Mark m ∷ ts) = none_fits
+entry_fits (items.Punctuation m ∷ ts) = none_fits
 entry_fits (items.Number n ∷ ts) = none_fits
 
 directive_fits : (d : Directive) (text : Option (List ℕ)) (ts : List Item) → AllFit (after_directive d text ts)
@@ -106,7 +106,7 @@ named_fits (Some (items.Register z r)) s h = none_fits
 named_fits (Some (items.Size z)) s h = none_fits
 named_fits (Some items.Long) s h = none_fits
 named_fits (Some items.Other) s h = none_fits
-named_fits (Some (items.Mark m)) s h = none_fits
+named_fits (Some (items.Punctuation m)) s h = none_fits
 named_fits (Some (items.Number n)) s h = none_fits
 
 -- the numbers of a line's instruction

@@ -54,7 +54,7 @@ word_item w k = by_cases ((s : Size) × (r : Register) × (w ≡ register_word s
     by_register (inr never) = by_cases ((s : Size) × (w ≡ size_word s)) (by_size (λ s r e. never (s, r, e)))
 
 kind_item : (w : List ℕ) (kind : TokenKind) → ((x : Item) → IsKindItem w kind x → ⊥) → ⊥
-kind_item w (kinds.Mark m) k = k (items.Mark m) refl
+kind_item w (kinds.Punctuation m) k = k (items.Punctuation m) refl
 kind_item w (kinds.Number n) k = k (items.Number n) refl
 kind_item w kinds.Word k = word_item w k
 kind_item w kinds.Text k = k items.Other refl

@@ -69,13 +69,13 @@ one_word_item table w items.Other (items.Size z) e f = absurd (e.0.1 z f)
 one_word_item table w items.Other (items.Name m) e f = absurd (f.1 e.1)
 one_word_item table w items.Other items.Long e f = absurd (f.1 e.1)
 one_word_item table w items.Other items.Other e f = refl
-one_word_item table w (items.Mark m) y e f = absurd e
+one_word_item table w (items.Punctuation m) y e f = absurd e
 one_word_item table w (items.Number n) y e f = absurd e
-one_word_item table w x (items.Mark m) e f = absurd f
+one_word_item table w x (items.Punctuation m) e f = absurd f
 one_word_item table w x (items.Number n) e f = absurd f
 
 one_kind_item : Table → (w : List ℕ) (kind : TokenKind) (x y : Item) → IsKindItem w kind x → IsKindItem w kind y → x ≡ y
-one_kind_item table w (kinds.Mark m) x y e f = e ∙ sym f
+one_kind_item table w (kinds.Punctuation m) x y e f = e ∙ sym f
 one_kind_item table w (kinds.Number n) x y e f = e ∙ sym f
 one_kind_item table w kinds.Word x y e f = one_word_item table w x y e f
 one_kind_item table w kinds.Text x y e f = e ∙ sym f

@@ -5,7 +5,7 @@ use Rattle.mx_word.specs.declared.names.Register.{Register}
 use Rattle.mx_word.specs.declared.names.Register.TheVariants as registers
 use Rattle.mx_insn.specs.declared.insn.Scale.{Scale}
 use Rattle.mx_insn.specs.declared.insn.Scale.TheVariants as scales
-use Rattle.mx_lex.specs.declared.kinds.Mark.TheVariants.{Plus, Minus, Star}
+use Rattle.mx_lex.specs.declared.kinds.Punctuation.TheVariants.{Plus, Minus, Star}
 use Rattle.mx_asm_statement.specs.declared.item.Item.{Item}
 use Rattle.mx_asm_statement.specs.declared.item.Item.TheVariants as items
 use Rattle.mx_asm_statement.specs.declared.memory.Address.{Address}
@@ -24,9 +24,9 @@ scale_of_number n =
 -- the value after a register: left out, after a plus and without a sign, or -n
 abbrev pub displacement_after : List Item → Option Value
 displacement_after [] = value_of_parts None false 0
-displacement_after (items.Mark Plus ∷ items.Mark Minus ∷ ts) = None
-displacement_after (items.Mark Plus ∷ ts) = value_in_items ts
-displacement_after (items.Mark Minus ∷ ts) = value_in_items (items.Mark Minus ∷ ts)
+displacement_after (items.Punctuation Plus ∷ items.Punctuation Minus ∷ ts) = None
+displacement_after (items.Punctuation Plus ∷ ts) = value_in_items ts
+displacement_after (items.Punctuation Minus ∷ ts) = value_in_items (items.Punctuation Minus ∷ ts)
 displacement_after _ = None
 
 -- with an index, which ESP is not
@@ -46,12 +46,13 @@ address_with_base base ts = do
 -- index*scale, base+index*scale, base+index (of scale 1), base, of registers of 32 bits, each with or without
 -- a value after it; or only a value
 abbrev pub address_in_brackets : List Item → Option Address
-address_in_brackets (items.Register Dword i ∷ items.Mark Star ∷ items.Number n ∷ ts) =
+address_in_brackets (items.Register Dword i ∷ items.Punctuation Star ∷ items.Number n ∷ ts) =
     address_with_index None i (scale_of_number n) ts
 address_in_brackets
-    (items.Register Dword b ∷ items.Mark Plus ∷ items.Register Dword i ∷ items.Mark Star ∷ items.Number n ∷ ts) =
+    (items.Register Dword b ∷ items.Punctuation Plus ∷ items.Register Dword i ∷ items.Punctuation Star
+    ∷ items.Number n ∷ ts) =
     address_with_index (Some b) i (scale_of_number n) ts
-address_in_brackets (items.Register Dword b ∷ items.Mark Plus ∷ items.Register Dword i ∷ ts) =
+address_in_brackets (items.Register Dword b ∷ items.Punctuation Plus ∷ items.Register Dword i ∷ ts) =
     address_with_index (Some b) i (Some scales.One) ts
 address_in_brackets (items.Register Dword b ∷ ts) = address_with_base b ts
 address_in_brackets ts = do

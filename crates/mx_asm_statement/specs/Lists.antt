@@ -1,7 +1,7 @@
 -- Which items are arguments.
 use Rattle.std.specs.Prelude.{List, [], ◌∷◌, Option, Some, Bool, true, false}
 use Rattle.std.specs.List.{slice_split}
-use Rattle.mx_lex.specs.declared.kinds.Mark.TheVariants as marks
+use Rattle.mx_lex.specs.declared.kinds.Punctuation.TheVariants as marks
 use Rattle.mx_asm_statement.specs.declared.item.Item.{Item}
 use Rattle.mx_asm_statement.specs.declared.item.Item.TheVariants as items
 use Rattle.mx_asm_statement.specs.declared.argument.Argument.{Argument}
@@ -9,7 +9,7 @@ use Rattle.mx_asm_statement.specs.Items.{◌>>=◌}
 use Rattle.mx_asm_statement.specs.Arguments.{argument_of}
 
 abbrev pub is_comma : Item → Bool
-is_comma (items.Mark marks.Comma) = true
+is_comma (items.Punctuation marks.Comma) = true
 is_comma _ = false
 
 abbrev pub each_of : List (List Item) → Option (List Argument)

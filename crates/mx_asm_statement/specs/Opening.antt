@@ -1,7 +1,7 @@
 -- What a line opens with: its label, and what its statement begins with.
 use Rattle.std.specs.Prelude.{◌≡◌, ℕ, ◌==◌, not, ◌&&◌, if◌then◌else◌, Bool, true, false, List, [], ◌∷◌, slice_index}
 use Rattle.std.specs.Prelude.{Option, Some, None}
-use Rattle.mx_lex.specs.declared.kinds.Mark.TheVariants.{Colon}
+use Rattle.mx_lex.specs.declared.kinds.Punctuation.TheVariants.{Colon}
 use Rattle.mx_lex.specs.declared.kinds.TokenKind.{TokenKind}
 use Rattle.mx_lex.specs.declared.kinds.TokenKind.TheVariants as kinds
 use Rattle.mx_lex.specs.declared.kinds.Token.{Token}
@@ -15,13 +15,13 @@ use Rattle.mx_asm_statement.specs.declared.opening.LineStart.TheVariants as begu
 
 -- ---- the label
 
--- not a number, a mark, a text, nor a word with a dot
+-- not a number, punctuation, a text, nor a word with a dot
 abbrev pub is_plain : List ℕ → TokenKind → Bool
 is_plain w kinds.Word = not (slice_index w 0 == 46)
 is_plain w _ = false
 
 abbrev pub is_colon : TokenKind → Bool
-is_colon (kinds.Mark Colon) = true
+is_colon (kinds.Punctuation Colon) = true
 is_colon _ = false
 
 -- a word without a dot, before a colon

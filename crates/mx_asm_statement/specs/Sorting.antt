@@ -33,7 +33,7 @@ IsWordItem w _ = ⊥
 -- ---- tokens
 
 abbrev pub IsKindItem : List ℕ → TokenKind → Item → Type 0
-IsKindItem w (kinds.Mark m) item = item ≡ items.Mark m
+IsKindItem w (kinds.Punctuation m) item = item ≡ items.Punctuation m
 IsKindItem w (kinds.Number n) item = item ≡ items.Number n
 IsKindItem w kinds.Word item = IsWordItem w item
 IsKindItem w kinds.Text item = item ≡ items.Other

@@ -7,7 +7,7 @@ use crate::Value;
 use crate::item::Item;
 use crate::memory::{Address, address_of};
 use crate::value_items::value_of;
-use mx_lex::Mark;
+use mx_lex::Punctuation;
 use mx_word::{Register, Size};
 
 /// What an operand is in a text: a register, a value, or a place in memory with its size word or
@@ -23,7 +23,7 @@ fn is_close(item: Item) -> bool
     ensures { result ≡ is_close item }
 {
     match item {
-        Item::Mark(Mark::Close) => true,
+        Item::Punctuation(Punctuation::Close) => true,
         _ => false,
     }
 }
@@ -60,9 +60,9 @@ pub fn argument_of(items: &[Item]) -> Option<Argument>
                 None
             }
         }
-        Some((Item::Mark(Mark::Open), rest)) => in_brackets(None, rest),
+        Some((Item::Punctuation(Punctuation::Open), rest)) => in_brackets(None, rest),
         Some((Item::Size(size), rest)) => match rest.split_first() {
-            Some((Item::Mark(Mark::Open), rest)) => in_brackets(Some(*size), rest),
+            Some((Item::Punctuation(Punctuation::Open), rest)) => in_brackets(Some(*size), rest),
             _ => None,
         },
         _ => {

@@ -3,14 +3,14 @@
 ghost use Rattle.std.specs.Prelude.{◌≡◌};
 ghost use Rattle.mx_asm_statement.specs.Items.{is_long};
 
-use mx_lex::Mark;
+use mx_lex::Punctuation;
 use mx_text::Name;
 use mx_word::{Register, Size};
 
 /// A token, and what it is as a part of an operand.
 #[derive(Clone, Copy)]
 pub enum Item {
-    Mark(Mark),
+    Punctuation(Punctuation),
     Register(Size, Register),
     /// `byte`, `word`, `dword`.
     Size(Size),

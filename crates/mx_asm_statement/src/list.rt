@@ -6,14 +6,14 @@ ghost use Rattle.mx_asm_statement.specs.Lists.{is_comma, arguments_of};
 
 use crate::argument::{Argument, argument_of};
 use crate::item::Item;
-use mx_lex::Mark;
+use mx_lex::Punctuation;
 use std::alloc::{AllocError, Global};
 
 fn is_comma(item: Item) -> bool
     ensures { result ≡ is_comma item }
 {
     match item {
-        Item::Mark(Mark::Comma) => true,
+        Item::Punctuation(Punctuation::Comma) => true,
         _ => false,
     }
 }

@@ -2,7 +2,7 @@
 
 ghost use Rattle.std.specs.Prelude.{◌≡◌, ◌∷◌};
 ghost use Rattle.mx_word.specs.declared.size.Size.TheVariants as sizes;
-ghost use Rattle.mx_lex.specs.declared.kinds.Mark.TheVariants as marks;
+ghost use Rattle.mx_lex.specs.declared.kinds.Punctuation.TheVariants as marks;
 ghost use Rattle.mx_asm_statement.specs.declared.item.Item.TheVariants as item;
 ghost use Rattle.mx_asm_statement.specs.Addresses.{scale_of_number, displacement_after, address_with_index, address_with_base, address_in_brackets};
 
@@ -10,7 +10,7 @@ use crate::Value;
 use crate::item::Item;
 use crate::value_items::value_of;
 use mx_insn::{Index, Scale};
-use mx_lex::Mark;
+use mx_lex::Punctuation;
 use mx_word::{Register, Size};
 
 /// A place in memory: base + index * scale + value.
@@ -43,9 +43,9 @@ fn displacement_after(items: &[Item]) -> Option<Value>
             minus: false,
             number: 0,
         }),
-        Some((Item::Mark(Mark::Minus), _)) => value_of(items),
-        Some((Item::Mark(Mark::Plus), rest)) => match rest.split_first() {
-            Some((Item::Mark(Mark::Minus), _)) => None,
+        Some((Item::Punctuation(Punctuation::Minus), _)) => value_of(items),
+        Some((Item::Punctuation(Punctuation::Plus), rest)) => match rest.split_first() {
+            Some((Item::Punctuation(Punctuation::Minus), _)) => None,
             _ => value_of(rest),
         },
         _ => None,
@@ -85,11 +85,11 @@ fn with_base(base: Register, items: &[Item]) -> Option<Address>
 
 /// The place after a base, a plus and a second register.
 fn after_two(base: Register, register: Register, items: &[Item]) -> Option<Address>
-    ensures { result ≡ address_in_brackets (item.Register sizes.Dword base ∷ item.Mark marks.Plus
+    ensures { result ≡ address_in_brackets (item.Register sizes.Dword base ∷ item.Punctuation marks.Plus
         ∷ item.Register sizes.Dword register ∷ items.now) }
 {
     match items.split_first() {
-        Some((Item::Mark(Mark::Star), rest)) => match rest.split_first() {
+        Some((Item::Punctuation(Punctuation::Star), rest)) => match rest.split_first() {
             Some((Item::Number(number), rest)) => {
                 with_index(Some(base), register, scale_of(*number), rest)
             }
@@ -104,7 +104,7 @@ fn after_register(register: Register, items: &[Item]) -> Option<Address>
     ensures { result ≡ address_in_brackets (item.Register sizes.Dword register ∷ items.now) }
 {
     match items.split_first() {
-        Some((Item::Mark(Mark::Star), rest)) => match rest.split_first() {
+        Some((Item::Punctuation(Punctuation::Star), rest)) => match rest.split_first() {
             Some((Item::Number(number), rest)) => with_index(
                 None,
                 register,
@@ -113,7 +113,7 @@ fn after_register(register: Register, items: &[Item]) -> Option<Address>
             ),
             _ => with_base(register, items),
         },
-        Some((Item::Mark(Mark::Plus), rest)) => match rest.split_first() {
+        Some((Item::Punctuation(Punctuation::Plus), rest)) => match rest.split_first() {
             Some((Item::Register(Size::Dword, index), rest)) => after_two(register, *index, rest),
             _ => with_base(register, items),
         },

@@ -6,7 +6,7 @@ ghost use Rattle.mx_asm_statement.specs.Opening.{is_label, label_of, after_label
 
 use crate::{Item, is_dotted, item_of, token_bytes};
 use mx_insn_words::{Mnemonic, WordStart, mnemonic_named, start_named};
-use mx_lex::{Mark, Token, TokenKind};
+use mx_lex::{Punctuation, Token, TokenKind};
 
 /// What a statement begins with.
 #[derive(Clone, Copy)]
@@ -23,7 +23,9 @@ fn is_label(text: &[u8], first: Token, second: Token) -> bool
     ensures { result ≡ is_label text.now first second }
 {
     match (first.kind, second.kind) {
-        (TokenKind::Word, TokenKind::Mark(Mark::Colon)) => !is_dotted(token_bytes(text, first)),
+        (TokenKind::Word, TokenKind::Punctuation(Punctuation::Colon)) => {
+            !is_dotted(token_bytes(text, first))
+        }
         _ => false,
     }
 }

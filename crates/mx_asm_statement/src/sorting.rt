@@ -53,7 +53,7 @@ pub fn item_of(text: &[u8], token: Token) -> Item
     ensures { IsItem text.now token result }
 {
     match token.kind {
-        TokenKind::Mark(mark) => Item::Mark(mark),
+        TokenKind::Punctuation(punctuation) => Item::Punctuation(punctuation),
         TokenKind::Number(number) => Item::Number(number),
         TokenKind::Word => word_item(token_bytes(text, token)),
         TokenKind::Text | TokenKind::LineFeed => Item::Other,

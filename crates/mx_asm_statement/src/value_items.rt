@@ -5,7 +5,7 @@ ghost use Rattle.mx_asm_statement.specs.ValueItems.{value_in_items};
 
 use crate::Value;
 use crate::item::Item;
-use mx_lex::Mark;
+use mx_lex::Punctuation;
 
 fn value_of_one(item: Item) -> Option<Value>
     ensures { result ≡ value_in_items (item ∷ []) }
@@ -29,7 +29,7 @@ fn value_of_two(first: Item, second: Item) -> Option<Value>
     ensures { result ≡ value_in_items (first ∷ second ∷ []) }
 {
     match (first, second) {
-        (Item::Mark(Mark::Minus), Item::Number(number)) => Some(Value {
+        (Item::Punctuation(Punctuation::Minus), Item::Number(number)) => Some(Value {
             name: None,
             minus: true,
             number,
@@ -42,16 +42,20 @@ fn value_of_three(first: Item, second: Item, third: Item) -> Option<Value>
     ensures { result ≡ value_in_items (first ∷ second ∷ third ∷ []) }
 {
     match (first, second, third) {
-        (Item::Name(name), Item::Mark(Mark::Plus), Item::Number(number)) => Some(Value {
-            name: Some(name),
-            minus: false,
-            number,
-        }),
-        (Item::Name(name), Item::Mark(Mark::Minus), Item::Number(number)) => Some(Value {
-            name: Some(name),
-            minus: true,
-            number,
-        }),
+        (Item::Name(name), Item::Punctuation(Punctuation::Plus), Item::Number(number)) => Some(
+            Value {
+                name: Some(name),
+                minus: false,
+                number,
+            },
+        ),
+        (Item::Name(name), Item::Punctuation(Punctuation::Minus), Item::Number(number)) => Some(
+            Value {
+                name: Some(name),
+                minus: true,
+                number,
+            },
+        ),
         _ => None,
     }
 }

@@ -1,7 +1,7 @@
 mod Comments
 pub mod Services
 pub mod Taking
-mod VerbWords
+mod EventKindWords
 mod ReadSoFar
 mod WrittenWords
 mod WrittenNumbers

@@ -9,11 +9,11 @@ use Rattle.std.specs.Fmt.{decimal}
 use Rattle.std.specs.List.{AllByRecursion}
 use Rattle.mx_text.specs.Lines.{lines}
 use Rattle.mx_text.specs.Fields.{fields, ◌>>=◌}
-use Rattle.mx_boot.specs.declared.verb.Verb.{Verb}
-use Rattle.mx_boot.specs.declared.verb.Verb.TheVariants as verbs
-use Rattle.mx_boot.specs.Verbs.{verb_word}
+use Rattle.mx_boot.specs.declared.event_kind.EventKind.{EventKind}
+use Rattle.mx_boot.specs.declared.event_kind.EventKind.TheVariants as kinds
+use Rattle.mx_boot.specs.EventKinds.{event_word}
 use Rattle.mx_boot.specs.Words.{AreWords, joined_words, lines_of_words}
-use Rattle.mx_boot.specs.Script.{only_count, after_verb}
+use Rattle.mx_boot.specs.Script.{only_count, after_event_word}
 use Rattle.mx_machine.specs.Rules.{Rules}
 use Rattle.mx_machine.specs.Rules.TheVariants.{Lenient, Strict}
 use Rattle.mx_machine.specs.declared.history.Record.{Record}
@@ -21,9 +21,9 @@ use Rattle.mx_machine.specs.declared.history.Recorded.{Recorded}
 use Rattle.mx_machine.specs.declared.history.Recorded.TheVariants.{Take, Back, Line, Tick, Kill, Respawn}
 use Rattle.mx_machine.specs.History.{number_of_record, IsWritable}
 use Rattle.mx_boot.specs.Text.{event_words, record_words, history_text, saved_text}
-use Rattle.mx_boot.proofs.VerbWords.{verb_of-own}
+use Rattle.mx_boot.proofs.EventKindWords.{event_kind_of-own}
 use Rattle.mx_boot.proofs.WrittenNumbers.{decimal_is_word, number_of_decimal}
-use Rattle.mx_boot.proofs.WrittenWords.{fields_of_joined, lines_of_written, verb_is_word}
+use Rattle.mx_boot.proofs.WrittenWords.{fields_of_joined, lines_of_written, event_kind_is_word}
 use Rattle.mx_boot.specs.Log.{recorded_of, record_by, record_of, record_line, is_ended, says_strict, rules_of_lines, record_lines, IsHistory}
 
 -- what is a record isn't the line of the rules
@@ -77,35 +77,35 @@ by_recursion P [] h = tt
 by_recursion P (x ∷ xs) h = (h 0 x (omega arith), by_recursion P xs (λ n d l. h (suc n) d (omega (arith, l))))
 
 event_words_are : (e : Recorded) → number_of_record e < 2 ^ 31 → AreWords (event_words e)
-event_words_are Take h = (verb_is_word verbs.Take, tt)
-event_words_are (Back n) h = (verb_is_word verbs.Back, (decimal_is_word n (omega (arith, h)), tt))
-event_words_are (Line n) h = (verb_is_word verbs.Line, (decimal_is_word n (omega (arith, h)), tt))
-event_words_are Tick h = (verb_is_word verbs.Tick, tt)
-event_words_are (Kill n) h = (verb_is_word verbs.Kill, (decimal_is_word n (omega (arith, h)), tt))
-event_words_are (Respawn n) h = (verb_is_word verbs.Respawn, (decimal_is_word n (omega (arith, h)), tt))
+event_words_are Take h = (event_kind_is_word kinds.Take, tt)
+event_words_are (Back n) h = (event_kind_is_word kinds.Back, (decimal_is_word n (omega (arith, h)), tt))
+event_words_are (Line n) h = (event_kind_is_word kinds.Line, (decimal_is_word n (omega (arith, h)), tt))
+event_words_are Tick h = (event_kind_is_word kinds.Tick, tt)
+event_words_are (Kill n) h = (event_kind_is_word kinds.Kill, (decimal_is_word n (omega (arith, h)), tt))
+event_words_are (Respawn n) h = (event_kind_is_word kinds.Respawn, (decimal_is_word n (omega (arith, h)), tt))
 
 record_words_are : (actors : ℕ) (r : Record) → actors ≤ 256 → IsWritable actors r → AreWords (record_words r)
 record_words_are actors r few h = (decimal_is_word r.actor (let a = h.actor in omega (arith, a, few)), event_words_are r.event h.number)
 
-counted_again : (v : Verb) (n : ℕ) (f : ℕ → Recorded) → n < 2 ^ 31
+counted_again : (v : EventKind) (n : ℕ) (f : ℕ → Recorded) → n < 2 ^ 31
     → ((fs : List (List ℕ)) → recorded_of v fs ≡ (only_count fs >>= (λ m. Some (f m))))
-    → after_verb recorded_of (verb_word v ∷ decimal n ∷ []) ≡ Some (f n)
+    → after_event_word recorded_of (event_word v ∷ decimal n ∷ []) ≡ Some (f n)
 counted_again v n f h rows =
-    ap (λ o. o >>= (λ u. recorded_of u (decimal n ∷ []))) (verb_of-own v)
+    ap (λ o. o >>= (λ u. recorded_of u (decimal n ∷ []))) (event_kind_of-own v)
     ∙ rows (decimal n ∷ [])
     ∙ ap (λ o. o >>= (λ m. Some (f m))) (number_of_decimal 2147483647 n (omega (arith, h)) (omega (arith, h)))
 
-recorded_again : (e : Recorded) → number_of_record e < 2 ^ 31 → after_verb recorded_of (event_words e) ≡ Some e
-recorded_again Take h = ap (λ o. o >>= (λ u. recorded_of u [])) (verb_of-own verbs.Take)
-recorded_again (Back n) h = counted_again verbs.Back n Back h (λ fs. refl)
-recorded_again (Line n) h = counted_again verbs.Line n Line h (λ fs. refl)
-recorded_again Tick h = ap (λ o. o >>= (λ u. recorded_of u [])) (verb_of-own verbs.Tick)
-recorded_again (Kill n) h = counted_again verbs.Kill n Kill h (λ fs. refl)
-recorded_again (Respawn n) h = counted_again verbs.Respawn n Respawn h (λ fs. refl)
+recorded_again : (e : Recorded) → number_of_record e < 2 ^ 31 → after_event_word recorded_of (event_words e) ≡ Some e
+recorded_again Take h = ap (λ o. o >>= (λ u. recorded_of u [])) (event_kind_of-own kinds.Take)
+recorded_again (Back n) h = counted_again kinds.Back n Back h (λ fs. refl)
+recorded_again (Line n) h = counted_again kinds.Line n Line h (λ fs. refl)
+recorded_again Tick h = ap (λ o. o >>= (λ u. recorded_of u [])) (event_kind_of-own kinds.Tick)
+recorded_again (Kill n) h = counted_again kinds.Kill n Kill h (λ fs. refl)
+recorded_again (Respawn n) h = counted_again kinds.Respawn n Respawn h (λ fs. refl)
 
 record_again : (actors : ℕ) (r : Record) → actors ≤ 256 → IsWritable actors r → record_of actors (record_words r) ≡ Some r
 record_again actors r few h =
-    ap (λ o. o >>= (λ a. after_verb recorded_of (event_words r.event) >>= (λ e. record_by actors a e)))
+    ap (λ o. o >>= (λ a. after_event_word recorded_of (event_words r.event) >>= (λ e. record_by actors a e)))
     (number_of_decimal 255 r.actor (let a = h.actor in omega (arith, a, few)) (let a = h.actor in omega (arith, a, few)))
     ∙ ap (λ o. o >>= (λ e. record_by actors r.actor e)) (recorded_again r.event h.number)
     ∙ chosen (nat_lt r.actor actors) (Some r) None (below_true r.actor actors h.actor)

@@ -6,9 +6,9 @@ use Rattle.std.proofs.lemmas.List.Splits.{slice_split-cons_yes, slice_split-cons
 use Rattle.std.proofs.lemmas.List.Folds.{list_all-append}
 use Rattle.mx_text.specs.Lines.{lines, begun_by}
 use Rattle.mx_text.specs.Fields.{is_space, has_bytes, fields}
-use Rattle.mx_boot.specs.declared.verb.Verb.{Verb}
-use Rattle.mx_boot.specs.declared.verb.Verb.TheVariants.{Step, Take, Back, Line, Tick, Kill, Respawn}
-use Rattle.mx_boot.specs.Verbs.{verb_word}
+use Rattle.mx_boot.specs.declared.event_kind.EventKind.{EventKind}
+use Rattle.mx_boot.specs.declared.event_kind.EventKind.TheVariants.{Step, Take, Back, Line, Tick, Kill, Respawn}
+use Rattle.mx_boot.specs.EventKinds.{event_word}
 use Rattle.mx_boot.specs.Words.{is_word_byte_of_script, is_field_word, AreWords, joined_words, lines_of_words}
 
 pub both : (a b : Bool) → (a && b) ≡ true → (a ≡ true) × (b ≡ true)
@@ -95,11 +95,11 @@ lines_of_written (ws ∷ lists) h =
     ∙ line_ended (joined_words ws) (lines_of_words lists) (feedless_joined ws h.0)
     ∙ ap (λ ls. joined_words ws ∷ ls) (lines_of_written lists h.1)
 
-pub verb_is_word : (v : Verb) → is_field_word (verb_word v) ≡ true
-verb_is_word Step = refl
-verb_is_word Take = refl
-verb_is_word Back = refl
-verb_is_word Line = refl
-verb_is_word Tick = refl
-verb_is_word Kill = refl
-verb_is_word Respawn = refl
+pub event_kind_is_word : (v : EventKind) → is_field_word (event_word v) ≡ true
+event_kind_is_word Step = refl
+event_kind_is_word Take = refl
+event_kind_is_word Back = refl
+event_kind_is_word Line = refl
+event_kind_is_word Tick = refl
+event_kind_is_word Kill = refl
+event_kind_is_word Respawn = refl

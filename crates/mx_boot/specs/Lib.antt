@@ -4,7 +4,7 @@ pub mod Items
 pub mod Above
 pub mod Lines
 pub mod Reading
-pub mod Verbs
+pub mod EventKinds
 pub mod Script
 pub mod Addresses
 pub mod Places

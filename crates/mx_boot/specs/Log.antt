@@ -5,9 +5,9 @@ use Rattle.mx_text.specs.Lines.{lines}
 use Rattle.mx_text.specs.Fields.{fields, ◌>>=◌}
 use Rattle.mx_text.specs.declared.error.BootError.{BootError}
 use Rattle.mx_text.specs.declared.error.BootError.TheVariants.{BadRecord, NoMemory}
-use Rattle.mx_boot.specs.declared.verb.Verb.{Verb}
-use Rattle.mx_boot.specs.declared.verb.Verb.TheVariants as verbs
-use Rattle.mx_boot.specs.Script.{actor_field, only_count, after_verb}
+use Rattle.mx_boot.specs.declared.event_kind.EventKind.{EventKind}
+use Rattle.mx_boot.specs.declared.event_kind.EventKind.TheVariants as kinds
+use Rattle.mx_boot.specs.Script.{actor_field, only_count, after_event_word}
 use Rattle.mx_boot.specs.Reading.{AreLinesRead, IsFirstUnread}
 use Rattle.mx_machine.specs.Rules.{Rules}
 use Rattle.mx_machine.specs.Rules.TheVariants.{Lenient, Strict}
@@ -15,22 +15,22 @@ use Rattle.mx_machine.specs.declared.history.Record.{Record}
 use Rattle.mx_machine.specs.declared.history.Recorded.{Recorded}
 use Rattle.mx_machine.specs.declared.history.Recorded.TheVariants.{Take, Back, Line, Tick, Kill, Respawn}
 
--- what was recorded, of a verb and the fields after it
-abbrev pub recorded_of : Verb → List (List ℕ) → Option Recorded
-recorded_of verbs.Take [] = Some Take
-recorded_of verbs.Take (f ∷ fs) = None
-recorded_of verbs.Back fs = do
+-- what was recorded, of a kind and the fields after it
+abbrev pub recorded_of : EventKind → List (List ℕ) → Option Recorded
+recorded_of kinds.Take [] = Some Take
+recorded_of kinds.Take (f ∷ fs) = None
+recorded_of kinds.Back fs = do
   n ← only_count fs
   Some (Back n)
-recorded_of verbs.Line fs = do
+recorded_of kinds.Line fs = do
   l ← only_count fs
   Some (Line l)
-recorded_of verbs.Tick [] = Some Tick
-recorded_of verbs.Tick (f ∷ fs) = None
-recorded_of verbs.Kill fs = do
+recorded_of kinds.Tick [] = Some Tick
+recorded_of kinds.Tick (f ∷ fs) = None
+recorded_of kinds.Kill fs = do
   e ← only_count fs
   Some (Kill e)
-recorded_of verbs.Respawn fs = do
+recorded_of kinds.Respawn fs = do
   s ← only_count fs
   Some (Respawn s)
 recorded_of _ fs = None
@@ -43,7 +43,7 @@ abbrev pub record_of : ℕ → List (List ℕ) → Option Record
 record_of actors [] = None
 record_of actors (f ∷ fs) = do
   a ← actor_field f
-  e ← after_verb recorded_of fs
+  e ← after_event_word recorded_of fs
   record_by actors a e
 
 -- the record that a line is, if there are n actors

@@ -3,8 +3,8 @@
 use Rattle.std.specs.Prelude.{ℕ, List, [], ◌∷◌, ◌++◌, codes}
 use Rattle.std.specs.List.{flat_map}
 use Rattle.std.specs.Fmt.{decimal}
-use Rattle.mx_boot.specs.declared.verb.Verb.TheVariants as verbs
-use Rattle.mx_boot.specs.Verbs.{verb_word}
+use Rattle.mx_boot.specs.declared.event_kind.EventKind.TheVariants as kinds
+use Rattle.mx_boot.specs.EventKinds.{event_word}
 use Rattle.mx_boot.specs.Words.{joined_words}
 use Rattle.mx_machine.specs.Rules.{Rules}
 use Rattle.mx_machine.specs.Rules.TheVariants.{Lenient, Strict}
@@ -13,12 +13,12 @@ use Rattle.mx_machine.specs.declared.history.Recorded.{Recorded}
 use Rattle.mx_machine.specs.declared.history.Recorded.TheVariants.{Take, Back, Line, Tick, Kill, Respawn}
 
 abbrev pub event_words : Recorded → List (List ℕ)
-event_words Take = verb_word verbs.Take ∷ []
-event_words (Back n) = verb_word verbs.Back ∷ decimal n ∷ []
-event_words (Line l) = verb_word verbs.Line ∷ decimal l ∷ []
-event_words Tick = verb_word verbs.Tick ∷ []
-event_words (Kill e) = verb_word verbs.Kill ∷ decimal e ∷ []
-event_words (Respawn s) = verb_word verbs.Respawn ∷ decimal s ∷ []
+event_words Take = event_word kinds.Take ∷ []
+event_words (Back n) = event_word kinds.Back ∷ decimal n ∷ []
+event_words (Line l) = event_word kinds.Line ∷ decimal l ∷ []
+event_words Tick = event_word kinds.Tick ∷ []
+event_words (Kill e) = event_word kinds.Kill ∷ decimal e ∷ []
+event_words (Respawn s) = event_word kinds.Respawn ∷ decimal s ∷ []
 
 abbrev pub record_words : Record → List (List ℕ)
 record_words r = decimal r.actor ∷ event_words r.event

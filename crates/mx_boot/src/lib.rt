@@ -1,5 +1,5 @@
 //! Everything that is read or written as text about a machine, in one place: configurations with `ConfigItem`s
-//! and rules, scripts with `Verb`s, histories saved through a sink, reports.
+//! and rules, scripts with `EventKind`s, histories saved through a sink, reports.
 //!
 //! # Judged before memory is taken
 //!
@@ -9,13 +9,14 @@
 //! # Written and read by one definition
 //!
 //! What is saved of a history is read as that history (`history_laws`), and scripts, histories and the events of a run
-//! share their verbs (`verb`) and one loop over lines (`script_reading`).
+//! share their kinds (`kind`) and one loop over lines (`script_reading`).
 #![tactic(auto)]
 
 mod address_word;
 mod comment;
 mod config_reading;
 mod draft;
+mod event_kind;
 mod history_laws;
 mod item;
 mod items;
@@ -30,11 +31,11 @@ mod scripts;
 mod service;
 mod sink;
 mod terms;
-mod verb;
 
 pub use address_word::{AddressWord, address_named, symbol_name, word_number};
 pub use comment::before_byte;
 pub use config_reading::config;
+pub use event_kind::{EventKind, event_kind_named};
 pub use history_laws::{history_again, one_history, one_text};
 pub use items::{before_comment, has_stray};
 pub use kernels::{report, save, saved_again, saved_text};
@@ -48,4 +49,3 @@ pub use script_reading::{ReadsLine, read_lines};
 pub use scripts::{ScriptLine, script, script_line_of};
 pub use sink::{Over, Sink, SinkFault};
 pub use terms::{mask, number_between};
-pub use verb::{Verb, verb_named};

@@ -8,45 +8,45 @@ ghost use Rattle.mx_machine.specs.Rules.{Rules as ByRules};
 ghost use Rattle.mx_boot.specs.Text.{saved_text};
 ghost use Rattle.mx_text.specs.Fields.{fields};
 ghost use Rattle.mx_text.specs.Lines.{lines};
-ghost use Rattle.mx_boot.specs.Script.{after_verb};
+ghost use Rattle.mx_boot.specs.Script.{after_event_word};
 ghost use Rattle.mx_boot.specs.Reading.{AreLinesRead};
 ghost use Rattle.mx_boot.specs.Log.{recorded_of, record_by, record_line, is_ended, says_strict, rules_of_lines, record_lines, lines_above, IsHistory, TellsNoRecords, TellsHistoryFault};
 
 use crate::history_laws::{history_again, one_history};
-use crate::{ReadsLine, Verb, actor, only_count, read_lines, verb_named};
+use crate::{EventKind, ReadsLine, actor, event_kind_named, only_count, read_lines};
 use mx_machine::{Config, Record, Recorded};
 use mx_proc::Rules;
 use mx_text::{BootError, next_field, next_line};
 use std::alloc::Global;
 
-/// What was recorded, of a verb and the fields after it.
-fn recorded_of(verb: Verb, rest: &[u8]) -> Option<Recorded>
-    ensures { result ≡ recorded_of verb (fields rest.now) }
+/// What was recorded, of a kind and the fields after it.
+fn recorded_of(kind: EventKind, rest: &[u8]) -> Option<Recorded>
+    ensures { result ≡ recorded_of kind (fields rest.now) }
 {
-    match verb {
-        Verb::Take => match next_field(rest) {
+    match kind {
+        EventKind::Take => match next_field(rest) {
             None => Some(Recorded::Take),
             Some(_) => None,
         },
-        Verb::Back => Some(Recorded::Back(only_count(rest)?)),
-        Verb::Line => Some(Recorded::Line(only_count(rest)?)),
-        Verb::Tick => match next_field(rest) {
+        EventKind::Back => Some(Recorded::Back(only_count(rest)?)),
+        EventKind::Line => Some(Recorded::Line(only_count(rest)?)),
+        EventKind::Tick => match next_field(rest) {
             None => Some(Recorded::Tick),
             Some(_) => None,
         },
-        Verb::Kill => Some(Recorded::Kill(only_count(rest)?)),
-        Verb::Respawn => Some(Recorded::Respawn(only_count(rest)?)),
+        EventKind::Kill => Some(Recorded::Kill(only_count(rest)?)),
+        EventKind::Respawn => Some(Recorded::Respawn(only_count(rest)?)),
         _ => None,
     }
 }
 
 /// What a line records after its actor.
 fn recorded_after_actor(line: &[u8]) -> Option<Recorded>
-    ensures { result ≡ after_verb recorded_of (fields line.now) }
+    ensures { result ≡ after_event_word recorded_of (fields line.now) }
 {
     let (word, rest) = next_field(line)?;
-    let verb = verb_named(word)?;
-    recorded_of(verb, rest)
+    let kind = event_kind_named(word)?;
+    recorded_of(kind, rest)
 }
 
 /// A record, if the actor is one of this many.

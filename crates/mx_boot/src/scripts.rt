@@ -6,9 +6,9 @@ ghost use Rattle.mx_text.specs.Fields.{fields};
 ghost use Rattle.mx_boot.specs.Reading.{AreLinesRead, TellsUnread};
 ghost use Rattle.mx_boot.specs.Script.{script_line_of, script_line};
 
+use crate::event_kind::{EventKind, event_kind_named};
 use crate::script_numbers::{actor_and_count, only_actor, only_count};
 use crate::script_reading::{ReadsLine, read_lines};
-use crate::verb::{Verb, verb_named};
 use mx_text::{BootError, next_field};
 use std::alloc::Global;
 
@@ -30,24 +30,24 @@ pub enum ScriptLine {
     Respawn(u32),
 }
 
-/// The line of a script that is a verb and these fields.
-pub fn script_line_of(verb: Verb, rest: &[u8]) -> Option<ScriptLine>
-    ensures { result ≡ script_line_of verb (fields rest.now) }
+/// The line of a script that is a kind and these fields.
+pub fn script_line_of(kind: EventKind, rest: &[u8]) -> Option<ScriptLine>
+    ensures { result ≡ script_line_of kind (fields rest.now) }
 {
-    match verb {
-        Verb::Step => {
+    match kind {
+        EventKind::Step => {
             let (cpu, steps) = actor_and_count(rest)?;
             Some(ScriptLine::Step(cpu, steps))
         }
-        Verb::Take => Some(ScriptLine::Take(only_actor(rest)?)),
-        Verb::Back => Some(ScriptLine::Back(only_actor(rest)?)),
-        Verb::Line => Some(ScriptLine::Line(only_count(rest)?)),
-        Verb::Tick => match next_field(rest) {
+        EventKind::Take => Some(ScriptLine::Take(only_actor(rest)?)),
+        EventKind::Back => Some(ScriptLine::Back(only_actor(rest)?)),
+        EventKind::Line => Some(ScriptLine::Line(only_count(rest)?)),
+        EventKind::Tick => match next_field(rest) {
             None => Some(ScriptLine::Tick),
             Some(_) => None,
         },
-        Verb::Kill => Some(ScriptLine::Kill(only_count(rest)?)),
-        Verb::Respawn => Some(ScriptLine::Respawn(only_count(rest)?)),
+        EventKind::Kill => Some(ScriptLine::Kill(only_count(rest)?)),
+        EventKind::Respawn => Some(ScriptLine::Respawn(only_count(rest)?)),
     }
 }
 
@@ -63,8 +63,8 @@ impl ReadsLine for ScriptReader {
 
     fn read(&self, line: &[u8]) -> Option<ScriptLine> {
         let (word, rest) = next_field(line)?;
-        let verb = verb_named(word)?;
-        script_line_of(verb, rest)
+        let kind = event_kind_named(word)?;
+        script_line_of(kind, rest)
     }
 }
 

@@ -22,7 +22,7 @@ use crate::loops::{make_rounds, make_turns};
 use crate::outside::{Outside, OutsideCall, Role, role_of};
 use crate::side::{Door, FreeSide, LoopContext};
 use crate::{ActorSeat, Naming, Shared};
-use mx_loan::Shown;
+use mx_loan::Ghost;
 use mx_word::NoMemory;
 use std::marker::PhantomData;
 use std::sync::{OnceLock, Wait};
@@ -33,8 +33,8 @@ use std::thread::{Promise, PromisedHandle, Scope, Threads};
 /// if its loop began, what it did, and whether it made all calls.
 #[derive(Drop)]
 struct Follower<'s, M: Naming, G: WatchingGate> {
-    from: Shown<ActorSeat>,
-    gate: Shown<G>,
+    from: Ghost<ActorSeat>,
+    gate: Ghost<G>,
     role: Role,
     ticks: u32,
     calls: &'s [OutsideCall],
@@ -156,8 +156,8 @@ fn start<'s, E, M: Naming + Send + Sync, G: WatchingGate + Sync, R: Wait + Sync>
     } = *context;
     let actor = seat.actor();
     let promise = Follower {
-        from: Shown::of(&seat),
-        gate: Shown::of(gate),
+        from: Ghost::of(&seat),
+        gate: Ghost::of(gate),
         role,
         ticks,
         calls,

@@ -17,7 +17,7 @@ use Rattle.mx_insn.specs.Spelling.{spelling, prefix_bytes, escape_bytes, modrm_b
 use Rattle.mx_encode.specs.declared.Wide.{Wide}
 use Rattle.mx_encode.specs.declared.fields.Rm.{Rm}
 use Rattle.mx_encode.specs.Numbers.{number_bytes}
-use Rattle.mx_encode.specs.Places.{place_for, sib_of, mode_of, base_number}
+use Rattle.mx_encode.specs.Places.{rm_form_for, sib_of, mode_of, base_number}
 use Rattle.mx_encode.specs.Choice.{Choice, choice}
 use Rattle.mx_encode.specs.Chosen.{Chosen, fields_of}
 use Rattle.mx_encode.specs.Filled.{operand_with_displacement, with_displacement, with_immediate, with_target, reaches}
@@ -29,7 +29,7 @@ use Rattle.mx_word.specs.Names.{register_number}
 -- ---- the length of a choice
 
 abbrev rm_length : Option Rm → ℕ
-rm_length rm = length (modrm_bytes (place_for rm true))
+rm_length rm = length (modrm_bytes (rm_form_for rm true))
 
 abbrev chosen_length : Choice → ℕ
 chosen_length c = length (prefix_bytes c.resized c.repeat false) + (length (escape_bytes c.row.escaped) + suc (rm_length c.rm + length (number_bytes c.immediate)))
@@ -38,7 +38,7 @@ length-spelling : (c : Choice) → length (spelling c.row (fields_of c true)) �
 length-spelling c =
     length-append (prefix_bytes c.resized c.repeat false) _
     ∙ ap (λ n. length (prefix_bytes c.resized c.repeat false) + n) (length-append (escape_bytes c.row.escaped) _
-    ∙ ap (λ n. length (escape_bytes c.row.escaped) + suc n) (length-append (modrm_bytes (place_for c.rm true)) (number_bytes c.immediate)))
+    ∙ ap (λ n. length (escape_bytes c.row.escaped) + suc n) (length-append (modrm_bytes (rm_form_for c.rm true)) (number_bytes c.immediate)))
 
 abbrev given_length : Option Choice → ℕ
 given_length None = 0
@@ -90,11 +90,11 @@ four_after before m n = length-append before (bytes_of 4 n) ∙ sym (length-appe
 valued_count : (i : Insn) (short long : Bool) (n : ℕ) → IsTrue short
     → whole_length (with_immediate i n) (record { immediate = short; displacement = long }) ≡ whole_length i (record { immediate = short; displacement = long })
 valued_count i false long n h = cc
-valued_count (insns.Arithmetic o (operands.Immediate to (immediate.Dword m))) true long n h = ap suc (four_after (modrm_bytes (place_for (Some (record { reg = arithmetic_number o; operand = to })) long)) m n)
-valued_count (insns.Move (operands.Immediate (operand.Memory a) (immediate.Dword m))) true long n h = ap suc (four_after (modrm_bytes (place_for (Some (record { reg = 0; operand = operand.Memory a })) long)) m n)
+valued_count (insns.Arithmetic o (operands.Immediate to (immediate.Dword m))) true long n h = ap suc (four_after (modrm_bytes (rm_form_for (Some (record { reg = arithmetic_number o; operand = to })) long)) m n)
+valued_count (insns.Move (operands.Immediate (operand.Memory a) (immediate.Dword m))) true long n h = ap suc (four_after (modrm_bytes (rm_form_for (Some (record { reg = 0; operand = operand.Memory a })) long)) m n)
 valued_count (insns.Move (operands.Immediate (operand.Register r) (immediate.Dword m))) true long n h = refl
-valued_count (insns.TestImmediate o (immediate.Dword m)) true long n h = ap suc (four_after (modrm_bytes (place_for (Some (record { reg = 0; operand = o })) long)) m n)
-valued_count (insns.MultiplyImmediate to from (wide_immediates.Dword m)) true long n h = ap suc (four_after (modrm_bytes (place_for (Some (record { reg = register_number to; operand = from })) long)) m n)
+valued_count (insns.TestImmediate o (immediate.Dword m)) true long n h = ap suc (four_after (modrm_bytes (rm_form_for (Some (record { reg = 0; operand = o })) long)) m n)
+valued_count (insns.MultiplyImmediate to from (wide_immediates.Dword m)) true long n h = ap suc (four_after (modrm_bytes (rm_form_for (Some (record { reg = register_number to; operand = from })) long)) m n)
 valued_count (insns.PushImmediate m) true long n h = refl
 valued_count i true long n h = refl
 

@@ -21,7 +21,7 @@ use Rattle.mx_insn.specs.declared.row.ImmediateColumn.TheVariants as columns
 use Rattle.mx_insn.specs.declared.row.Pattern.{Pattern}
 use Rattle.mx_insn.specs.declared.row.Pattern.TheVariants as patterns
 use Rattle.mx_insn.specs.Table.{rows}
-use Rattle.mx_insn.specs.Spelling.{Sib, Place, PlaceFits, PlaceStands, SibFits, AreBytes, Parts, Spells, index_of, operand_of, rm_operand, register, scale, sign_extended, immediate_length, immediate_value, row_size, made, parts, to_rm, memory_of}
+use Rattle.mx_insn.specs.Spelling.{Sib, RmForm, RmFormFits, RmFormStands, SibFits, AreBytes, Parts, Spells, index_of, operand_of, rm_operand, register, scale, sign_extended, immediate_length, immediate_value, row_size, made, parts, to_rm, memory_of}
 use Rattle.mx_encode.specs.Numbers.{is_short}
 use Rattle.mx_encode.specs.Places.{can_index, can_stand}
 use Rattle.mx_encode.specs.Forms.{operands_stand, has_form}
@@ -48,11 +48,11 @@ index_stands (Some s) h = go (eqb s.index 4) refl
     go true e = refl
     go false e = rw (number_again s.index h.1, e) refl
 
-operand_stands : (p : Place) → PlaceFits p → can_stand (operand_of p) ≡ true
+operand_stands : (p : RmForm) → RmFormFits p → can_stand (operand_of p) ≡ true
 operand_stands p fits =
     cond_both (eqb p.mode 3) _ _ (λ o. can_stand o ≡ true) (λ h. refl) (λ h. index_stands p.sib fits.sib)
 
-rm_stands : (column : ModRm) (place : Option Place) → PlaceStands column place → can_stand (rm_operand place) ≡ true
+rm_stands : (column : ModRm) (place : Option RmForm) → RmFormStands column place → can_stand (rm_operand place) ≡ true
 rm_stands column None h = refl
 rm_stands Absent (Some p) h = absurd h
 rm_stands Any (Some p) h = operand_stands p h.0

@@ -9,9 +9,9 @@ use Rattle.mx_insn.specs.declared.insn.Index.{Index}
 use Rattle.mx_insn.specs.declared.insn.Memory.{Memory}
 use Rattle.mx_insn.specs.declared.insn.Operand.{Operand}
 use Rattle.mx_insn.specs.declared.insn.Operand.TheVariants as operand
-use Rattle.mx_insn.specs.Spelling.{Sib, PlaceFits, SibFits, has_sib, base_field, base_of, index_of, displacement_length, displacement_of, operand_of}
+use Rattle.mx_insn.specs.Spelling.{Sib, RmFormFits, SibFits, has_sib, base_field, base_of, index_of, displacement_length, displacement_of, operand_of}
 use Rattle.mx_encode.specs.Numbers.{is_short}
-use Rattle.mx_encode.specs.Places.{base_number, sib_of, rm_number, mode_after, mode_of, memory_place, place_written, can_index, can_stand}
+use Rattle.mx_encode.specs.Places.{base_number, sib_of, rm_number, mode_after, mode_of, memory_rm_form, rm_form_written, can_index, can_stand}
 use Rattle.mx_encode.specs.Given.{OperandFits}
 use Rattle.mx_encode.proofs.Digits.{no_bytes, are_bytes_of, length-bytes_of, value_4, value_short, register_below, register_again, scale_below, scale_again}
 
@@ -87,7 +87,7 @@ mode_of_suits (Some r) n long lt =
     let s = mode_suits (register_number r) n long lt in
     (s.below, rw (s.keeps_base, register_again r) refl, s.gives)
 
-memory_fits : (reg : ℕ) (m : Memory) (long : Bool) → reg < 8 → m.displacement < 2 ^ 32 → PlaceFits (memory_place reg m long)
+memory_fits : (reg : ℕ) (m : Memory) (long : Bool) → reg < 8 → m.displacement < 2 ^ 32 → RmFormFits (memory_rm_form reg m long)
 memory_fits reg m long small lt =
     let s = mode_of_suits m.base m.displacement long lt in
     let below : mode_of m.base m.displacement long < 3 = s.0 in
@@ -101,7 +101,7 @@ memory_fits reg m long small lt =
       bytes = are_bytes_of (displacement_length (mode_of m.base m.displacement long) (base_number m.base)) m.displacement;
     }
 
-memory_named : (reg : ℕ) (m : Memory) (long : Bool) → can_index m.index ≡ true → m.displacement < 2 ^ 32 → operand_of (memory_place reg m long) ≡ operand.Memory m
+memory_named : (reg : ℕ) (m : Memory) (long : Bool) → can_index m.index ≡ true → m.displacement < 2 ^ 32 → operand_of (memory_rm_form reg m long) ≡ operand.Memory m
 memory_named reg m long can lt =
     let s = mode_of_suits m.base m.displacement long lt in
     let below : mode_of m.base m.displacement long < 3 = s.0 in
@@ -109,16 +109,16 @@ memory_named reg m long can lt =
 
 -- ---- operands
 
-pub place_fits : (reg : ℕ) (o : Operand) (long : Bool) → reg < 8 → OperandFits o → PlaceFits (place_written reg o long)
+pub place_fits : (reg : ℕ) (o : Operand) (long : Bool) → reg < 8 → OperandFits o → RmFormFits (rm_form_written reg o long)
 place_fits reg (operand.Register r) long small fits = record { mode = lit< tt; reg = small; rm = register_below r; has_sib = refl; sib = tt; displacement = refl; bytes = no_bytes }
 place_fits reg (operand.Memory m) long small fits = memory_fits reg m long small fits
 
-pub place_named : (reg : ℕ) (o : Operand) (long : Bool) → can_stand o ≡ true → OperandFits o → operand_of (place_written reg o long) ≡ o
+pub place_named : (reg : ℕ) (o : Operand) (long : Bool) → can_stand o ≡ true → OperandFits o → operand_of (rm_form_written reg o long) ≡ o
 place_named reg (operand.Register r) long can fits = ap operand.Register (register_again r)
 place_named reg (operand.Memory m) long can fits = memory_named reg m long can fits
 
 -- LEA's mod is not 11
-pub memory_mode : (reg : ℕ) (m : Memory) (long : Bool) → m.displacement < 2 ^ 32 → eqb (place_written reg (operand.Memory m) long).mode 3 ≡ false
+pub memory_mode : (reg : ℕ) (m : Memory) (long : Bool) → m.displacement < 2 ^ 32 → eqb (rm_form_written reg (operand.Memory m) long).mode 3 ≡ false
 memory_mode reg m long lt =
     let s = mode_of_suits m.base m.displacement long lt in
     let below : mode_of m.base m.displacement long < 3 = s.0 in

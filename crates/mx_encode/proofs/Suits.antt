@@ -15,12 +15,12 @@ use Rattle.mx_insn.specs.declared.row.ImmediateColumn.{ImmediateColumn}
 use Rattle.mx_insn.specs.declared.row.ImmediateColumn.TheVariants as columns
 use Rattle.mx_insn.specs.declared.row.Pattern.{Pattern}
 use Rattle.mx_insn.specs.Table.{sized, sized_column, rows, no}
-use Rattle.mx_insn.specs.Spelling.{Parts, PlaceStands, SpellsBy, AreBytes, accumulator, allows_resized, allows_repeat, row_size, immediate_length, immediate_value, made, reg_field, rm_operand, spelling}
+use Rattle.mx_insn.specs.Spelling.{Parts, RmFormStands, SpellsBy, AreBytes, accumulator, allows_resized, allows_repeat, row_size, immediate_length, immediate_value, made, reg_field, rm_operand, spelling}
 use Rattle.mx_encode.specs.declared.fields.Number.{Number}
 use Rattle.mx_encode.specs.declared.fields.Number.TheVariants as numbers
 use Rattle.mx_encode.specs.declared.fields.Rm.{Rm}
 use Rattle.mx_encode.specs.Numbers.{number_bytes, is_short, short, is_word}
-use Rattle.mx_encode.specs.Places.{has_place, place_for, place_written}
+use Rattle.mx_encode.specs.Places.{has_place, rm_form_for, rm_form_written}
 use Rattle.mx_encode.specs.Choice.{Choice, with_rm}
 use Rattle.mx_encode.specs.Chosen.{fields_of}
 use Rattle.mx_encode.specs.Given.{OperandFits, RegFits}
@@ -75,19 +75,19 @@ RmSuits AnyRegister (Some rm) = (rm.reg < 8) × OperandFits rm.operand × (is_me
 RmSuits (Only n) None = ⊥
 RmSuits (Only n) (Some rm) = (rm.reg < 8) × OperandFits rm.operand × (n ≡ rm.reg)
 
-reg_kept : (reg : ℕ) (o : Operand) (long : Bool) → (place_written reg o long).reg ≡ reg
+reg_kept : (reg : ℕ) (o : Operand) (long : Bool) → (rm_form_written reg o long).reg ≡ reg
 reg_kept reg (operand.Register r) long = refl
 reg_kept reg (operand.Memory m) long = refl
 
-mode_below : (reg : ℕ) (o : Operand) (long : Bool) → OperandFits o → is_memory o ≡ true → not (eqb (place_written reg o long).mode 3) ≡ true
+mode_below : (reg : ℕ) (o : Operand) (long : Bool) → OperandFits o → is_memory o ≡ true → not (eqb (rm_form_written reg o long).mode 3) ≡ true
 mode_below reg (operand.Register r) long fits h = absurd cc
 mode_below reg (operand.Memory m) long fits h = rw (memory_mode reg m long fits) refl
 
-mode_of_register : (reg : ℕ) (o : Operand) (long : Bool) → is_memory o ≡ false → eqb (place_written reg o long).mode 3 ≡ true
+mode_of_register : (reg : ℕ) (o : Operand) (long : Bool) → is_memory o ≡ false → eqb (rm_form_written reg o long).mode 3 ≡ true
 mode_of_register reg (operand.Register r) long h = refl
 mode_of_register reg (operand.Memory m) long h = absurd cc
 
-stands : (column : ModRm) (rm : Option Rm) (long : Bool) → RmSuits column rm → PlaceStands column (place_for rm long)
+stands : (column : ModRm) (rm : Option Rm) (long : Bool) → RmSuits column rm → RmFormStands column (rm_form_for rm long)
 stands Absent None long s = tt
 stands Absent (Some rm) long s = absurd s
 stands Any None long s = absurd s
@@ -97,7 +97,7 @@ stands AnyMemory (Some rm) long s = (place_fits rm.reg rm.operand long s.0 s.1, 
 stands AnyRegister None long s = absurd s
 stands AnyRegister (Some rm) long s = (place_fits rm.reg rm.operand long s.0 s.1, mode_of_register rm.reg rm.operand long s.2)
 stands (Only n) None long s = absurd s
-stands (Only n) (Some rm) long s = (place_fits rm.reg rm.operand long s.0 s.1, eq-eqb n (place_written rm.reg rm.operand long).reg (s.2 ∙ sym (reg_kept rm.reg rm.operand long)))
+stands (Only n) (Some rm) long s = (place_fits rm.reg rm.operand long s.0 s.1, eq-eqb n (rm_form_written rm.reg rm.operand long).reg (s.2 ∙ sym (reg_kept rm.reg rm.operand long)))
 
 abbrev pub reg_of : Option Rm → ℕ
 reg_of None = 0
@@ -118,11 +118,11 @@ pub suits_reg : (column : ModRm) (rm : Option Rm) → RmSuits column rm → RegF
 suits_reg column None s = tt
 suits_reg column (Some rm) s = (suits_fit column rm s).0
 
-reg_is : (rm : Option Rm) (long : Bool) → reg_field (place_for rm long) ≡ reg_of rm
+reg_is : (rm : Option Rm) (long : Bool) → reg_field (rm_form_for rm long) ≡ reg_of rm
 reg_is None long = refl
 reg_is (Some rm) long = reg_kept rm.reg rm.operand long
 
-operand_is : (column : ModRm) (rm : Option Rm) (long : Bool) → RmSuits column rm → has_place rm ≡ true → rm_operand (place_for rm long) ≡ operand_in rm
+operand_is : (column : ModRm) (rm : Option Rm) (long : Bool) → RmSuits column rm → has_place rm ≡ true → rm_operand (rm_form_for rm long) ≡ operand_in rm
 operand_is column None long s h = refl
 operand_is column (Some rm) long s h = place_named rm.reg rm.operand long h (suits_fit column rm s).1
 

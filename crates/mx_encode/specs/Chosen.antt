@@ -4,7 +4,7 @@ use Rattle.mx_insn.specs.declared.insn.Insn.{Insn}
 use Rattle.mx_insn.specs.Spelling.{Fields, SpellsBy}
 use Rattle.mx_encode.specs.declared.Wide.{Wide}
 use Rattle.mx_encode.specs.Numbers.{number_bytes}
-use Rattle.mx_encode.specs.Places.{has_place, place_for}
+use Rattle.mx_encode.specs.Places.{has_place, rm_form_for}
 use Rattle.mx_encode.specs.Choice.{Choice, choice}
 
 -- 66 is before F3 and F2
@@ -15,7 +15,7 @@ fields_of c long =
       repeat = c.repeat;
       turned = false;
       number = c.number;
-      place = place_for c.rm long;
+      place = rm_form_for c.rm long;
       immediate = number_bytes c.immediate;
     }
 

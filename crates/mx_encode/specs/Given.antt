@@ -19,7 +19,7 @@ use Rattle.mx_insn.specs.declared.insn.Port.{Port}
 use Rattle.mx_insn.specs.declared.insn.Port.TheVariants as ports
 use Rattle.mx_insn.specs.declared.insn.Insn.{Insn}
 use Rattle.mx_insn.specs.declared.insn.Insn.TheVariants as insns
-use Rattle.mx_insn.specs.Spelling.{Sib, opcode, Place, operand_size, is_resized, is_escaped, prefix_bytes, escape_bytes}
+use Rattle.mx_insn.specs.Spelling.{Sib, opcode, RmForm, operand_size, is_resized, is_escaped, prefix_bytes, escape_bytes}
 use Rattle.mx_insn.specs.Spelling.{modrm_bytes}
 use Rattle.mx_encode.specs.declared.NoForm.{NoForm}
 use Rattle.mx_encode.specs.declared.fields.Sib as code_sib
@@ -66,7 +66,7 @@ abbrev pub RegFits : Option Rm → Type 0
 RegFits None = Unit {0}
 RegFits (Some rm) = rm.reg < 8
 
-abbrev pub form_bytes : Encoding → Option Place → List ℕ
+abbrev pub form_bytes : Encoding → Option RmForm → List ℕ
 form_bytes f place =
     prefix_bytes (is_resized f.operand_size) f.repeat false
     ++ (escape_bytes (is_escaped f.map) ++ (f.opcode ∷ (modrm_bytes place ++ number_bytes f.immediate)))
@@ -215,6 +215,6 @@ abbrev pub sib_seen : Option code_sib.Sib → Option Sib
 sib_seen None = None
 sib_seen (Some s) = Some (record { scale = s.scale; index = s.index; base = s.base })
 
-abbrev pub place_seen : code_place.RmFields → Place
-place_seen p =
+abbrev pub rm_form_seen : code_place.RmFields → RmForm
+rm_form_seen p =
     record { mode = p.mode; reg = p.reg; rm = p.rm; sib = sib_seen p.sib; displacement = number_bytes p.displacement }

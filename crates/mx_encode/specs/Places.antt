@@ -7,7 +7,7 @@ use Rattle.mx_insn.specs.declared.insn.Index.{Index}
 use Rattle.mx_insn.specs.declared.insn.Memory.{Memory}
 use Rattle.mx_insn.specs.declared.insn.Operand.{Operand}
 use Rattle.mx_insn.specs.declared.insn.Operand.TheVariants as operand
-use Rattle.mx_insn.specs.Spelling.{Sib, Place, displacement_length}
+use Rattle.mx_insn.specs.Spelling.{Sib, RmForm, displacement_length}
 use Rattle.mx_encode.specs.Numbers.{scale_number, is_short}
 use Rattle.mx_encode.specs.declared.fields.Rm.{Rm}
 
@@ -40,8 +40,8 @@ abbrev pub mode_of : Option Register → ℕ → Bool → ℕ
 mode_of None displacement long = 0
 mode_of (Some r) displacement long = mode_after (register_number r) displacement long
 
-abbrev pub memory_place : ℕ → Memory → Bool → Place
-memory_place reg m long = record {
+abbrev pub memory_rm_form : ℕ → Memory → Bool → RmForm
+memory_rm_form reg m long = record {
   mode = mode_of m.base m.displacement long;
   reg = reg;
   rm = rm_number m.base (sib_of m.base m.index);
@@ -51,14 +51,14 @@ memory_place reg m long = record {
 }
 
 -- by the reg field, the operand, and the mark on its displacement
-abbrev pub place_written : ℕ → Operand → Bool → Place
-place_written reg (operand.Register r) long =
+abbrev pub rm_form_written : ℕ → Operand → Bool → RmForm
+rm_form_written reg (operand.Register r) long =
     record { mode = 3; reg = reg; rm = register_number r; sib = None; displacement = [] }
-place_written reg (operand.Memory m) long = memory_place reg m long
+rm_form_written reg (operand.Memory m) long = memory_rm_form reg m long
 
-abbrev pub place_for : Option Rm → Bool → Option Place
-place_for None long = None
-place_for (Some rm) long = Some (place_written rm.reg rm.operand long)
+abbrev pub rm_form_for : Option Rm → Bool → Option RmForm
+rm_form_for None long = None
+rm_form_for (Some rm) long = Some (rm_form_written rm.reg rm.operand long)
 
 -- ---- what has no place
 

@@ -5,8 +5,8 @@ ghost use Rattle.mx_word.specs.Word.{bytes_of};
 ghost use Rattle.mx_word.specs.Names.{register_number};
 ghost use Rattle.mx_insn.specs.Spelling.{displacement_length};
 ghost use Rattle.mx_encode.specs.Numbers.{number_bytes};
-ghost use Rattle.mx_encode.specs.Places.{base_number, sib_of, rm_number, mode_after, mode_of, memory_place, place_written, can_index, can_stand, has_place};
-ghost use Rattle.mx_encode.specs.Given.{is_wide, sib_seen, place_seen};
+ghost use Rattle.mx_encode.specs.Places.{base_number, sib_of, rm_number, mode_after, mode_of, memory_rm_form, rm_form_written, can_index, can_stand, has_place};
+ghost use Rattle.mx_encode.specs.Given.{is_wide, sib_seen, rm_form_seen};
 
 use crate::field_numbers::{NumberForm, is_short, scale_number};
 use crate::fields::{Number, Rm, RmFields, Sib};
@@ -77,9 +77,9 @@ fn displacement_of(mode: u8, base: u8, displacement: u32) -> Number
     }
 }
 
-fn memory_place(reg: u8, memory: Memory, form: NumberForm) -> RmFields
+fn memory_rm_form(reg: u8, memory: Memory, form: NumberForm) -> RmFields
     requires { reg < 8 }
-    ensures { place_seen result ≡ memory_place reg memory (is_wide form) }
+    ensures { rm_form_seen result ≡ memory_rm_form reg memory (is_wide form) }
 {
     let mode = mode_of(memory.base, memory.displacement, form);
     let base = base_number(memory.base);
@@ -96,7 +96,7 @@ fn memory_place(reg: u8, memory: Memory, form: NumberForm) -> RmFields
 /// How a ModRM byte and its SIB name an operand.
 pub fn place_of(rm: Rm, form: NumberForm) -> RmFields
     requires { rm.reg < 8 }
-    ensures { place_seen result ≡ place_written rm.reg rm.operand (is_wide form) }
+    ensures { rm_form_seen result ≡ rm_form_written rm.reg rm.operand (is_wide form) }
 {
     match rm.operand {
         Operand::Register(register) => RmFields {
@@ -106,7 +106,7 @@ pub fn place_of(rm: Rm, form: NumberForm) -> RmFields
             sib: None,
             displacement: Number::Nothing,
         },
-        Operand::Memory(memory) => memory_place(rm.reg, memory, form),
+        Operand::Memory(memory) => memory_rm_form(rm.reg, memory, form),
     }
 }
 

@@ -2,10 +2,10 @@
 
 ghost use Rattle.std.specs.Prelude.{◌≡◌, ◌+◌, ◌≤◌, ◌++◌, length, false};
 ghost use Rattle.mx_word.specs.Word.{bytes_of};
-ghost use Rattle.mx_insn.specs.Spelling.{is_resized, is_escaped, resized_bytes, repeat_bytes, escape_bytes, place_bytes, modrm_bytes, sib_bytes};
+ghost use Rattle.mx_insn.specs.Spelling.{is_resized, is_escaped, resized_bytes, repeat_bytes, escape_bytes, rm_form_bytes, modrm_bytes, sib_bytes};
 ghost use Rattle.mx_encode.specs.Numbers.{number_bytes};
-ghost use Rattle.mx_encode.specs.Places.{place_for};
-ghost use Rattle.mx_encode.specs.Given.{is_wide, RegFits, form_bytes, sib_seen, place_seen};
+ghost use Rattle.mx_encode.specs.Places.{rm_form_for};
+ghost use Rattle.mx_encode.specs.Given.{is_wide, RegFits, form_bytes, sib_seen, rm_form_seen};
 
 use crate::field_numbers::NumberForm;
 use crate::fields::{Number, Rm, RmFields, Sib};
@@ -92,7 +92,7 @@ fn put_sib(bytes: &mut Bytes, sib: Option<Sib>)
 
 fn put_place(bytes: &mut Bytes, place: RmFields)
     requires { length bytes.old.items + 6 ≤ 15 }
-    ensures bytes { bytes.new.items ≡ bytes.old.items ++ place_bytes (place_seen place) }
+    ensures bytes { bytes.new.items ≡ bytes.old.items ++ rm_form_bytes (rm_form_seen place) }
     ensures room { length bytes.new.items ≤ length bytes.old.items + 6 }
 {
     bytes.push(64 * place.mode + 8 * place.reg + place.rm);
@@ -103,7 +103,7 @@ fn put_place(bytes: &mut Bytes, place: RmFields)
 fn put_rm(bytes: &mut Bytes, rm: Option<Rm>, form: NumberForm)
     requires reg { RegFits rm }
     requires room { length bytes.old.items + 6 ≤ 15 }
-    ensures bytes { bytes.new.items ≡ bytes.old.items ++ modrm_bytes (place_for rm (is_wide form)) }
+    ensures bytes { bytes.new.items ≡ bytes.old.items ++ modrm_bytes (rm_form_for rm (is_wide form)) }
     ensures room { length bytes.new.items ≤ length bytes.old.items + 6 }
 {
     if let Some(rm) = rm {
@@ -114,7 +114,7 @@ fn put_rm(bytes: &mut Bytes, rm: Option<Rm>, form: NumberForm)
 /// The bytes of an encoding, with its displacement in the form.
 pub fn bytes_of_encoding(encoding: Encoding, form: NumberForm) -> Bytes
     requires { RegFits encoding.rm }
-    ensures { result.items ≡ form_bytes encoding (place_for encoding.rm (is_wide form)) }
+    ensures { result.items ≡ form_bytes encoding (rm_form_for encoding.rm (is_wide form)) }
 {
     let mut bytes = Bytes::new();
     put_operand_size(&mut bytes, encoding.operand_size);

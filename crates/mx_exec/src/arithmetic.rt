@@ -7,7 +7,7 @@ ghost use Rattle.mx_exec.specs.Accumulator.{division_of_kind, product_of_kind, u
 ghost use Rattle.mx_exec.specs.Ending.{Leads};
 ghost use Rattle.mx_exec.specs.Step.{after, count_of_shift, multiplied_into, operated, product_by, tested};
 
-use crate::{Image, Place, Source, TurnEnd};
+use crate::{Image, InsnEnd, Place, Source};
 use mx_alu::{DivideFault, Signedness, alu, divide, multiply, multiply_low, shift, unary};
 use mx_insn::{Count, Insn, Operands, Product};
 use mx_mem::DIVIDE_ERROR;
@@ -21,20 +21,20 @@ pub fn operate<P: Place, S: Source>(
     size: Size,
     to: &P,
     from: &S,
-) -> TurnEnd
+) -> InsnEnd
     requires { S.Fits from.now size }
     ensures { (next : ℕ) → Leads next image.old
         (operated operation (P.operand to.now) size (S.read from.now image.old size) next image.old) result image.new }
 {
     let (at, x, y) = match to.load_both(image, size, from) {
         Ok(values) => values,
-        Err(vector) => return TurnEnd::Fault(vector),
+        Err(vector) => return InsnEnd::Fault(vector),
     };
     let (value, flags) = alu(operation, size, x, y, &image.flags);
     match operation {
         Arithmetic::Cmp => {
             image.flags = flags;
-            TurnEnd::Next
+            InsnEnd::Next
         }
         _ => to.store_result(image, at, size, (value, flags)),
     }
@@ -47,7 +47,7 @@ fn operate_by_size<P: Place, S: Source>(
     size: Size,
     to: &P,
     from: &S,
-) -> TurnEnd
+) -> InsnEnd
     requires { S.Fits from.now size }
     ensures { (next : ℕ) → Leads next image.old
         (operated operation (P.operand to.now) size (S.read from.now image.old size) next image.old) result image.new }
@@ -60,7 +60,7 @@ fn operate_by_size<P: Place, S: Source>(
 }
 
 /// An operation on the two operands of a decoded instruction.
-pub fn operate_on(image: &mut Image, operation: Arithmetic, operands: &Operands) -> TurnEnd
+pub fn operate_on(image: &mut Image, operation: Arithmetic, operands: &Operands) -> InsnEnd
     ensures { (next : ℕ) → Leads next image.old
         (after (Insn.Arithmetic operation operands.now) next image.old) result image.new }
 {
@@ -77,7 +77,7 @@ pub fn operate_on(image: &mut Image, operation: Arithmetic, operands: &Operands)
 
 /// TEST: the flags of AND.
 #[inline(always)]
-pub fn test<P: Source, S: Source>(image: &mut Image, size: Size, one: &P, other: &S) -> TurnEnd
+pub fn test<P: Source, S: Source>(image: &mut Image, size: Size, one: &P, other: &S) -> InsnEnd
     requires one { P.Fits one.now size }
     requires other { S.Fits other.now size }
     ensures { (next : ℕ) → Leads next image.old
@@ -85,20 +85,20 @@ pub fn test<P: Source, S: Source>(image: &mut Image, size: Size, one: &P, other:
 {
     let x = match one.value(image, size) {
         Ok(x) => x,
-        Err(vector) => return TurnEnd::Fault(vector),
+        Err(vector) => return InsnEnd::Fault(vector),
     };
     let y = match other.value(image, size) {
         Ok(y) => y,
-        Err(vector) => return TurnEnd::Fault(vector),
+        Err(vector) => return InsnEnd::Fault(vector),
     };
     let (_, flags) = alu(Arithmetic::And, size, x, y, &image.flags);
     image.flags = flags;
-    TurnEnd::Next
+    InsnEnd::Next
 }
 
 /// An operation on one operand.
 #[inline(always)]
-pub fn operate_alone<P: Place>(image: &mut Image, operation: Unary, size: Size, to: &P) -> TurnEnd
+pub fn operate_alone<P: Place>(image: &mut Image, operation: Unary, size: Size, to: &P) -> InsnEnd
     ensures { (next : ℕ) → Leads next image.old
         (after (Insn.Unary operation size (P.operand to.now)) next image.old) result image.new }
 {
@@ -108,7 +108,7 @@ pub fn operate_alone<P: Place>(image: &mut Image, operation: Unary, size: Size, 
             let result = unary(operation, size, x, &image.flags);
             to.store_result(image, at, size, result)
         }
-        Err(vector) => TurnEnd::Fault(vector),
+        Err(vector) => InsnEnd::Fault(vector),
     }
 }
 
@@ -131,7 +131,7 @@ pub fn shift_by<P: Place>(
     size: Size,
     to: &P,
     count: Count,
-) -> TurnEnd
+) -> InsnEnd
     ensures { (next : ℕ) → Leads next image.old
         (after (Insn.Shift operation size (P.operand to.now) count) next image.old) result image.new }
 {
@@ -142,7 +142,7 @@ pub fn shift_by<P: Place>(
             let result = shift(operation, size, x, places, &image.flags);
             to.store_result(image, at, size, result)
         }
-        Err(vector) => TurnEnd::Fault(vector),
+        Err(vector) => InsnEnd::Fault(vector),
     }
 }
 
@@ -162,7 +162,7 @@ fn upper_register(size: Size) -> Register
 
 /// MUL or IMUL of the accumulator.
 #[inline(always)]
-pub fn multiply_by<S: Source>(image: &mut Image, kind: Signedness, size: Size, by: &S) -> TurnEnd
+pub fn multiply_by<S: Source>(image: &mut Image, kind: Signedness, size: Size, by: &S) -> InsnEnd
     requires { S.Fits by.now size }
     ensures { (next : ℕ) → Leads next image.old
         (product_by (product_of_kind kind) size (S.read by.now image.old size) next image.old) result image.new }
@@ -174,22 +174,22 @@ pub fn multiply_by<S: Source>(image: &mut Image, kind: Signedness, size: Size, b
             image.flags = flags;
             image.regs.set(size, Register::Eax, product.low);
             image.regs.set(size, upper_register(size), product.high);
-            TurnEnd::Next
+            InsnEnd::Next
         }
-        Err(vector) => TurnEnd::Fault(vector),
+        Err(vector) => InsnEnd::Fault(vector),
     }
 }
 
 /// DIV or IDIV of the accumulator.
 #[inline(always)]
-pub fn divide_by<S: Source>(image: &mut Image, kind: Signedness, size: Size, by: &S) -> TurnEnd
+pub fn divide_by<S: Source>(image: &mut Image, kind: Signedness, size: Size, by: &S) -> InsnEnd
     requires { S.Fits by.now size }
     ensures { (next : ℕ) → Leads next image.old
         (product_by (division_of_kind kind) size (S.read by.now image.old size) next image.old) result image.new }
 {
     let y = match by.value(image, size) {
         Ok(y) => y,
-        Err(vector) => return TurnEnd::Fault(vector),
+        Err(vector) => return InsnEnd::Fault(vector),
     };
     let high = image.regs.get(size, upper_register(size));
     let low = image.regs.get(size, Register::Eax);
@@ -199,14 +199,14 @@ pub fn divide_by<S: Source>(image: &mut Image, kind: Signedness, size: Size, by:
             image
                 .regs
                 .set(size, upper_register(size), division.remainder);
-            TurnEnd::Next
+            InsnEnd::Next
         }
-        Err(DivideFault) => TurnEnd::Fault(DIVIDE_ERROR),
+        Err(DivideFault) => InsnEnd::Fault(DIVIDE_ERROR),
     }
 }
 
 /// MUL, IMUL, DIV or IDIV of the accumulator.
-pub fn product<S: Source>(image: &mut Image, operation: Product, size: Size, by: &S) -> TurnEnd
+pub fn product<S: Source>(image: &mut Image, operation: Product, size: Size, by: &S) -> InsnEnd
     requires { S.Fits by.now size }
     ensures { (next : ℕ) → Leads next image.old
         (product_by operation size (S.read by.now image.old size) next image.old) result image.new }
@@ -227,7 +227,7 @@ pub fn multiply_into<X: Source, Y: Source>(
     to: Register,
     one: &X,
     other: &Y,
-) -> TurnEnd
+) -> InsnEnd
     requires one { X.Fits one.now size }
     requires other { Y.Fits other.now size }
     ensures { (next : ℕ) → Leads next image.old
@@ -235,14 +235,14 @@ pub fn multiply_into<X: Source, Y: Source>(
 {
     let y = match other.value(image, size) {
         Ok(y) => y,
-        Err(vector) => return TurnEnd::Fault(vector),
+        Err(vector) => return InsnEnd::Fault(vector),
     };
     let x = match one.value(image, size) {
         Ok(x) => x,
-        Err(vector) => return TurnEnd::Fault(vector),
+        Err(vector) => return InsnEnd::Fault(vector),
     };
     let (product, flags) = multiply_low(size, x, y, &image.flags);
     image.flags = flags;
     image.regs.set(size, to, product);
-    TurnEnd::Next
+    InsnEnd::Next
 }

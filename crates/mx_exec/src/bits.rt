@@ -7,7 +7,7 @@ ghost use Rattle.mx_exec.specs.Ending.{Leads};
 ghost use Rattle.mx_exec.specs.Step.{after, image_after_bit_test, scanned};
 
 use crate::arithmetic::count_of;
-use crate::{Image, Place, Source, TurnEnd};
+use crate::{Image, InsnEnd, Place, Source};
 use mx_alu::{bit_scan, bit_test, double_shift};
 use mx_insn::{Count, Insn};
 use mx_word::{BitScan, BitTest, DoubleShift, Register, Size};
@@ -18,27 +18,27 @@ pub fn test_bit<P: Place>(
     operation: BitTest,
     operand: &P,
     number: u32,
-) -> TurnEnd
+) -> InsnEnd
     ensures { (next : ℕ) → Leads next image.old
         (image_after_bit_test operation (P.operand operand.now) number next image.old) result image.new }
 {
     let at = operand.spot(&image.regs);
     let x = match operand.load(image, at, Size::Dword) {
         Ok(x) => x,
-        Err(vector) => return TurnEnd::Fault(vector),
+        Err(vector) => return InsnEnd::Fault(vector),
     };
     let result = bit_test(operation, x, number, &image.flags);
     match operation {
         BitTest::Bt => {
             image.flags = result.1;
-            TurnEnd::Next
+            InsnEnd::Next
         }
         _ => operand.store_result(image, at, Size::Dword, result),
     }
 }
 
 /// BSF or BSR.
-pub fn scan<S: Source>(image: &mut Image, operation: BitScan, to: Register, from: &S) -> TurnEnd
+pub fn scan<S: Source>(image: &mut Image, operation: BitScan, to: Register, from: &S) -> InsnEnd
     requires { S.Fits from.now Size.Dword }
     ensures { (next : ℕ) → Leads next image.old
         (scanned operation to (S.read from.now image.old Size.Dword) next image.old) result image.new }
@@ -50,9 +50,9 @@ pub fn scan<S: Source>(image: &mut Image, operation: BitScan, to: Register, from
                 image.set_register(to, place);
             }
             image.flags = flags;
-            TurnEnd::Next
+            InsnEnd::Next
         }
-        Err(vector) => TurnEnd::Fault(vector),
+        Err(vector) => InsnEnd::Fault(vector),
     }
 }
 
@@ -69,14 +69,14 @@ pub fn shift_double<P: Place>(
     operation: DoubleShift,
     to: &P,
     filler: Filler,
-) -> TurnEnd
+) -> InsnEnd
     ensures { (next : ℕ) → Leads next image.old
         (after (Insn.DoubleShift operation (P.operand to.now) filler.register filler.count) next image.old) result image.new }
 {
     let at = to.spot(&image.regs);
     let x = match to.load(image, at, Size::Dword) {
         Ok(x) => x,
-        Err(vector) => return TurnEnd::Fault(vector),
+        Err(vector) => return InsnEnd::Fault(vector),
     };
     let bits = image.register(filler.register);
     let count = count_of(image, filler.count);

@@ -13,7 +13,7 @@ use mx_mem::Vector;
 
 /// How an instruction ended. EIP is not set yet.
 #[derive(Clone, Copy)]
-pub enum TurnEnd {
+pub enum InsnEnd {
     /// The next instruction is the one that follows, and memory is as it was.
     Next,
     /// It is at this address, and memory is as it was.
@@ -30,15 +30,15 @@ pub enum TurnEnd {
 
 /// Sets EIP as an instruction ended, or answers the vector.
 #[inline(always)]
-pub fn settle(image: &mut Image, end: TurnEnd, next: u32) -> Result<(), Vector>
+pub fn settle(image: &mut Image, end: InsnEnd, next: u32) -> Result<(), Vector>
     ensures { (m : Image) (wanted : Result Image ℕ) → Leads next m wanted end image.old
         → Performs m wanted result image.new }
 {
     image.eip = match end {
-        TurnEnd::Next | TurnEnd::Wrote { .. } => next,
-        TurnEnd::To(to) | TurnEnd::Called { to, .. } => to,
-        TurnEnd::By(distance) => dword_sum(next, (distance % 0x1_0000_0000) as u32),
-        TurnEnd::Fault(vector) => return Err(vector),
+        InsnEnd::Next | InsnEnd::Wrote { .. } => next,
+        InsnEnd::To(to) | InsnEnd::Called { to, .. } => to,
+        InsnEnd::By(distance) => dword_sum(next, (distance % 0x1_0000_0000) as u32),
+        InsnEnd::Fault(vector) => return Err(vector),
     };
     Ok(())
 }

@@ -11,7 +11,7 @@ ghost use Rattle.mx_exec.specs.Step.{after, image_after_push_of};
 ghost use Rattle.mx_exec.specs.Stack.{top_of, image_after_drop, has_room, has_dwords, with_pushed, pushad_words, pushad, popad, popad_words};
 
 use crate::image::{dword_difference, dword_sum};
-use crate::{Image, Source, TurnEnd};
+use crate::{Image, InsnEnd, Source};
 use mx_insn::Insn;
 use mx_mem::{OutOfLimit, STACK_FAULT, Segment, Vector};
 use mx_regs::Regs;
@@ -19,7 +19,7 @@ use mx_word::{Register, Size};
 
 /// PUSH of a value.
 #[inline(always)]
-pub fn push(image: &mut Image, value: u32) -> TurnEnd
+pub fn push(image: &mut Image, value: u32) -> InsnEnd
     ensures { (next : ℕ) → Leads next image.old (after (Insn.PushImmediate value) next image.old)
         result image.new }
 {
@@ -28,15 +28,15 @@ pub fn push(image: &mut Image, value: u32) -> TurnEnd
     match image.memory.write(top, Size::Dword, value) {
         Ok(()) => {
             image.set_register(Register::Esp, top);
-            TurnEnd::Wrote { at: top }
+            InsnEnd::Wrote { at: top }
         }
-        Err(OutOfLimit) => TurnEnd::Fault(STACK_FAULT),
+        Err(OutOfLimit) => InsnEnd::Fault(STACK_FAULT),
     }
 }
 
 /// PUSH of what an instruction reads.
 #[inline(always)]
-pub fn push_from<S: Source>(image: &mut Image, from: &S) -> TurnEnd
+pub fn push_from<S: Source>(image: &mut Image, from: &S) -> InsnEnd
     requires { S.Fits from.now Size.Dword }
     ensures { (next : ℕ) → Leads next image.old
         (image_after_push_of (S.read from.now image.old Size.Dword) next image.old) result
@@ -44,7 +44,7 @@ pub fn push_from<S: Source>(image: &mut Image, from: &S) -> TurnEnd
 {
     match from.value(image, Size::Dword) {
         Ok(value) => push(image, value),
-        Err(vector) => TurnEnd::Fault(vector),
+        Err(vector) => InsnEnd::Fault(vector),
     }
 }
 
@@ -64,7 +64,7 @@ pub fn top(image: &Image) -> Result<u32, Vector>
 
 /// POP.
 #[inline(always)]
-pub fn pop(image: &mut Image, to: Register) -> TurnEnd
+pub fn pop(image: &mut Image, to: Register) -> InsnEnd
     ensures { (next : ℕ) → Leads next image.old (after (Insn.Pop to) next image.old)
         result image.new }
 {
@@ -73,9 +73,9 @@ pub fn pop(image: &mut Image, to: Register) -> TurnEnd
             // ESP moves first, so that POP ESP leaves what was popped.
             drop_bytes(image, 4);
             image.set_register(to, value);
-            TurnEnd::Next
+            InsnEnd::Next
         }
-        Err(vector) => TurnEnd::Fault(vector),
+        Err(vector) => InsnEnd::Fault(vector),
     }
 }
 

@@ -13,7 +13,7 @@ ghost use Rattle.mx_exec.specs.Text.{Fetches};
 use crate::bits::Filler;
 use crate::image::dword_sum;
 use crate::{
-    Image, Outcome, Place, TurnEnd, arithmetic, bits, jumps, moves, plain, settle, stack, strings,
+    Image, InsnEnd, Outcome, Place, arithmetic, bits, jumps, moves, plain, settle, stack, strings,
 };
 use mx_alu::Signedness;
 use mx_decode::DecodeFault;
@@ -31,7 +31,7 @@ pub fn outcome(insn: &Insn) -> Outcome
 }
 
 /// Performs an instruction that moves data, and tests and calculates nothing.
-fn move_data(image: &mut Image, insn: &Insn) -> TurnEnd
+fn move_data(image: &mut Image, insn: &Insn) -> InsnEnd
     requires { is_move insn.now ≡ true }
     ensures { (next : ℕ) → Leads next image.old (after insn.now next image.old) result image.new }
 {
@@ -66,7 +66,7 @@ fn move_data(image: &mut Image, insn: &Insn) -> TurnEnd
 }
 
 /// Performs an instruction that moves, tests or calculates.
-fn calculate(image: &mut Image, insn: &Insn) -> TurnEnd
+fn calculate(image: &mut Image, insn: &Insn) -> InsnEnd
     requires { is_calculation insn.now ≡ true }
     ensures { (next : ℕ) → Leads next image.old (after insn.now next image.old) result image.new }
 {

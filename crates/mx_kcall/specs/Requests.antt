@@ -6,7 +6,7 @@ use Rattle.mx_respawn.specs.Proc.declared.windows.Rules.{Rules}
 use Rattle.mx_respawn.specs.Proc.EndpointNumbers.{system_endpoint}
 use Rattle.mx_respawn.specs.Proc.TableState.{TableState, buffer_at, memory_at}
 use Rattle.mx_respawn.specs.Proc.declared.windows.Rules.TheVariants as since
-use Rattle.mx_kcall.specs.Rows.{first_call, is_there, row_of}
+use Rattle.mx_kcall.specs.Rows.{first_call, row_under}
 use Rattle.mx_kcall.specs.declared.rows.CallName.{CallName}
 use Rattle.mx_kcall.specs.declared.rows.CallName.TheVariants as calls
 use Rattle.mx_kcall.specs.declared.rows.CallRow.{CallRow}
@@ -90,14 +90,14 @@ kernel_call_of calls.Whois m = Whois m.p0
 -- an endpoint, an address, how many bytes, an access
 kernel_call_of calls.Grant m = Grant (record { user = m.p0; place = m.p1; count = m.p2; access = m.p3 })
 
--- the call of a row, if the rules have it
-abbrev pub kernel_call_by : Rules → Option CallRow → MessageWords → Option KernelCall
-kernel_call_by rules None m = None
-kernel_call_by rules (Some row) m = if is_there rules row then Some (kernel_call_of row.call m) else None
+-- the call of a row
+abbrev pub kernel_call_by : Option CallRow → MessageWords → Option KernelCall
+kernel_call_by None m = None
+kernel_call_by (Some row) m = Some (kernel_call_of row.call m)
 
 -- THE CALL that words make under these rules
 abbrev pub kernel_call_under : Rules → MessageWords → Option KernelCall
-kernel_call_under rules m = kernel_call_by rules (row_of m.kind) m
+kernel_call_under rules m = kernel_call_by (row_under rules m.kind) m
 
 -- no words
 abbrev pub no_reply_words : ReplyWords

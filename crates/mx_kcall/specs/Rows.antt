@@ -23,6 +23,14 @@ row_of kind = if nat_lt kind first_call then None else slice_get calls (kind - f
 abbrev pub is_there : Rules → CallRow → Bool
 is_there rules row = is_strict rules || not (is_strict row.rules)
 
+abbrev pub if_there : Rules → Option CallRow → Option CallRow
+if_there rules None = None
+if_there rules (Some row) = if is_there rules row then Some row else None
+
+-- THE ROW of a type, if these rules have its call
+abbrev pub row_under : Rules → ℕ → Option CallRow
+row_under rules kind = if_there rules (row_of kind)
+
 -- ---- texts
 
 abbrev pub is_space : ℕ → Bool

@@ -21,6 +21,6 @@ mod windows;
 pub use clock::{raise, tick};
 pub use mx_respawn::{Name, Service, die, is_worn, respawn};
 pub use request::{After, CopyRange, KernelCall, ReplyWords, VirtualAddress, WindowGrant};
-pub use rows::{CALLS, CallName, CallRow, FIRST_CALL, ReplyCount, call_row, is_there};
+pub use rows::{CALLS, CallName, CallRow, FIRST_CALL, ReplyCount, call_row, is_there, row_under};
 pub use serving::call;
 pub use windows::{is_strict, window_allows};

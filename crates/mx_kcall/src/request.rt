@@ -5,7 +5,7 @@ ghost use Rattle.mx_respawn.specs.Proc.Sound.{HasBuffer};
 ghost use Rattle.mx_respawn.specs.Proc.TableState.{process_at};
 ghost use Rattle.mx_kcall.specs.Requests.{word_at, message_words_of, message_words_at, kernel_call_of, kernel_call_under, no_reply_words, reply_bytes};
 
-use crate::rows::{CallName, FIRST_CALL, call_row, is_there};
+use crate::rows::{CallName, FIRST_CALL, row_under};
 use mx_proc::{Endpoint, MESSAGE_SIZE, Rules, SYSTEM, Slot, Table};
 use mx_word::{Register, read_dword, write_dword};
 
@@ -182,10 +182,7 @@ pub(crate) fn request_under(rules: Rules, words: MessageWords) -> Option<KernelC
     ensures place { IfSome result (λ _.
         (FIRST_CALL ≤ words.kind) × (words.kind < FIRST_CALL + 32)) }
 {
-    let row = call_row(words.kind)?;
-    if !is_there(rules, row) {
-        return None;
-    }
+    let row = row_under(rules, words.kind)?;
     Some(request_of(row.call, words))
 }
 

@@ -3,7 +3,7 @@
 
 ghost use Rattle.std.specs.Prelude.{◌≡◌, ◌<◌, ◌≤◌, ◌+◌, ◌==◌, IfSome, length, option_copied, position};
 ghost use Rattle.mx_kcall.specs.Requests.{AreOfTable};
-ghost use Rattle.mx_kcall.specs.Rows.{is_space, is_there, name_of, reply_count, row_of};
+ghost use Rattle.mx_kcall.specs.Rows.{is_space, is_there, name_of, reply_count, row_of, row_under};
 
 use crate::windows::is_strict;
 use mx_proc::Rules;
@@ -129,6 +129,19 @@ pub fn is_there(rules: Rules, row: &CallRow) -> bool
     ensures { result ≡ is_there rules row.now }
 {
     is_strict(rules) || !is_strict(row.rules)
+}
+
+/// The row of a request's type, if these rules have its call.
+pub fn row_under(rules: Rules, kind: u32) -> Option<&'static CallRow>
+    ensures value { option_copied result ≡ row_under rules kind }
+    ensures place { IfSome result (λ _. (FIRST_CALL ≤ kind) × (kind < FIRST_CALL + 32)) }
+{
+    let row = call_row(kind)?;
+    if is_there(rules, row) {
+        Some(row)
+    } else {
+        None
+    }
 }
 
 /// Where the spaces after a name begin, if there are any.

@@ -40,11 +40,11 @@ use Rattle.mx_print_report.specs.SlotDoing.{doing_of}
 use Rattle.mx_look.specs.Glances.{glance_of, glance_of_slot, held_glance, slot_glance, slot_glances}
 use Rattle.mx_look.specs.Images.{image_glance}
 use Rattle.mx_look.specs.Kept.{latest_deliveries}
-use Rattle.mx_look.specs.declared.step.Step.{Step}
+use Rattle.mx_look.specs.declared.transition.Transition.{Transition}
 use Rattle.mx_look.specs.Doings.{is_listening, is_out as is_out_doing, is_waiting, seen_is}
 use Rattle.mx_look.specs.Going.{acting, acting_of, calls_receive, calls_receive_by, gone_on, got, is_acted, is_acted_by, is_trap, is_zero, result_in}
-use Rattle.mx_look.specs.Step.{slot_in}
-use Rattle.mx_app_step.specs.Traces.{own_event, step_of}
+use Rattle.mx_look.specs.Transition.{slot_in}
+use Rattle.mx_app_step.specs.Traces.{own_event, transition_of}
 use Rattle.mx_laws.specs.Made.{ToldAreMade, with_slot}
 use Rattle.mx_laws.specs.Told.{IsMadeIn, result_written, world_before}
 use Rattle.mx_laws.proofs.Getting.{AreFew, death_zero, IsGot, none_got, notifying_got, own_got, trap_got}
@@ -151,7 +151,7 @@ same_services w a (event.Respawn s) = by_option (slice_get w.services s)
 -- ---- a step
 
 module _ (v : World) (a n : ℕ) (sound : IsSound v) (few : length v.cpus ≤ 8) where
-  abbrev step_to : Recorded → World → Step
+  abbrev step_to : Recorded → World → Transition
   step_to r u = record { number = n; before = glance_of v; actor = a; event = r; after = glance_of u }
 
   abbrev receiving : ℕ → Bool
@@ -371,7 +371,7 @@ shown u xs ds e few served before after d parts =
 
 pub are_made_told : ((w : World) (a : ℕ) (e : Event) (s : ℕ) → IsSlot w s → IsWritten w a e s) → (w : World) (n : ℕ) (x : Record) → IsMadeIn w x → ToldAreMade w n x
 are_made_told written w n x h =
-    told_slots (step_of w n x) 32 0 [] ds ds refl (ascend_within 0 (length v.table.slots) 32 ds h.sound.table.few told.ascends) gets refl
+    told_slots (transition_of w n x) 32 0 [] ds ds refl (ascend_within 0 (length v.table.slots) 32 ds h.sound.table.few told.ascends) gets refl
     (shown u v.table.deliveries ds kept few enough)
     ∙ ap (map with_slot) (sym (event_keeps v x.actor e [] ∙ only_made ds (omega (arith, few))))
   where
@@ -405,10 +405,10 @@ are_made_told written w n x h =
     kept : u.table.deliveries ≡ keep v.table.deliveries ds
     kept = ap (λ (z : World). z.table.deliveries) after ∙ event_keeps v x.actor e v.table.deliveries
 
-    gets : (q : ℕ) → 0 ≤ q → q < 32 → got (step_of w n x) q ≡ is_to q ds
+    gets : (q : ℕ) → 0 ≤ q → q < 32 → got (transition_of w n x) q ≡ is_to q ds
     gets q le lt = by_bool (nat_lt q (length v.services)) refl
       where
-        by_bool : (b : Bool) → nat_lt q (length v.services) ≡ b → got (step_of w n x) q ≡ is_to q ds
+        by_bool : (b : Bool) → nat_lt q (length v.services) ≡ b → got (transition_of w n x) q ≡ is_to q ds
         by_bool true f =
             let served = ltb-true q (length v.services) f in
             let p = service_at v.services q served in

@@ -38,10 +38,10 @@ use Rattle.mx_laws.proofs.EventEntries.{event_entries}
 use Rattle.mx_laws.proofs.ItemLemmas.{end_of_turn_images}
 use Rattle.mx_laws.proofs.SoundDiaries.{not_held}
 use Rattle.mx_look.specs.Glances.{glance_of, held_glance}
-use Rattle.mx_look.specs.declared.step.Step.{Step}
+use Rattle.mx_look.specs.declared.transition.Transition.{Transition}
 use Rattle.mx_look.specs.Doings.{is_out as is_out_doing, seen_is}
 use Rattle.mx_look.specs.Going.{acting, acting_of, gone_on, is_acted, is_acted_by, is_trap, result_in}
-use Rattle.mx_look.specs.Step.{slot_in}
+use Rattle.mx_look.specs.Transition.{slot_in}
 use Rattle.mx_app_step.specs.Traces.{own_event, steps_before}
 use Rattle.mx_app_step.proofs.RecordLemmas.{after_both}
 use Rattle.mx_laws.specs.Told.{IsMadeIn, result_written, ToldGoneOn, world_before}
@@ -132,12 +132,12 @@ module _ (v : World) (a n s : ℕ) (p : Service) (sound : IsSound v) (few : leng
   abbrev state : State
   state = (process_at v.table s).state
 
-  -- a record as a step from this world to another
-  abbrev step_to : Recorded → World → Step
-  step_to r u = record { number = n; before = glance_of v; actor = a; event = r; after = glance_of u }
+  -- a record as a transition from this world to another
+  abbrev transition_to : Recorded → World → Transition
+  transition_to r u = record { number = n; before = glance_of v; actor = a; event = r; after = glance_of u }
 
-  gone : (r : Recorded) (u : World) (b : Bool) → is_acted (step_to r u) s ≡ b → slice_get u.services s ≡ Some p
-      → gone_on (step_to r u) s ≡ cond (is_blocked state || b) (cond (is_ready (process_at u.table s).state) (Some (process_at u.table s).image.regs.eax) None) None
+  gone : (r : Recorded) (u : World) (b : Bool) → is_acted (transition_to r u) s ≡ b → slice_get u.services s ≡ Some p
+      → gone_on (transition_to r u) s ≡ cond (is_blocked state || b) (cond (is_ready (process_at u.table s).state) (Some (process_at u.table s).image.regs.eax) None) None
   unfolding gone_on
   gone r u b acts after =
       ap₂ (λ (x y : Bool). cond (x || y) (result_in (slot_in (glance_of u) s)) None) (waiting_seen v s p lt served) acts
@@ -150,8 +150,8 @@ module _ (v : World) (a n s : ℕ) (p : Service) (sound : IsSound v) (few : leng
   not_out e = not_held v s sound (blocked_stays state e)
 
   -- an event without items
-  silent : (r : Recorded) (u : World) (o : Option Image) → is_acted (step_to r u) s ≡ false → slice_get u.services s ≡ Some p
-      → (is_blocked state ≡ true → is_ready (process_at u.table s).state ≡ false) → gone_on (step_to r u) s ≡ result_written (unless_held o [])
+  silent : (r : Recorded) (u : World) (o : Option Image) → is_acted (transition_to r u) s ≡ false → slice_get u.services s ≡ Some p
+      → (is_blocked state ≡ true → is_ready (process_at u.table s).state ≡ false) → gone_on (transition_to r u) s ≡ result_written (unless_held o [])
   silent r u o acts after rests =
       gone r u false acts after ∙ ap (λ b. cond b (cond (is_ready (process_at u.table s).state) (Some (process_at u.table s).image.regs.eax) None) None) (or_false (is_blocked state))
       ∙ pick (is_blocked state) (is_ready (process_at u.table s).state) false (process_at u.table s).image.regs.eax (result_written (unless_held o []))
@@ -162,9 +162,9 @@ module _ (v : World) (a n s : ℕ) (p : Service) (sound : IsSound v) (few : leng
       none (Some m) = refl
 
   -- an event without a processor
-  apart : (r : Recorded) (e : Event) (u : World) (items : List (ℕ × Item)) → is_acted (step_to r u) s ≡ false → slice_get u.services s ≡ Some p → u.cpus ≡ v.cpus
+  apart : (r : Recorded) (e : Event) (u : World) (items : List (ℕ × Item)) → is_acted (transition_to r u) s ≡ false → slice_get u.services s ≡ Some p → u.cpus ≡ v.cpus
       → e ≢ event.Step → caller_in v a e ≢ Some s → diary v a e s ≡ unless_held (image_held_in s v.cpus) (items_for s items)
-      → Tells v.table u.table items s → image_now u s ≡ play (diary v a e s) (image_now v s) → gone_on (step_to r u) s ≡ result_written (diary v a e s)
+      → Tells v.table u.table items s → image_now u s ≡ play (diary v a e s) (image_now v s) → gone_on (transition_to r u) s ≡ result_written (diary v a e s)
   apart r e u items acts after same unstepped uncalled written tells played =
       gone r u false acts after ∙ ap (λ b. cond b (cond (is_ready (process_at u.table s).state) (Some (process_at u.table s).image.regs.eax) None) None) (or_false (is_blocked state))
       ∙ pick (is_blocked state) (is_ready (process_at u.table s).state) (has_result d) (process_at u.table s).image.regs.eax (result_written d) waiting resting
@@ -206,19 +206,19 @@ module _ (v : World) (a n s : ℕ) (p : Service) (sound : IsSound v) (few : leng
     abbrev back : World
     back = world_after_back v a (Some l)
 
-    abbrev step : Step
-    step = step_to (recorded.Back k) back
+    abbrev transition : Transition
+    transition = transition_to (recorded.Back k) back
 
     out : is_out (process_at v.table l.slot).state ≡ true
     out = held_out v a l sound held
 
     -- ---- whose trap is acted
 
-    acting_is : (b : Bool) → (is_trap l.out.stop && seen_is is_out_doing (slot_in (glance_of v) l.slot)) ≡ b → is_acted step s ≡ (b && (l.slot == s))
+    acting_is : (b : Bool) → (is_trap l.out.stop && seen_is is_out_doing (slot_in (glance_of v) l.slot)) ≡ b → is_acted transition s ≡ (b && (l.slot == s))
     unfolding acting held_glance
     acting_is b e =
         let few_cpus : a < 8 = omega (arith, few, holds_in v.cpus a l held) in
-        ap (λ o. is_acted_by (acting_of step o) s) (cpu_seen v a few_cpus ∙ ap (option_map held_glance) held)
+        ap (λ o. is_acted_by (acting_of transition o) s) (cpu_seen v a few_cpus ∙ ap (option_map held_glance) held)
         ∙ ap (λ z. is_acted_by (cond z (Some (held_glance l)) None) s) e ∙ acted_if l s b
 
     -- ---- the slot of another
@@ -253,7 +253,7 @@ module _ (v : World) (a n s : ℕ) (p : Service) (sound : IsSound v) (few : leng
     now_steps : HaveNoStep (diary_of_back v s (Some l))
     now_steps = entries_no_step v a event.Back s (diary_of_back v s (Some l)) (λ e. cc) entries_now
 
-    other_told : l.slot ≢ s → gone_on step s ≡ result_written (diary_of_back v s (Some l))
+    other_told : l.slot ≢ s → gone_on transition s ≡ result_written (diary_of_back v s (Some l))
     other_told m =
         gone (recorded.Back k) back false acts served ∙ ap (λ b. cond b (cond (is_ready (process_at back.table s).state) (Some (process_at back.table s).image.regs.eax) None) None) (or_false (is_blocked state))
         ∙ pick (is_blocked state) (is_ready (process_at back.table s).state) (has_result d) (process_at back.table s).image.regs.eax (result_written d) waiting resting
@@ -261,7 +261,7 @@ module _ (v : World) (a n s : ℕ) (p : Service) (sound : IsSound v) (few : leng
         d : List Item
         d = diary_of_back v s (Some l)
 
-        acts : is_acted step s ≡ false
+        acts : is_acted transition s ≡ false
         acts = let b = is_trap l.out.stop && seen_is is_out_doing (slot_in (glance_of v) l.slot) in acting_is b refl ∙ ap (λ z. b && z) (ne_eqb l.slot s m) ∙ and_false b
 
         uncalled : caller_in v a event.Back ≢ Some s
@@ -307,7 +307,7 @@ module _ (v : World) (a n s : ℕ) (p : Service) (sound : IsSound v) (few : leng
         ∙ ap (λ (x : Image). cond (has_result (items_for l.slot made)) (Some x.regs.eax) None) (image_at l.slot false Trap lies)
         ∙ result_played (items_for l.slot made) (process_at home l.slot).image steps
 
-    own_told : l.slot ≡ s → gone_on step s ≡ result_written (diary_of_back v s (Some l))
+    own_told : l.slot ≡ s → gone_on transition s ≡ result_written (diary_of_back v s (Some l))
     own_told e =
         gone (recorded.Back k) back (is_trap l.out.stop && not doomed) acts served
         ∙ ap (λ z. cond (z || (is_trap l.out.stop && not doomed)) (cond (is_ready (process_at back.table s).state) (Some (process_at back.table s).image.regs.eax) None) None) unblocked
@@ -332,10 +332,10 @@ module _ (v : World) (a n s : ℕ) (p : Service) (sound : IsSound v) (few : leng
             subst (λ z. seen_is is_out_doing (slot_in (glance_of v) z) ≡ (is_out (process_at v.table z).state && not (is_doomed (process_at v.table z).state))) (sym e) (out_seen v s p lt served)
             ∙ ap (λ z. z && not doomed) out
 
-        acts : is_acted step s ≡ (is_trap l.out.stop && not doomed)
+        acts : is_acted transition s ≡ (is_trap l.out.stop && not doomed)
         acts = acting_is (is_trap l.out.stop && not doomed) (ap (λ z. is_trap l.out.stop && z) seen) ∙ ap (λ z. (is_trap l.out.stop && not doomed) && z) (eq-eqb l.slot s e) ∙ and_true (is_trap l.out.stop && not doomed)
 
-    back_told : gone_on step s ≡ result_written (diary_of_back v s (Some l))
+    back_told : gone_on transition s ≡ result_written (diary_of_back v s (Some l))
     back_told = elim (cases_eq l.slot s) [
       | inl e ↦ own_told e
       | inr m ↦ other_told m
@@ -343,11 +343,11 @@ module _ (v : World) (a n s : ℕ) (p : Service) (sound : IsSound v) (few : leng
 
   -- ---- each event
 
-  by_back : (x : Option HeldProcess) (k : ℕ) → held_by v a ≡ x → back_refusal x ≡ None → gone_on (step_to (recorded.Back k) (world_after_back v a x)) s ≡ result_written (diary_of_back v s x)
+  by_back : (x : Option HeldProcess) (k : ℕ) → held_by v a ≡ x → back_refusal x ≡ None → gone_on (transition_to (recorded.Back k) (world_after_back v a x)) s ≡ result_written (diary_of_back v s x)
   by_back None k e ok = cc
   by_back (Some l) k e ok = back_told l e k
 
-  by_take : (q : Option ℕ) → gone_on (step_to recorded.Take (world_after_take v a q)) s ≡ result_written (unless_held (image_held_in s v.cpus) [])
+  by_take : (q : Option ℕ) → gone_on (transition_to recorded.Take (world_after_take v a q)) s ≡ result_written (unless_held (image_held_in s v.cpus) [])
   unfolding acting table_after_sending_out
   by_take None = silent recorded.Take v (image_held_in s v.cpus) refl served (λ e. blocked_idle state e)
   by_take (Some q) = silent recorded.Take (world_after_take v a (Some q)) (image_held_in s v.cpus) refl served (λ e. sym (readies-at (table_after_sending_out v.table q).slots s)
@@ -355,7 +355,7 @@ module _ (v : World) (a n s : ℕ) (p : Service) (sound : IsSound v) (few : leng
       ∙ cleared (slice_set (readies v.table) q false) q s (cleared (readies v.table) q s (idle e)))
 
   by_respawn : (q : ℕ) (x : Option Service) → slice_get v.services q ≡ x → respawn_refusal (free_records v) (process_at v.table q) x ≡ None
-      → gone_on (step_to (recorded.Respawn q) (world_after_respawn v q x)) s ≡ result_written (unless_held (image_held_in s v.cpus) [])
+      → gone_on (transition_to (recorded.Respawn q) (world_after_respawn v q x)) s ≡ result_written (unless_held (image_held_in s v.cpus) [])
   unfolding acting table_after_respawn
   by_respawn q None e ok = silent (recorded.Respawn q) v (image_held_in s v.cpus) refl served (λ b. blocked_idle state b)
   by_respawn q (Some x) e ok = silent (recorded.Respawn q) (world_after_respawn v q (Some x)) (image_held_in s v.cpus) refl served (λ b.
@@ -363,7 +363,7 @@ module _ (v : World) (a n s : ℕ) (p : Service) (sound : IsSound v) (few : leng
       ap (λ (y : Process). is_ready y.state) (get_or-set_other v.table.slots q s (next_process (process_at v.table q) x) nobody apart) ∙ blocked_idle state b)
 
   by_line : (line : ℕ) (o : Option ℕ) → owner_of v.table line ≡ o → image_now (world_after_line v line o) s ≡ play (diary v a (event.Line line) s) (image_now v s)
-      → gone_on (step_to (recorded.Line line) (world_after_line v line o)) s ≡ result_written (diary v a (event.Line line) s)
+      → gone_on (transition_to (recorded.Line line) (world_after_line v line o)) s ≡ result_written (diary v a (event.Line line) s)
   unfolding acting
   by_line line None e played = apart (recorded.Line line) (event.Line line) v [] refl served refl (λ z. cc) (λ z. cc)
       (ap (λ o. unless_held (image_held_in s v.cpus) (items_for s (items_of_line v.table line o))) e) (λ lies rests. rests) played
@@ -371,7 +371,7 @@ module _ (v : World) (a n s : ℕ) (p : Service) (sound : IsSound v) (few : leng
       (ap (λ o. unless_held (image_held_in s v.cpus) (items_for s (items_of_line v.table line o))) e) (line_tells v.table line q s) played
 
   by_event : (r : Recorded) → event_refusal v a (own_event r) ≡ None → IsWritten v a (own_event r) s
-      → gone_on (step_to r (world_after_event v a (own_event r))) s ≡ result_written (diary v a (own_event r) s)
+      → gone_on (transition_to r (world_after_event v a (own_event r))) s ≡ result_written (diary v a (own_event r) s)
   unfolding acting event_refusal world_after_event
   by_event recorded.Take ok written = by_take (first_ready v.table.ready)
   by_event (recorded.Back k) ok written = by_back (held_by v a) k refl ok

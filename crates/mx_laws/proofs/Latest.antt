@@ -1,4 +1,4 @@
--- Deliveries that were made are the last of those that are recorded, and the facts of a step have them for their
+-- Deliveries that were made are the last of those that are recorded, and the facts of a transition have them for their
 -- slots.
 use Rattle.std.proofs.Common.{◌≡◌, ◌≢◌, ◌∙◌, ℕ, zero, suc, ◌+◌, ◌-◌, ◌<◌, ◌≤◌, ◌==◌, ◌&&◌, ◌||◌, nat_lt, Bool, true, false, cond, List, [], ◌∷◌, ◌++◌, append_assoc, length, length-append, length-drop, map, filter, drop, Some, None, refl, sym, ap, get_or, slice_get, arith}
 use Rattle.std.specs.List.{count_by, range_with_len}
@@ -10,7 +10,7 @@ use Rattle.std.proofs.Math.Nat.{min-eq_left}
 use Rattle.circular_buffer.specs.Buffer.{keep_last}
 use Rattle.mx_proc.specs.declared.deliveries.Delivery.{Delivery}
 use Rattle.mx_look.specs.Kept.{kept_count, latest, latest_deliveries}
-use Rattle.mx_look.specs.declared.step.Step.{Step}
+use Rattle.mx_look.specs.declared.transition.Transition.{Transition}
 use Rattle.mx_look.specs.Deliveries.{delivery_to, got_from}
 use Rattle.mx_look.specs.Going.{got}
 use Rattle.mx_laws.specs.Made.{slot_to, told_of_slot, told_of_slots, with_slot}
@@ -137,13 +137,13 @@ ascend_length s n (d ∷ ds) le h = omega (arith, ascend_length (slot_to d + 1) 
 -- ---- the deliveries in the facts
 
 -- which slots got one, from a slot on
-abbrev Gets : Step → ℕ → List Delivery → Type 0
+abbrev Gets : Transition → ℕ → List Delivery → Type 0
 Gets x s ds = (q : ℕ) → s ≤ q → q < 32 → got x q ≡ is_to q ds
 
-later_gets : (x : Step) (s : ℕ) (ds : List Delivery) → Gets x s ds → Gets x (s + 1) ds
+later_gets : (x : Transition) (s : ℕ) (ds : List Delivery) → Gets x s ds → Gets x (s + 1) ds
 later_gets x s ds h q le lt = h q (omega (arith, le)) lt
 
-rest_gets : (x : Step) (s n : ℕ) (d : Delivery) (ds : List Delivery) → slot_to d ≡ s → Gets x s (d ∷ ds) → Gets x (s + 1) ds
+rest_gets : (x : Transition) (s n : ℕ) (d : Delivery) (ds : List Delivery) → slot_to d ≡ s → Gets x s (d ∷ ds) → Gets x (s + 1) ds
 rest_gets x s n d ds e h q le lt = h q (omega (arith, le)) lt ∙ ap (λ b. b || is_to q ds) (ne_eqb (slot_to d) q (λ f. omega (arith, e, f, le)))
 
 above : (a b : ℕ) → a ≤ b → b ≢ a → a + 1 ≤ b
@@ -153,7 +153,7 @@ above a b le n = by_bool (nat_lt a b) refl
     by_bool true e = let lt = ltb-true a b e in omega (arith, lt)
     by_bool false e = let no = ltb-false a b e in absurd (n (omega (arith, le, no)))
 
-count_is : (x : Step) (n s : ℕ) (ds : List Delivery) → s + n ≡ 32 → Ascend s 32 ds → Gets x s ds → length (filter (got x) (range_with_len s n)) ≡ length ds
+count_is : (x : Transition) (n s : ℕ) (ds : List Delivery) → s + n ≡ 32 → Ascend s 32 ds → Gets x s ds → length (filter (got x) (range_with_len s n)) ≡ length ds
 count_is x zero s [] e h g = refl
 count_is x zero s (d ∷ ds) e h g = absurd (omega (arith, e, h.0, h.1))
 count_is x (suc n) s [] e h g =
@@ -177,26 +177,26 @@ count_is x (suc n) s (d ∷ ds) e h g = by_slot (slot_to d == s) refl (λ es. co
         ∙ later (d ∷ ds) (above s (slot_to d) h.0 apart, h.1, h.2) (later_gets x s (d ∷ ds) g)
 
 -- the latest deliveries that are seen are these, the last one first
-abbrev pub Shows : Step → List Delivery → Type 0
+abbrev pub Shows : Transition → List Delivery → Type 0
 Shows x ds = (before after : List Delivery) (d : Delivery) → before ++ d ∷ after ≡ ds → get_or x.after.deliveries (length after) None ≡ Some d
 
-got_count : (x : Step) (n s : ℕ) (ds : List Delivery) → s + n ≡ 32 → Ascend s 32 ds → Gets x s ds → got_from x s ≡ length ds
+got_count : (x : Transition) (n s : ℕ) (ds : List Delivery) → s + n ≡ 32 → Ascend s 32 ds → Gets x s ds → got_from x s ≡ length ds
 unfolding got_from
 got_count x n s ds e h g =
     let left : 32 - s ≡ n = omega (arith, e) in
     ap (λ k. count_by (got x) (range_with_len s k)) left ∙ sym (length-filter (got x) (range_with_len s n)) ∙ count_is x n s ds e h g
 
-told_none : (x : Step) (s : ℕ) → got x s ≡ false → told_of_slot s (delivery_to x s) ≡ []
+told_none : (x : Transition) (s : ℕ) → got x s ≡ false → told_of_slot s (delivery_to x s) ≡ []
 unfolding delivery_to
 told_none x s e = ap (λ b. told_of_slot s (cond b (get_or x.after.deliveries (got_from x (s + 1)) None) None)) e
 
-told_one : (x : Step) (s k : ℕ) (d : Delivery) → got x s ≡ true → got_from x (s + 1) ≡ k → get_or x.after.deliveries k None ≡ Some d → told_of_slot s (delivery_to x s) ≡ (s, d) ∷ []
+told_one : (x : Transition) (s k : ℕ) (d : Delivery) → got x s ≡ true → got_from x (s + 1) ≡ k → get_or x.after.deliveries k None ≡ Some d → told_of_slot s (delivery_to x s) ≡ (s, d) ∷ []
 unfolding delivery_to
 told_one x s k d e f h =
     ap (λ b. told_of_slot s (cond b (get_or x.after.deliveries (got_from x (s + 1)) None) None)) e
     ∙ ap (λ i. told_of_slot s (get_or x.after.deliveries i None)) f ∙ ap (told_of_slot s) h
 
-pub told_slots : (x : Step) (n s : ℕ) (before ds all : List Delivery) → s + n ≡ 32 → Ascend s 32 ds → Gets x s ds → before ++ ds ≡ all → Shows x all → told_of_slots x (range_with_len s n) ≡ map with_slot ds
+pub told_slots : (x : Transition) (n s : ℕ) (before ds all : List Delivery) → s + n ≡ 32 → Ascend s 32 ds → Gets x s ds → before ++ ds ≡ all → Shows x all → told_of_slots x (range_with_len s n) ≡ map with_slot ds
 told_slots x zero s before [] all e h g w shows = refl
 told_slots x zero s before (d ∷ ds) all e h g w shows = absurd (omega (arith, e, h.0, h.1))
 told_slots x (suc n) s before [] all e h g w shows =

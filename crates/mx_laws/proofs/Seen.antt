@@ -16,7 +16,7 @@ use Rattle.mx_look.specs.Glances.{cpu_glance, cpu_glances, glance_of, glance_of_
 use Rattle.mx_look.specs.Images.{image_glance}
 use Rattle.mx_look.specs.Doings.{is_ready as is_ready_doing, is_out as is_out_doing, is_waiting, seen_is}
 use Rattle.mx_look.specs.Going.{result_in}
-use Rattle.mx_look.specs.Step.{cpu_in, slot_in}
+use Rattle.mx_look.specs.Transition.{cpu_in, slot_in}
 
 pub slot_seen : (w : World) (s : ℕ) (v : Service) → s < 32 → slice_get w.services s ≡ Some v → slot_in (glance_of w) s ≡ Some (glance_of_slot w.table s v)
 unfolding slot_glances

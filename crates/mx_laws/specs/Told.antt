@@ -1,4 +1,4 @@
--- The laws of the facts of a step, as statements (our own).
+-- The laws of the facts of a transition, as statements (our own).
 use Rattle.std.specs.Prelude.{◌≡◌, ◌<◌, ◌≤◌, ℕ, List, [], ◌∷◌, length, Option, Some, None}
 use Rattle.mx_machine.specs.declared.history.Record.{Record}
 use Rattle.mx_machine.specs.History.{AreAccepted, events_of, world_after_events}
@@ -8,7 +8,7 @@ use Rattle.mx_laws.specs.Diary.{Item}
 use Rattle.mx_laws.specs.Diary.Item.{Ran, Result, Message, Copy}
 use Rattle.mx_laws.specs.Diaries.{diary}
 use Rattle.mx_look.specs.Going.{gone_on}
-use Rattle.mx_app_step.specs.Traces.{own_event, step_of, steps_before}
+use Rattle.mx_app_step.specs.Traces.{own_event, transition_of, steps_before}
 
 -- the world in which the event of a record is made: after the steps that the record counts
 abbrev pub world_before : World → Record → World
@@ -40,4 +40,5 @@ result_written items = result_after None items
 
 -- WHO HAS GONE ON WITH A RESULT, in the facts of a record, is whose EAX its event set to it
 abbrev pub ToldGoneOn : World → ℕ → Record → ℕ → Type 0
-ToldGoneOn w n x s = gone_on (step_of w n x) s ≡ result_written (diary (world_before w x) x.actor (own_event x.event) s)
+ToldGoneOn w n x s =
+    gone_on (transition_of w n x) s ≡ result_written (diary (world_before w x) x.actor (own_event x.event) s)

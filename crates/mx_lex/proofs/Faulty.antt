@@ -16,7 +16,7 @@ use Rattle.mx_lex.specs.declared.kinds.TokenKind.TheVariants as kinds
 use Rattle.mx_lex.specs.declared.kinds.Token.{Token}
 use Rattle.mx_lex.proofs.Unique.{gap_same}
 use Rattle.mx_lex.proofs.Lexing.{form_lt}
-use Rattle.mx_lex.proofs.Readings.{over_by, no_word, no_digit, mark_or, digit_or_mark, word_or_digit, token_over, end_over, token_same, start_same, no_token_left}
+use Rattle.mx_lex.proofs.Readings.{over_by, no_word, no_digit, punctuation_or, digit_or_punctuation, word_or_digit, token_over, end_over, token_same, start_same, no_token_left}
 
 -- ---- what ends a line is neither a quote, a backslash nor an escape
 
@@ -89,7 +89,7 @@ quoted_not_broken t k e x quote broken = by_kind k.kind k.end x.form
   where
     by_kind : (kind : TokenKind) (b : ℕ) → HasForm t kind k.start b → ⊥
     by_kind kinds.LineFeed b f = omega (arith, f.0, quote)
-    by_kind (kinds.Mark m) b f = mark_or (get_or t k.start 0) 34 m (inr refl) quote f.0
+    by_kind (kinds.Punctuation m) b f = punctuation_or (get_or t k.start 0) 34 m (inr refl) quote f.0
     by_kind kinds.Word b f = let h : false ≡ true = no_word (get_or t k.start 0) (get_or t (k.start + 1) 0) 34 f.0 quote in cc
     by_kind (kinds.Number n) b f = let h : false ≡ true = no_digit (get_or t k.start 0) 34 f.0 quote in cc
     by_kind kinds.Text b (q, end, body, last, s) = text_not_broken t (k.start + 1) end e body last broken
@@ -121,7 +121,7 @@ token_not_broken t k (BadNumber a) x (e, digit, (b, some, run, over, within, wro
   where
     by_kind : (kind : TokenKind) → HasForm t kind k.start k.end → ((c : ℕ) → k.end < c → c ≤ length t → HasForm t kind k.start c → ⊥) → IsMeant (slice_range t k.start k.end) kind → ⊥
     by_kind kinds.LineFeed f longest meant = let h : false ≡ true = no_digit (get_or t k.start 0) 10 digit f.0 in cc
-    by_kind (kinds.Mark m) f longest meant = digit_or_mark (get_or t k.start 0) m digit f.0
+    by_kind (kinds.Punctuation m) f longest meant = digit_or_punctuation (get_or t k.start 0) m digit f.0
     by_kind kinds.Word f longest meant = word_or_digit (get_or t k.start 0) (get_or t (k.start + 1) 0) f.0 digit
     by_kind kinds.Text f longest meant = let h : false ≡ true = no_digit (get_or t k.start 0) 34 digit f.0 in cc
     by_kind (kinds.Number n) f longest meant =

@@ -2,10 +2,10 @@
 use Rattle.std.proofs.Common.{◌≡◌, ◌≢◌, ℕ, ◌+◌, ◌<◌, ◌≤◌, ◌⊎◌, inl, inr, true, false, List, [], ◌∷◌, ◌++◌, length, get_or, refl, sym, subst, arith, IsTrue, rules}
 use Rattle.mx_text.specs.Bytes.{is_word_byte, is_digit}
 use Rattle.mx_lex.specs.Bytes.{AllFrom, begins_word}
-use Rattle.mx_lex.specs.Tokens.{Body, ends, plain, escape, Gap, none, blank, carriage_return, comment, IsToken, AreTokens, HasForm, mark_byte, BrokenAt, TellsLexFault, IsSlice, least}
+use Rattle.mx_lex.specs.Tokens.{Body, ends, plain, escape, Gap, none, blank, carriage_return, comment, IsToken, AreTokens, HasForm, punctuation_byte, BrokenAt, TellsLexFault, IsSlice, least}
 use Rattle.mx_lex.specs.declared.kinds.LexError.{LexError}
 use Rattle.mx_lex.specs.declared.kinds.LexError.TheVariants.{BadByte, BadNumber, OpenText, NoMemory}
-use Rattle.mx_lex.specs.declared.kinds.Mark.{Mark}
+use Rattle.mx_lex.specs.declared.kinds.Punctuation.{Punctuation}
 use Rattle.mx_lex.specs.declared.kinds.TokenKind.{TokenKind}
 use Rattle.mx_lex.specs.declared.kinds.TokenKind.TheVariants as kinds
 use Rattle.mx_lex.specs.declared.kinds.Token.{Token}
@@ -40,13 +40,13 @@ body_over t a b c (escape p' q' less) quote (escape p q more) = body_over t (a +
 
 -- ---- no token
 
-pub no_form : (t : List ℕ) (a : ℕ) → get_or t a 0 ≢ 10 → ((m : Mark) → get_or t a 0 ≢ mark_byte m) → get_or t a 0 ≢ 34
+pub no_form : (t : List ℕ) (a : ℕ) → get_or t a 0 ≢ 10 → ((m : Punctuation) → get_or t a 0 ≢ punctuation_byte m) → get_or t a 0 ≢ 34
     → is_digit (get_or t a 0) ≡ false → begins_word t a ≡ false → (k : TokenKind) (b : ℕ) → HasForm t k a b → ⊥
-no_form t a line mark quote digit word kinds.LineFeed b f = line f.0
-no_form t a line mark quote digit word (kinds.Mark m) b f = mark m f.0
-no_form t a line mark quote digit word kinds.Word b f = let h : begins_word t a ≡ true = f.0 in cc
-no_form t a line mark quote digit word (kinds.Number n) b f = let h : is_digit (get_or t a 0) ≡ true = f.0 in cc
-no_form t a line mark quote digit word kinds.Text b f = quote f.0
+no_form t a line punctuation quote digit word kinds.LineFeed b f = line f.0
+no_form t a line punctuation quote digit word (kinds.Punctuation m) b f = punctuation m f.0
+no_form t a line punctuation quote digit word kinds.Word b f = let h : begins_word t a ≡ true = f.0 in cc
+no_form t a line punctuation quote digit word (kinds.Number n) b f = let h : is_digit (get_or t a 0) ≡ true = f.0 in cc
+no_form t a line punctuation quote digit word kinds.Text b f = quote f.0
 
 -- ---- tokens in order
 
@@ -57,7 +57,7 @@ AreTokens-snoc t a b (j ∷ ks) k (g', x', rest) g x = (g', x', AreTokens-snoc t
 
 pub form_lt : (t : List ℕ) (k : TokenKind) (a b : ℕ) → HasForm t k a b → a < b
 form_lt t kinds.LineFeed a b f = omega (arith, f.1)
-form_lt t (kinds.Mark m) a b f = omega (arith, f.1)
+form_lt t (kinds.Punctuation m) a b f = omega (arith, f.1)
 form_lt t kinds.Word a b f = f.1
 form_lt t (kinds.Number n) a b f = f.1
 form_lt t kinds.Text a b (q, e, body, r, s) = omega (arith, body_le t (a + 1) e body, s)
@@ -81,7 +81,7 @@ slice_of t k x = (long k.kind k.end x.form, x.within)
   where
     long : (kind : TokenKind) (end : ℕ) → HasForm t kind k.start end → k.start + least kind ≤ end
     long kinds.LineFeed end f = omega (arith, f.1)
-    long (kinds.Mark m) end f = omega (arith, f.1)
+    long (kinds.Punctuation m) end f = omega (arith, f.1)
     long kinds.Word end f = omega (arith, f.1)
     long (kinds.Number n) end f = omega (arith, f.1)
     long kinds.Text end (q, e, body, r, s) = omega (arith, body_le t (k.start + 1) e body, s)

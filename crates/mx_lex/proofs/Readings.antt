@@ -6,9 +6,9 @@ use Rattle.std.proofs.lemmas.Grind.{common_steps}
 use Rattle.std.proofs.lemmas.List.Elements.{All-head, All-tail}
 use Rattle.mx_text.specs.Bytes.{is_digit, begins_name, is_letter, digit_value}
 use Rattle.mx_text.specs.Numbers.{IsNumber, AreDigits, value_from}
-use Rattle.mx_lex.specs.Tokens.{Gap, none, blank, carriage_return, comment, IsToken, AreTokens, HasForm, IsOver, IsMeant, IsReadAs, mark_byte}
-use Rattle.mx_lex.specs.declared.kinds.Mark.{Mark}
-use Rattle.mx_lex.specs.declared.kinds.Mark.TheVariants.{Open, Close, Plus, Minus, Star, Comma, Colon}
+use Rattle.mx_lex.specs.Tokens.{Gap, none, blank, carriage_return, comment, IsToken, AreTokens, HasForm, IsOver, IsMeant, IsReadAs, punctuation_byte}
+use Rattle.mx_lex.specs.declared.kinds.Punctuation.{Punctuation}
+use Rattle.mx_lex.specs.declared.kinds.Punctuation.TheVariants.{Open, Close, Plus, Minus, Star, Comma, Colon}
 use Rattle.mx_lex.specs.declared.kinds.TokenKind.{TokenKind}
 use Rattle.mx_lex.specs.declared.kinds.TokenKind.TheVariants as kinds
 use Rattle.mx_lex.specs.declared.kinds.Token.{Token}
@@ -34,18 +34,18 @@ no_word b c n h e = subst (λ (x : ℕ). begins x c ≡ true) e h
 pub no_digit : (b n : ℕ) → is_digit b ≡ true → b ≡ n → is_digit n ≡ true
 no_digit b n h e = subst (λ (x : ℕ). is_digit x ≡ true) e h
 
-mark_over : (t : List ℕ) (a : ℕ) (m : Mark) → get_or t a 0 ≡ mark_byte m → IsOver t a
-mark_over t a Open h = over_by t a (λ p. omega (arith, h, p)) (λ p. omega (arith, h, p)) (λ p. omega (arith, h, p)) (λ p. omega (arith, h, p))
-mark_over t a Close h = over_by t a (λ p. omega (arith, h, p)) (λ p. omega (arith, h, p)) (λ p. omega (arith, h, p)) (λ p. omega (arith, h, p))
-mark_over t a Plus h = over_by t a (λ p. omega (arith, h, p)) (λ p. omega (arith, h, p)) (λ p. omega (arith, h, p)) (λ p. omega (arith, h, p))
-mark_over t a Minus h = over_by t a (λ p. omega (arith, h, p)) (λ p. omega (arith, h, p)) (λ p. omega (arith, h, p)) (λ p. omega (arith, h, p))
-mark_over t a Star h = over_by t a (λ p. omega (arith, h, p)) (λ p. omega (arith, h, p)) (λ p. omega (arith, h, p)) (λ p. omega (arith, h, p))
-mark_over t a Comma h = over_by t a (λ p. omega (arith, h, p)) (λ p. omega (arith, h, p)) (λ p. omega (arith, h, p)) (λ p. omega (arith, h, p))
-mark_over t a Colon h = over_by t a (λ p. omega (arith, h, p)) (λ p. omega (arith, h, p)) (λ p. omega (arith, h, p)) (λ p. omega (arith, h, p))
+punctuation_over : (t : List ℕ) (a : ℕ) (m : Punctuation) → get_or t a 0 ≡ punctuation_byte m → IsOver t a
+punctuation_over t a Open h = over_by t a (λ p. omega (arith, h, p)) (λ p. omega (arith, h, p)) (λ p. omega (arith, h, p)) (λ p. omega (arith, h, p))
+punctuation_over t a Close h = over_by t a (λ p. omega (arith, h, p)) (λ p. omega (arith, h, p)) (λ p. omega (arith, h, p)) (λ p. omega (arith, h, p))
+punctuation_over t a Plus h = over_by t a (λ p. omega (arith, h, p)) (λ p. omega (arith, h, p)) (λ p. omega (arith, h, p)) (λ p. omega (arith, h, p))
+punctuation_over t a Minus h = over_by t a (λ p. omega (arith, h, p)) (λ p. omega (arith, h, p)) (λ p. omega (arith, h, p)) (λ p. omega (arith, h, p))
+punctuation_over t a Star h = over_by t a (λ p. omega (arith, h, p)) (λ p. omega (arith, h, p)) (λ p. omega (arith, h, p)) (λ p. omega (arith, h, p))
+punctuation_over t a Comma h = over_by t a (λ p. omega (arith, h, p)) (λ p. omega (arith, h, p)) (λ p. omega (arith, h, p)) (λ p. omega (arith, h, p))
+punctuation_over t a Colon h = over_by t a (λ p. omega (arith, h, p)) (λ p. omega (arith, h, p)) (λ p. omega (arith, h, p)) (λ p. omega (arith, h, p))
 
 form_over : (t : List ℕ) (k : TokenKind) (a b : ℕ) → HasForm t k a b → IsOver t a
 form_over t kinds.LineFeed a b (h, e) = over_by t a (λ p. omega (arith, h, p)) (λ p. omega (arith, h, p)) (λ p. omega (arith, h, p)) (λ p. omega (arith, h, p))
-form_over t (kinds.Mark m) a b (h, e) = mark_over t a m h
+form_over t (kinds.Punctuation m) a b (h, e) = punctuation_over t a m h
 form_over t kinds.Word a b (h, l, r) = over_by t a (λ p. let f : false ≡ true = no_word (get_or t a 0) (get_or t (a + 1) 0) 32 h p in cc) (λ p. let f : false ≡ true = no_word (get_or t a 0) (get_or t (a + 1) 0) 9 h p in cc) (λ p. let f : false ≡ true = no_word (get_or t a 0) (get_or t (a + 1) 0) 13 h p in cc) (λ p. let f : false ≡ true = no_word (get_or t a 0) (get_or t (a + 1) 0) 59 h p in cc)
 form_over t (kinds.Number n) a b (h, l, r) = over_by t a (λ p. let f : false ≡ true = no_digit (get_or t a 0) 32 h p in cc) (λ p. let f : false ≡ true = no_digit (get_or t a 0) 9 h p in cc) (λ p. let f : false ≡ true = no_digit (get_or t a 0) 13 h p in cc) (λ p. let f : false ≡ true = no_digit (get_or t a 0) 59 h p in cc)
 form_over t kinds.Text a b (h, e, body, q, s) = over_by t a (λ p. omega (arith, h, p)) (λ p. omega (arith, h, p)) (λ p. omega (arith, h, p)) (λ p. omega (arith, h, p))
@@ -64,72 +64,72 @@ end_over t =
 
 -- ---- the first byte gives the kind
 
-marks_same : (m n : Mark) → mark_byte m ≡ mark_byte n → m ≡ n
-marks_same Open Open e = refl
-marks_same Close Close e = refl
-marks_same Plus Plus e = refl
-marks_same Minus Minus e = refl
-marks_same Star Star e = refl
-marks_same Comma Comma e = refl
-marks_same Colon Colon e = refl
-marks_same m n e = absurd (omega (arith, e))
+punctuation_same : (m n : Punctuation) → punctuation_byte m ≡ punctuation_byte n → m ≡ n
+punctuation_same Open Open e = refl
+punctuation_same Close Close e = refl
+punctuation_same Plus Plus e = refl
+punctuation_same Minus Minus e = refl
+punctuation_same Star Star e = refl
+punctuation_same Comma Comma e = refl
+punctuation_same Colon Colon e = refl
+punctuation_same m n e = absurd (omega (arith, e))
 
--- a number with the kind: which byte a mark is
+-- a number with the kind: which byte a punctuation is
 abbrev AreAlike : TokenKind → TokenKind → Type 0
 AreAlike kinds.LineFeed kinds.LineFeed = Unit {0}
-AreAlike (kinds.Mark m) (kinds.Mark n) = m ≡ n
+AreAlike (kinds.Punctuation m) (kinds.Punctuation n) = m ≡ n
 AreAlike kinds.Word kinds.Word = Unit {0}
 AreAlike (kinds.Number m) (kinds.Number n) = Unit {0}
 AreAlike kinds.Text kinds.Text = Unit {0}
 AreAlike _ _ = ⊥
 
-word_or_mark : (b c : ℕ) (m : Mark) → begins b c ≡ true → b ≡ mark_byte m → ⊥
-word_or_mark b c Open h p = let f : false ≡ true = no_word b c (mark_byte Open) h p in cc
-word_or_mark b c Close h p = let f : false ≡ true = no_word b c (mark_byte Close) h p in cc
-word_or_mark b c Plus h p = let f : false ≡ true = no_word b c (mark_byte Plus) h p in cc
-word_or_mark b c Minus h p = let f : false ≡ true = no_word b c (mark_byte Minus) h p in cc
-word_or_mark b c Star h p = let f : false ≡ true = no_word b c (mark_byte Star) h p in cc
-word_or_mark b c Comma h p = let f : false ≡ true = no_word b c (mark_byte Comma) h p in cc
-word_or_mark b c Colon h p = let f : false ≡ true = no_word b c (mark_byte Colon) h p in cc
+word_or_punctuation : (b c : ℕ) (m : Punctuation) → begins b c ≡ true → b ≡ punctuation_byte m → ⊥
+word_or_punctuation b c Open h p = let f : false ≡ true = no_word b c (punctuation_byte Open) h p in cc
+word_or_punctuation b c Close h p = let f : false ≡ true = no_word b c (punctuation_byte Close) h p in cc
+word_or_punctuation b c Plus h p = let f : false ≡ true = no_word b c (punctuation_byte Plus) h p in cc
+word_or_punctuation b c Minus h p = let f : false ≡ true = no_word b c (punctuation_byte Minus) h p in cc
+word_or_punctuation b c Star h p = let f : false ≡ true = no_word b c (punctuation_byte Star) h p in cc
+word_or_punctuation b c Comma h p = let f : false ≡ true = no_word b c (punctuation_byte Comma) h p in cc
+word_or_punctuation b c Colon h p = let f : false ≡ true = no_word b c (punctuation_byte Colon) h p in cc
 
-pub digit_or_mark : (b : ℕ) (m : Mark) → is_digit b ≡ true → b ≡ mark_byte m → ⊥
-digit_or_mark b Open h p = let f : false ≡ true = no_digit b (mark_byte Open) h p in cc
-digit_or_mark b Close h p = let f : false ≡ true = no_digit b (mark_byte Close) h p in cc
-digit_or_mark b Plus h p = let f : false ≡ true = no_digit b (mark_byte Plus) h p in cc
-digit_or_mark b Minus h p = let f : false ≡ true = no_digit b (mark_byte Minus) h p in cc
-digit_or_mark b Star h p = let f : false ≡ true = no_digit b (mark_byte Star) h p in cc
-digit_or_mark b Comma h p = let f : false ≡ true = no_digit b (mark_byte Comma) h p in cc
-digit_or_mark b Colon h p = let f : false ≡ true = no_digit b (mark_byte Colon) h p in cc
+pub digit_or_punctuation : (b : ℕ) (m : Punctuation) → is_digit b ≡ true → b ≡ punctuation_byte m → ⊥
+digit_or_punctuation b Open h p = let f : false ≡ true = no_digit b (punctuation_byte Open) h p in cc
+digit_or_punctuation b Close h p = let f : false ≡ true = no_digit b (punctuation_byte Close) h p in cc
+digit_or_punctuation b Plus h p = let f : false ≡ true = no_digit b (punctuation_byte Plus) h p in cc
+digit_or_punctuation b Minus h p = let f : false ≡ true = no_digit b (punctuation_byte Minus) h p in cc
+digit_or_punctuation b Star h p = let f : false ≡ true = no_digit b (punctuation_byte Star) h p in cc
+digit_or_punctuation b Comma h p = let f : false ≡ true = no_digit b (punctuation_byte Comma) h p in cc
+digit_or_punctuation b Colon h p = let f : false ≡ true = no_digit b (punctuation_byte Colon) h p in cc
 
-pub mark_or : (b n : ℕ) (m : Mark) → (n ≡ 10) ⊎ (n ≡ 34) → b ≡ n → b ≡ mark_byte m → ⊥
-mark_or b n Open (inl e) p q = omega (arith, e, p, q)
-mark_or b n Open (inr e) p q = omega (arith, e, p, q)
-mark_or b n Close (inl e) p q = omega (arith, e, p, q)
-mark_or b n Close (inr e) p q = omega (arith, e, p, q)
-mark_or b n Plus (inl e) p q = omega (arith, e, p, q)
-mark_or b n Plus (inr e) p q = omega (arith, e, p, q)
-mark_or b n Minus (inl e) p q = omega (arith, e, p, q)
-mark_or b n Minus (inr e) p q = omega (arith, e, p, q)
-mark_or b n Star (inl e) p q = omega (arith, e, p, q)
-mark_or b n Star (inr e) p q = omega (arith, e, p, q)
-mark_or b n Comma (inl e) p q = omega (arith, e, p, q)
-mark_or b n Comma (inr e) p q = omega (arith, e, p, q)
-mark_or b n Colon (inl e) p q = omega (arith, e, p, q)
-mark_or b n Colon (inr e) p q = omega (arith, e, p, q)
+pub punctuation_or : (b n : ℕ) (m : Punctuation) → (n ≡ 10) ⊎ (n ≡ 34) → b ≡ n → b ≡ punctuation_byte m → ⊥
+punctuation_or b n Open (inl e) p q = omega (arith, e, p, q)
+punctuation_or b n Open (inr e) p q = omega (arith, e, p, q)
+punctuation_or b n Close (inl e) p q = omega (arith, e, p, q)
+punctuation_or b n Close (inr e) p q = omega (arith, e, p, q)
+punctuation_or b n Plus (inl e) p q = omega (arith, e, p, q)
+punctuation_or b n Plus (inr e) p q = omega (arith, e, p, q)
+punctuation_or b n Minus (inl e) p q = omega (arith, e, p, q)
+punctuation_or b n Minus (inr e) p q = omega (arith, e, p, q)
+punctuation_or b n Star (inl e) p q = omega (arith, e, p, q)
+punctuation_or b n Star (inr e) p q = omega (arith, e, p, q)
+punctuation_or b n Comma (inl e) p q = omega (arith, e, p, q)
+punctuation_or b n Comma (inr e) p q = omega (arith, e, p, q)
+punctuation_or b n Colon (inl e) p q = omega (arith, e, p, q)
+punctuation_or b n Colon (inr e) p q = omega (arith, e, p, q)
 
 pub word_or_digit : (b c : ℕ) → begins b c ≡ true → is_digit b ≡ true → ⊥
 word_or_digit b c h p = grind (arith, common_steps, h, p)
 
 pub kinds_alike : (t : List ℕ) (p q : TokenKind) (a b c : ℕ) → HasForm t p a b → HasForm t q a c → AreAlike p q
 kinds_alike t kinds.LineFeed kinds.LineFeed a b c f g = tt
-kinds_alike t (kinds.Mark m) (kinds.Mark n) a b c f g = marks_same m n (sym f.0 ∙ g.0)
+kinds_alike t (kinds.Punctuation m) (kinds.Punctuation n) a b c f g = punctuation_same m n (sym f.0 ∙ g.0)
 kinds_alike t kinds.Word kinds.Word a b c f g = tt
 kinds_alike t (kinds.Number m) (kinds.Number n) a b c f g = tt
 kinds_alike t kinds.Text kinds.Text a b c f g = tt
-kinds_alike t kinds.LineFeed (kinds.Mark n) a b c f g = mark_or (get_or t a 0) 10 n (inl refl) f.0 g.0
-kinds_alike t (kinds.Mark n) kinds.LineFeed a b c f g = mark_or (get_or t a 0) 10 n (inl refl) g.0 f.0
-kinds_alike t kinds.Text (kinds.Mark n) a b c f g = mark_or (get_or t a 0) 34 n (inr refl) f.0 g.0
-kinds_alike t (kinds.Mark n) kinds.Text a b c f g = mark_or (get_or t a 0) 34 n (inr refl) g.0 f.0
+kinds_alike t kinds.LineFeed (kinds.Punctuation n) a b c f g = punctuation_or (get_or t a 0) 10 n (inl refl) f.0 g.0
+kinds_alike t (kinds.Punctuation n) kinds.LineFeed a b c f g = punctuation_or (get_or t a 0) 10 n (inl refl) g.0 f.0
+kinds_alike t kinds.Text (kinds.Punctuation n) a b c f g = punctuation_or (get_or t a 0) 34 n (inr refl) f.0 g.0
+kinds_alike t (kinds.Punctuation n) kinds.Text a b c f g = punctuation_or (get_or t a 0) 34 n (inr refl) g.0 f.0
 kinds_alike t kinds.LineFeed kinds.Text a b c f g = absurd (omega (arith, f.0, g.0))
 kinds_alike t kinds.Text kinds.LineFeed a b c f g = absurd (omega (arith, f.0, g.0))
 kinds_alike t kinds.LineFeed kinds.Word a b c f g = let h : false ≡ true = no_word (get_or t a 0) (get_or t (a + 1) 0) 10 g.0 f.0 in cc
@@ -140,10 +140,10 @@ kinds_alike t kinds.LineFeed (kinds.Number n) a b c f g = let h : false ≡ true
 kinds_alike t (kinds.Number n) kinds.LineFeed a b c f g = let h : false ≡ true = no_digit (get_or t a 0) 10 f.0 g.0 in cc
 kinds_alike t kinds.Text (kinds.Number n) a b c f g = let h : false ≡ true = no_digit (get_or t a 0) 34 g.0 f.0 in cc
 kinds_alike t (kinds.Number n) kinds.Text a b c f g = let h : false ≡ true = no_digit (get_or t a 0) 34 f.0 g.0 in cc
-kinds_alike t (kinds.Mark m) kinds.Word a b c f g = word_or_mark (get_or t a 0) (get_or t (a + 1) 0) m g.0 f.0
-kinds_alike t kinds.Word (kinds.Mark m) a b c f g = word_or_mark (get_or t a 0) (get_or t (a + 1) 0) m f.0 g.0
-kinds_alike t (kinds.Mark m) (kinds.Number n) a b c f g = digit_or_mark (get_or t a 0) m g.0 f.0
-kinds_alike t (kinds.Number n) (kinds.Mark m) a b c f g = digit_or_mark (get_or t a 0) m f.0 g.0
+kinds_alike t (kinds.Punctuation m) kinds.Word a b c f g = word_or_punctuation (get_or t a 0) (get_or t (a + 1) 0) m g.0 f.0
+kinds_alike t kinds.Word (kinds.Punctuation m) a b c f g = word_or_punctuation (get_or t a 0) (get_or t (a + 1) 0) m f.0 g.0
+kinds_alike t (kinds.Punctuation m) (kinds.Number n) a b c f g = digit_or_punctuation (get_or t a 0) m g.0 f.0
+kinds_alike t (kinds.Number n) (kinds.Punctuation m) a b c f g = digit_or_punctuation (get_or t a 0) m f.0 g.0
 kinds_alike t kinds.Word (kinds.Number n) a b c f g = word_or_digit (get_or t a 0) (get_or t (a + 1) 0) f.0 g.0
 kinds_alike t (kinds.Number n) kinds.Word a b c f g = word_or_digit (get_or t a 0) (get_or t (a + 1) 0) g.0 f.0
 
@@ -166,7 +166,7 @@ one_number bs m n (inr (digits, e, x)) (inr (digits', e', y)) =
 
 alike_form : (t : List ℕ) (p q : TokenKind) (a b : ℕ) → AreAlike p q → HasForm t q a b → HasForm t p a b
 alike_form t kinds.LineFeed kinds.LineFeed a b e f = f
-alike_form t (kinds.Mark m) (kinds.Mark n) a b e f = subst (λ (x : Mark). HasForm t (kinds.Mark x) a b) (sym e) f
+alike_form t (kinds.Punctuation m) (kinds.Punctuation n) a b e f = subst (λ (x : Punctuation). HasForm t (kinds.Punctuation x) a b) (sym e) f
 alike_form t kinds.Word kinds.Word a b e f = f
 alike_form t (kinds.Number m) (kinds.Number n) a b e f = f
 alike_form t kinds.Text kinds.Text a b e f = f
@@ -174,7 +174,7 @@ alike_form t p q a b e f = absurd e
 
 alike_turned : (p q : TokenKind) → AreAlike p q → AreAlike q p
 alike_turned kinds.LineFeed kinds.LineFeed e = tt
-alike_turned (kinds.Mark m) (kinds.Mark n) e = sym e
+alike_turned (kinds.Punctuation m) (kinds.Punctuation n) e = sym e
 alike_turned kinds.Word kinds.Word e = tt
 alike_turned (kinds.Number m) (kinds.Number n) e = tt
 alike_turned kinds.Text kinds.Text e = tt
@@ -182,7 +182,7 @@ alike_turned p q e = absurd e
 
 alike_meant : (bs : List ℕ) (p q : TokenKind) → AreAlike p q → IsMeant bs p → IsMeant bs q → p ≡ q
 alike_meant bs kinds.LineFeed kinds.LineFeed e x y = refl
-alike_meant bs (kinds.Mark m) (kinds.Mark n) e x y = ap kinds.Mark e
+alike_meant bs (kinds.Punctuation m) (kinds.Punctuation n) e x y = ap kinds.Punctuation e
 alike_meant bs kinds.Word kinds.Word e x y = refl
 alike_meant bs (kinds.Number m) (kinds.Number n) e x y = ap kinds.Number (one_number bs m n x y)
 alike_meant bs kinds.Text kinds.Text e x y = refl

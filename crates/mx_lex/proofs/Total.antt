@@ -6,10 +6,10 @@ use Rattle.std.proofs.lemmas.Bool.Decides.{eqb_tells}
 use Rattle.mx_text.specs.Bytes.{is_word_byte, is_digit}
 use Rattle.mx_text.specs.Numbers.{IsNumber}
 use Rattle.mx_lex.specs.Bytes.{AllFrom, begins_word, ends_at, is_escape}
-use Rattle.mx_lex.specs.Tokens.{Body, ends, plain, escape, Gap, none, blank, carriage_return, comment, IsToken, AreTokens, HasForm, IsOver, mark_byte, IsBrokenText, BrokenAt, IsMeant, IsReadAs, IsLexFault}
+use Rattle.mx_lex.specs.Tokens.{Body, ends, plain, escape, Gap, none, blank, carriage_return, comment, IsToken, AreTokens, HasForm, IsOver, punctuation_byte, IsBrokenText, BrokenAt, IsMeant, IsReadAs, IsLexFault}
 use Rattle.mx_lex.specs.declared.kinds.LexError.{LexError}
 use Rattle.mx_lex.specs.declared.kinds.LexError.TheVariants.{BadByte, BadNumber, OpenText, NoMemory}
-use Rattle.mx_lex.specs.declared.kinds.Mark.{Mark}
+use Rattle.mx_lex.specs.declared.kinds.Punctuation.{Punctuation}
 use Rattle.mx_lex.specs.declared.kinds.TokenKind.{TokenKind}
 use Rattle.mx_lex.specs.declared.kinds.TokenKind.TheVariants as kinds
 use Rattle.mx_lex.specs.declared.kinds.Token.{Token}
@@ -162,7 +162,7 @@ digit_run t a b digit run i p q = by_first (cases_lt a i)
 -- where no gap goes on, a token begins or something is broken
 begins_or_broken : (t : List ℕ) (a : ℕ) → a < length t → IsOver t a → (Begins t a → ⊥) → ((e : LexError) → BrokenAt t a e → ⊥) → ⊥
 begins_or_broken t a less over begins broken =
-    by_cases ((m : Mark) × (get_or t a 0 ≡ mark_byte m)) (by_mark (eqb_tells (get_or t a 0) 10) (eqb_tells (get_or t a 0) 34) (is_or_not (is_digit (get_or t a 0))) (is_or_not (begins_word t a)))
+    by_cases ((m : Punctuation) × (get_or t a 0 ≡ punctuation_byte m)) (by_punctuation (eqb_tells (get_or t a 0) 10) (eqb_tells (get_or t a 0) 34) (is_or_not (is_digit (get_or t a 0))) (is_or_not (begins_word t a)))
   where
     by_run : (b : ℕ) × (a + 1 ≤ b) × (b ≤ length t) × AllFrom is_word_byte t (a + 1) b × (b < length t → is_word_byte (get_or t b 0) ≡ false) → begins_word t a ≡ true → ⊥
     by_run (b, from, within, run, end) word = begins (
@@ -200,16 +200,16 @@ begins_or_broken t a less over begins broken =
     nothing : AllFrom is_word_byte t (a + 1) (a + 1)
     nothing i p q = absurd (omega (arith, p, q))
 
-    by_mark : (((get_or t a 0 == 10) ≡ true) × (get_or t a 0 ≡ 10)) ⊎ (((get_or t a 0 == 10) ≡ false) × (get_or t a 0 ≢ 10))
+    by_punctuation : (((get_or t a 0 == 10) ≡ true) × (get_or t a 0 ≡ 10)) ⊎ (((get_or t a 0 == 10) ≡ false) × (get_or t a 0 ≢ 10))
         → (((get_or t a 0 == 34) ≡ true) × (get_or t a 0 ≡ 34)) ⊎ (((get_or t a 0 == 34) ≡ false) × (get_or t a 0 ≢ 34))
         → (is_digit (get_or t a 0) ≡ true) ⊎ (is_digit (get_or t a 0) ≡ false) → (begins_word t a ≡ true) ⊎ (begins_word t a ≡ false)
-        → (((m : Mark) × (get_or t a 0 ≡ mark_byte m)) ⊎ (((m : Mark) × (get_or t a 0 ≡ mark_byte m)) → ⊥)) → ⊥
-    by_mark line quote digit word (inl (m, e)) = begins (one_byte t (kinds.Mark m) a less (e, refl) (λ c f. f.1) tt)
-    by_mark (inl p) quote digit word (inr never) = begins (one_byte t kinds.LineFeed a less (p.1, refl) (λ c f. f.1) tt)
-    by_mark (inr p) (inl q) digit word (inr never) = by_quote q.1 (body_out t (length t) (a + 1) (a + 1) (omega arith) (omega arith) (λ b more. more))
-    by_mark (inr p) (inr q) (inl d) word (inr never) = by_digits d (run_out t (length t) (a + 1) (a + 1) (omega arith) (omega arith) (omega arith) nothing)
-    by_mark (inr p) (inr q) (inr d) (inl w) (inr never) = by_run (run_out t (length t) (a + 1) (a + 1) (omega arith) (omega arith) (omega arith) nothing) w
-    by_mark (inr p) (inr q) (inr d) (inr w) (inr never) =
+        → (((m : Punctuation) × (get_or t a 0 ≡ punctuation_byte m)) ⊎ (((m : Punctuation) × (get_or t a 0 ≡ punctuation_byte m)) → ⊥)) → ⊥
+    by_punctuation line quote digit word (inl (m, e)) = begins (one_byte t (kinds.Punctuation m) a less (e, refl) (λ c f. f.1) tt)
+    by_punctuation (inl p) quote digit word (inr never) = begins (one_byte t kinds.LineFeed a less (p.1, refl) (λ c f. f.1) tt)
+    by_punctuation (inr p) (inl q) digit word (inr never) = by_quote q.1 (body_out t (length t) (a + 1) (a + 1) (omega arith) (omega arith) (λ b more. more))
+    by_punctuation (inr p) (inr q) (inl d) word (inr never) = by_digits d (run_out t (length t) (a + 1) (a + 1) (omega arith) (omega arith) (omega arith) nothing)
+    by_punctuation (inr p) (inr q) (inr d) (inl w) (inr never) = by_run (run_out t (length t) (a + 1) (a + 1) (omega arith) (omega arith) (omega arith) nothing) w
+    by_punctuation (inr p) (inr q) (inr d) (inr w) (inr never) =
         broken (BadByte a) (inl (refl, less, over, (λ k here f. no_form t a p.1 (λ m e. never (m, e)) q.1 d w k.kind k.end (subst (λ (i : ℕ). HasForm t k.kind i k.end) here f)), q.1))
 
 -- ---- the whole text

@@ -4,8 +4,8 @@ use Rattle.std.specs.Prelude.{slice_range, ⊤}
 use Rattle.mx_text.specs.Bytes.{is_digit, is_word_byte}
 use Rattle.mx_text.specs.Numbers.{IsNumber}
 use Rattle.mx_lex.specs.Bytes.{is_escape, ends_at, AllFrom, begins_word}
-use Rattle.mx_lex.specs.declared.kinds.Mark.{Mark}
-use Rattle.mx_lex.specs.declared.kinds.Mark.TheVariants.{Open, Close, Plus, Minus, Star, Comma, Colon}
+use Rattle.mx_lex.specs.declared.kinds.Punctuation.{Punctuation}
+use Rattle.mx_lex.specs.declared.kinds.Punctuation.TheVariants.{Open, Close, Plus, Minus, Star, Comma, Colon}
 use Rattle.mx_lex.specs.declared.kinds.TokenKind.{TokenKind}
 use Rattle.mx_lex.specs.declared.kinds.TokenKind.TheVariants as kinds
 use Rattle.mx_lex.specs.declared.kinds.Token.{Token}
@@ -22,19 +22,19 @@ pub data Body (t : List ℕ) : ℕ → ℕ → Type 0 where
 
 -- ---- tokens
 
-abbrev pub mark_byte : Mark → ℕ
-mark_byte Open = 91
-mark_byte Close = 93
-mark_byte Plus = 43
-mark_byte Minus = 45
-mark_byte Star = 42
-mark_byte Comma = 44
-mark_byte Colon = 58
+abbrev pub punctuation_byte : Punctuation → ℕ
+punctuation_byte Open = 91
+punctuation_byte Close = 93
+punctuation_byte Plus = 43
+punctuation_byte Minus = 45
+punctuation_byte Star = 42
+punctuation_byte Comma = 44
+punctuation_byte Colon = 58
 
 -- the bytes from a up to b have the form of a kind: what begins with a digit runs on over letters, digits and _
 abbrev pub HasForm : List ℕ → TokenKind → ℕ → ℕ → Type 0
 HasForm t kinds.LineFeed a b = (slice_index t a ≡ 10) × (b ≡ a + 1)
-HasForm t (kinds.Mark m) a b = (slice_index t a ≡ mark_byte m) × (b ≡ a + 1)
+HasForm t (kinds.Punctuation m) a b = (slice_index t a ≡ punctuation_byte m) × (b ≡ a + 1)
 HasForm t kinds.Word a b = (begins_word t a ≡ true) × (a < b) × AllFrom is_word_byte t (a + 1) b
 HasForm t (kinds.Number n) a b = (is_digit (slice_index t a) ≡ true) × (a < b) × AllFrom is_word_byte t (a + 1) b
 HasForm t kinds.Text a b = (slice_index t a ≡ 34) × (e : ℕ) × Body t (a + 1) e × (slice_index t e ≡ 34) × (b ≡ e + 1)

@@ -7,7 +7,7 @@ use std::alloc::{AllocError, AllocFailed};
 
 /// A token of one byte.
 #[derive(Clone, Copy, Debug, PartialEq, Eq)]
-pub enum Mark {
+pub enum Punctuation {
     Open,
     Close,
     Plus,
@@ -21,7 +21,7 @@ pub enum Mark {
 #[derive(Clone, Copy, Debug, PartialEq, Eq)]
 pub enum TokenKind {
     LineFeed,
-    Mark(Mark),
+    Punctuation(Punctuation),
     Word,
     Number(u32),
     /// With its quotes.

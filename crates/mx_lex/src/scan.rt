@@ -3,24 +3,24 @@
 ghost use Rattle.std.specs.Prelude.{◌≡◌, ◌≢◌, ◌<◌, length, slice_index, true, MatchOption, IfOk, IfErr};
 ghost use Rattle.mx_text.specs.Bytes.{is_digit};
 ghost use Rattle.mx_lex.specs.Bytes.{begins_word};
-ghost use Rattle.mx_lex.specs.Tokens.{IsOver, IsToken, BrokenAt, mark_byte};
+ghost use Rattle.mx_lex.specs.Tokens.{IsOver, IsToken, BrokenAt, punctuation_byte};
 
 use crate::gaps::run_end;
-use crate::kinds::{LexError, Mark, Token, TokenKind};
+use crate::kinds::{LexError, Punctuation, Token, TokenKind};
 use crate::text::quote_at;
 use mx_text::{begins_name, is_digit, is_letter, number_of};
 
-fn mark_of(byte: u8) -> Option<Mark>
-    ensures { MatchOption result ((m : Mark) → byte ≢ mark_byte m) (λ m. byte ≡ mark_byte m) }
+fn punctuation_of(byte: u8) -> Option<Punctuation>
+    ensures { MatchOption result ((m : Punctuation) → byte ≢ punctuation_byte m) (λ m. byte ≡ punctuation_byte m) }
 {
     match byte {
-        b'[' => Some(Mark::Open),
-        b']' => Some(Mark::Close),
-        b'+' => Some(Mark::Plus),
-        b'-' => Some(Mark::Minus),
-        b'*' => Some(Mark::Star),
-        b',' => Some(Mark::Comma),
-        b':' => Some(Mark::Colon),
+        b'[' => Some(Punctuation::Open),
+        b']' => Some(Punctuation::Close),
+        b'+' => Some(Punctuation::Plus),
+        b'-' => Some(Punctuation::Minus),
+        b'*' => Some(Punctuation::Star),
+        b',' => Some(Punctuation::Comma),
+        b':' => Some(Punctuation::Colon),
         _ => None,
     }
 }
@@ -84,9 +84,9 @@ pub fn token_at(bytes: &[u8], start: usize) -> Result<Token, LexError>
             end: start + 1,
         });
     }
-    if let Some(mark) = mark_of(byte) {
+    if let Some(punctuation) = punctuation_of(byte) {
         return Ok(Token {
-            kind: TokenKind::Mark(mark),
+            kind: TokenKind::Punctuation(punctuation),
             start,
             end: start + 1,
         });

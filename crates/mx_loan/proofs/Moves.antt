@@ -14,7 +14,7 @@ use Rattle.atomic_table.proofs.Lists.{at_set}
 use Rattle.mx_machine.specs.History.{part_of}
 use Rattle.mx_machine.specs.declared.history.Record.{Record}
 use Rattle.mx_machine.specs.declared.holding.Out.{Out}
-use Rattle.mx_loan.specs.declared.shown.Shown.{Shown}
+use Rattle.mx_loan.specs.declared.ghost_value.Ghost.{Ghost}
 use Rattle.mx_loan.specs.declared.knowledge.Knowledge.{Knowledge}
 use Rattle.mx_loan.specs.declared.knowledge.Announcement.{Announcement}
 use Rattle.mx_loan.specs.declared.knowledge.TableSizes.{TableSizes}
@@ -115,9 +115,9 @@ keeps_rule words views id v w h at both alone own =
         )
 
 -- the words of a step: any step that preserves the facts of the view with both halves is allowed
-pub allows : (f : Knowledge → Announcement → Knowledge) (slots id : ℕ) (v : Knowledge) (c : List (ℕ × Shown Announcement)) (old new : ℕ) (x : Shown Announcement) → IsJoined v
+pub allows : (f : Knowledge → Announcement → Knowledge) (slots id : ℕ) (v : Knowledge) (c : List (ℕ × Ghost Announcement)) (old new : ℕ) (x : Ghost Announcement) → IsJoined v
     → (JoinedFacts v → (v.phase ≡ old) × ((f v x.value).phase ≡ new) × ChangesOneActor v (f v x.value) × JoinedFacts (f v x.value))
-    → Allows {S = Shown Announcement} {V = Knowledge} (λ s. RuleHolds s.words s.views) slots id (v, c) v.actor (λ n. either (n == old) new n) (StepMakes f (step slots v.actor old new (some x)) (v, c))
+    → Allows {S = Ghost Announcement} {V = Knowledge} (λ s. RuleHolds s.words s.views) slots id (v, c) v.actor (λ n. either (n == old) new n) (StepMakes f (step slots v.actor old new (some x)) (v, c))
 allows f slots id v c old new x both go s h _ at _ =
     let o = own_of s.words s.views id v h at both in
     let own : JoinedFacts v = o.2 in
@@ -164,7 +164,7 @@ at_end (x ∷ xs) a b zero e = inl e
 at_end (x ∷ xs) a b (suc j) e = ⊎_elim (λ (h : get_elem? xs j ≡ some b). inl h) (λ (h : (j ≡ length xs) × (a ≡ b)). inr (ap suc h.0, h.1)) (at_end xs a b j e)
 
 pub joins : (id other : ℕ) (k v : Knowledge) → k.knows ≡ true → k.sits ≡ false → v.knows ≡ false → v.sits ≡ true
-    → Joins {S = Shown Announcement} {V = Knowledge} (λ s. RuleHolds s.words s.views) id k other v (joined_view k v) spent_view
+    → Joins {S = Ghost Announcement} {V = Knowledge} (λ s. RuleHolds s.words s.views) id k other v (joined_view k v) spent_view
 joins id other k v kk ks vk vs s h at apart there = record {
   log = h.log;
   lent = h.lent;
@@ -224,7 +224,7 @@ joins id other k v kk ks vk vs s h at apart there = record {
 
 -- and parted again
 pub splits : (id : ℕ) (v : Knowledge) → IsJoined v → (v.phase ≡ word_at_rest v.held)
-    → Splits {S = Shown Announcement} {V = Knowledge} (λ s. RuleHolds s.words s.views) id v (kernel_half v) (actor_half v)
+    → Splits {S = Ghost Announcement} {V = Knowledge} (λ s. RuleHolds s.words s.views) id v (kernel_half v) (actor_half v)
 splits id v both rest s h at = record {
   log = h.log;
   lent = h.lent;
@@ -282,16 +282,16 @@ splits id v both rest s h at = record {
         (λ (other : b ≢ v.actor). kernel.1.still b (λ _. other))
 
 -- as `allows`, if the word's number is known by an equation
-pub allows_at : (f : Knowledge → Announcement → Knowledge) (slots id : ℕ) (v : Knowledge) (c : List (ℕ × Shown Announcement)) (old new : ℕ) (x : Shown Announcement) (i : ℕ) → i ≡ v.actor → IsJoined v
+pub allows_at : (f : Knowledge → Announcement → Knowledge) (slots id : ℕ) (v : Knowledge) (c : List (ℕ × Ghost Announcement)) (old new : ℕ) (x : Ghost Announcement) (i : ℕ) → i ≡ v.actor → IsJoined v
     → (JoinedFacts v → (v.phase ≡ old) × ((f v x.value).phase ≡ new) × ChangesOneActor v (f v x.value) × JoinedFacts (f v x.value))
-    → Allows {S = Shown Announcement} {V = Knowledge} (λ s. RuleHolds s.words s.views) slots id (v, c) i (λ n. either (n == old) new n) (StepMakes f (step slots i old new (some x)) (v, c))
+    → Allows {S = Ghost Announcement} {V = Knowledge} (λ s. RuleHolds s.words s.views) slots id (v, c) i (λ n. either (n == old) new n) (StepMakes f (step slots i old new (some x)) (v, c))
 allows_at f slots id v c old new x i same both go =
-    subst (λ (j : ℕ). Allows {S = Shown Announcement} {V = Knowledge} (λ s. RuleHolds s.words s.views) slots id (v, c) j (λ n. either (n == old) new n) (StepMakes f (step slots j old new (some x)) (v, c)))
+    subst (λ (j : ℕ). Allows {S = Ghost Announcement} {V = Knowledge} (λ s. RuleHolds s.words s.views) slots id (v, c) j (λ n. either (n == old) new n) (StepMakes f (step slots j old new (some x)) (v, c)))
     (sym same) (allows f slots id v c old new x both go)
 
 -- an actor's seat is made
 pub births : (id : ℕ) (v : Knowledge) → v.founding ≡ true → v.made < v.actors
-    → Splits {S = Shown Announcement} {V = Knowledge} (λ s. RuleHolds s.words s.views) id v (founder_after_birth v) (newborn_view v)
+    → Splits {S = Ghost Announcement} {V = Knowledge} (λ s. RuleHolds s.words s.views) id v (founder_after_birth v) (newborn_view v)
 births id v founding room s h at = record {
   log = h.log;
   lent = h.lent;
@@ -372,7 +372,7 @@ births id v founding room s h at = record {
 
 -- all actors' seats are made
 pub founded : (id : ℕ) (v : Knowledge) → v.founding ≡ true
-    → Splits {S = Shown Announcement} {V = Knowledge} (λ s. RuleHolds s.words s.views) id v (kernel_half v) spent_view
+    → Splits {S = Ghost Announcement} {V = Knowledge} (λ s. RuleHolds s.words s.views) id v (kernel_half v) spent_view
 founded id v founding s h at = record {
   log = h.log;
   lent = h.lent;

@@ -10,7 +10,7 @@ use Rattle.mx_machine.specs.declared.history.Recorded.TheVariants.{Take, Back}
 use Rattle.mx_machine.specs.declared.holding.Out.{Out}
 use Rattle.mx_loan.specs.declared.knowledge.Knowledge.{Knowledge}
 use Rattle.mx_loan.specs.declared.knowledge.Announcement.{Announcement}
-use Rattle.mx_loan.specs.Rule.{lent_to, word_at_rest, WordMeans, home, out, offer, back, home_with_note_due, out_with_note_due, JoinedFacts, IsJoined, view_after_offer, view_after_take, view_after_return, view_after_close, view_after_record, view_after_note, value_of_shown}
+use Rattle.mx_loan.specs.Rule.{lent_to, word_at_rest, WordMeans, home, out, offer, back, home_with_note_due, out_with_note_due, JoinedFacts, IsJoined, view_after_offer, view_after_take, view_after_return, view_after_close, view_after_record, view_after_note, value_of_ghost}
 use Rattle.mx_loan.proofs.Changes.{ChangesOneActor}
 use Rattle.mx_loan.proofs.Fronts.{prefix_self, prefix_trans}
 
@@ -79,7 +79,7 @@ module _ (v : Knowledge) (x : Announcement) (both : IsJoined v) where
     lent = λ b _. ap (λ (k : List (Option Out)). lent_to k b) l;
   }
 
-  pub offers : x.record.actor ≡ v.actor → x.record.event ≡ Take → (y : Out) → value_of_shown x.lent ≡ Some y → v.actor < length v.lent → v.phase ≡ 0 → JoinedFacts v → (v.phase ≡ 0) × ((view_after_offer v x).phase ≡ 1) × ChangesOneActor v (view_after_offer v x) × JoinedFacts (view_after_offer v x)
+  pub offers : x.record.actor ≡ v.actor → x.record.event ≡ Take → (y : Out) → value_of_ghost x.lent ≡ Some y → v.actor < length v.lent → v.phase ≡ 0 → JoinedFacts v → (v.phase ≡ 0) × ((view_after_offer v x).phase ≡ 1) × ChangesOneActor v (view_after_offer v x) × JoinedFacts (view_after_offer v x)
   offers mine take y lent room z own =
       let t = at_home own.word z in (
         z,
@@ -88,17 +88,17 @@ module _ (v : Knowledge) (x : Announcement) (both : IsJoined v) where
           actor = refl;
           both = both;
           history = (x.record ∷ [], refl, λ b other. part_other b x.record (λ same. other (same ∙ mine)));
-          lent = λ b other. get_or-set_other v.lent v.actor b (value_of_shown x.lent) None other;
+          lent = λ b other. get_or-set_other v.lent v.actor b (value_of_ghost x.lent) None other;
         },
         record {
           seen = longer v.seen v.history x.record own.seen;
           known = own.known;
           word = offer x.record y refl take (part_own v.actor v.history x.record mine ∙ ap (λ (l : List Record). l ++ x.record ∷ []) t.0)
-              (get_or-set_same v.lent v.actor (value_of_shown x.lent) None room ∙ lent) t.2;
+              (get_or-set_same v.lent v.actor (value_of_ghost x.lent) None room ∙ lent) t.2;
         },
       )
 
-  pub takes : x.record.actor ≡ v.actor → (h : List Record) → v.history ≡ h ++ x.record ∷ [] → value_of_shown x.lent ≡ lent_to v.lent v.actor → v.phase ≡ 1 → JoinedFacts v → (v.phase ≡ 1) × ((view_after_take v x).phase ≡ 2) × ChangesOneActor v (view_after_take v x) × JoinedFacts (view_after_take v x)
+  pub takes : x.record.actor ≡ v.actor → (h : List Record) → v.history ≡ h ++ x.record ∷ [] → value_of_ghost x.lent ≡ lent_to v.lent v.actor → v.phase ≡ 1 → JoinedFacts v → (v.phase ≡ 1) × ((view_after_take v x).phase ≡ 2) × ChangesOneActor v (view_after_take v x) × JoinedFacts (view_after_take v x)
   takes mine h ends lent z own =
       let t = at_offer own.word z in
       let r : t.0 ≡ x.record = last_same v.mine (part_of h v.actor) t.0 x.record (sym t.2 ∙ ap (λ (l : List Record). part_of l v.actor) ends ∙ part_own v.actor h x.record mine) in

@@ -19,7 +19,7 @@ use Rattle.mx_machine.specs.History.{part_of}
 use Rattle.mx_machine.specs.declared.history.Record.{Record}
 use Rattle.mx_machine.specs.declared.history.Recorded.TheVariants.{Take, Back}
 use Rattle.mx_machine.specs.declared.holding.Out.{Out}
-use Rattle.mx_loan.specs.declared.shown.Shown.{Shown}
+use Rattle.mx_loan.specs.declared.ghost_value.Ghost.{Ghost}
 use Rattle.mx_loan.specs.declared.knowledge.Knowledge.{Knowledge}
 use Rattle.mx_loan.specs.declared.knowledge.Announcement.{Announcement}
 use Rattle.mx_loan.specs.declared.knowledge.TableSizes.{TableSizes}
@@ -180,23 +180,23 @@ pub record JoinedFacts (v : Knowledge) : Type 0 where
 -- ---- THE SIX KINDS OF STEP
 
 -- what is lent by an announcement
-abbrev pub value_of_shown : Option (Shown Out) → Option Out
-value_of_shown None = None
-value_of_shown (Some x) = Some x.value
+abbrev pub value_of_ghost : Option (Ghost Out) → Option Out
+value_of_ghost None = None
+value_of_ghost (Some x) = Some x.value
 
 -- the kernel records that the actor takes a process, which it lends from then on
 abbrev pub view_after_offer : Knowledge → Announcement → Knowledge
 view_after_offer v x =
     record v {
       history = v.history ++ x.record ∷ [];
-      lent = slice_set v.lent v.actor (value_of_shown x.lent);
+      lent = slice_set v.lent v.actor (value_of_ghost x.lent);
       phase = offered;
     }
 
 -- the actor notes it, and holds what is lent
 abbrev pub view_after_take : Knowledge → Announcement → Knowledge
 view_after_take v x =
-    record v { mine = v.mine ++ x.record ∷ []; seen = v.history; held = value_of_shown x.lent; phase = lent_out }
+    record v { mine = v.mine ++ x.record ∷ []; seen = v.history; held = value_of_ghost x.lent; phase = lent_out }
 
 -- the actor notes that it brings the process back, and holds nothing
 abbrev pub view_after_return : Knowledge → Announcement → Knowledge
@@ -216,8 +216,8 @@ abbrev pub view_after_note : Knowledge → Announcement → Knowledge
 view_after_note v x = record v { mine = part_of v.history v.actor; seen = v.history; phase = word_at_rest v.held }
 
 -- a step makes the view what f gives of it and of what was announced
-abbrev pub StepMakes : (Knowledge → Announcement → Knowledge) → Step (Shown Announcement)
-    → Me (Shown Announcement) Knowledge → ℕ → Me (Shown Announcement) Knowledge → Type 0
+abbrev pub StepMakes : (Knowledge → Announcement → Knowledge) → Step (Ghost Announcement)
+    → Me (Ghost Announcement) Knowledge → ℕ → Me (Ghost Announcement) Knowledge → Type 0
 StepMakes f s me n after =
-    (x : Shown Announcement) × (s.said ≡ some x) × (after ≡ (f me.0 x.value, me.1)) × JoinedFacts me.0
+    (x : Ghost Announcement) × (s.said ≡ some x) × (after ≡ (f me.0 x.value, me.1)) × JoinedFacts me.0
     × JoinedFacts (f me.0 x.value)

@@ -11,7 +11,7 @@ use Rattle.mx_machine.specs.declared.holding.Out.{Out}
 use Rattle.mx_machine.specs.Held.{IsRunOf}
 use Rattle.mx_machine.specs.Stop.TheVariants.{Spent}
 use Rattle.mx_image.specs.Run.{run_of}
-use Rattle.mx_loan.specs.declared.shown.Shown.{Shown}
+use Rattle.mx_loan.specs.declared.ghost_value.Ghost.{Ghost}
 use Rattle.mx_loan.specs.declared.knowledge.Announcement.{Announcement}
 use Rattle.mx_loan.specs.declared.knowledge.Knowledge.{Knowledge}
 use Rattle.mx_loan.specs.Rule.{actor_half, kernel_half, lent_to, word_at_rest}
@@ -59,7 +59,7 @@ seat_of z a v = record { table = z; actor = a; mine = v.mine; seen = v.seen; hel
 
 -- a seat has only its actor's half: its word is 2 if it holds something, and its own records are all of its actor's
 -- that it has seen
-abbrev pub IsActorSeat : TableId → ℕ → Bool → Me (Shown Announcement) Knowledge → Type 0
+abbrev pub IsActorSeat : TableId → ℕ → Bool → Me (Ghost Announcement) Knowledge → Type 0
 IsActorSeat z a holds me =
     (me ≡ (actor_half me.0, [])) × (me.0.actor ≡ a) × (a < z.words)
     × (word_at_rest me.0.held ≡ (if holds then 2 else 0)) × (me.0.mine ≡ part_of me.0.seen a)
@@ -69,7 +69,7 @@ abbrev pub desk_of : TableId → Knowledge → DeskView
 desk_of z v = record { table = z; history = v.history; lent = v.lent }
 
 -- it has only the kernel's half
-abbrev pub IsKernelSeat : Me (Shown Announcement) Knowledge → Type 0
+abbrev pub IsKernelSeat : Me (Ghost Announcement) Knowledge → Type 0
 IsKernelSeat me = me ≡ (kernel_half me.0, [])
 
 -- ---- records

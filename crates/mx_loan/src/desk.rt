@@ -12,10 +12,10 @@ ghost use Rattle.mx_loan.specs.Seats.{HasMadeNoStep, IsSeatOf, empty_desk, new_s
 ghost use Rattle.mx_loan.specs.Seats.{desk_after_take, desk_after_back, desk_after_event};
 ghost use Rattle.mx_loan.specs.Seats.{seat_after_take, seat_after_back, seat_after_event, seat_seeing};
 
+use crate::ghost_value::Ghost;
 use crate::knowledge::Announcement;
 use crate::loan::Loan;
 use crate::seat::ActorSeat;
-use crate::shown::Shown;
 use crate::steps::{self, ActorTable, TableSeat};
 use mx_machine::{Out, Record, Recorded};
 use std::alloc::{AllocError, Global};
@@ -86,9 +86,9 @@ impl Desk {
                 actor,
                 event: Recorded::Take,
             },
-            lent: Some(Shown::of(&out)),
+            lent: Some(Ghost::of(&out)),
         };
-        let lent = Shown::of(&out);
+        let lent = Ghost::of(&out);
         let table = &self.table;
         let both = &mut self.seat;
         steps::join_seats(table, both, seat);

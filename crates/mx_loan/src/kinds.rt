@@ -1,13 +1,13 @@
 //! The rule of the loans' table, and the kinds of step that preserve it.
 
-use crate::Shown;
+use crate::Ghost;
 use crate::knowledge::{Announcement, Knowledge, TableSizes};
 use atomic_table::{Join, Play, Split, TableRule};
 
 /// What each word means for its actor, and that all seats agree on one history.
 pub struct LoanRule;
 
-impl TableRule<Shown<Announcement>, Knowledge, TableSizes> for LoanRule {
+impl TableRule<Ghost<Announcement>, Knowledge, TableSizes> for LoanRule {
     ghost use Rattle.mx_loan.specs.Rule.{RuleHolds, founder_view};
 
     ghost holds = { λ _ s. RuleHolds s.words s.views };
@@ -59,7 +59,7 @@ impl Split<Knowledge> for Halves {
 /// Offer, word 0 to 1: the kernel records that an actor takes a process.
 pub struct OfferStep;
 
-impl Play<Shown<Announcement>, Knowledge> for OfferStep {
+impl Play<Ghost<Announcement>, Knowledge> for OfferStep {
     ghost use Rattle.mx_loan.specs.Rule.{StepMakes, view_after_offer};
 
     ghost then = { StepMakes view_after_offer };
@@ -68,7 +68,7 @@ impl Play<Shown<Announcement>, Knowledge> for OfferStep {
 /// Take, word 1 to 2: the actor notes it, and holds what is lent.
 pub struct TakeStep;
 
-impl Play<Shown<Announcement>, Knowledge> for TakeStep {
+impl Play<Ghost<Announcement>, Knowledge> for TakeStep {
     ghost use Rattle.mx_loan.specs.Rule.{StepMakes, view_after_take};
 
     ghost then = { StepMakes view_after_take };
@@ -77,7 +77,7 @@ impl Play<Shown<Announcement>, Knowledge> for TakeStep {
 /// Return, word 2 to 3: the actor notes that it brings its process back.
 pub struct ReturnStep;
 
-impl Play<Shown<Announcement>, Knowledge> for ReturnStep {
+impl Play<Ghost<Announcement>, Knowledge> for ReturnStep {
     ghost use Rattle.mx_loan.specs.Rule.{StepMakes, view_after_return};
 
     ghost then = { StepMakes view_after_return };
@@ -86,7 +86,7 @@ impl Play<Shown<Announcement>, Knowledge> for ReturnStep {
 /// Close, word 3 to 0: the kernel records it.
 pub struct CloseStep;
 
-impl Play<Shown<Announcement>, Knowledge> for CloseStep {
+impl Play<Ghost<Announcement>, Knowledge> for CloseStep {
     ghost use Rattle.mx_loan.specs.Rule.{StepMakes, view_after_close};
 
     ghost then = { StepMakes view_after_close };
@@ -95,7 +95,7 @@ impl Play<Shown<Announcement>, Knowledge> for CloseStep {
 /// Record, word 0 to 4 or 2 to 6: the kernel records another event of an actor.
 pub struct RecordStep;
 
-impl Play<Shown<Announcement>, Knowledge> for RecordStep {
+impl Play<Ghost<Announcement>, Knowledge> for RecordStep {
     ghost use Rattle.mx_loan.specs.Rule.{StepMakes, view_after_record};
 
     ghost then = { StepMakes view_after_record };
@@ -104,7 +104,7 @@ impl Play<Shown<Announcement>, Knowledge> for RecordStep {
 /// Note, to word 0 or 2: the actor sees all of the history.
 pub struct NoteStep;
 
-impl Play<Shown<Announcement>, Knowledge> for NoteStep {
+impl Play<Ghost<Announcement>, Knowledge> for NoteStep {
     ghost use Rattle.mx_loan.specs.Rule.{StepMakes, view_after_note};
 
     ghost then = { StepMakes view_after_note };

@@ -1,6 +1,6 @@
 //! What a seat of the loans' table knows, and what a step announces.
 
-use crate::Shown;
+use crate::Ghost;
 use mx_machine::{Out, Record};
 use std::collections::LinkedList;
 
@@ -30,7 +30,7 @@ pub struct Knowledge {
 #[derive(Drop)]
 pub struct Announcement {
     pub record: Record,
-    pub lent: Option<Shown<Out>>,
+    pub lent: Option<Ghost<Out>>,
 }
 
 /// How many actors have a seat, and how many of them, the first ones, may be lent something.

@@ -19,19 +19,19 @@
 //!
 //! # What it costs
 //!
-//! What a seat knows is `Shown`: clauses read it, and it has no bytes. So when the program runs, a table is a word for
+//! What a seat knows is `Ghost`: clauses read it, and it has no bytes. So when the program runs, a table is a word for
 //! each actor, and a step is one write of it.
 #![tactic(auto)]
 
 mod desk;
+mod ghost_value;
 mod kinds;
 mod knowledge;
 mod loan;
 mod seat;
-mod shown;
 mod steps;
 
 pub use desk::Desk;
+pub use ghost_value::Ghost;
 pub use loan::Loan;
 pub use seat::ActorSeat;
-pub use shown::Shown;

@@ -4,7 +4,7 @@ ghost use Rattle.std.specs.Prelude.{◌≡◌};
 ghost use Rattle.mx_machine.specs.Held.{IsRunOf};
 ghost use Rattle.mx_loan.specs.Seats.{HasMadeNoStep, IsAdvanced};
 
-use crate::shown::Shown;
+use crate::ghost_value::Ghost;
 use mx_exec::Image;
 use mx_image::Stop;
 use mx_machine::{Held, Out};
@@ -16,7 +16,7 @@ use std::marker::Model;
 pub struct Loan {
     pub(crate) out: Out,
     pub(crate) actor: u8,
-    pub(crate) lent: Shown<Out>,
+    pub(crate) lent: Ghost<Out>,
 }
 
 impl Model for Loan {

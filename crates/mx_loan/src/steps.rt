@@ -7,11 +7,11 @@ ghost use Rattle.mx_machine.specs.declared.history.Recorded.TheVariants as recor
 ghost use Rattle.mx_machine.specs.declared.holding.Out.{Out};
 ghost use Rattle.mx_loan.specs.Rule.{at_home, offered, lent_out, brought_back};
 ghost use Rattle.mx_loan.specs.Rule.{lent_to, joined_view, kernel_half, actor_half, word_at_rest, founder_view, sizes_of};
-ghost use Rattle.mx_loan.specs.Rule.{founder_after_birth, newborn_view, value_of_shown, IsJoined, JoinedFacts};
+ghost use Rattle.mx_loan.specs.Rule.{founder_after_birth, newborn_view, value_of_ghost, IsJoined, JoinedFacts};
 ghost use Rattle.mx_loan.specs.Rule.{view_after_offer, view_after_take, view_after_return};
 ghost use Rattle.mx_loan.specs.Rule.{view_after_close, view_after_record, view_after_note};
 
-use crate::Shown;
+use crate::Ghost;
 use crate::kinds::{
     CloseStep, FoundingEnd, Halves, LoanRule, NoteStep, OfferStep, RecordStep, ReturnStep,
     SeatBirth, TakeStep,
@@ -21,10 +21,10 @@ use atomic_table::{Seat, Table};
 use std::alloc::{AllocError, Global};
 
 /// One word for each actor. It has no other content when the program runs.
-pub type ActorTable = Table<Shown<Announcement>, Knowledge, TableSizes, LoanRule, Global>;
+pub type ActorTable = Table<Ghost<Announcement>, Knowledge, TableSizes, LoanRule, Global>;
 
 /// A seat at it. It has no bytes.
-pub type TableSeat = Seat<Shown<Announcement>, Knowledge>;
+pub type TableSeat = Seat<Ghost<Announcement>, Knowledge>;
 
 /// The kernel's seat takes in an actor's, for a call.
 pub(crate) fn join_seats(board: &ActorTable, both: &mut TableSeat, actor: TableSeat)
@@ -60,7 +60,7 @@ pub(crate) fn offer(board: &ActorTable, both: &mut TableSeat, said: &Announcemen
     requires joined { IsJoined both.old.me.0 }
     requires own_record { said.now.record.actor ≡ both.old.me.0.actor }
     requires own_take { said.now.record.event ≡ recorded.Take }
-    requires lends { (y : Out) × (value_of_shown said.now.lent ≡ Some y) }
+    requires lends { (y : Out) × (value_of_ghost said.now.lent ≡ Some y) }
     requires room { both.old.me.0.actor < length both.old.me.0.lent }
     requires home { both.old.me.0.phase ≡ at_home }
     ensures table { both.new.table_id ≡ both.old.table_id }
@@ -68,10 +68,10 @@ pub(crate) fn offer(board: &ActorTable, both: &mut TableSeat, said: &Announcemen
     ensures own { JoinedFacts both.old.me.0 × JoinedFacts both.new.me.0 }
 {
     let word = said.record.actor as usize;
-    let shown = Shown::of(said);
+    let told = Ghost::of(said);
     board
         .shared
-        .compare_exchange_with::<OfferStep>(both, word, 0, 1, &shown);
+        .compare_exchange_with::<OfferStep>(both, word, 0, 1, &told);
 }
 
 /// Word 1 to 2: the actor notes the record that the history ends with, and holds what is lent.
@@ -81,17 +81,17 @@ pub(crate) fn take(board: &ActorTable, both: &mut TableSeat, said: &Announcement
     requires joined { IsJoined both.old.me.0 }
     requires own_record { said.now.record.actor ≡ both.old.me.0.actor }
     requires last { (h : List Record) × (both.old.me.0.history ≡ h ++ said.now.record ∷ []) }
-    requires lent { value_of_shown said.now.lent ≡ lent_to both.old.me.0.lent both.old.me.0.actor }
+    requires lent { value_of_ghost said.now.lent ≡ lent_to both.old.me.0.lent both.old.me.0.actor }
     requires offered { both.old.me.0.phase ≡ offered }
     ensures table { both.new.table_id ≡ both.old.table_id }
     ensures me { both.new.me ≡ (view_after_take both.old.me.0 said.now, both.old.me.1) }
     ensures own { JoinedFacts both.old.me.0 × JoinedFacts both.new.me.0 }
 {
     let word = said.record.actor as usize;
-    let shown = Shown::of(said);
+    let told = Ghost::of(said);
     board
         .shared
-        .compare_exchange_with::<TakeStep>(both, word, 1, 2, &shown);
+        .compare_exchange_with::<TakeStep>(both, word, 1, 2, &told);
 }
 
 /// Word 2 to 3: the actor notes that it brings its process back, and holds nothing.
@@ -107,10 +107,10 @@ pub(crate) fn bring_back(board: &ActorTable, both: &mut TableSeat, said: &Announ
     ensures own { JoinedFacts both.old.me.0 × JoinedFacts both.new.me.0 }
 {
     let word = said.record.actor as usize;
-    let shown = Shown::of(said);
+    let told = Ghost::of(said);
     board
         .shared
-        .compare_exchange_with::<ReturnStep>(both, word, 2, 3, &shown);
+        .compare_exchange_with::<ReturnStep>(both, word, 2, 3, &told);
 }
 
 /// Word 3 to 0: the kernel records what the actor noted last, and lends it nothing.
@@ -126,10 +126,10 @@ pub(crate) fn close(board: &ActorTable, both: &mut TableSeat, said: &Announcemen
     ensures own { JoinedFacts both.old.me.0 × JoinedFacts both.new.me.0 }
 {
     let word = said.record.actor as usize;
-    let shown = Shown::of(said);
+    let told = Ghost::of(said);
     board
         .shared
-        .compare_exchange_with::<CloseStep>(both, word, 3, 0, &shown);
+        .compare_exchange_with::<CloseStep>(both, word, 3, 0, &told);
 }
 
 /// Word 0 to 4 or 2 to 6: the kernel records another event of the actor.
@@ -145,10 +145,10 @@ pub(crate) fn record_event(board: &ActorTable, both: &mut TableSeat, said: &Anno
     ensures own { JoinedFacts both.old.me.0 × JoinedFacts both.new.me.0 }
 {
     let word = said.record.actor as usize;
-    let shown = Shown::of(said);
+    let told = Ghost::of(said);
     board
         .shared
-        .compare_exchange_with::<RecordStep>(both, word, at, at + 4, &shown);
+        .compare_exchange_with::<RecordStep>(both, word, at, at + 4, &told);
 }
 
 /// To word 0 or 2: the actor sees all of the history.
@@ -171,10 +171,10 @@ pub(crate) fn note(
     ensures own { JoinedFacts both.old.me.0 × JoinedFacts both.new.me.0 }
 {
     let word = said.record.actor as usize;
-    let shown = Shown::of(said);
+    let told = Ghost::of(said);
     board
         .shared
-        .compare_exchange_with::<NoteStep>(both, word, at, rest, &shown);
+        .compare_exchange_with::<NoteStep>(both, word, at, rest, &told);
 }
 
 /// Makes the seat of the next actor, while the table is made.

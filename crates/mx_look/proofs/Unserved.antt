@@ -2,12 +2,12 @@
 use Rattle.std.proofs.Common.{◌≡◌, ◌∙◌, ◌+◌, ◌&&◌, ◌||◌, ℕ, Bool, true, false, cond, List, [], ◌++◌, Option, Some, None, get_or, refl, ap}
 use Rattle.std.specs.Prelude.{codes, is_some}
 use Rattle.mx_look.specs.declared.slot_glances.SlotGlance.{SlotGlance}
-use Rattle.mx_look.specs.declared.step.Step.{Step}
+use Rattle.mx_look.specs.declared.transition.Transition.{Transition}
 use Rattle.mx_look.specs.Doings.{is_waiting, is_listening, seen_is}
 use Rattle.mx_look.specs.Going.{calls_receive, gone_on, got, is_acted, is_zero, result_in}
 use Rattle.mx_look.specs.Deliveries.{delivery_to, got_from, is_new_bit}
 use Rattle.mx_look.specs.Slots.{has_changed, is_renewed}
-use Rattle.mx_look.specs.Step.{slot_in}
+use Rattle.mx_look.specs.Transition.{slot_in}
 use Rattle.mx_look.specs.Trace.{change_line, changed_if, delivery_line, delivery_line_by, kept_line, kept_lines, kept_lines_by, new_quantum, quantum_line, source_text}
 use Rattle.mx_look.specs.Numbers.{margin}
 use Rattle.mx_look.specs.Words.{who_of}
@@ -16,7 +16,7 @@ either : {A : Type 0} (b : Bool) (x y : A) → x ≡ y → cond b x y ≡ y
 either true x y e = e
 either false x y e = refl
 
-module _ (x : Step) (s : ℕ) (none : is_some (slot_in x.after s) ≡ false) where
+module _ (x : Transition) (s : ℕ) (none : is_some (slot_in x.after s) ≡ false) where
   unseen : slot_in x.after s ≡ None
   unseen = by_option (slot_in x.after s) none
     where
@@ -59,6 +59,6 @@ module _ (x : Step) (s : ℕ) (none : is_some (slot_in x.after s) ≡ false) whe
   none_changed = ap (λ (l : List ℕ). l ++ quantum_line x s) no_change ∙ no_quantum
 
 -- of a notification that isn't kept neither
-pub not_new : (x : Step) (v u : SlotGlance) (place : ℕ) → is_new_bit v u place ≡ false → kept_line x v u place ≡ []
+pub not_new : (x : Transition) (v u : SlotGlance) (place : ℕ) → is_new_bit v u place ≡ false → kept_line x v u place ≡ []
 unfolding kept_line
 not_new x v u place e = ap (λ b. cond b (margin x ++ codes "notify " ++ source_text x.after place ++ codes " to " ++ who_of u ++ codes ", pending\n") []) e

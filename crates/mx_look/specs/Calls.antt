@@ -3,9 +3,9 @@ use Rattle.std.specs.Prelude.{◌==◌, ◌&&◌, ◌||◌, Bool, false, Option,
 use Rattle.mx_proc.specs.EndpointNumbers.{system_endpoint}
 use Rattle.mx_look.specs.declared.slot_glances.SlotGlance.{SlotGlance}
 use Rattle.mx_look.specs.declared.glance.CpuGlance.{CpuGlance}
-use Rattle.mx_look.specs.declared.step.Step.{Step}
+use Rattle.mx_look.specs.declared.transition.Transition.{Transition}
 use Rattle.mx_look.specs.Doings.{is_ready, is_down}
-use Rattle.mx_look.specs.Step.{slot_in}
+use Rattle.mx_look.specs.Transition.{slot_in}
 use Rattle.mx_look.specs.Going.{acting}
 
 -- SENDREC, call 3, to SYSTEM, -2
@@ -20,10 +20,10 @@ abbrev pub is_served_in : Option SlotGlance → Bool
 is_served_in None = false
 is_served_in (Some u) = is_served u
 
-abbrev pub kernel_call_by : Step → Option CpuGlance → Option CpuGlance
+abbrev pub kernel_call_by : Transition → Option CpuGlance → Option CpuGlance
 kernel_call_by x None = None
 kernel_call_by x (Some h) = if asks_kernel h && is_served_in (slot_in x.after h.slot) then Some h else None
 
 -- A KERNEL CALL IS MADE
-unfoldable pub kernel_call : Step → Option CpuGlance
+unfoldable pub kernel_call : Transition → Option CpuGlance
 kernel_call x = kernel_call_by x (acting x)

@@ -3,15 +3,15 @@ use Rattle.std.specs.Prelude.{ℕ, ◌+◌, ◌-◌, ◌==◌, ◌&&◌, ◌||�
 use Rattle.std.specs.List.{range_with_len}
 use Rattle.mx_proc.specs.declared.deliveries.Delivery.{Delivery}
 use Rattle.mx_look.specs.declared.slot_glances.SlotGlance.{SlotGlance}
-use Rattle.mx_look.specs.declared.step.Step.{Step}
+use Rattle.mx_look.specs.declared.transition.Transition.{Transition}
 use Rattle.mx_look.specs.Going.{got}
 
 -- how many slots from one on got a message
-unfoldable pub got_from : Step → ℕ → ℕ
+unfoldable pub got_from : Transition → ℕ → ℕ
 got_from x s = count_by (got x) (range_with_len s (32 - s))
 
 -- WHAT A SLOT GOT: as many of the latest deliveries as slots got one belong to these, in slot order
-unfoldable pub delivery_to : Step → ℕ → Option Delivery
+unfoldable pub delivery_to : Transition → ℕ → Option Delivery
 delivery_to x s = if got x s then slice_index_or x.after.deliveries (got_from x (s + 1)) None else None
 
 -- ---- pending notifications: HARDWARE at 0, CLOCK at 1, slot 0 from 2 on

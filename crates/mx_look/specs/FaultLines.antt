@@ -9,8 +9,8 @@ use Rattle.mx_look.specs.Code.{code_text}
 use Rattle.mx_look.specs.declared.reasons.FaultReason.{FaultReason}
 use Rattle.mx_look.specs.declared.reasons.FaultReason.TheVariants.{Outside, CodeEnd, Target, Forbidden, Other}
 use Rattle.mx_look.specs.declared.faults.FaultGlance.{FaultGlance}
-use Rattle.mx_look.specs.declared.step.Step.{Step}
-use Rattle.mx_look.specs.Step.{fault_in}
+use Rattle.mx_look.specs.declared.transition.Transition.{Transition}
+use Rattle.mx_look.specs.Transition.{fault_in}
 use Rattle.mx_look.specs.Numbers.{margin}
 
 -- ---- why
@@ -49,16 +49,16 @@ reason_text f Other = []
 unfoldable pub fault_text : FaultGlance → List ℕ
 fault_text f = code_text f.symbol f.part f.at ++ reason_text f f.reason
 
-unfoldable pub faulted : Step → FaultGlance → List ℕ
+unfoldable pub faulted : Transition → FaultGlance → List ℕ
 faulted x f = margin x ++ codes "at " ++ fault_text f ++ codes "\n"
 
-abbrev pub faulted_if : Step → Option FaultGlance → List ℕ
+abbrev pub faulted_if : Transition → Option FaultGlance → List ℕ
 faulted_if x None = []
 faulted_if x (Some f) = faulted x f
 
-abbrev pub fault_line_by : Step → Recorded → List ℕ
+abbrev pub fault_line_by : Transition → Recorded → List ℕ
 fault_line_by x (Back n) = faulted_if x (fault_in x.before x.actor)
 fault_line_by x _ = []
 
-unfoldable pub fault_line : Step → List ℕ
+unfoldable pub fault_line : Transition → List ℕ
 fault_line x = fault_line_by x x.event

@@ -4,7 +4,7 @@ use Rattle.std.specs.Prelude.{ℕ, ◌+◌, ◌-◌, ◌==◌, ◌&&◌, nat_le,
 use Rattle.std.specs.Fmt.{decimal}
 use Rattle.std.specs.Option.{option_map}
 use Rattle.std.specs.Str.{bytes_eq}
-use Rattle.mx_kcall.specs.Rows.{calls, first_call, is_there, name_of, reply_count, row_of}
+use Rattle.mx_kcall.specs.Rows.{calls, first_call, name_of, reply_count, row_of, row_under}
 use Rattle.mx_kcall.specs.declared.rows.CallRow.{CallRow}
 use Rattle.mx_proc.specs.declared.windows.Rules.{Rules}
 use Rattle.mx_look.specs.declared.glance.CpuGlance.{CpuGlance}
@@ -18,14 +18,6 @@ abbrev pub words_from : ℕ → List ℕ → List ℕ
 words_from count message = spaced_numbers (take count (drop 2 message))
 
 -- ---- the calls that the rules have, and their names
-
-abbrev pub if_there : Rules → Option CallRow → Option CallRow
-if_there rules None = None
-if_there rules (Some row) = if is_there rules row then Some row else None
-
--- THE CALL of a type, by these rules
-abbrev pub row_under : Rules → ℕ → Option CallRow
-row_under rules kind = if_there rules (row_of kind)
 
 abbrev pub name_by : Option CallRow → List ℕ
 name_by None = []

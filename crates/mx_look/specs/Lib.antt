@@ -11,7 +11,7 @@ pub mod Images
 pub mod Kept
 pub mod Faults
 pub mod Glances
-pub mod Step
+pub mod Transition
 pub mod Doings
 pub mod Going
 pub mod Deliveries
@@ -24,6 +24,6 @@ pub mod Refusals
 pub mod KernelCalls
 pub mod FaultLines
 pub mod Trace
-pub use Rattle.mx_look.specs.declared.step.Step
+pub use Rattle.mx_look.specs.declared.transition.Transition
 pub use Rattle.mx_look.specs.Glances
 pub use Rattle.mx_look.specs.declared.glance.Glance

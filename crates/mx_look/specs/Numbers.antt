@@ -3,13 +3,13 @@ use Rattle.std.specs.Prelude.{ℕ, zero, suc, ◌==◌, if◌then◌else◌, Lis
 use Rattle.std.specs.List.{flat_map}
 use Rattle.std.specs.Fmt.{decimal, signed_decimal}
 use Rattle.std.specs.Int.{w32, cast_signed}
-use Rattle.mx_look.specs.declared.step.Step.{Step}
+use Rattle.mx_look.specs.declared.transition.Transition.{Transition}
 use Rattle.mx_proc.specs.Errors.{errno_bits}
 use Rattle.mx_proc.specs.declared.errors.Errno.{Errno}
 use Rattle.mx_proc.specs.declared.errors.Errno.TheVariants.{NotPermitted, BadAddress, Invalid, Locked, BadEndpoint, Denied, Dead, NotReady, BadRequest}
 
 -- a record's number, before a line of what came of it
-unfoldable pub margin : Step → List ℕ
+unfoldable pub margin : Transition → List ℕ
 margin x = decimal x.number ++ codes "   "
 
 -- numbers, each after a space

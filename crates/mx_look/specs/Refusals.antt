@@ -13,8 +13,8 @@ use Rattle.mx_proc.specs.declared.errors.Errno.TheVariants.{BadAddress, Invalid,
 use Rattle.mx_look.specs.declared.slot_glances.SlotGlance.{SlotGlance}
 use Rattle.mx_look.specs.declared.glance.CpuGlance.{CpuGlance}
 use Rattle.mx_look.specs.declared.glance.Glance.{Glance}
-use Rattle.mx_look.specs.declared.step.Step.{Step}
-use Rattle.mx_look.specs.Step.{slot_in, held_before}
+use Rattle.mx_look.specs.declared.transition.Transition.{Transition}
+use Rattle.mx_look.specs.Transition.{slot_in, held_before}
 use Rattle.mx_look.specs.Going.{is_acted}
 use Rattle.mx_look.specs.Numbers.{errno_of}
 use Rattle.mx_look.specs.Words.{party_text}
@@ -52,12 +52,12 @@ trap_reason_by g h v _ = []
 unfoldable pub trap_reason : Glance → CpuGlance → SlotGlance → ℕ → List ℕ
 trap_reason g h v r = trap_reason_by g h v (errno_of r)
 
-abbrev pub refusal_part_by : Step → Option CpuGlance → Option SlotGlance → ℕ → List ℕ
+abbrev pub refusal_part_by : Transition → Option CpuGlance → Option SlotGlance → ℕ → List ℕ
 refusal_part_by x (Some h) (Some v) r = trap_reason x.before h v r
 refusal_part_by x _ _ r = []
 
 -- WHY A SLOT'S TRAP HAS THIS RESULT, if that is the result of its trap
-unfoldable pub refusal_part : Step → ℕ → ℕ → List ℕ
+unfoldable pub refusal_part : Transition → ℕ → ℕ → List ℕ
 refusal_part x s r = if is_acted x s then refusal_part_by x (held_before x) (slot_in x.before s) r else []
 
 -- ---- of a kernel call: the word of the request that is at fault, p0 at place 2, and what it is

@@ -14,8 +14,8 @@ use Rattle.mx_print_report.specs.Words.{doing_text, kind_word}
 use Rattle.mx_look.specs.declared.slot_glances.SlotGlance.{SlotGlance}
 use Rattle.mx_look.specs.declared.glance.CpuGlance.{CpuGlance}
 use Rattle.mx_look.specs.declared.glance.Glance.{Glance}
-use Rattle.mx_look.specs.declared.step.Step.{Step}
-use Rattle.mx_look.specs.Step.{slot_in, held_before, held_after, about}
+use Rattle.mx_look.specs.declared.transition.Transition.{Transition}
+use Rattle.mx_look.specs.Transition.{slot_in, held_before, held_after, about}
 use Rattle.mx_look.specs.Doings.{is_doomed, is_ready}
 use Rattle.mx_look.specs.Going.{gone_on}
 use Rattle.mx_look.specs.Deliveries.{delivery_to, is_new_bit}
@@ -69,29 +69,29 @@ doom_text_by (Some v) = if is_doomed v.doing then codes ", doomed" else []
 unfoldable pub doom_text : Glance → ℕ → List ℕ
 doom_text g s = doom_text_by (slot_in g s)
 
-abbrev pub return_text_by : Step → Option CpuGlance → List ℕ
+abbrev pub return_text_by : Transition → Option CpuGlance → List ℕ
 return_text_by x None = []
 return_text_by x (Some h) = who x.before h.slot ++ codes " " ++ stop_text x.before h ++ doom_text x.before h.slot
 
-unfoldable pub return_text : Step → List ℕ
+unfoldable pub return_text : Transition → List ℕ
 return_text x = return_text_by x (held_before x)
 
-abbrev pub take_text_by : Step → Option CpuGlance → List ℕ
+abbrev pub take_text_by : Transition → Option CpuGlance → List ℕ
 take_text_by x None = []
 take_text_by x (Some h) = who x.after h.slot ++ codes " budget " ++ decimal h.budget
 
-unfoldable pub take_text : Step → List ℕ
+unfoldable pub take_text : Transition → List ℕ
 take_text x = take_text_by x (held_after x)
 
 abbrev pub subject_text_by : Glance → Option ℕ → List ℕ
 subject_text_by g None = []
 subject_text_by g (Some s) = who g s
 
-unfoldable pub subject_text : Step → Glance → List ℕ
+unfoldable pub subject_text : Transition → Glance → List ℕ
 subject_text x g = subject_text_by g (about x)
 
 -- of a respawn the new process
-abbrev pub about_text_by : Step → Recorded → List ℕ
+abbrev pub about_text_by : Transition → Recorded → List ℕ
 about_text_by x Take = take_text x
 about_text_by x (Back n) = return_text x
 about_text_by x (Line l) = subject_text x x.before
@@ -99,10 +99,10 @@ about_text_by x Tick = codes "uptime " ++ decimal x.after.uptime
 about_text_by x (Kill e) = subject_text x x.before
 about_text_by x (Respawn s) = subject_text x x.after
 
-unfoldable pub about_text : Step → List ℕ
+unfoldable pub about_text : Transition → List ℕ
 about_text x = about_text_by x x.event
 
-unfoldable pub head_line : Step → List ℕ
+unfoldable pub head_line : Transition → List ℕ
 head_line x =
     decimal x.number ++ codes " " ++ decimal x.actor ++ codes " " ++ event_text x.event ++ codes ": " ++ about_text x
     ++ codes "\n"
@@ -110,23 +110,23 @@ head_line x =
 -- ---- what came of it
 
 -- a kernel call's caller that goes on has its answer in its buffer
-abbrev pub answered_by : Step → SlotGlance → Option (List ℕ) → Option (List ℕ) → List ℕ
+abbrev pub answered_by : Transition → SlotGlance → Option (List ℕ) → Option (List ℕ) → List ℕ
 answered_by x u (Some request) (Some reply) =
     if is_ready u.doing then margin x ++ answer_text x.after request reply ++ codes "\n" else []
 answered_by x u _ _ = []
 
-unfoldable pub answered : Step → CpuGlance → SlotGlance → List ℕ
+unfoldable pub answered : Transition → CpuGlance → SlotGlance → List ℕ
 answered x h u = answered_by x u h.image.words u.image.words
 
-abbrev pub answered_if : Step → CpuGlance → Option SlotGlance → List ℕ
+abbrev pub answered_if : Transition → CpuGlance → Option SlotGlance → List ℕ
 answered_if x h None = []
 answered_if x h (Some u) = answered x h u
 
-abbrev pub answer_line_by : Step → Option CpuGlance → List ℕ
+abbrev pub answer_line_by : Transition → Option CpuGlance → List ℕ
 answer_line_by x None = []
 answer_line_by x (Some h) = answered_if x h (slot_in x.after h.slot)
 
-unfoldable pub answer_line : Step → List ℕ
+unfoldable pub answer_line : Transition → List ℕ
 answer_line x = answer_line_by x (kernel_call x)
 
 unfoldable pub byte_text : ℕ → List ℕ
@@ -137,14 +137,14 @@ unfoldable pub console_text : ℕ → List ℕ
 console_text b =
     codes "console " ++ byte_text b ++ (if nat_lt 32 b && nat_lt b 127 then codes " '" ++ b ∷ codes "'" else [])
 
-abbrev pub console_line_by : Step → Option ℕ → List ℕ
+abbrev pub console_line_by : Transition → Option ℕ → List ℕ
 console_line_by x None = []
 console_line_by x (Some b) = margin x ++ console_text b ++ codes "\n"
 
-unfoldable pub console_line : Step → List ℕ
+unfoldable pub console_line : Transition → List ℕ
 console_line x = if x.before.written == x.after.written then [] else console_line_by x x.after.last_byte
 
-unfoldable pub alarm_line : Step → ℕ → List ℕ
+unfoldable pub alarm_line : Transition → ℕ → List ℕ
 alarm_line x s = if has_rung x s then margin x ++ codes "alarm " ++ who x.after s ++ codes "\n" else []
 
 -- numbers without the zeros at the end, if any is left
@@ -165,17 +165,17 @@ unfoldable pub delivered_words : Option SlotGlance → List ℕ
 delivered_words seen = delivered_words_by seen
 
 -- what was delivered, from whom and to whom
-unfoldable pub delivery_parties : Step → Delivery → List ℕ
+unfoldable pub delivery_parties : Transition → Delivery → List ℕ
 delivery_parties x d =
     kind_word d.kind ++ codes " " ++ party_text x.after d.from ++ codes " to " ++ party_text x.after d.to
 
-abbrev pub delivery_line_by : Step → ℕ → Option Delivery → List ℕ
+abbrev pub delivery_line_by : Transition → ℕ → Option Delivery → List ℕ
 delivery_line_by x s None = []
 delivery_line_by x s (Some d) =
     margin x ++ delivery_parties x d
     ++ codes " type " ++ decimal d.message_type ++ delivered_words (slot_in x.after s) ++ codes "\n"
 
-unfoldable pub delivery_line : Step → ℕ → List ℕ
+unfoldable pub delivery_line : Transition → ℕ → List ℕ
 delivery_line x s = delivery_line_by x s (delivery_to x s)
 
 -- the source that has a place among the pending bits
@@ -184,47 +184,47 @@ source_text g place =
     if place == 0 then party_text g hardware_endpoint else if place == 1 then party_text g clock_endpoint
     else who g (place - 2)
 
-unfoldable pub kept_line : Step → SlotGlance → SlotGlance → ℕ → List ℕ
+unfoldable pub kept_line : Transition → SlotGlance → SlotGlance → ℕ → List ℕ
 kept_line x v u place =
     if is_new_bit v u place then margin x ++ codes "notify " ++ source_text x.after place ++ codes " to " ++ who_of u
     ++ codes ", pending\n"
     else []
 
-unfoldable pub kept_between : Step → SlotGlance → SlotGlance → List ℕ
+unfoldable pub kept_between : Transition → SlotGlance → SlotGlance → List ℕ
 kept_between x v u = flat_map (kept_line x v u) (range_with_len 0 34)
 
-abbrev pub kept_lines_by : Step → Option SlotGlance → Option SlotGlance → List ℕ
+abbrev pub kept_lines_by : Transition → Option SlotGlance → Option SlotGlance → List ℕ
 kept_lines_by x (Some v) (Some u) = kept_between x v u
 kept_lines_by x _ _ = []
 
-unfoldable pub kept_lines : Step → ℕ → List ℕ
+unfoldable pub kept_lines : Transition → ℕ → List ℕ
 kept_lines x s = kept_lines_by x (slot_in x.before s) (slot_in x.after s)
 
-abbrev pub result_part_by : Step → ℕ → Option ℕ → List ℕ
+abbrev pub result_part_by : Transition → ℕ → Option ℕ → List ℕ
 result_part_by x s None = []
 result_part_by x s (Some r) = codes ", result " ++ result_text r ++ refusal_part x s r
 
-unfoldable pub result_part : Step → ℕ → List ℕ
+unfoldable pub result_part : Transition → ℕ → List ℕ
 result_part x s = result_part_by x s (gone_on x s)
 
-unfoldable pub changed : Step → ℕ → SlotGlance → SlotGlance → List ℕ
+unfoldable pub changed : Transition → ℕ → SlotGlance → SlotGlance → List ℕ
 changed x s v u =
     margin x ++ who_of u ++ codes ": " ++ doing_text v.doing ++ codes " -> " ++ doing_text u.doing ++ result_part x s
     ++ codes "\n"
 
-abbrev pub changed_if : Step → ℕ → Option SlotGlance → Option SlotGlance → List ℕ
+abbrev pub changed_if : Transition → ℕ → Option SlotGlance → Option SlotGlance → List ℕ
 changed_if x s (Some v) (Some u) = changed x s v u
 changed_if x s _ _ = []
 
-unfoldable pub change_line : Step → ℕ → List ℕ
+unfoldable pub change_line : Transition → ℕ → List ℕ
 change_line x s = if has_changed x s then changed_if x s (slot_in x.before s) (slot_in x.after s) else []
 
-abbrev pub new_quantum : Step → Option SlotGlance → List ℕ
+abbrev pub new_quantum : Transition → Option SlotGlance → List ℕ
 new_quantum x None = []
 new_quantum x (Some u) =
     margin x ++ who_of u ++ codes ": quantum " ++ decimal u.ticks ++ codes " at level " ++ decimal u.level ++ codes "\n"
 
-unfoldable pub quantum_line : Step → ℕ → List ℕ
+unfoldable pub quantum_line : Transition → ℕ → List ℕ
 quantum_line x s = if is_renewed x s then new_quantum x (slot_in x.after s) else []
 
 -- ---- all of it: several of a kind in slot order, a slot's change before its quantum
@@ -232,19 +232,19 @@ quantum_line x s = if is_renewed x s then new_quantum x (slot_in x.after s) else
 abbrev pub of_slots : (ℕ → List ℕ) → List ℕ
 of_slots f = flat_map f (range_with_len 0 32)
 
-unfoldable pub alarm_lines : Step → List ℕ
+unfoldable pub alarm_lines : Transition → List ℕ
 alarm_lines x = of_slots (alarm_line x)
 
-unfoldable pub delivery_lines : Step → List ℕ
+unfoldable pub delivery_lines : Transition → List ℕ
 delivery_lines x = of_slots (delivery_line x)
 
-unfoldable pub all_kept_lines : Step → List ℕ
+unfoldable pub all_kept_lines : Transition → List ℕ
 all_kept_lines x = of_slots (kept_lines x)
 
-unfoldable pub change_lines : Step → List ℕ
+unfoldable pub change_lines : Transition → List ℕ
 change_lines x = of_slots (λ s. change_line x s ++ quantum_line x s)
 
-unfoldable pub record_text : Step → List ℕ
+unfoldable pub record_text : Transition → List ℕ
 record_text x =
     head_line x ++ fault_line x ++ answer_line x ++ console_line x ++ alarm_lines x ++ delivery_lines x
     ++ all_kept_lines x ++ change_lines x

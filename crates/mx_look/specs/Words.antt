@@ -6,7 +6,7 @@ use Rattle.mx_proc.specs.EndpointNumbers.{slot_of, any_endpoint, hardware_endpoi
 use Rattle.mx_print_report.specs.Words.{named}
 use Rattle.mx_look.specs.declared.slot_glances.SlotGlance.{SlotGlance}
 use Rattle.mx_look.specs.declared.glance.Glance.{Glance}
-use Rattle.mx_look.specs.Step.{slot_in}
+use Rattle.mx_look.specs.Transition.{slot_in}
 
 -- ---- who
 

@@ -1,10 +1,10 @@
-//! The facts of kernel calls in a step.
+//! The facts of kernel calls in a transition.
 
 ghost use Rattle.std.specs.Prelude.{◌≡◌, None, Some, MatchOption};
 ghost use Rattle.mx_look.specs.Calls.{asks_kernel, is_served, kernel_call};
 
 use crate::doings::{is_down, is_ready};
-use crate::step::{Step, slot_in};
+use crate::transition::{Transition, slot_in};
 use crate::trap_facts::acting;
 use crate::{CpuGlance, SlotGlance};
 use mx_proc::SYSTEM;
@@ -28,12 +28,12 @@ fn is_served(seen: &SlotGlance) -> bool
 
 /// A kernel call that is made: what is seen of its caller's trap, by which processor it came back.
 #[tactic(auto, unfolding(crate::specs::Calls::kernel_call))]
-pub fn kernel_call(step: &Step) -> Option<&CpuGlance>
-    ensures { MatchOption result (kernel_call step.now ≡ None) (λ held. kernel_call step.now
+pub fn kernel_call(transition: &Transition) -> Option<&CpuGlance>
+    ensures { MatchOption result (kernel_call transition.now ≡ None) (λ held. kernel_call transition.now
         ≡ Some held.now) }
 {
-    let held = acting(step)?;
-    match slot_in(&step.after, u32::from(held.slot)) {
+    let held = acting(transition)?;
+    match slot_in(&transition.after, u32::from(held.slot)) {
         Some(seen) if asks_kernel(held) && is_served(seen) => Some(held),
         _ => None,
     }

@@ -1,32 +1,32 @@
-//! The facts of deliveries in a step, and of notifications that become pending.
+//! The facts of deliveries in a transition, and of notifications that become pending.
 
 ghost use Rattle.std.specs.Prelude.{◌≡◌, ◌≤◌, ◌<◌, ◌+◌};
 ghost use Rattle.mx_look.specs.Deliveries.{got_from, delivery_to, is_pending, is_new_bit};
 
-use crate::step::Step;
+use crate::transition::Transition;
 use crate::trap_facts::got;
 use crate::{Delivery, SlotGlance};
 
 /// How many slots from one on got a message.
 #[tactic(auto, unfolding(crate::specs::Deliveries::got_from))]
-fn got_from(step: &Step, slot: u32) -> usize
+fn got_from(transition: &Transition, slot: u32) -> usize
     requires { slot ≤ 32 }
-    ensures count { result ≡ got_from step.now slot }
+    ensures count { result ≡ got_from transition.now slot }
     ensures few { result + slot ≤ 32 }
 {
-    (slot..32).filter(|other| got(step, *other)).count()
+    (slot..32).filter(|other| got(transition, *other)).count()
 }
 
 /// What a slot got. As many of the latest deliveries as slots got one belong to these, in slot order.
 #[tactic(auto, unfolding(crate::specs::Deliveries::delivery_to))]
-pub fn delivery_to(step: &Step, slot: u32) -> Option<Delivery>
+pub fn delivery_to(transition: &Transition, slot: u32) -> Option<Delivery>
     requires { slot < 32 }
-    ensures { result ≡ delivery_to step.now slot }
+    ensures { result ≡ delivery_to transition.now slot }
 {
-    if !got(step, slot) {
+    if !got(transition, slot) {
         return None;
     }
-    step.after.deliveries[got_from(step, slot + 1)]
+    transition.after.deliveries[got_from(transition, slot + 1)]
 }
 
 /// Whether a notification is pending.

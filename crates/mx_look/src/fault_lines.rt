@@ -5,7 +5,7 @@ ghost use Rattle.mx_insn_words.specs.Numbers.{eight_digits};
 ghost use Rattle.mx_look.specs.FaultLines.{access_text, fault_line, fault_text, faulted, limit_number, reason_text, size_text, target_text, touched_text};
 
 use crate::record_lines::push_margin;
-use crate::{Access, FaultGlance, FaultReason, Step, fault_in, push_code};
+use crate::{Access, FaultGlance, FaultReason, Transition, fault_in, push_code};
 use mx_insn_words::push_eight_digits;
 use mx_machine::Recorded;
 use std::alloc::AllocError;
@@ -99,10 +99,14 @@ pub fn push_fault(out: &mut String, fault: &FaultGlance) -> Result<(), AllocErro
 
 /// Appends the line of a fault.
 #[tactic(auto, unfolding(crate::specs::FaultLines::faulted))]
-fn push_faulted(out: &mut Vec<u8>, step: &Step, fault: &FaultGlance) -> Result<(), AllocError>
-    ensures { OnOk result (out.new.items ≡ out.old.items ++ faulted step.now fault.now) }
+fn push_faulted(
+    out: &mut Vec<u8>,
+    transition: &Transition,
+    fault: &FaultGlance,
+) -> Result<(), AllocError>
+    ensures { OnOk result (out.new.items ≡ out.old.items ++ faulted transition.now fault.now) }
 {
-    push_margin(out, step)?;
+    push_margin(out, transition)?;
     let mut text = String::new(*out.allocator());
     push_fault(&mut text, fault)?;
     out.extend_from_slice(b"at ")?;
@@ -113,11 +117,14 @@ fn push_faulted(out: &mut Vec<u8>, step: &Step, fault: &FaultGlance) -> Result<(
 
 /// Appends the line of the fault with which a process comes back, if it does.
 #[tactic(auto, unfolding(crate::specs::FaultLines::fault_line))]
-pub fn push_fault_line(out: &mut Vec<u8>, step: &Step) -> Result<(), AllocError>
-    ensures { OnOk result (out.new.items ≡ out.old.items ++ fault_line step.now) }
+pub fn push_fault_line(out: &mut Vec<u8>, transition: &Transition) -> Result<(), AllocError>
+    ensures { OnOk result (out.new.items ≡ out.old.items ++ fault_line transition.now) }
 {
-    match (step.event, fault_in(&step.before, step.actor)) {
-        (Recorded::Back(_), Some(fault)) => push_faulted(out, step, fault),
+    match (
+        transition.event,
+        fault_in(&transition.before, transition.actor),
+    ) {
+        (Recorded::Back(_), Some(fault)) => push_faulted(out, transition, fault),
         _ => Ok(()),
     }
 }

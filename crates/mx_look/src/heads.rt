@@ -5,7 +5,7 @@ ghost use Rattle.mx_look.specs.Trace.{event_text, call_name, call_text, stop_tex
 
 use crate::kernel_calls::push_request;
 use crate::parties::{push_party, push_who};
-use crate::{CpuGlance, Glance, Step, about, held_after, held_before, is_doomed, slot_in};
+use crate::{CpuGlance, Glance, Transition, about, held_after, held_before, is_doomed, slot_in};
 use mx_image::Stop;
 use mx_machine::Recorded;
 use mx_print_report::{push_counted, push_decimal};
@@ -84,37 +84,41 @@ fn push_doom(out: &mut Vec<u8>, glance: &Glance, slot: u32) -> Result<(), AllocE
 
 /// Appends who comes back, and how its steps ended.
 #[tactic(auto, unfolding(crate::specs::Trace::return_text))]
-fn push_return(out: &mut Vec<u8>, step: &Step) -> Result<(), AllocError>
-    ensures { OnOk result (out.new.items ≡ out.old.items ++ return_text step.now) }
+fn push_return(out: &mut Vec<u8>, transition: &Transition) -> Result<(), AllocError>
+    ensures { OnOk result (out.new.items ≡ out.old.items ++ return_text transition.now) }
 {
-    let Some(held) = held_before(step) else {
+    let Some(held) = held_before(transition) else {
         return Ok(());
     };
     let slot = u32::from(held.slot);
-    push_who(out, &step.before, slot)?;
+    push_who(out, &transition.before, slot)?;
     out.push(b' ')?;
-    push_stop(out, &step.before, held)?;
-    push_doom(out, &step.before, slot)
+    push_stop(out, &transition.before, held)?;
+    push_doom(out, &transition.before, slot)
 }
 
 /// Appends who is taken, and how many steps it may make.
 #[tactic(auto, unfolding(crate::specs::Trace::take_text))]
-fn push_take(out: &mut Vec<u8>, step: &Step) -> Result<(), AllocError>
-    ensures { OnOk result (out.new.items ≡ out.old.items ++ take_text step.now) }
+fn push_take(out: &mut Vec<u8>, transition: &Transition) -> Result<(), AllocError>
+    ensures { OnOk result (out.new.items ≡ out.old.items ++ take_text transition.now) }
 {
-    let Some(held) = held_after(step) else {
+    let Some(held) = held_after(transition) else {
         return Ok(());
     };
-    push_who(out, &step.after, u32::from(held.slot))?;
+    push_who(out, &transition.after, u32::from(held.slot))?;
     push_counted(out, b" budget", held.budget)
 }
 
 /// Appends the slot that a record is about, as it is in a world.
 #[tactic(auto, unfolding(crate::specs::Trace::subject_text))]
-fn push_subject(out: &mut Vec<u8>, step: &Step, glance: &Glance) -> Result<(), AllocError>
-    ensures { OnOk result (out.new.items ≡ out.old.items ++ subject_text step.now glance.now) }
+fn push_subject(
+    out: &mut Vec<u8>,
+    transition: &Transition,
+    glance: &Glance,
+) -> Result<(), AllocError>
+    ensures { OnOk result (out.new.items ≡ out.old.items ++ subject_text transition.now glance.now) }
 {
-    match about(step) {
+    match about(transition) {
         Some(slot) => push_who(out, glance, slot),
         None => Ok(()),
     }
@@ -122,30 +126,30 @@ fn push_subject(out: &mut Vec<u8>, step: &Step, glance: &Glance) -> Result<(), A
 
 /// Appends what a record is about.
 #[tactic(auto, unfolding(crate::specs::Trace::about_text))]
-fn push_about(out: &mut Vec<u8>, step: &Step) -> Result<(), AllocError>
-    ensures { OnOk result (out.new.items ≡ out.old.items ++ about_text step.now) }
+fn push_about(out: &mut Vec<u8>, transition: &Transition) -> Result<(), AllocError>
+    ensures { OnOk result (out.new.items ≡ out.old.items ++ about_text transition.now) }
 {
-    match step.event {
-        Recorded::Take => push_take(out, step),
-        Recorded::Back(_) => push_return(out, step),
-        Recorded::Tick => push_counted(out, b"uptime", step.after.uptime),
-        Recorded::Line(_) | Recorded::Kill(_) => push_subject(out, step, &step.before),
-        Recorded::Respawn(_) => push_subject(out, step, &step.after),
+    match transition.event {
+        Recorded::Take => push_take(out, transition),
+        Recorded::Back(_) => push_return(out, transition),
+        Recorded::Tick => push_counted(out, b"uptime", transition.after.uptime),
+        Recorded::Line(_) | Recorded::Kill(_) => push_subject(out, transition, &transition.before),
+        Recorded::Respawn(_) => push_subject(out, transition, &transition.after),
     }
 }
 
 /// Appends a record's own line: its number, its actor, its event, and what it is about.
 #[tactic(auto, unfolding(crate::specs::Trace::head_line))]
-pub fn push_head(out: &mut Vec<u8>, step: &Step) -> Result<(), AllocError>
-    ensures { OnOk result (out.new.items ≡ out.old.items ++ head_line step.now) }
+pub fn push_head(out: &mut Vec<u8>, transition: &Transition) -> Result<(), AllocError>
+    ensures { OnOk result (out.new.items ≡ out.old.items ++ head_line transition.now) }
 {
-    push_decimal(out, step.number)?;
+    push_decimal(out, transition.number)?;
     out.push(b' ')?;
-    push_decimal(out, u32::from(step.actor))?;
+    push_decimal(out, u32::from(transition.actor))?;
     out.push(b' ')?;
-    push_event(out, step.event)?;
+    push_event(out, transition.event)?;
     out.extend_from_slice(b": ")?;
-    push_about(out, step)?;
+    push_about(out, transition)?;
     out.push(b'\n')?;
     Ok(())
 }

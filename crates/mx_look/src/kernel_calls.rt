@@ -3,28 +3,16 @@
 
 ghost use Rattle.std.specs.Prelude.{◌≡◌, ◌≤◌, ◌++◌, OnOk, option_copied, option_map, position, slice_index};
 ghost use Rattle.std.specs.Str.{bytes_eq};
-ghost use Rattle.mx_kcall.specs.Rows.{calls, name_of, row_of};
-ghost use Rattle.mx_look.specs.KernelCalls.{answer_count, answer_text, other_type, request_name, request_text, request_type, request_words, row_by_digits, row_under};
+ghost use Rattle.mx_kcall.specs.Rows.{calls, name_of, row_of, row_under};
+ghost use Rattle.mx_look.specs.KernelCalls.{answer_count, answer_text, other_type, request_name, request_text, request_type, request_words, row_by_digits};
 
 use crate::refusals::request_reason;
 use crate::result_names::{push_result, push_spaced};
 use crate::{CpuGlance, Glance, asks_kernel};
-use mx_kcall::{CALLS, CallRow, FIRST_CALL, call_row, is_there};
+use mx_kcall::{CALLS, CallRow, FIRST_CALL, call_row, row_under};
 use mx_print_report::{push_counted, push_decimal};
 use mx_proc::Rules;
 use std::alloc::AllocError;
-
-/// The call of a type, if these rules have it.
-fn row_under(rules: Rules, kind: u32) -> Option<&'static CallRow>
-    ensures { option_copied result ≡ row_under rules kind }
-{
-    let row = call_row(kind)?;
-    if is_there(rules, row) {
-        Some(row)
-    } else {
-        None
-    }
-}
 
 /// The name of the call of a type, or nothing if these rules have none.
 #[tactic(auto, unfolding(crate::specs::KernelCalls::request_name))]

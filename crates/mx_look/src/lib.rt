@@ -1,7 +1,7 @@
 //! What is looked at: of a process by its program's symbols, lines of its code as it is in memory now, its stack, its
 //! variables, and why an instruction faults, as by a dword outside; and what an event did, as a `Glance` at the worlds
-//! before and after it, with slots and processors, what each is doing, and the facts of the step between them. The
-//! trace says these in words: the parties, their endpoints, the numbers and names of calls and results.
+//! before and after it, with slots and processors, what each is doing, and the facts of the transition between them.
+//! The trace says these in words: the parties, their endpoints, the numbers and names of calls and results.
 //!
 //! # In place
 //!
@@ -34,7 +34,7 @@ mod refusals;
 mod result_names;
 mod slot_glances;
 mod stack;
-mod step;
+mod transition;
 mod trap_facts;
 mod variables;
 
@@ -63,6 +63,6 @@ pub use refusals::{push_trap_reason, request_reason};
 pub use result_names::push_result;
 pub use slot_glances::SlotGlance;
 pub use stack::push_stack;
-pub use step::{Step, about, cpu_in, fault_in, held_after, held_before, slot_in};
+pub use transition::{Transition, about, cpu_in, fault_in, held_after, held_before, slot_in};
 pub use trap_facts::{acting, gone_on, got, is_acted};
 pub use variables::{push_variable, variable_named, variable_value};

@@ -1,7 +1,7 @@
 //! All that is printed of a record.
 
 ghost use Rattle.std.specs.Prelude.{◌≡◌, ◌++◌, OnOk, is_some};
-ghost use Rattle.mx_look.specs.Step.{slot_in};
+ghost use Rattle.mx_look.specs.Transition.{slot_in};
 ghost use Rattle.mx_look.specs.Trace.{alarm_lines, delivery_lines, all_kept_lines, change_lines, record_text};
 
 use crate::fault_lines::push_fault_line;
@@ -10,58 +10,58 @@ use crate::pending::push_kept_lines;
 use crate::record_lines::{
     push_alarm, push_answer_line, push_change, push_console_line, push_delivery, push_quantum,
 };
-use crate::{Step, slot_in};
+use crate::{Transition, slot_in};
 use std::alloc::AllocError;
 
 /// Whether a slot has a service: of one without nothing is printed.
-fn has_service(step: &Step, slot: u32) -> bool
-    ensures { result ≡ is_some (slot_in step.now.after slot) }
+fn has_service(transition: &Transition, slot: u32) -> bool
+    ensures { result ≡ is_some (slot_in transition.now.after slot) }
 {
-    slot_in(&step.after, slot).is_some()
+    slot_in(&transition.after, slot).is_some()
 }
 
 /// Appends the lines of alarms.
-fn push_alarms(out: &mut Vec<u8>, step: &Step) -> Result<(), AllocError>
-    ensures { OnOk result (out.new.items ≡ out.old.items ++ alarm_lines step.now) }
+fn push_alarms(out: &mut Vec<u8>, transition: &Transition) -> Result<(), AllocError>
+    ensures { OnOk result (out.new.items ≡ out.old.items ++ alarm_lines transition.now) }
 {
     for slot in 0..32u32 {
-        push_alarm(out, step, slot)?;
+        push_alarm(out, transition, slot)?;
     }
     Ok(())
 }
 
 /// Appends the lines of deliveries.
-fn push_deliveries(out: &mut Vec<u8>, step: &Step) -> Result<(), AllocError>
-    ensures { OnOk result (out.new.items ≡ out.old.items ++ delivery_lines step.now) }
+fn push_deliveries(out: &mut Vec<u8>, transition: &Transition) -> Result<(), AllocError>
+    ensures { OnOk result (out.new.items ≡ out.old.items ++ delivery_lines transition.now) }
 {
     for slot in 0..32u32 {
-        if has_service(step, slot) {
-            push_delivery(out, step, slot)?;
+        if has_service(transition, slot) {
+            push_delivery(out, transition, slot)?;
         }
     }
     Ok(())
 }
 
 /// Appends the lines of notifications that are kept.
-fn push_all_kept(out: &mut Vec<u8>, step: &Step) -> Result<(), AllocError>
-    ensures { OnOk result (out.new.items ≡ out.old.items ++ all_kept_lines step.now) }
+fn push_all_kept(out: &mut Vec<u8>, transition: &Transition) -> Result<(), AllocError>
+    ensures { OnOk result (out.new.items ≡ out.old.items ++ all_kept_lines transition.now) }
 {
     for slot in 0..32u32 {
-        if has_service(step, slot) {
-            push_kept_lines(out, step, slot)?;
+        if has_service(transition, slot) {
+            push_kept_lines(out, transition, slot)?;
         }
     }
     Ok(())
 }
 
 /// Appends the lines of slots that do something else, or have new quanta.
-fn push_changes(out: &mut Vec<u8>, step: &Step) -> Result<(), AllocError>
-    ensures { OnOk result (out.new.items ≡ out.old.items ++ change_lines step.now) }
+fn push_changes(out: &mut Vec<u8>, transition: &Transition) -> Result<(), AllocError>
+    ensures { OnOk result (out.new.items ≡ out.old.items ++ change_lines transition.now) }
 {
     for slot in 0..32u32 {
-        if has_service(step, slot) {
-            push_change(out, step, slot)?;
-            push_quantum(out, step, slot)?;
+        if has_service(transition, slot) {
+            push_change(out, transition, slot)?;
+            push_quantum(out, transition, slot)?;
         }
     }
     Ok(())
@@ -69,15 +69,15 @@ fn push_changes(out: &mut Vec<u8>, step: &Step) -> Result<(), AllocError>
 
 /// Appends what a record did: its own line, and a line for each thing that came of it.
 #[tactic(auto, unfolding(crate::specs::Trace::record_text))]
-pub fn push_record(out: &mut Vec<u8>, step: &Step) -> Result<(), AllocError>
-    ensures { OnOk result (out.new.items ≡ out.old.items ++ record_text step.now) }
+pub fn push_record(out: &mut Vec<u8>, transition: &Transition) -> Result<(), AllocError>
+    ensures { OnOk result (out.new.items ≡ out.old.items ++ record_text transition.now) }
 {
-    push_head(out, step)?;
-    push_fault_line(out, step)?;
-    push_answer_line(out, step)?;
-    push_console_line(out, step)?;
-    push_alarms(out, step)?;
-    push_deliveries(out, step)?;
-    push_all_kept(out, step)?;
-    push_changes(out, step)
+    push_head(out, transition)?;
+    push_fault_line(out, transition)?;
+    push_answer_line(out, transition)?;
+    push_console_line(out, transition)?;
+    push_alarms(out, transition)?;
+    push_deliveries(out, transition)?;
+    push_all_kept(out, transition)?;
+    push_changes(out, transition)
 }

@@ -2,12 +2,12 @@
 //! several checks have one error, REFERENCE has their order.
 
 ghost use Rattle.std.specs.Prelude.{◌≡◌, ◌++◌, OnOk, option_map};
-ghost use Rattle.mx_look.specs.Step.{slot_in};
+ghost use Rattle.mx_look.specs.Transition.{slot_in};
 ghost use Rattle.mx_look.specs.Refusals.{is_pseudo, partner_text, denied_text, misnamed_text, trap_reason, refusal_part, asked_call, is_copy, invalid_text, names_service, absent_text, holds_in, outside_text, request_reason};
 
 use crate::parties::push_party;
 use crate::result_names::errno_of;
-use crate::{CpuGlance, Glance, SlotGlance, Step, held_before, is_acted, slot_in};
+use crate::{CpuGlance, Glance, SlotGlance, Transition, held_before, is_acted, slot_in};
 use mx_kcall::{CallName, call_row};
 use mx_print_report::push_counted;
 use mx_proc::{ANY, CLOCK, Errno, HARDWARE, SYSTEM, slot_of};
@@ -93,17 +93,17 @@ pub fn push_trap_reason(
 #[tactic(auto, unfolding(crate::specs::Refusals::refusal_part))]
 pub(crate) fn push_refusal(
     out: &mut Vec<u8>,
-    step: &Step,
+    transition: &Transition,
     slot: u32,
     outcome: u32,
 ) -> Result<(), AllocError>
-    ensures { OnOk result (out.new.items ≡ out.old.items ++ refusal_part step.now slot outcome) }
+    ensures { OnOk result (out.new.items ≡ out.old.items ++ refusal_part transition.now slot outcome) }
 {
-    if !is_acted(step, slot) {
+    if !is_acted(transition, slot) {
         return Ok(());
     }
-    match (held_before(step), slot_in(&step.before, slot)) {
-        (Some(held), Some(seen)) => push_trap_reason(out, &step.before, held, seen, outcome),
+    match (held_before(transition), slot_in(&transition.before, slot)) {
+        (Some(held), Some(seen)) => push_trap_reason(out, &transition.before, held, seen, outcome),
         _ => Ok(()),
     }
 }

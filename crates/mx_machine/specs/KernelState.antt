@@ -14,7 +14,7 @@ use Rattle.mx_machine.specs.CallRefusals.{owner_of}
 use Rattle.mx_machine.specs.declared.events.Answer.{Answer}
 use Rattle.mx_machine.specs.declared.events.Answer.TheVariants.{Done, Respawned}
 use Rattle.mx_machine.specs.declared.events.Event.{Event}
-use Rattle.mx_machine.specs.declared.events.Event.TheVariants.{Line, Tick, Kill, Respawn}
+use Rattle.mx_machine.specs.declared.events.Event.TheVariants.{Step, Take, Back, Line, Tick, Kill, Respawn}
 use Rattle.mx_machine.specs.declared.events.Refusal.{Refusal}
 use Rattle.mx_machine.specs.declared.events.Refusal.TheVariants.{CpuBusy}
 use Rattle.mx_machine.specs.declared.history.Recorded.{Recorded}
@@ -131,13 +131,15 @@ abbrev pub answer_to : KernelState → Event → Answer
 answer_to d (Respawn s) = Respawned (endpoint_from ((process_at d.table s).generation + 1) s)
 answer_to d _ = Done
 
--- how each of them is recorded; it is asked of no other event
+-- the shortest record in which an event is made: a step is part of a return
 abbrev pub recorded_as : Event → Recorded
+recorded_as Step = recorded.Back 1
+recorded_as Take = recorded.Take
+recorded_as Back = recorded.Back 0
 recorded_as (Line l) = recorded.Line l
 recorded_as Tick = recorded.Tick
 recorded_as (Kill e) = recorded.Kill e
 recorded_as (Respawn s) = recorded.Respawn s
-recorded_as _ = recorded.Tick
 
 -- Such an event was accepted.
 pub record HasAccepted (d n : KernelState) (e : Event) (x : Answer) : Type 0 where

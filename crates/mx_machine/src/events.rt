@@ -8,7 +8,7 @@
 //! |---|---|
 //! | `Event` | What the machine makes. Who does it is said beside it, and a `Back` has no number: the machine counts. |
 //! | `Recorded` | What a history keeps. It has no step; a `Back` has the number of its steps. |
-//! | `Verb` (`mx_boot`) | The word that begins a line of a text, without the numbers after it. |
+//! | `EventKind` (`mx_boot`) | The word that begins a line of a text, without the numbers after it. |
 //! | `ScriptLine` (`mx_boot`) | A line of a script. It names its processor, and a step is as many as the line says. |
 //! | `OutsideCall` (`mx_cpus`) | What comes from outside while threads run a machine: a line, a kill or a tick; or a wait, which is no event. |
 //!
@@ -16,7 +16,7 @@
 //!
 //! | from | to | by |
 //! |---|---|---|
-//! | `Verb`, fields | `ScriptLine`; `Recorded`; `Event` | `script_line_of`, `recorded_of` (`mx_boot`); `outside_event_of` (`mx_app_turns`) |
+//! | `EventKind`, fields | `ScriptLine`; `Recorded`; `Event` | `script_line_of`, `recorded_of` (`mx_boot`); `outside_event_of` (`mx_app_turns`) |
 //! | `ScriptLine` | `Event` | `perform_line` (`mx_app_step`) |
 //! | `Event` | `OutsideCall` | `call_of_event` (`mx_app_run`), which refuses what only processors and respawners do |
 //! | `OutsideCall` | `Event` | `make_call` (`mx_cpus`) |

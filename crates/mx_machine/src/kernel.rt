@@ -86,18 +86,19 @@ fn note(records: &mut Vec<Record>, actor: u8, event: Recorded)
     }
 }
 
-/// How an event that any actor may do is recorded. A processor's own events have no record by themselves: a step is
-/// counted by its `Back`, whose number only `Kernel::back` knows.
+/// The shortest record in which an event is made. An event that any actor may do is recorded so; of a processor's
+/// steps only `Kernel::back` knows how many came before their `Back`.
 pub fn recorded_as(event: Event) -> Recorded
-    requires { is_for_all event ≡ true }
     ensures { result ≡ recorded_as event }
 {
     match event {
+        Event::Step => Recorded::Back(1),
+        Event::Take => Recorded::Take,
+        Event::Back => Recorded::Back(0),
         Event::Line(line) => Recorded::Line(line),
         Event::Tick => Recorded::Tick,
         Event::Kill(endpoint) => Recorded::Kill(endpoint),
         Event::Respawn(slot) => Recorded::Respawn(slot),
-        Event::Step | Event::Take | Event::Back => unreachable!(),
     }
 }
 

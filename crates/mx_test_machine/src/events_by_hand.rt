@@ -22,9 +22,9 @@ struct Row {
 
 /// The work of a row.
 enum Task {
-    /// Turns, and what is seen after the last of them.
-    Turns {
-        turns: &'static [Turn],
+    /// Events in a row, and what is seen after the last of them.
+    Events {
+        events: &'static [EventRow],
         ends: &'static [End],
     },
     /// Rounds, each by the list `ROUND`.
@@ -37,24 +37,24 @@ enum Task {
 
 /// An event that an actor makes a number of times, and the answer to the last of them. Before that one,
 /// each step goes on, and each other event is done.
-struct Turn {
+struct EventRow {
     actor: u8,
     event: Event,
     times: u32,
     answer: Result<Answer, Refusal>,
 }
 
-/// The turn from which a row gives only what differs.
-const TURN: Turn = Turn {
+/// The row from which another gives only what differs.
+const EVENT_ROW: EventRow = EventRow {
     actor: 0,
     event: Event::Step,
     times: 1,
     answer: GO,
 };
 
-/// A turn on a line, with the fields that differ from those of `TURN`.
-macro_rules! turn {
-    ($($field:ident: $value:expr),+) => { Turn { $($field: $value,)+ ..TURN } };
+/// A row on one line, with the fields that differ from those of `EVENT_ROW`.
+macro_rules! event_row {
+    ($($field:ident: $value:expr),+) => { EventRow { $($field: $value,)+ ..EVENT_ROW } };
 }
 
 const GO: Result<Answer, Refusal> = Ok(Answer::Went(Outcome::Go));
@@ -68,7 +68,7 @@ const DONE: Result<Answer, Refusal> = Ok(Answer::Done);
 /// The actor that is none of the eight processors.
 const OTHER: u8 = 8;
 
-/// A slot after the last turn, with the number at a place of its memory.
+/// A slot after the last row, with the number at a place of its memory.
 struct End {
     slot: u8,
     state: State,
@@ -129,14 +129,14 @@ fn work<T: Tool>(machine: &mut Machine, cpu: u8, tool: &mut T) -> Result<(), Ref
     machine.work(cpu, tool)
 }
 
-/// How the last of a turn's events is answered. Those before it are steps that go on, or are done.
-fn last_answer(rt: &impl Abort, machine: &mut Machine, turn: &Turn) -> Result<Answer, Refusal> {
-    let Turn {
+/// How the last of a row's events is answered. Those before it are steps that go on, or are done.
+fn last_answer(rt: &impl Abort, machine: &mut Machine, row: &EventRow) -> Result<Answer, Refusal> {
+    let EventRow {
         actor,
         event,
         times,
         ..
-    } = *turn;
+    } = *row;
     for _ in 1..times {
         assert!(rt; (actor as usize) < machine.actors());
         let answer = machine.apply(actor, event);
@@ -146,9 +146,9 @@ fn last_answer(rt: &impl Abort, machine: &mut Machine, turn: &Turn) -> Result<An
     machine.apply(actor, event)
 }
 
-fn are_answered(rt: &impl Abort, machine: &mut Machine, turns: &[Turn]) -> bool {
-    for turn in turns {
-        if last_answer(rt, machine, turn) != turn.answer {
+fn are_answered(rt: &impl Abort, machine: &mut Machine, events: &[EventRow]) -> bool {
+    for row in events {
+        if last_answer(rt, machine, row) != row.answer {
             return false;
         }
     }
@@ -243,8 +243,8 @@ fn has_worn(alloc: Global, services: &[Service], worn: &Worn) -> bool {
 fn is_done(rt: &impl Abort, alloc: Global, machine: &mut Machine, task: &Task) -> bool {
     sends(machine.kernel());
     match task {
-        Task::Turns { turns, ends } => {
-            are_answered(rt, machine, *turns) && has_ends(rt, machine.kernel().table(), *ends)
+        Task::Events { events, ends } => {
+            are_answered(rt, machine, *events) && has_ends(rt, machine.kernel().table(), *ends)
         }
         Task::Rounds(rounds) => are_rounds(alloc, machine, *rounds),
         Task::Runs => is_lent(machine),
@@ -271,24 +271,24 @@ static CALLS: &[Row] = &[
     Row {
         name: "a call and its answer",
         config: "asked",
-        task: Task::Turns {
-            turns: &[
-                turn! { actor: 0, event: Event::Take, answer: Ok(Answer::Taken(0, 20)) },
-                turn! { actor: 0, event: Event::Step, times: 4, answer: TRAP },
-                turn! { actor: 0, event: Event::Back, answer: Ok(Answer::Returned(4)) },
-                turn! { actor: 0, event: Event::Take, answer: Ok(Answer::Taken(1, 20)) },
-                turn! { actor: 0, event: Event::Step, times: 4, answer: TRAP },
-                turn! { actor: 0, event: Event::Back, answer: Ok(Answer::Returned(4)) },
-                turn! { actor: 0, event: Event::Take, answer: Ok(Answer::Taken(0, 16)) },
-                turn! { actor: 0, event: Event::Step, times: 3, answer: TRAP },
-                turn! { actor: 0, event: Event::Back, answer: Ok(Answer::Returned(3)) },
-                turn! { actor: 0, event: Event::Take, answer: Ok(Answer::Taken(0, 13)) },
-                turn! { actor: 0, event: Event::Step, times: 5, answer: TRAP },
-                turn! { actor: 0, event: Event::Back, answer: Ok(Answer::Returned(5)) },
-                turn! { actor: 0, event: Event::Take, answer: Ok(Answer::Taken(1, 16)) },
-                turn! { actor: 0, event: Event::Step, times: 4, answer: TRAP },
-                turn! { actor: 0, event: Event::Back, answer: Ok(Answer::Returned(4)) },
-                turn! { actor: 0, event: Event::Take, answer: Err(Refusal::NoProcess) },
+        task: Task::Events {
+            events: &[
+                event_row! { actor: 0, event: Event::Take, answer: Ok(Answer::Taken(0, 20)) },
+                event_row! { actor: 0, event: Event::Step, times: 4, answer: TRAP },
+                event_row! { actor: 0, event: Event::Back, answer: Ok(Answer::Returned(4)) },
+                event_row! { actor: 0, event: Event::Take, answer: Ok(Answer::Taken(1, 20)) },
+                event_row! { actor: 0, event: Event::Step, times: 4, answer: TRAP },
+                event_row! { actor: 0, event: Event::Back, answer: Ok(Answer::Returned(4)) },
+                event_row! { actor: 0, event: Event::Take, answer: Ok(Answer::Taken(0, 16)) },
+                event_row! { actor: 0, event: Event::Step, times: 3, answer: TRAP },
+                event_row! { actor: 0, event: Event::Back, answer: Ok(Answer::Returned(3)) },
+                event_row! { actor: 0, event: Event::Take, answer: Ok(Answer::Taken(0, 13)) },
+                event_row! { actor: 0, event: Event::Step, times: 5, answer: TRAP },
+                event_row! { actor: 0, event: Event::Back, answer: Ok(Answer::Returned(5)) },
+                event_row! { actor: 0, event: Event::Take, answer: Ok(Answer::Taken(1, 16)) },
+                event_row! { actor: 0, event: Event::Step, times: 4, answer: TRAP },
+                event_row! { actor: 0, event: Event::Back, answer: Ok(Answer::Returned(4)) },
+                event_row! { actor: 0, event: Event::Take, answer: Err(Refusal::NoProcess) },
             ],
             ends: &[
                 end! { slot: 0, state: RECEIVING, level: 4, ticks: 8, steps: 12,
@@ -301,16 +301,16 @@ static CALLS: &[Row] = &[
     Row {
         name: "a trap that is no call, and then the end of the text",
         config: "short",
-        task: Task::Turns {
-            turns: &[
-                turn! { actor: 0, event: Event::Take, answer: Ok(Answer::Taken(0, 5)) },
-                turn! { actor: 0, event: Event::Step, times: 3, answer: TRAP },
-                turn! { actor: 0, event: Event::Step, answer: Err(Refusal::AtStop) },
-                turn! { actor: 0, event: Event::Back, answer: Ok(Answer::Returned(3)) },
-                turn! { actor: 0, event: Event::Take, answer: Ok(Answer::Taken(0, 2)) },
-                turn! { actor: 0, event: Event::Step, answer: FAULT },
-                turn! { actor: 0, event: Event::Back, answer: Ok(Answer::Returned(1)) },
-                turn! { actor: 0, event: Event::Take, answer: Err(Refusal::NoProcess) },
+        task: Task::Events {
+            events: &[
+                event_row! { actor: 0, event: Event::Take, answer: Ok(Answer::Taken(0, 5)) },
+                event_row! { actor: 0, event: Event::Step, times: 3, answer: TRAP },
+                event_row! { actor: 0, event: Event::Step, answer: Err(Refusal::AtStop) },
+                event_row! { actor: 0, event: Event::Back, answer: Ok(Answer::Returned(3)) },
+                event_row! { actor: 0, event: Event::Take, answer: Ok(Answer::Taken(0, 2)) },
+                event_row! { actor: 0, event: Event::Step, answer: FAULT },
+                event_row! { actor: 0, event: Event::Back, answer: Ok(Answer::Returned(1)) },
+                event_row! { actor: 0, event: Event::Take, answer: Err(Refusal::NoProcess) },
             ],
             ends: &[
                 end! { slot: 0, state: FAULTED, level: 7, ticks: 1, steps: 4,
@@ -321,15 +321,15 @@ static CALLS: &[Row] = &[
     Row {
         name: "TIMES counts the steps up to its own trap",
         config: "times",
-        task: Task::Turns {
-            turns: &[
-                turn! { actor: OTHER, event: Event::Tick, answer: DONE },
-                turn! { actor: 0, event: Event::Take, answer: Ok(Answer::Taken(0, 20)) },
-                turn! { actor: 0, event: Event::Step, times: 2, answer: GO },
-                turn! { actor: 0, event: Event::Back, answer: Ok(Answer::Returned(2)) },
-                turn! { actor: 0, event: Event::Take, answer: Ok(Answer::Taken(0, 18)) },
-                turn! { actor: 0, event: Event::Step, times: 3, answer: TRAP },
-                turn! { actor: 0, event: Event::Back, answer: Ok(Answer::Returned(3)) },
+        task: Task::Events {
+            events: &[
+                event_row! { actor: OTHER, event: Event::Tick, answer: DONE },
+                event_row! { actor: 0, event: Event::Take, answer: Ok(Answer::Taken(0, 20)) },
+                event_row! { actor: 0, event: Event::Step, times: 2, answer: GO },
+                event_row! { actor: 0, event: Event::Back, answer: Ok(Answer::Returned(2)) },
+                event_row! { actor: 0, event: Event::Take, answer: Ok(Answer::Taken(0, 18)) },
+                event_row! { actor: 0, event: Event::Step, times: 3, answer: TRAP },
+                event_row! { actor: 0, event: Event::Back, answer: Ok(Answer::Returned(3)) },
             ],
             ends: &[
                 end! { slot: 0, state: READY, level: 7, ticks: 15, steps: 5,
@@ -351,15 +351,15 @@ static REFUSALS: &[Row] = &[
     Row {
         name: "what is refused if a process is dead and has no restart",
         config: "short",
-        task: Task::Turns {
-            turns: &[
-                turn! { actor: OTHER, event: Event::Tick, answer: DONE },
-                turn! { actor: OTHER, event: Event::Kill(0), answer: DONE },
-                turn! { actor: OTHER, event: Event::Kill(0), answer: Err(Refusal::NoProcess) },
-                turn! { actor: OTHER, event: Event::Respawn(0), answer: Err(Refusal::Worn) },
-                turn! { actor: OTHER, event: Event::Line(3), answer: Err(Refusal::NoLine) },
-                turn! { actor: OTHER, event: Event::Respawn(5), answer: Err(Refusal::NoService) },
-                turn! { actor: 0, event: Event::Back, answer: Err(Refusal::CpuEmpty) },
+        task: Task::Events {
+            events: &[
+                event_row! { actor: OTHER, event: Event::Tick, answer: DONE },
+                event_row! { actor: OTHER, event: Event::Kill(0), answer: DONE },
+                event_row! { actor: OTHER, event: Event::Kill(0), answer: Err(Refusal::NoProcess) },
+                event_row! { actor: OTHER, event: Event::Respawn(0), answer: Err(Refusal::Worn) },
+                event_row! { actor: OTHER, event: Event::Line(3), answer: Err(Refusal::NoLine) },
+                event_row! { actor: OTHER, event: Event::Respawn(5), answer: Err(Refusal::NoService) },
+                event_row! { actor: 0, event: Event::Back, answer: Err(Refusal::CpuEmpty) },
             ],
             ends: &[end! { slot: 0, state: KILLED, level: 7, ticks: 5, steps: 0,
                     eax: 0, place: 0, word: 0 }],
@@ -368,11 +368,11 @@ static REFUSALS: &[Row] = &[
     Row {
         name: "a history with room for two records",
         config: "log_of_two",
-        task: Task::Turns {
-            turns: &[
-                turn! { actor: 0, event: Event::Take, answer: Ok(Answer::Taken(0, 5)) },
-                turn! { actor: 0, event: Event::Back, answer: Ok(Answer::Returned(0)) },
-                turn! { actor: 1, event: Event::Tick, answer: Err(Refusal::LogFull) },
+        task: Task::Events {
+            events: &[
+                event_row! { actor: 0, event: Event::Take, answer: Ok(Answer::Taken(0, 5)) },
+                event_row! { actor: 0, event: Event::Back, answer: Ok(Answer::Returned(0)) },
+                event_row! { actor: 1, event: Event::Tick, answer: Err(Refusal::LogFull) },
             ],
             ends: &[],
         },
@@ -380,10 +380,10 @@ static REFUSALS: &[Row] = &[
     Row {
         name: "a history with room for one record",
         config: "log_of_one",
-        task: Task::Turns {
-            turns: &[
-                turn! { actor: 0, event: Event::Take, answer: Err(Refusal::LogFull) },
-                turn! { actor: 0, event: Event::Tick, answer: DONE },
+        task: Task::Events {
+            events: &[
+                event_row! { actor: 0, event: Event::Take, answer: Err(Refusal::LogFull) },
+                event_row! { actor: 0, event: Event::Tick, answer: DONE },
             ],
             ends: &[],
         },
@@ -391,23 +391,23 @@ static REFUSALS: &[Row] = &[
     Row {
         name: "eight processors take eight processes in slot order",
         config: "eight",
-        task: Task::Turns {
-            turns: &[
-                turn! { actor: 0, event: Event::Take, answer: Ok(Answer::Taken(0, 5)) },
-                turn! { actor: 1, event: Event::Take, answer: Ok(Answer::Taken(1, 5)) },
-                turn! { actor: 2, event: Event::Take, answer: Ok(Answer::Taken(2, 5)) },
-                turn! { actor: 3, event: Event::Take, answer: Ok(Answer::Taken(3, 5)) },
-                turn! { actor: 4, event: Event::Take, answer: Ok(Answer::Taken(4, 5)) },
-                turn! { actor: 5, event: Event::Take, answer: Ok(Answer::Taken(5, 5)) },
-                turn! { actor: 6, event: Event::Take, answer: Ok(Answer::Taken(6, 5)) },
-                turn! { actor: 7, event: Event::Take, answer: Ok(Answer::Taken(7, 5)) },
-                turn! { actor: 7, event: Event::Take, answer: Err(Refusal::CpuBusy) },
-                turn! { actor: 7, event: Event::Step, times: 3, answer: TRAP },
-                turn! { actor: 7, event: Event::Back, answer: Ok(Answer::Returned(3)) },
-                turn! { actor: 6, event: Event::Back, answer: Ok(Answer::Returned(0)) },
-                turn! { actor: 7, event: Event::Take, answer: Ok(Answer::Taken(6, 5)) },
-                turn! { actor: 6, event: Event::Take, answer: Ok(Answer::Taken(7, 2)) },
-                turn! { actor: 6, event: Event::Back, answer: Ok(Answer::Returned(0)) },
+        task: Task::Events {
+            events: &[
+                event_row! { actor: 0, event: Event::Take, answer: Ok(Answer::Taken(0, 5)) },
+                event_row! { actor: 1, event: Event::Take, answer: Ok(Answer::Taken(1, 5)) },
+                event_row! { actor: 2, event: Event::Take, answer: Ok(Answer::Taken(2, 5)) },
+                event_row! { actor: 3, event: Event::Take, answer: Ok(Answer::Taken(3, 5)) },
+                event_row! { actor: 4, event: Event::Take, answer: Ok(Answer::Taken(4, 5)) },
+                event_row! { actor: 5, event: Event::Take, answer: Ok(Answer::Taken(5, 5)) },
+                event_row! { actor: 6, event: Event::Take, answer: Ok(Answer::Taken(6, 5)) },
+                event_row! { actor: 7, event: Event::Take, answer: Ok(Answer::Taken(7, 5)) },
+                event_row! { actor: 7, event: Event::Take, answer: Err(Refusal::CpuBusy) },
+                event_row! { actor: 7, event: Event::Step, times: 3, answer: TRAP },
+                event_row! { actor: 7, event: Event::Back, answer: Ok(Answer::Returned(3)) },
+                event_row! { actor: 6, event: Event::Back, answer: Ok(Answer::Returned(0)) },
+                event_row! { actor: 7, event: Event::Take, answer: Ok(Answer::Taken(6, 5)) },
+                event_row! { actor: 6, event: Event::Take, answer: Ok(Answer::Taken(7, 2)) },
+                event_row! { actor: 6, event: Event::Back, answer: Ok(Answer::Returned(0)) },
             ],
             ends: &[end! { slot: 7, state: READY, level: 7, ticks: 2, steps: 3,
                     eax: ECALLDENIED, place: 0, word: 0 }],
@@ -425,15 +425,15 @@ static DEATHS: &[Row] = &[
     Row {
         name: "who awaits a process that is killed goes on with EDEADDST",
         config: "looks",
-        task: Task::Turns {
-            turns: &[
-                turn! { actor: 0, event: Event::Take, answer: Ok(Answer::Taken(3, 20)) },
-                turn! { actor: 0, event: Event::Step, times: 5, answer: TRAP },
-                turn! { actor: 0, event: Event::Back, answer: Ok(Answer::Returned(5)) },
-                turn! { actor: 0, event: Event::Take, answer: Ok(Answer::Taken(0, 20)) },
-                turn! { actor: 0, event: Event::Step, times: 4, answer: TRAP },
-                turn! { actor: 0, event: Event::Back, answer: Ok(Answer::Returned(4)) },
-                turn! { actor: OTHER, event: Event::Kill(3), answer: DONE },
+        task: Task::Events {
+            events: &[
+                event_row! { actor: 0, event: Event::Take, answer: Ok(Answer::Taken(3, 20)) },
+                event_row! { actor: 0, event: Event::Step, times: 5, answer: TRAP },
+                event_row! { actor: 0, event: Event::Back, answer: Ok(Answer::Returned(5)) },
+                event_row! { actor: 0, event: Event::Take, answer: Ok(Answer::Taken(0, 20)) },
+                event_row! { actor: 0, event: Event::Step, times: 4, answer: TRAP },
+                event_row! { actor: 0, event: Event::Back, answer: Ok(Answer::Returned(4)) },
+                event_row! { actor: OTHER, event: Event::Kill(3), answer: DONE },
             ],
             ends: &[
                 end! { slot: 0, state: READY, level: 7, ticks: 16, steps: 4,
@@ -446,22 +446,22 @@ static DEATHS: &[Row] = &[
     Row {
         name: "a process is killed on a processor: it dies as it comes back, and its call isn't made",
         config: "works",
-        task: Task::Turns {
-            turns: &[
-                turn! { actor: 0, event: Event::Take, answer: Ok(Answer::Taken(0, 24)) },
-                turn! { actor: 0, event: Event::Step, times: 4, answer: TRAP },
-                turn! { actor: 0, event: Event::Back, answer: Ok(Answer::Returned(4)) },
-                turn! { actor: 0, event: Event::Take, answer: Ok(Answer::Taken(1, 20)) },
-                turn! { actor: 0, event: Event::Step, times: 4, answer: TRAP },
-                turn! { actor: 0, event: Event::Back, answer: Ok(Answer::Returned(4)) },
-                turn! { actor: 0, event: Event::Take, answer: Ok(Answer::Taken(0, 20)) },
-                turn! { actor: 0, event: Event::Step, times: 10, answer: GO },
-                turn! { actor: OTHER, event: Event::Kill(0), answer: DONE },
-                turn! { actor: OTHER, event: Event::Respawn(0), answer: Err(Refusal::NotDown) },
-                turn! { actor: 1, event: Event::Take, answer: Err(Refusal::NoProcess) },
-                turn! { actor: 0, event: Event::Tick, answer: DONE },
-                turn! { actor: 0, event: Event::Step, times: 10, answer: TRAP },
-                turn! { actor: 0, event: Event::Back, answer: Ok(Answer::Returned(20)) },
+        task: Task::Events {
+            events: &[
+                event_row! { actor: 0, event: Event::Take, answer: Ok(Answer::Taken(0, 24)) },
+                event_row! { actor: 0, event: Event::Step, times: 4, answer: TRAP },
+                event_row! { actor: 0, event: Event::Back, answer: Ok(Answer::Returned(4)) },
+                event_row! { actor: 0, event: Event::Take, answer: Ok(Answer::Taken(1, 20)) },
+                event_row! { actor: 0, event: Event::Step, times: 4, answer: TRAP },
+                event_row! { actor: 0, event: Event::Back, answer: Ok(Answer::Returned(4)) },
+                event_row! { actor: 0, event: Event::Take, answer: Ok(Answer::Taken(0, 20)) },
+                event_row! { actor: 0, event: Event::Step, times: 10, answer: GO },
+                event_row! { actor: OTHER, event: Event::Kill(0), answer: DONE },
+                event_row! { actor: OTHER, event: Event::Respawn(0), answer: Err(Refusal::NotDown) },
+                event_row! { actor: 1, event: Event::Take, answer: Err(Refusal::NoProcess) },
+                event_row! { actor: 0, event: Event::Tick, answer: DONE },
+                event_row! { actor: 0, event: Event::Step, times: 10, answer: TRAP },
+                event_row! { actor: 0, event: Event::Back, answer: Ok(Answer::Returned(20)) },
             ],
             ends: &[
                 end! { slot: 0, state: KILLED, level: 4, ticks: 0, steps: 24,
@@ -483,20 +483,20 @@ static RESPAWNS: &[Row] = &[
     Row {
         name: "the driver is respawned: SEND to its old endpoint gives EDEADDST",
         config: "looks",
-        task: Task::Turns {
-            turns: &[
-                turn! { actor: 0, event: Event::Take, answer: Ok(Answer::Taken(3, 20)) },
-                turn! { actor: 0, event: Event::Step, times: 5, answer: TRAP },
-                turn! { actor: 0, event: Event::Back, answer: Ok(Answer::Returned(5)) },
-                turn! { actor: 0, event: Event::Take, answer: Ok(Answer::Taken(0, 20)) },
-                turn! { actor: 0, event: Event::Step, times: 4, answer: TRAP },
-                turn! { actor: 0, event: Event::Back, answer: Ok(Answer::Returned(4)) },
-                turn! { actor: OTHER, event: Event::Kill(3), answer: DONE },
-                turn! { actor: OTHER, event: Event::Respawn(3), answer: Ok(Answer::Respawned(1027)) },
-                turn! { actor: 0, event: Event::Take, answer: Ok(Answer::Taken(1027, 20)) },
-                turn! { actor: 1, event: Event::Take, answer: Ok(Answer::Taken(0, 16)) },
-                turn! { actor: 1, event: Event::Step, times: 3, answer: TRAP },
-                turn! { actor: 1, event: Event::Back, answer: Ok(Answer::Returned(3)) },
+        task: Task::Events {
+            events: &[
+                event_row! { actor: 0, event: Event::Take, answer: Ok(Answer::Taken(3, 20)) },
+                event_row! { actor: 0, event: Event::Step, times: 5, answer: TRAP },
+                event_row! { actor: 0, event: Event::Back, answer: Ok(Answer::Returned(5)) },
+                event_row! { actor: 0, event: Event::Take, answer: Ok(Answer::Taken(0, 20)) },
+                event_row! { actor: 0, event: Event::Step, times: 4, answer: TRAP },
+                event_row! { actor: 0, event: Event::Back, answer: Ok(Answer::Returned(4)) },
+                event_row! { actor: OTHER, event: Event::Kill(3), answer: DONE },
+                event_row! { actor: OTHER, event: Event::Respawn(3), answer: Ok(Answer::Respawned(1027)) },
+                event_row! { actor: 0, event: Event::Take, answer: Ok(Answer::Taken(1027, 20)) },
+                event_row! { actor: 1, event: Event::Take, answer: Ok(Answer::Taken(0, 16)) },
+                event_row! { actor: 1, event: Event::Step, times: 3, answer: TRAP },
+                event_row! { actor: 1, event: Event::Back, answer: Ok(Answer::Returned(3)) },
             ],
             ends: &[end! { slot: 0, state: READY, level: 7, ticks: 13, steps: 7,
                     eax: EDEADDST, place: 8, word: 0 }],
@@ -505,25 +505,25 @@ static RESPAWNS: &[Row] = &[
     Row {
         name: "the driver is respawned: its data are the file's, and WHOIS answers its new endpoint",
         config: "looks",
-        task: Task::Turns {
-            turns: &[
-                turn! { actor: 0, event: Event::Take, answer: Ok(Answer::Taken(3, 20)) },
-                turn! { actor: 0, event: Event::Step, times: 5, answer: TRAP },
-                turn! { actor: 0, event: Event::Back, answer: Ok(Answer::Returned(5)) },
-                turn! { actor: 0, event: Event::Take, answer: Ok(Answer::Taken(0, 20)) },
-                turn! { actor: 0, event: Event::Step, times: 4, answer: TRAP },
-                turn! { actor: 0, event: Event::Back, answer: Ok(Answer::Returned(4)) },
-                turn! { actor: OTHER, event: Event::Kill(3), answer: DONE },
-                turn! { actor: OTHER, event: Event::Respawn(3), answer: Ok(Answer::Respawned(1027)) },
-                turn! { actor: OTHER, event: Event::Respawn(3), answer: Err(Refusal::NotDown) },
-                turn! { actor: 0, event: Event::Take, answer: Ok(Answer::Taken(1027, 20)) },
-                turn! { actor: 1, event: Event::Take, answer: Ok(Answer::Taken(0, 16)) },
-                turn! { actor: 1, event: Event::Step, times: 3, answer: TRAP },
-                turn! { actor: 1, event: Event::Back, answer: Ok(Answer::Returned(3)) },
-                turn! { actor: 1, event: Event::Take, answer: Ok(Answer::Taken(0, 13)) },
-                turn! { actor: 1, event: Event::Step, times: 5, answer: TRAP },
-                turn! { actor: 1, event: Event::Back, answer: Ok(Answer::Returned(5)) },
-                turn! { actor: 0, event: Event::Back, answer: Ok(Answer::Returned(0)) },
+        task: Task::Events {
+            events: &[
+                event_row! { actor: 0, event: Event::Take, answer: Ok(Answer::Taken(3, 20)) },
+                event_row! { actor: 0, event: Event::Step, times: 5, answer: TRAP },
+                event_row! { actor: 0, event: Event::Back, answer: Ok(Answer::Returned(5)) },
+                event_row! { actor: 0, event: Event::Take, answer: Ok(Answer::Taken(0, 20)) },
+                event_row! { actor: 0, event: Event::Step, times: 4, answer: TRAP },
+                event_row! { actor: 0, event: Event::Back, answer: Ok(Answer::Returned(4)) },
+                event_row! { actor: OTHER, event: Event::Kill(3), answer: DONE },
+                event_row! { actor: OTHER, event: Event::Respawn(3), answer: Ok(Answer::Respawned(1027)) },
+                event_row! { actor: OTHER, event: Event::Respawn(3), answer: Err(Refusal::NotDown) },
+                event_row! { actor: 0, event: Event::Take, answer: Ok(Answer::Taken(1027, 20)) },
+                event_row! { actor: 1, event: Event::Take, answer: Ok(Answer::Taken(0, 16)) },
+                event_row! { actor: 1, event: Event::Step, times: 3, answer: TRAP },
+                event_row! { actor: 1, event: Event::Back, answer: Ok(Answer::Returned(3)) },
+                event_row! { actor: 1, event: Event::Take, answer: Ok(Answer::Taken(0, 13)) },
+                event_row! { actor: 1, event: Event::Step, times: 5, answer: TRAP },
+                event_row! { actor: 1, event: Event::Back, answer: Ok(Answer::Returned(5)) },
+                event_row! { actor: 0, event: Event::Back, answer: Ok(Answer::Returned(0)) },
             ],
             ends: &[
                 end! { slot: 0, state: READY, level: 7, ticks: 8, steps: 12,
@@ -545,20 +545,20 @@ static WINDOWS: &[Row] = &[
     Row {
         name: "a copy into a window that was granted",
         config: "granted",
-        task: Task::Turns {
-            turns: &[
-                turn! { actor: 0, event: Event::Take, answer: Ok(Answer::Taken(0, 40)) },
-                turn! { actor: 1, event: Event::Take, answer: Ok(Answer::Taken(1, 40)) },
-                turn! { actor: 1, event: Event::Step, times: 8, answer: TRAP },
-                turn! { actor: 1, event: Event::Back, answer: Ok(Answer::Returned(8)) },
-                turn! { actor: 1, event: Event::Take, answer: Ok(Answer::Taken(1, 32)) },
-                turn! { actor: 1, event: Event::Step, times: 3, answer: TRAP },
-                turn! { actor: 1, event: Event::Back, answer: Ok(Answer::Returned(3)) },
-                turn! { actor: 0, event: Event::Step, times: 6, answer: TRAP },
-                turn! { actor: 0, event: Event::Back, answer: Ok(Answer::Returned(6)) },
-                turn! { actor: 0, event: Event::Take, answer: Ok(Answer::Taken(0, 34)) },
-                turn! { actor: 0, event: Event::Step, times: 8, answer: TRAP },
-                turn! { actor: 0, event: Event::Back, answer: Ok(Answer::Returned(8)) },
+        task: Task::Events {
+            events: &[
+                event_row! { actor: 0, event: Event::Take, answer: Ok(Answer::Taken(0, 40)) },
+                event_row! { actor: 1, event: Event::Take, answer: Ok(Answer::Taken(1, 40)) },
+                event_row! { actor: 1, event: Event::Step, times: 8, answer: TRAP },
+                event_row! { actor: 1, event: Event::Back, answer: Ok(Answer::Returned(8)) },
+                event_row! { actor: 1, event: Event::Take, answer: Ok(Answer::Taken(1, 32)) },
+                event_row! { actor: 1, event: Event::Step, times: 3, answer: TRAP },
+                event_row! { actor: 1, event: Event::Back, answer: Ok(Answer::Returned(3)) },
+                event_row! { actor: 0, event: Event::Step, times: 6, answer: TRAP },
+                event_row! { actor: 0, event: Event::Back, answer: Ok(Answer::Returned(6)) },
+                event_row! { actor: 0, event: Event::Take, answer: Ok(Answer::Taken(0, 34)) },
+                event_row! { actor: 0, event: Event::Step, times: 8, answer: TRAP },
+                event_row! { actor: 0, event: Event::Back, answer: Ok(Answer::Returned(8)) },
             ],
             ends: &[
                 end! { slot: 0, state: READY, level: 4, ticks: 26, steps: 14,
@@ -571,20 +571,20 @@ static WINDOWS: &[Row] = &[
     Row {
         name: "lenient rules: GRANT is no call, and a copy needs no window",
         config: "lenient",
-        task: Task::Turns {
-            turns: &[
-                turn! { actor: 0, event: Event::Take, answer: Ok(Answer::Taken(0, 40)) },
-                turn! { actor: 1, event: Event::Take, answer: Ok(Answer::Taken(1, 40)) },
-                turn! { actor: 1, event: Event::Step, times: 8, answer: TRAP },
-                turn! { actor: 1, event: Event::Back, answer: Ok(Answer::Returned(8)) },
-                turn! { actor: 1, event: Event::Take, answer: Ok(Answer::Taken(1, 32)) },
-                turn! { actor: 1, event: Event::Step, times: 3, answer: TRAP },
-                turn! { actor: 1, event: Event::Back, answer: Ok(Answer::Returned(3)) },
-                turn! { actor: 0, event: Event::Step, times: 6, answer: TRAP },
-                turn! { actor: 0, event: Event::Back, answer: Ok(Answer::Returned(6)) },
-                turn! { actor: 0, event: Event::Take, answer: Ok(Answer::Taken(0, 34)) },
-                turn! { actor: 0, event: Event::Step, times: 8, answer: TRAP },
-                turn! { actor: 0, event: Event::Back, answer: Ok(Answer::Returned(8)) },
+        task: Task::Events {
+            events: &[
+                event_row! { actor: 0, event: Event::Take, answer: Ok(Answer::Taken(0, 40)) },
+                event_row! { actor: 1, event: Event::Take, answer: Ok(Answer::Taken(1, 40)) },
+                event_row! { actor: 1, event: Event::Step, times: 8, answer: TRAP },
+                event_row! { actor: 1, event: Event::Back, answer: Ok(Answer::Returned(8)) },
+                event_row! { actor: 1, event: Event::Take, answer: Ok(Answer::Taken(1, 32)) },
+                event_row! { actor: 1, event: Event::Step, times: 3, answer: TRAP },
+                event_row! { actor: 1, event: Event::Back, answer: Ok(Answer::Returned(3)) },
+                event_row! { actor: 0, event: Event::Step, times: 6, answer: TRAP },
+                event_row! { actor: 0, event: Event::Back, answer: Ok(Answer::Returned(6)) },
+                event_row! { actor: 0, event: Event::Take, answer: Ok(Answer::Taken(0, 34)) },
+                event_row! { actor: 0, event: Event::Step, times: 8, answer: TRAP },
+                event_row! { actor: 0, event: Event::Back, answer: Ok(Answer::Returned(8)) },
             ],
             ends: &[
                 end! { slot: 0, state: READY, level: 4, ticks: 26, steps: 14,
@@ -608,22 +608,22 @@ static DEAD_OWNERS: &[Row] = &[
     Row {
         name: "who granted is dead, and its endpoint with it",
         config: "granted",
-        task: Task::Turns {
-            turns: &[
-                turn! { actor: 0, event: Event::Take, answer: Ok(Answer::Taken(0, 40)) },
-                turn! { actor: 1, event: Event::Take, answer: Ok(Answer::Taken(1, 40)) },
-                turn! { actor: 1, event: Event::Step, times: 8, answer: TRAP },
-                turn! { actor: 1, event: Event::Back, answer: Ok(Answer::Returned(8)) },
-                turn! { actor: 1, event: Event::Take, answer: Ok(Answer::Taken(1, 32)) },
-                turn! { actor: 1, event: Event::Step, times: 3, answer: TRAP },
-                turn! { actor: 1, event: Event::Back, answer: Ok(Answer::Returned(3)) },
-                turn! { actor: OTHER, event: Event::Kill(1), answer: DONE },
-                turn! { actor: OTHER, event: Event::Respawn(1), answer: Ok(Answer::Respawned(1025)) },
-                turn! { actor: 0, event: Event::Step, times: 6, answer: TRAP },
-                turn! { actor: 0, event: Event::Back, answer: Ok(Answer::Returned(6)) },
-                turn! { actor: 0, event: Event::Take, answer: Ok(Answer::Taken(0, 34)) },
-                turn! { actor: 0, event: Event::Step, times: 8, answer: TRAP },
-                turn! { actor: 0, event: Event::Back, answer: Ok(Answer::Returned(8)) },
+        task: Task::Events {
+            events: &[
+                event_row! { actor: 0, event: Event::Take, answer: Ok(Answer::Taken(0, 40)) },
+                event_row! { actor: 1, event: Event::Take, answer: Ok(Answer::Taken(1, 40)) },
+                event_row! { actor: 1, event: Event::Step, times: 8, answer: TRAP },
+                event_row! { actor: 1, event: Event::Back, answer: Ok(Answer::Returned(8)) },
+                event_row! { actor: 1, event: Event::Take, answer: Ok(Answer::Taken(1, 32)) },
+                event_row! { actor: 1, event: Event::Step, times: 3, answer: TRAP },
+                event_row! { actor: 1, event: Event::Back, answer: Ok(Answer::Returned(3)) },
+                event_row! { actor: OTHER, event: Event::Kill(1), answer: DONE },
+                event_row! { actor: OTHER, event: Event::Respawn(1), answer: Ok(Answer::Respawned(1025)) },
+                event_row! { actor: 0, event: Event::Step, times: 6, answer: TRAP },
+                event_row! { actor: 0, event: Event::Back, answer: Ok(Answer::Returned(6)) },
+                event_row! { actor: 0, event: Event::Take, answer: Ok(Answer::Taken(0, 34)) },
+                event_row! { actor: 0, event: Event::Step, times: 8, answer: TRAP },
+                event_row! { actor: 0, event: Event::Back, answer: Ok(Answer::Returned(8)) },
             ],
             ends: &[
                 end! { slot: 0, state: READY, level: 4, ticks: 26, steps: 14,
@@ -634,25 +634,25 @@ static DEAD_OWNERS: &[Row] = &[
     Row {
         name: "the process after who granted has granted nothing",
         config: "granted",
-        task: Task::Turns {
-            turns: &[
-                turn! { actor: 0, event: Event::Take, answer: Ok(Answer::Taken(0, 40)) },
-                turn! { actor: 1, event: Event::Take, answer: Ok(Answer::Taken(1, 40)) },
-                turn! { actor: 1, event: Event::Step, times: 8, answer: TRAP },
-                turn! { actor: 1, event: Event::Back, answer: Ok(Answer::Returned(8)) },
-                turn! { actor: 1, event: Event::Take, answer: Ok(Answer::Taken(1, 32)) },
-                turn! { actor: 1, event: Event::Step, times: 3, answer: TRAP },
-                turn! { actor: 1, event: Event::Back, answer: Ok(Answer::Returned(3)) },
-                turn! { actor: OTHER, event: Event::Kill(1), answer: DONE },
-                turn! { actor: OTHER, event: Event::Respawn(1), answer: Ok(Answer::Respawned(1025)) },
-                turn! { actor: 0, event: Event::Step, times: 6, answer: TRAP },
-                turn! { actor: 0, event: Event::Back, answer: Ok(Answer::Returned(6)) },
-                turn! { actor: 0, event: Event::Take, answer: Ok(Answer::Taken(0, 34)) },
-                turn! { actor: 0, event: Event::Step, times: 8, answer: TRAP },
-                turn! { actor: 0, event: Event::Back, answer: Ok(Answer::Returned(8)) },
-                turn! { actor: 0, event: Event::Take, answer: Ok(Answer::Taken(0, 26)) },
-                turn! { actor: 0, event: Event::Step, times: 8, answer: TRAP },
-                turn! { actor: 0, event: Event::Back, answer: Ok(Answer::Returned(8)) },
+        task: Task::Events {
+            events: &[
+                event_row! { actor: 0, event: Event::Take, answer: Ok(Answer::Taken(0, 40)) },
+                event_row! { actor: 1, event: Event::Take, answer: Ok(Answer::Taken(1, 40)) },
+                event_row! { actor: 1, event: Event::Step, times: 8, answer: TRAP },
+                event_row! { actor: 1, event: Event::Back, answer: Ok(Answer::Returned(8)) },
+                event_row! { actor: 1, event: Event::Take, answer: Ok(Answer::Taken(1, 32)) },
+                event_row! { actor: 1, event: Event::Step, times: 3, answer: TRAP },
+                event_row! { actor: 1, event: Event::Back, answer: Ok(Answer::Returned(3)) },
+                event_row! { actor: OTHER, event: Event::Kill(1), answer: DONE },
+                event_row! { actor: OTHER, event: Event::Respawn(1), answer: Ok(Answer::Respawned(1025)) },
+                event_row! { actor: 0, event: Event::Step, times: 6, answer: TRAP },
+                event_row! { actor: 0, event: Event::Back, answer: Ok(Answer::Returned(6)) },
+                event_row! { actor: 0, event: Event::Take, answer: Ok(Answer::Taken(0, 34)) },
+                event_row! { actor: 0, event: Event::Step, times: 8, answer: TRAP },
+                event_row! { actor: 0, event: Event::Back, answer: Ok(Answer::Returned(8)) },
+                event_row! { actor: 0, event: Event::Take, answer: Ok(Answer::Taken(0, 26)) },
+                event_row! { actor: 0, event: Event::Step, times: 8, answer: TRAP },
+                event_row! { actor: 0, event: Event::Back, answer: Ok(Answer::Returned(8)) },
             ],
             ends: &[
                 end! { slot: 0, state: READY, level: 4, ticks: 18, steps: 22,
@@ -673,24 +673,24 @@ fn windows_of_dead_owners(rt: HostRuntime) {
 static DEAD_USERS: &[Row] = &[Row {
     name: "a window isn't for the process after the one that it was opened for",
     config: "granted",
-    task: Task::Turns {
-        turns: &[
-            turn! { actor: 0, event: Event::Take, answer: Ok(Answer::Taken(0, 40)) },
-            turn! { actor: 1, event: Event::Take, answer: Ok(Answer::Taken(1, 40)) },
-            turn! { actor: 1, event: Event::Step, times: 8, answer: TRAP },
-            turn! { actor: 1, event: Event::Back, answer: Ok(Answer::Returned(8)) },
-            turn! { actor: 1, event: Event::Take, answer: Ok(Answer::Taken(1, 32)) },
-            turn! { actor: 1, event: Event::Step, times: 3, answer: TRAP },
-            turn! { actor: 1, event: Event::Back, answer: Ok(Answer::Returned(3)) },
-            turn! { actor: 0, event: Event::Back, answer: Ok(Answer::Returned(0)) },
-            turn! { actor: OTHER, event: Event::Kill(0), answer: DONE },
-            turn! { actor: OTHER, event: Event::Respawn(0), answer: Ok(Answer::Respawned(1024)) },
-            turn! { actor: 0, event: Event::Take, answer: Ok(Answer::Taken(1024, 40)) },
-            turn! { actor: 0, event: Event::Step, times: 6, answer: TRAP },
-            turn! { actor: 0, event: Event::Back, answer: Ok(Answer::Returned(6)) },
-            turn! { actor: 0, event: Event::Take, answer: Ok(Answer::Taken(1024, 34)) },
-            turn! { actor: 0, event: Event::Step, times: 8, answer: TRAP },
-            turn! { actor: 0, event: Event::Back, answer: Ok(Answer::Returned(8)) },
+    task: Task::Events {
+        events: &[
+            event_row! { actor: 0, event: Event::Take, answer: Ok(Answer::Taken(0, 40)) },
+            event_row! { actor: 1, event: Event::Take, answer: Ok(Answer::Taken(1, 40)) },
+            event_row! { actor: 1, event: Event::Step, times: 8, answer: TRAP },
+            event_row! { actor: 1, event: Event::Back, answer: Ok(Answer::Returned(8)) },
+            event_row! { actor: 1, event: Event::Take, answer: Ok(Answer::Taken(1, 32)) },
+            event_row! { actor: 1, event: Event::Step, times: 3, answer: TRAP },
+            event_row! { actor: 1, event: Event::Back, answer: Ok(Answer::Returned(3)) },
+            event_row! { actor: 0, event: Event::Back, answer: Ok(Answer::Returned(0)) },
+            event_row! { actor: OTHER, event: Event::Kill(0), answer: DONE },
+            event_row! { actor: OTHER, event: Event::Respawn(0), answer: Ok(Answer::Respawned(1024)) },
+            event_row! { actor: 0, event: Event::Take, answer: Ok(Answer::Taken(1024, 40)) },
+            event_row! { actor: 0, event: Event::Step, times: 6, answer: TRAP },
+            event_row! { actor: 0, event: Event::Back, answer: Ok(Answer::Returned(6)) },
+            event_row! { actor: 0, event: Event::Take, answer: Ok(Answer::Taken(1024, 34)) },
+            event_row! { actor: 0, event: Event::Step, times: 8, answer: TRAP },
+            event_row! { actor: 0, event: Event::Back, answer: Ok(Answer::Returned(8)) },
         ],
         ends: &[
             end! { slot: 0, state: READY, level: 4, ticks: 26, steps: 14,
@@ -711,15 +711,15 @@ static INTERRUPTS: &[Row] = &[
     Row {
         name: "a thousand interrupts for a ready owner are one message with the bit of line 5",
         config: "button",
-        task: Task::Turns {
-            turns: &[
-                turn! { actor: 0, event: Event::Take, answer: Ok(Answer::Taken(0, 99)) },
-                turn! { actor: 0, event: Event::Step, times: 7, answer: TRAP },
-                turn! { actor: 0, event: Event::Back, answer: Ok(Answer::Returned(7)) },
-                turn! { actor: OTHER, event: Event::Line(5), times: 1000, answer: DONE },
-                turn! { actor: 0, event: Event::Take, answer: Ok(Answer::Taken(0, 92)) },
-                turn! { actor: 0, event: Event::Step, times: 3, answer: TRAP },
-                turn! { actor: 0, event: Event::Back, answer: Ok(Answer::Returned(3)) },
+        task: Task::Events {
+            events: &[
+                event_row! { actor: 0, event: Event::Take, answer: Ok(Answer::Taken(0, 99)) },
+                event_row! { actor: 0, event: Event::Step, times: 7, answer: TRAP },
+                event_row! { actor: 0, event: Event::Back, answer: Ok(Answer::Returned(7)) },
+                event_row! { actor: OTHER, event: Event::Line(5), times: 1000, answer: DONE },
+                event_row! { actor: 0, event: Event::Take, answer: Ok(Answer::Taken(0, 92)) },
+                event_row! { actor: 0, event: Event::Step, times: 3, answer: TRAP },
+                event_row! { actor: 0, event: Event::Back, answer: Ok(Answer::Returned(3)) },
             ],
             ends: &[
                 end! { slot: 0, state: READY, level: 4, ticks: 89, steps: 10,
@@ -730,25 +730,25 @@ static INTERRUPTS: &[Row] = &[
     Row {
         name: "a thousand interrupts, and ticks until the history is full",
         config: "button",
-        task: Task::Turns {
-            turns: &[
-                turn! { actor: 0, event: Event::Take, answer: Ok(Answer::Taken(0, 99)) },
-                turn! { actor: 0, event: Event::Step, times: 7, answer: TRAP },
-                turn! { actor: 0, event: Event::Back, answer: Ok(Answer::Returned(7)) },
-                turn! { actor: OTHER, event: Event::Line(5), times: 1000, answer: DONE },
-                turn! { actor: 0, event: Event::Take, answer: Ok(Answer::Taken(0, 92)) },
-                turn! { actor: 0, event: Event::Step, times: 3, answer: TRAP },
-                turn! { actor: 0, event: Event::Back, answer: Ok(Answer::Returned(3)) },
-                turn! { actor: 0, event: Event::Take, answer: Ok(Answer::Taken(0, 89)) },
-                turn! { actor: 0, event: Event::Step, times: 10, answer: TRAP },
-                turn! { actor: 0, event: Event::Back, answer: Ok(Answer::Returned(10)) },
-                turn! { actor: 0, event: Event::Take, answer: Ok(Answer::Taken(0, 79)) },
-                turn! { actor: 0, event: Event::Step, times: 4, answer: TRAP },
-                turn! { actor: 0, event: Event::Back, answer: Ok(Answer::Returned(4)) },
-                turn! { actor: 0, event: Event::Take, answer: Err(Refusal::NoProcess) },
+        task: Task::Events {
+            events: &[
+                event_row! { actor: 0, event: Event::Take, answer: Ok(Answer::Taken(0, 99)) },
+                event_row! { actor: 0, event: Event::Step, times: 7, answer: TRAP },
+                event_row! { actor: 0, event: Event::Back, answer: Ok(Answer::Returned(7)) },
+                event_row! { actor: OTHER, event: Event::Line(5), times: 1000, answer: DONE },
+                event_row! { actor: 0, event: Event::Take, answer: Ok(Answer::Taken(0, 92)) },
+                event_row! { actor: 0, event: Event::Step, times: 3, answer: TRAP },
+                event_row! { actor: 0, event: Event::Back, answer: Ok(Answer::Returned(3)) },
+                event_row! { actor: 0, event: Event::Take, answer: Ok(Answer::Taken(0, 89)) },
+                event_row! { actor: 0, event: Event::Step, times: 10, answer: TRAP },
+                event_row! { actor: 0, event: Event::Back, answer: Ok(Answer::Returned(10)) },
+                event_row! { actor: 0, event: Event::Take, answer: Ok(Answer::Taken(0, 79)) },
+                event_row! { actor: 0, event: Event::Step, times: 4, answer: TRAP },
+                event_row! { actor: 0, event: Event::Back, answer: Ok(Answer::Returned(4)) },
+                event_row! { actor: 0, event: Event::Take, answer: Err(Refusal::NoProcess) },
                 // There are 1,008 records by now.
-                turn! { actor: OTHER, event: Event::Tick, times: 92, answer: DONE },
-                turn! { actor: OTHER, event: Event::Tick, answer: Err(Refusal::LogFull) },
+                event_row! { actor: OTHER, event: Event::Tick, times: 92, answer: DONE },
+                event_row! { actor: OTHER, event: Event::Tick, answer: Err(Refusal::LogFull) },
             ],
             ends: &[],
         },

@@ -26,7 +26,7 @@ enum Seen {
 use Seen::{Goes, Stays};
 
 /// A trap, and what is then seen of its slot and of another one.
-struct Step {
+struct Trapped {
     name: &'static str,
     slot: Slot,
     call: u32,
@@ -37,7 +37,7 @@ struct Step {
     other: Option<(Slot, Seen)>,
 }
 
-const STEP: Step = Step {
+const TRAPPED: Trapped = Trapped {
     name: "",
     slot: 0,
     call: SEND,
@@ -50,7 +50,7 @@ const STEP: Step = Step {
 /// Traps in turn, on a new table.
 struct Run {
     name: &'static str,
-    steps: &'static [Step],
+    traps: &'static [Trapped],
 }
 
 const WAITS: Seen = Stays(State::Receiving(Partner::Any));
@@ -110,30 +110,30 @@ fn look_at(rt: &impl Abort, table: &Table, slot: Slot) -> Seen {
     }
 }
 
-/// Whether the other slot that a step names, if it names one, is then as the step wants.
-fn is_other_seen(rt: &impl Abort, table: &Table, step: &Step) -> bool {
-    match step.other {
+/// Whether the other slot that a trapped names, if it names one, is then as the trapped wants.
+fn is_other_seen(rt: &impl Abort, table: &Table, trapped: &Trapped) -> bool {
+    match trapped.other {
         Some((slot, seen)) => look_at(rt, table, slot) == seen,
         None => true,
     }
 }
 
-/// Whether a step's slot and the other are then as the step wants, and the answer shows whether a
+/// Whether a trapped's slot and the other are then as the trapped wants, and the answer shows whether a
 /// call is left to the kernel.
-fn is_seen(rt: &impl Abort, table: &mut Table, step: &Step) -> bool {
-    let words = (step.call, step.partner, step.buffer);
-    let after = make_trap(rt, table, step.slot, words, &[]);
-    let is_left = step.own == Stays(State::Home);
-    look_at(rt, table, step.slot) == step.own
-        && is_other_seen(rt, table, step)
+fn is_seen(rt: &impl Abort, table: &mut Table, trapped: &Trapped) -> bool {
+    let words = (trapped.call, trapped.partner, trapped.buffer);
+    let after = make_trap(rt, table, trapped.slot, words, &[]);
+    let is_left = trapped.own == Stays(State::Home);
+    look_at(rt, table, trapped.slot) == trapped.own
+        && is_other_seen(rt, table, trapped)
         && (after == TrapAnswer::Kernel) == is_left
 }
 
 fn make_all(rt: &impl Abort, table: &mut Table, run: &Run) {
     let run_name = run.name;
-    for step in run.steps {
-        let name = step.name;
-        assert!(rt; is_seen(rt, table, step), "{run_name}: {name}");
+    for trapped in run.traps {
+        let name = trapped.name;
+        assert!(rt; is_seen(rt, table, trapped), "{run_name}: {name}");
     }
 }
 
@@ -150,63 +150,63 @@ fn all_made(rt: &impl Abort, alloc: Global, runs: &[Run]) -> Result<(), Fail> {
 static LOCKS: &[Run] = &[
     Run {
         name: "two that send to each other, and one that sends to itself",
-        steps: &[
-            Step {
+        traps: &[
+            Trapped {
                 name: "slot 0 waits for slot 1",
                 slot: 0,
                 call: SEND,
                 partner: 1,
                 own: SENDS,
                 other: Some((1, Goes(OK))),
-                ..STEP
+                ..TRAPPED
             },
-            Step {
+            Trapped {
                 name: "slot 1 would lock with slot 0",
                 slot: 1,
                 call: SEND,
                 partner: 0,
                 own: Goes(ELOCKED),
                 other: Some((0, SENDS)),
-                ..STEP
+                ..TRAPPED
             },
-            Step {
+            Trapped {
                 name: "slot 2 would lock with itself",
                 slot: 2,
                 call: SEND,
                 partner: 2,
                 own: Goes(ELOCKED),
-                ..STEP
+                ..TRAPPED
             },
         ],
     },
     Run {
         name: "three that send in a ring",
-        steps: &[
-            Step {
+        traps: &[
+            Trapped {
                 name: "slot 0 waits for slot 1",
                 slot: 0,
                 call: SEND,
                 partner: 1,
                 own: SENDS,
-                ..STEP
+                ..TRAPPED
             },
-            Step {
+            Trapped {
                 name: "slot 1 waits for slot 2",
                 slot: 1,
                 call: SEND,
                 partner: 2,
                 own: SENDS,
                 other: Some((0, SENDS)),
-                ..STEP
+                ..TRAPPED
             },
-            Step {
+            Trapped {
                 name: "slot 2 would close the ring",
                 slot: 2,
                 call: SEND,
                 partner: 0,
                 own: Goes(ELOCKED),
                 other: Some((1, SENDS)),
-                ..STEP
+                ..TRAPPED
             },
         ],
     },
@@ -221,91 +221,91 @@ fn locks(rt: HostRuntime) -> Result<(), Fail> {
 static NOTIFICATIONS: &[Run] = &[
     Run {
         name: "two notifications are one message",
-        steps: &[
-            Step {
+        traps: &[
+            Trapped {
                 name: "the first notification",
                 slot: 0,
                 call: NOTIFY,
                 partner: 1,
                 own: Goes(OK),
                 other: Some((1, Goes(OK))),
-                ..STEP
+                ..TRAPPED
             },
-            Step {
+            Trapped {
                 name: "the second notification",
                 slot: 0,
                 call: NOTIFY,
                 partner: 1,
                 own: Goes(OK),
                 other: Some((1, Goes(OK))),
-                ..STEP
+                ..TRAPPED
             },
-            Step {
+            Trapped {
                 name: "slot 1 has one message",
                 slot: 1,
                 call: RECEIVE,
                 partner: ANY,
                 own: Goes(OK),
                 other: Some((0, Goes(OK))),
-                ..STEP
+                ..TRAPPED
             },
-            Step {
+            Trapped {
                 name: "slot 1 has no second message",
                 slot: 1,
                 call: RECEIVE,
                 partner: ANY,
                 own: WAITS,
                 other: Some((0, Goes(OK))),
-                ..STEP
+                ..TRAPPED
             },
         ],
     },
     Run {
         name: "a notification waits until a SENDREC has its reply",
-        steps: &[
-            Step {
+        traps: &[
+            Trapped {
                 name: "slot 1 waits for anybody",
                 slot: 1,
                 call: RECEIVE,
                 partner: ANY,
                 own: WAITS,
                 other: Some((0, Goes(OK))),
-                ..STEP
+                ..TRAPPED
             },
-            Step {
+            Trapped {
                 name: "slot 0 calls slot 1",
                 slot: 0,
                 call: SENDREC,
                 partner: 1,
                 own: Stays(State::Awaiting(1)),
                 other: Some((1, Goes(OK))),
-                ..STEP
+                ..TRAPPED
             },
-            Step {
+            Trapped {
                 name: "slot 2 notifies slot 0, which awaits its reply",
                 slot: 2,
                 call: NOTIFY,
                 partner: 0,
                 own: Goes(OK),
                 other: Some((0, Stays(State::Awaiting(1)))),
-                ..STEP
+                ..TRAPPED
             },
-            Step {
+            Trapped {
                 name: "slot 1 replies",
                 slot: 1,
                 call: SEND,
                 partner: 0,
                 own: Goes(OK),
                 other: Some((0, Goes(OK))),
-                ..STEP
+                ..TRAPPED
             },
-            Step {
+            Trapped {
                 name: "slot 0 has the notification",
                 slot: 0,
                 call: RECEIVE,
                 partner: 2,
                 own: Goes(OK),
-                ..STEP
+                ..TRAPPED
             },
         ],
     },
@@ -320,105 +320,105 @@ fn notifications(rt: HostRuntime) -> Result<(), Fail> {
 static CALLERS: &[Run] = &[
     Run {
         name: "a SENDREC whose message is taken turns to receiving",
-        steps: &[
-            Step {
+        traps: &[
+            Trapped {
                 name: "slot 0 calls slot 1, which does not receive",
                 slot: 0,
                 call: SENDREC,
                 partner: 1,
                 own: Stays(State::Calling),
                 other: Some((1, Goes(OK))),
-                ..STEP
+                ..TRAPPED
             },
-            Step {
+            Trapped {
                 name: "slot 1 takes the message",
                 slot: 1,
                 call: RECEIVE,
                 partner: ANY,
                 own: Goes(OK),
                 other: Some((0, Stays(State::Awaiting(1)))),
-                ..STEP
+                ..TRAPPED
             },
-            Step {
+            Trapped {
                 name: "slot 1 replies",
                 slot: 1,
                 call: SEND,
                 partner: 0,
                 own: Goes(OK),
                 other: Some((0, Goes(OK))),
-                ..STEP
+                ..TRAPPED
             },
         ],
     },
     Run {
         name: "the first caller comes first, and a partner that is named comes before it",
-        steps: &[
-            Step {
+        traps: &[
+            Trapped {
                 name: "slot 1 is the first caller",
                 slot: 1,
                 call: SEND,
                 partner: 0,
                 own: SENDS,
                 other: Some((0, Goes(OK))),
-                ..STEP
+                ..TRAPPED
             },
-            Step {
+            Trapped {
                 name: "slot 2 is the second caller",
                 slot: 2,
                 call: SEND,
                 partner: 0,
                 own: SENDS,
                 other: Some((0, Goes(OK))),
-                ..STEP
+                ..TRAPPED
             },
-            Step {
+            Trapped {
                 name: "the first caller's message is taken",
                 slot: 0,
                 call: RECEIVE,
                 partner: ANY,
                 own: Goes(OK),
                 other: Some((1, Goes(OK))),
-                ..STEP
+                ..TRAPPED
             },
-            Step {
+            Trapped {
                 name: "slot 1 waits now after slot 2",
                 slot: 1,
                 call: SEND,
                 partner: 0,
                 own: SENDS,
                 other: Some((2, SENDS)),
-                ..STEP
+                ..TRAPPED
             },
-            Step {
+            Trapped {
                 name: "slot 1 is named, so its message is taken",
                 slot: 0,
                 call: RECEIVE,
                 partner: 1,
                 own: Goes(OK),
                 other: Some((2, SENDS)),
-                ..STEP
+                ..TRAPPED
             },
-            Step {
+            Trapped {
                 name: "slot 2's message is taken",
                 slot: 0,
                 call: RECEIVE,
                 partner: ANY,
                 own: Goes(OK),
                 other: Some((2, Goes(OK))),
-                ..STEP
+                ..TRAPPED
             },
         ],
     },
     Run {
         name: "a SENDREC to SYSTEM is left to the kernel",
-        steps: &[Step {
+        traps: &[Trapped {
             name: "the send mask is empty",
             slot: 4,
             call: SENDREC,
             partner: SYSTEM,
             own: Stays(State::Home),
             other: Some((0, Goes(OK))),
-            ..STEP
+            ..TRAPPED
         }],
     },
 ];
@@ -431,62 +431,62 @@ fn callers(rt: HostRuntime) -> Result<(), Fail> {
 /// Partners that are no process.
 static PARTNERS: &[Run] = &[Run {
     name: "pseudo-processes, ANY, an unused slot, other generations and an unknown call",
-    steps: &[
-        Step {
+    traps: &[
+        Trapped {
             name: "SEND to HARDWARE",
             slot: 0,
             call: SEND,
             partner: HARDWARE,
             own: Goes(ECALLDENIED),
-            ..STEP
+            ..TRAPPED
         },
-        Step {
+        Trapped {
             name: "SENDREC to HARDWARE",
             slot: 0,
             call: SENDREC,
             partner: HARDWARE,
             own: Goes(EBADSRCDST),
-            ..STEP
+            ..TRAPPED
         },
-        Step {
+        Trapped {
             name: "SEND to ANY",
             slot: 0,
             call: SEND,
             partner: ANY,
             own: Goes(EBADSRCDST),
-            ..STEP
+            ..TRAPPED
         },
-        Step {
+        Trapped {
             name: "SEND to an unused slot",
             slot: 0,
             call: SEND,
             partner: 5,
             own: Goes(EBADSRCDST),
-            ..STEP
+            ..TRAPPED
         },
-        Step {
+        Trapped {
             name: "SEND to another generation",
             slot: 1,
             call: SEND,
             partner: 1024,
             own: Goes(EDEADDST),
-            ..STEP
+            ..TRAPPED
         },
-        Step {
+        Trapped {
             name: "RECEIVE from another generation",
             slot: 1,
             call: RECEIVE,
             partner: 1024,
             own: Goes(EDEADDST),
-            ..STEP
+            ..TRAPPED
         },
-        Step {
+        Trapped {
             name: "call 5",
             slot: 0,
             call: 5,
             partner: 1,
             own: Goes(ECALLDENIED),
-            ..STEP
+            ..TRAPPED
         },
     ],
 }];
@@ -500,17 +500,17 @@ fn partners(rt: HostRuntime) -> Result<(), Fail> {
 static CHECKS: &[Run] = &[
     Run {
         name: "a buffer at the limit",
-        steps: &[
-            Step {
+        traps: &[
+            Trapped {
                 name: "one byte past the limit",
                 slot: 0,
                 call: RECEIVE,
                 partner: ANY,
                 buffer: LIMIT - 35,
                 own: Goes(EFAULT),
-                ..STEP
+                ..TRAPPED
             },
-            Step {
+            Trapped {
                 name: "up to the limit",
                 slot: 0,
                 call: RECEIVE,
@@ -518,30 +518,30 @@ static CHECKS: &[Run] = &[
                 buffer: LIMIT - 36,
                 own: WAITS,
                 other: Some((1, Goes(OK))),
-                ..STEP
+                ..TRAPPED
             },
         ],
     },
     Run {
         name: "checks that a trap does not need",
-        steps: &[
-            Step {
+        traps: &[
+            Trapped {
                 name: "NOTIFY needs no buffer",
                 slot: 0,
                 call: NOTIFY,
                 partner: 1,
                 buffer: LIMIT,
                 own: Goes(OK),
-                ..STEP
+                ..TRAPPED
             },
-            Step {
+            Trapped {
                 name: "RECEIVE needs no bit of the send mask",
                 slot: 4,
                 call: RECEIVE,
                 partner: 1,
                 own: Stays(State::Receiving(Partner::Only(Source::Slot(1)))),
                 other: Some((1, Goes(OK))),
-                ..STEP
+                ..TRAPPED
             },
         ],
     },
@@ -556,121 +556,121 @@ fn checks(rt: HostRuntime) -> Result<(), Fail> {
 static FIRST_CHECKS: &[Run] = &[
     Run {
         name: "traps that fail in two ways, the first check is reported",
-        steps: &[
-            Step {
+        traps: &[
+            Trapped {
                 name: "no trap allowed, and SEND to ANY",
                 slot: 3,
                 call: SEND,
                 partner: ANY,
                 own: Goes(ECALLDENIED),
-                ..STEP
+                ..TRAPPED
             },
-            Step {
+            Trapped {
                 name: "SEND to SYSTEM, and a buffer at the limit",
                 slot: 0,
                 call: SEND,
                 partner: SYSTEM,
                 buffer: LIMIT,
                 own: Goes(ECALLDENIED),
-                ..STEP
+                ..TRAPPED
             },
-            Step {
+            Trapped {
                 name: "no trap allowed, and a buffer at the limit",
                 slot: 3,
                 call: SEND,
                 partner: 0,
                 buffer: LIMIT,
                 own: Goes(ECALLDENIED),
-                ..STEP
+                ..TRAPPED
             },
-            Step {
+            Trapped {
                 name: "no trap allowed, and another generation",
                 slot: 3,
                 call: SEND,
                 partner: 1024,
                 own: Goes(ECALLDENIED),
-                ..STEP
+                ..TRAPPED
             },
-            Step {
+            Trapped {
                 name: "no trap allowed, and SEND to itself",
                 slot: 3,
                 call: SEND,
                 partner: 3,
                 own: Goes(ECALLDENIED),
-                ..STEP
+                ..TRAPPED
             },
-            Step {
+            Trapped {
                 name: "SEND to ANY, and a buffer at the limit",
                 slot: 0,
                 call: SEND,
                 partner: ANY,
                 buffer: LIMIT,
                 own: Goes(EBADSRCDST),
-                ..STEP
+                ..TRAPPED
             },
-            Step {
+            Trapped {
                 name: "an unused slot, and another generation",
                 slot: 0,
                 call: SEND,
                 partner: 1024 + 9,
                 own: Goes(EBADSRCDST),
-                ..STEP
+                ..TRAPPED
             },
-            Step {
+            Trapped {
                 name: "no send allowed, and a buffer at the limit",
                 slot: 4,
                 call: SEND,
                 partner: 0,
                 buffer: LIMIT,
                 own: Goes(EFAULT),
-                ..STEP
+                ..TRAPPED
             },
-            Step {
+            Trapped {
                 name: "another generation, and a buffer at the limit",
                 slot: 0,
                 call: SEND,
                 partner: 1024 + 1,
                 buffer: LIMIT,
                 own: Goes(EFAULT),
-                ..STEP
+                ..TRAPPED
             },
-            Step {
+            Trapped {
                 name: "SEND to itself, and a buffer at the limit",
                 slot: 0,
                 call: SEND,
                 partner: 0,
                 buffer: LIMIT,
                 own: Goes(EFAULT),
-                ..STEP
+                ..TRAPPED
             },
         ],
     },
     Run {
         name: "traps that fail in two ways, with a right buffer",
-        steps: &[
-            Step {
+        traps: &[
+            Trapped {
                 name: "no send allowed, and another generation",
                 slot: 4,
                 call: SEND,
                 partner: 1024,
                 own: Goes(ECALLDENIED),
-                ..STEP
+                ..TRAPPED
             },
-            Step {
+            Trapped {
                 name: "no send allowed, and SEND to itself",
                 slot: 4,
                 call: SEND,
                 partner: 4,
                 own: Goes(ECALLDENIED),
-                ..STEP
+                ..TRAPPED
             },
-            Step {
+            Trapped {
                 name: "another generation of the sender itself",
                 slot: 0,
                 call: SEND,
                 partner: 1024,
                 own: Goes(EDEADDST),
-                ..STEP
+                ..TRAPPED
             },
         ],
     },
@@ -805,7 +805,7 @@ static LEVELS: &[Spent] = &[
 fn level_after(rt: &impl Abort, table: &mut Table, slot: Slot) -> u8 {
     assert!(rt; slot < table.slot_count());
     let process = table.process(slot);
-    assert!(rt; process.state.is_ready() && process.steps < 1000 && process.schedule.ticks == 5);
+    assert!(rt; process.state.is_ready() && process.traps < 1000 && process.schedule.ticks == 5);
     dequeue(table, slot);
     table.spend(slot, 5);
     enqueue(table, slot);

@@ -1,6 +1,6 @@
 //! Tokens of a text, and the first offset at fault.
 
-use mx_lex::{LexError, Mark, Token, TokenKind, tokens};
+use mx_lex::{LexError, Punctuation, Token, TokenKind, tokens};
 use std::test::Fail;
 
 const TEXT: &str = "a: .ascii \"\\n;\" ; b\r\nmov\t[esi*4-0x10], 9";
@@ -22,7 +22,7 @@ static TOKENS: &[Row] = &[
     },
     Row {
         name: ":",
-        kind: TokenKind::Mark(Mark::Colon),
+        kind: TokenKind::Punctuation(Punctuation::Colon),
         start: 1,
         end: 2,
     },
@@ -52,7 +52,7 @@ static TOKENS: &[Row] = &[
     },
     Row {
         name: "[",
-        kind: TokenKind::Mark(Mark::Open),
+        kind: TokenKind::Punctuation(Punctuation::Open),
         start: 25,
         end: 26,
     },
@@ -64,7 +64,7 @@ static TOKENS: &[Row] = &[
     },
     Row {
         name: "*",
-        kind: TokenKind::Mark(Mark::Star),
+        kind: TokenKind::Punctuation(Punctuation::Star),
         start: 29,
         end: 30,
     },
@@ -76,7 +76,7 @@ static TOKENS: &[Row] = &[
     },
     Row {
         name: "-",
-        kind: TokenKind::Mark(Mark::Minus),
+        kind: TokenKind::Punctuation(Punctuation::Minus),
         start: 31,
         end: 32,
     },
@@ -88,13 +88,13 @@ static TOKENS: &[Row] = &[
     },
     Row {
         name: "]",
-        kind: TokenKind::Mark(Mark::Close),
+        kind: TokenKind::Punctuation(Punctuation::Close),
         start: 36,
         end: 37,
     },
     Row {
         name: ",",
-        kind: TokenKind::Mark(Mark::Comma),
+        kind: TokenKind::Punctuation(Punctuation::Comma),
         start: 37,
         end: 38,
     },

@@ -2,22 +2,22 @@
 
 use mx_asm_statement::{Argument, Item, argument_of};
 use mx_insn::Scale;
-use mx_lex::Mark;
+use mx_lex::Punctuation;
 use mx_word::{Register, Size};
 
 const EBX: Item = Item::Register(Size::Dword, Register::Ebx);
 
 const ESI: Item = Item::Register(Size::Dword, Register::Esi);
 
-const OPEN: Item = Item::Mark(Mark::Open);
+const OPEN: Item = Item::Punctuation(Punctuation::Open);
 
-const CLOSE: Item = Item::Mark(Mark::Close);
+const CLOSE: Item = Item::Punctuation(Punctuation::Close);
 
-const PLUS: Item = Item::Mark(Mark::Plus);
+const PLUS: Item = Item::Punctuation(Punctuation::Plus);
 
-const MINUS: Item = Item::Mark(Mark::Minus);
+const MINUS: Item = Item::Punctuation(Punctuation::Minus);
 
-const STAR: Item = Item::Mark(Mark::Star);
+const STAR: Item = Item::Punctuation(Punctuation::Star);
 
 const FOUR: Item = Item::Number(4);
 

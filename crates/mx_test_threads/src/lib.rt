@@ -5,6 +5,8 @@
 #[cfg(test)]
 mod counts;
 #[cfg(test)]
+mod exchanges;
+#[cfg(test)]
 mod gates;
 #[cfg(test)]
 mod killed;
@@ -20,5 +22,3 @@ mod run_gate;
 mod threads;
 #[cfg(test)]
 mod together;
-#[cfg(test)]
-mod turns;

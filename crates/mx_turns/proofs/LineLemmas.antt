@@ -1,4 +1,4 @@
--- One line of an outcome more.
+-- One line of a trial more.
 use Rattle.std.proofs.Common.{◌≡◌, ◌∙◌, ◌<◌, ◌+◌, ℕ, suc, ◌++◌, List, length, drop, get_or, sym, ap, arith}
 use Rattle.std.proofs.Math.Seq.{drop-cons}
 use Rattle.mx_machine.specs.Proc.TableState.{TableState}

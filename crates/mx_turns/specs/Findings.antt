@@ -5,7 +5,7 @@ use Rattle.mx_print_answers.specs.declared.said.Said.{Said}
 use Rattle.mx_print_answers.specs.declared.said.Said.TheVariants.{Refused}
 use Rattle.mx_turns.specs.declared.turns.Ending.{Ending}
 use Rattle.mx_turns.specs.declared.turns.Ending.TheVariants.{Full}
-use Rattle.mx_turns.specs.declared.outcomes.Findings.{Findings}
+use Rattle.mx_turns.specs.declared.trials.Findings.{Findings}
 use Rattle.mx_turns.specs.Sweep.{Run, are_alike}
 
 abbrev pub is_refused : Said → Bool

@@ -42,7 +42,7 @@ abbrev pub coming : List Record → List Event
 coming [] = []
 coming (x ∷ xs) = with_first (outside_event x.event) (coming xs)
 
--- ---- outcomes
+-- ---- trials
 
 -- What comes of a position: what is said of the fault's lines, how the turns after them end, and the world and the
 -- kernel then.
@@ -82,7 +82,7 @@ run_of boot other records n fault k =
       kernel = kept_of kept faulted.1 course.made;
     }
 
--- ---- what is printed of an outcome: lines that begin with two spaces
+-- ---- what is printed of a trial: lines that begin with two spaces
 
 abbrev pub indented : List ℕ → List ℕ
 indented line = codes "  " ++ line ++ codes "\n"
@@ -114,13 +114,13 @@ shown b = if nat_le 32 b && nat_le b 126 then b else 46
 abbrev pub kept_text : List ℕ → List ℕ
 kept_text bytes = flat_map (λ line. codes "  > " ++ map shown line ++ codes "\n") (lines bytes)
 
-abbrev pub outcome_text : Run → List ℕ
-outcome_text r = said_text r.said ++ end_text Endpoints r.world r.ending ++ kept_text r.world.table.devices.console.kept
+abbrev pub trial_text : Run → List ℕ
+trial_text r = said_text r.said ++ end_text Endpoints r.world r.ending ++ kept_text r.world.table.devices.console.kept
 
--- WHAT IS COMPARED of an outcome: states, with slots in place of endpoints, ending and console
+-- WHAT IS COMPARED of a trial: states, with slots in place of endpoints, ending and console
 abbrev pub seen_text : Run → List ℕ
 seen_text r = end_text Slots r.world r.ending ++ r.world.table.devices.console.kept
 
--- two outcomes are alike
+-- two trials are alike
 abbrev pub are_alike : Run → Run → Bool
 are_alike r s = bytes_eq (seen_text r) (seen_text s)

@@ -4,9 +4,9 @@
 //! # A position of a sweep
 //!
 //! A machine is booted again, brought to the position, given the `FaultLine`s of the fault and run on by turns. The
-//! text of its outcome is compared with that of a machine that is run on without the fault.
+//! text of its trial is compared with that of a machine that is run on without the fault.
 //!
-//! `specs/Turns.antt` says which events come of turns; `specs/Sweep.antt` what an outcome is, and how it is printed.
+//! `specs/Turns.antt` says which events come of turns; `specs/Sweep.antt` what a trial is, and how it is printed.
 #![tactic(auto)]
 
 mod booting;
@@ -15,13 +15,13 @@ mod faulted_run;
 mod faults;
 mod joining_laws;
 mod offers;
-mod outcomes;
 mod outside;
+mod trials;
 mod turns;
 
 pub use faulted_run::{Range, Sweep};
 pub use faults::FaultLine;
 pub use joining_laws::{rest_is_still, turn_of_one, turns_join};
-pub use outcomes::{Findings, Outcome, outcome_at};
 pub use outside::Outside;
+pub use trials::{Findings, Trial, trial_at};
 pub use turns::{Ending, make_turns};

@@ -6,10 +6,10 @@ use Rattle.mx_app_draw.proofs.came.push_all_freed.Goals as goal
 
 pub loop-slot-preserved : goal.loop-slot-preserved
 loop-slot-preserved c =
-    next_row (freed_values c.args.step.now c.args.spot) c.loop-slot.slot c.args.out.now.items c.loop-slot.out.items c.push_freed.new.out.items _ c.loop-slot.invariant c.in_ok-push_freed.ensures refl
+    next_row (freed_values c.args.transition.now c.args.origin) c.loop-slot.slot c.args.out.now.items c.loop-slot.out.items c.push_freed.new.out.items _ c.loop-slot.invariant c.in_ok-push_freed.ensures refl
 
 pub returns : goal.returns
 unfolding freed
 returns c =
-    let all : c.loop-slot.slot ≡ c.args.spot.services = omega arith in
-    all_rows (freed_values c.args.step.now c.args.spot) c.loop-slot.slot c.args.spot.services c.args.out.now.items c.loop-slot.out.items all c.loop-slot.invariant
+    let all : c.loop-slot.slot ≡ c.args.origin.services = omega arith in
+    all_rows (freed_values c.args.transition.now c.args.origin) c.loop-slot.slot c.args.origin.services c.args.out.now.items c.loop-slot.out.items all c.loop-slot.invariant

@@ -5,4 +5,4 @@ use Rattle.mx_app_draw.proofs.came.push_all_kept.Given as goal
 
 -- the values so far
 abbrev pub invariant-loop-slot : goal.invariant-loop-slot
-invariant-loop-slot l = l.out.items ≡ l.initial.out.items ++ flat_map (kept_values l.step l.spot) (range_with_len 0 l.slot)
+invariant-loop-slot l = l.out.items ≡ l.initial.out.items ++ flat_map (kept_values l.transition l.origin) (range_with_len 0 l.slot)

@@ -5,4 +5,4 @@ use Rattle.mx_app_draw.proofs.messages.push_kept.Given as goal
 
 -- the values so far
 abbrev pub invariant-loop-place : goal.invariant-loop-place
-invariant-loop-place l = l.out.items ≡ l.initial.out.items ++ flat_map (kept_arrow l.step l.spot l.slot) (range_with_len 0 l.place)
+invariant-loop-place l = l.out.items ≡ l.initial.out.items ++ flat_map (kept_arrow l.transition l.origin l.slot) (range_with_len 0 l.place)

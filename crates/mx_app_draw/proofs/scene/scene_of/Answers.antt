@@ -19,7 +19,7 @@ returns-clause-scene c =
         processors = refl;
         services = c.service_count-services.ensures.count;
         world = s.3;
-        steps = s.2;
+        transitions = s.2;
         refused = c.refused_line.ensures ∙ ap (λ above. refused_line above c.in_ok-seen.seen.refused) (c.lines_above-above.ensures.value ∙ ap lines_above c.rules.ensures);
       },
     )

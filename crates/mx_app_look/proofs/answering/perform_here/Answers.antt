@@ -6,7 +6,7 @@ use Rattle.mx_app_look.specs.Above.{why_text}
 use Rattle.mx_app_look.specs.Answers.{help_text, processes_text}
 use Rattle.mx_app_look.specs.Places.{place_text}
 use Rattle.mx_app_look.specs.Seeking.{point_made, point_text}
-use Rattle.mx_app_look.specs.Showing.{shown_text}
+use Rattle.mx_app_look.specs.Showing.{query_text}
 use Rattle.mx_app_look.proofs.Making.{made_as}
 use Rattle.mx_app_look.proofs.ShownMore.{err_always, grown_none, nothing_shown, stayed_shown, why_asked}
 use Rattle.mx_app_look.proofs.answering.perform_here.Goals as goal
@@ -77,7 +77,7 @@ pub returns-in-Show-clause-made : goal.returns-in-Show-clause-made
 returns-in-Show-clause-made g c =
     let s = c.args.sight in
     let p = c.in-Show.shown in
-    made_as c.show.result s c.args.request.now (Show p) s (shown_text s.walker p) c.in-Show.is (λ v t e h. (e, h)) c.show.ensures.same c.show.ensures.text
+    made_as c.show.result s c.args.request.now (Show p) s (query_text s.walker p) c.in-Show.is (λ v t e h. (e, h)) c.show.ensures.same c.show.ensures.text
 
 pub returns-in-Point-clause-made : goal.returns-in-Point-clause-made
 returns-in-Point-clause-made g c =

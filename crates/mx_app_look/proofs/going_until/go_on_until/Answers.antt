@@ -52,8 +52,8 @@ returns-then-happens-clause-walker g c =
     let inv = c.loop-above.invariant in
     let lt : c.loop-above.above < k.last.records = subst (λ (p : Position). c.loop-above.above < p.records) c.last-last.ensures.last c.loop-above-test.true in
     let few : k.last.records ≤ length k.records = subst (λ (p : Position). p.records ≤ length k.records) c.last-last.ensures.last c.last-last.ensures.is.position.above in
-    let halts = halts_here k c.loop-above.walker c.args.happening c.records.result.now c.loop-above.above _ c.see_record.new.step inv.walker c.records.ensures lt few
-    c.in_ok-walker.ensures.step inv.none (sym c.happens.ensures ∙ c.if-happens.true) c.in_ok-walker.walker c.in_ok-walker.ensures.walker in
+    let halts = halts_here k c.loop-above.walker c.args.happening c.records.result.now c.loop-above.above _ c.see_record.new.transition inv.walker c.records.ensures lt few
+    c.in_ok-walker.ensures.transition inv.none (sym c.happens.ensures ∙ c.if-happens.true) c.in_ok-walker.walker c.in_ok-walker.ensures.walker in
     halts
 
 pub returns-then-happens-clause-text : goal.returns-then-happens-clause-text
@@ -63,9 +63,9 @@ returns-then-happens-clause-text g c =
     let lt : c.loop-above.above < k.last.records = subst (λ (p : Position). c.loop-above.above < p.records) c.last-last.ensures.last c.loop-above-test.true in
     let few : k.last.records ≤ length k.records = subst (λ (p : Position). p.records ≤ length k.records) c.last-last.ensures.last c.last-last.ensures.is.position.above in
     let out = c.loop-above.out.items in
-    let step = c.see_record.new.step in
-    appends_it k c.loop-above.walker c.args.happening c.records.result.now c.loop-above.above _ step inv.walker c.records.ensures lt few
-    c.in_ok-walker.ensures.step inv.none (sym c.happens.ensures ∙ c.if-happens.true) out c.args.out.now.items c.push_record.new.out.items inv.nothing c.in_ok-push_record.ensures
+    let transition = c.see_record.new.transition in
+    appends_it k c.loop-above.walker c.args.happening c.records.result.now c.loop-above.above _ transition inv.walker c.records.ensures lt few
+    c.in_ok-walker.ensures.transition inv.none (sym c.happens.ensures ∙ c.if-happens.true) out c.args.out.now.items c.push_record.new.out.items inv.nothing c.in_ok-push_record.ensures
 
 pub loop-above-preserved : goal.loop-above-preserved
 loop-above-preserved g c =
@@ -74,10 +74,10 @@ loop-above-preserved g c =
     let lt : c.loop-above.above < k.last.records = subst (λ (p : Position). c.loop-above.above < p.records) c.last-last.ensures.last c.loop-above-test.true in
     let few : k.last.records ≤ length k.records = subst (λ (p : Position). p.records ≤ length k.records) c.last-last.ensures.last c.last-last.ensures.is.position.above in
     record {
-      walker = goes_on k c.loop-above.walker c.args.happening c.records.result.now c.loop-above.above _ c.see_record.new.step inv.walker c.records.ensures lt few
-          c.in_ok-walker.ensures.step c.in_ok-walker.walker c.in_ok-walker.ensures.walker;
-      none = goes_by k c.loop-above.walker c.args.happening c.records.result.now c.loop-above.above _ c.see_record.new.step inv.walker c.records.ensures lt few
-          c.in_ok-walker.ensures.step inv.none (sym c.happens.ensures ∙ c.if-happens.false);
+      walker = goes_on k c.loop-above.walker c.args.happening c.records.result.now c.loop-above.above _ c.see_record.new.transition inv.walker c.records.ensures lt few
+          c.in_ok-walker.ensures.transition c.in_ok-walker.walker c.in_ok-walker.ensures.walker;
+      none = goes_by k c.loop-above.walker c.args.happening c.records.result.now c.loop-above.above _ c.see_record.new.transition inv.walker c.records.ensures lt few
+          c.in_ok-walker.ensures.transition inv.none (sym c.happens.ensures ∙ c.if-happens.false);
       nothing = inv.nothing;
       on = on_one_more k c.loop-above.walker c.records.result.now c.loop-above.above any_record inv.walker c.records.ensures lt few inv.on c.in_ok-walker.walker c.in_ok-walker.ensures.walker;
       shown = passed_one k c.loop-above.walker c.records.result.now c.loop-above.above _ inv.walker c.records.ensures lt few inv.on (g.P.Progress.shown c.args.progress.now) (g.P.Progress.shown c.loop-above.progress) (g.P.Progress.shown c.see_record.new.progress)
@@ -107,7 +107,7 @@ returns-then-happens-clause-shown g c =
     let there = c.in_ok-walker.ensures.walker in
     let lt : n < k.last.records = subst (λ (p : Position). n < p.records) c.last-last.ensures.last c.loop-above-test.true in
     let few : k.last.records ≤ length k.records = subst (λ (p : Position). p.records ≤ length k.records) c.last-last.ensures.last c.last-last.ensures.is.position.above in
-    let halts = halts_here k w c.args.happening rs n _ c.see_record.new.step inv.walker c.records.ensures lt few c.in_ok-walker.ensures.step inv.none (sym c.happens.ensures ∙ c.if-happens.true) u there in
+    let halts = halts_here k w c.args.happening rs n _ c.see_record.new.transition inv.walker c.records.ensures lt few c.in_ok-walker.ensures.transition inv.none (sym c.happens.ensures ∙ c.if-happens.true) u there in
     let before = g.P.Progress.shown c.args.progress.now in
     let after = g.P.Progress.shown c.see_record.new.progress in
     let a = passed_one k w rs n _ inv.walker c.records.ensures lt few inv.on before (g.P.Progress.shown c.loop-above.progress) after inv.shown c.in_ok-walker.ensures.shown in

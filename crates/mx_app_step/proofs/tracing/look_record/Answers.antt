@@ -5,7 +5,7 @@ use Rattle.mx_machine.specs.declared.events.Event.{Event}
 use Rattle.mx_walk.specs.Positions.{IsRefusedFor, own_event, steps_in}
 use Rattle.mx_walk.proofs.Made.{made_as_many}
 use Rattle.mx_app_step.proofs.RecordLemmas.{own_refused, steps_refused}
-use Rattle.mx_app_step.proofs.TraceLemmas.{look_made, step_is}
+use Rattle.mx_app_step.proofs.TraceLemmas.{look_made, transition_is}
 use Rattle.mx_app_step.proofs.tracing.look_record.Goals as goal
 
 pub returns-in-Err-clause-err : goal.returns-in-Err-clause-err
@@ -30,12 +30,12 @@ returns-clause-ok c =
     c.steps_in.ensures c.own_event.ensures c.in_default.ensures.ok done.0 done.1 in
     (made.accepted, made.world)
 
-pub returns-clause-step : goal.returns-clause-step
-returns-clause-step c =
+pub returns-clause-transition : goal.returns-clause-transition
+returns-clause-transition c =
     let done = c.in_ok-make_event.ensures.ok in
     let w = world_of c.args.machine.now in
     let v = world_of c.make_steps.new.machine in
     let u = world_of c.make_event.new.machine in
     let begun = made_as_many w v c.args.entry.actor _ _ c.steps_in.ensures c.in_default.ensures.ok in
     let made = look_made w v u c.args.entry c.steps_in.result c.own_event.result c.steps_in.ensures c.own_event.ensures c.in_default.ensures.ok done.0 done.1 in
-    step_is w v u c.args.number c.args.entry c.look.new.self c.look-2.new.self c.look.ensures begun.world c.look-2.ensures made.world
+    transition_is w v u c.args.number c.args.entry c.look.new.self c.look-2.new.self c.look.ensures begun.world c.look-2.ensures made.world

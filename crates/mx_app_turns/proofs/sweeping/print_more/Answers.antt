@@ -7,7 +7,7 @@ use Rattle.mx_app_turns.specs.declared.sweeping.Tally.{Tally}
 use Rattle.mx_app_turns.specs.Blocks.{Positions, block_at, positions_of}
 use Rattle.mx_app_turns.specs.Begun.{sweep_of}
 use Rattle.mx_turns.specs.Swept.{IsSwept}
-use Rattle.mx_turns.specs.declared.outcomes.Findings.{Findings}
+use Rattle.mx_turns.specs.declared.trials.Findings.{Findings}
 use Rattle.mx_app_turns.specs.Sweeping.{SweepOf, findings_at, is_alike_at, run_at, text_at}
 use Rattle.mx_app_turns.specs.Tallied.{tally_of, total_one}
 use Rattle.mx_walk.specs.Parts.{parts_shown}
@@ -54,7 +54,7 @@ loop-position-preserved g c =
       swept = goes s from end p (g.W.Write.contents c.args.out.now) (g.W.Write.contents c.loop-position.out) (g.W.Write.contents c.push.new.out) c.loop-position.machine.kernel outcome.machine.kernel tally c.push.new.self c.one-next.result outcome.text outcome.findings
           (bytes_eq (text_at s p) tally.block.text.items) inv.swept c.loop-position-test.true is.1 c.one-next.ensures is.0 refl pushed.goes_on pushed.begins is.2;
       boot = made.boot ∙ inv.boot;
-      shown = pushed.shown ∙ next_shown (end - from) (p - from) (p + 1 - from) (p - from + 1) (g.P.Progress.shown c.args.progress.now) (g.P.Progress.shown c.loop-position.progress) (g.P.Progress.shown c.outcome_shown.new.progress) _ next_part (sym next_part) refl inv.shown c.in_ok-outcome.ensures.shown;
+      shown = pushed.shown ∙ next_shown (end - from) (p - from) (p + 1 - from) (p - from + 1) (g.P.Progress.shown c.args.progress.now) (g.P.Progress.shown c.loop-position.progress) (g.P.Progress.shown c.trial_shown.new.progress) _ next_part (sym next_part) refl inv.shown c.in_ok-outcome.ensures.shown;
     }
 
 pub returns-clause-printed : goal.returns-clause-printed
@@ -111,17 +111,17 @@ push-requires g c =
       );
     }
 
-pub outcome_shown-requires-clause-swept : goal.outcome_shown-requires-clause-swept
-outcome_shown-requires-clause-swept g c =
+pub trial_shown-requires-clause-swept : goal.trial_shown-requires-clause-swept
+trial_shown-requires-clause-swept g c =
     subst (λ (w : World). IsSwept c.args.sweep w) (sym c.loop-position.invariant.boot) c.requires.swept
 
-pub outcome_shown-requires-clause-from : goal.outcome_shown-requires-clause-from
-outcome_shown-requires-clause-from g c = let h = c.loop-position.invariant.swept.above in omega (arith, h)
+pub trial_shown-requires-clause-from : goal.trial_shown-requires-clause-from
+trial_shown-requires-clause-from g c = let h = c.loop-position.invariant.swept.above in omega (arith, h)
 
 pub returns-in_err-outcome-clause-shown : goal.returns-in_err-outcome-clause-shown
 returns-in_err-outcome-clause-shown g c =
     let all = c.args.sweep.range.end - c.args.sweep.range.from in
-    shown_failed (g.P.Progress.shown c.args.progress.now) (g.P.Progress.shown c.outcome_shown.new.progress) all (c.loop-position.position - c.args.sweep.range.from) _ c.from_residual.result c.from_residual.ensures.1
+    shown_failed (g.P.Progress.shown c.args.progress.now) (g.P.Progress.shown c.trial_shown.new.progress) all (c.loop-position.position - c.args.sweep.range.from) _ c.from_residual.result c.from_residual.ensures.1
     (omega (arith, c.loop-position-test.true)) (c.in_err-outcome.ensures.same ∙ c.loop-position.invariant.shown)
 
 pub returns-in_err-push-clause-shown : goal.returns-in_err-push-clause-shown
@@ -131,7 +131,7 @@ returns-in_err-push-clause-shown g c =
     let all = c.args.sweep.range.end - from in
     let before = g.P.Progress.shown c.args.progress.now in
     let inv = c.loop-position.invariant in
-    let shown = next_shown all (p - from) (p - from + 1) (p - from + 1) before (g.P.Progress.shown c.loop-position.progress) (g.P.Progress.shown c.outcome_shown.new.progress) _ refl refl refl inv.shown c.in_ok-outcome.ensures.shown in
+    let shown = next_shown all (p - from) (p - from + 1) (p - from + 1) before (g.P.Progress.shown c.loop-position.progress) (g.P.Progress.shown c.trial_shown.new.progress) _ refl refl refl inv.shown c.in_ok-outcome.ensures.shown in
     shown_failed before (g.P.Progress.shown c.push.new.progress) all (p - from + 1) _ c.from_residual-in_err-push.result c.from_residual-in_err-push.ensures.1
     (omega (arith, c.loop-position-test.true, inv.swept.above)) (c.in_err-push.ensures.shown ∙ shown)
 

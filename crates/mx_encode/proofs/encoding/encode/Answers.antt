@@ -1,6 +1,6 @@
 use Rattle.std.proofs.Common.{◌≡◌, ℕ, Bool, List, ◌∙◌, sym, refl, subst}
 use Rattle.mx_insn.specs.Spelling.{Spells}
-use Rattle.mx_encode.specs.Places.{place_for}
+use Rattle.mx_encode.specs.Places.{rm_form_for}
 use Rattle.mx_encode.specs.Chosen.{fields_of}
 use Rattle.mx_encode.specs.Given.{form_bytes}
 use Rattle.mx_encode.proofs.Answer.{reg_fits, chosen_given}
@@ -12,12 +12,12 @@ pub bytes_of_encoding-requires : goal.bytes_of_encoding-requires
 bytes_of_encoding-requires c = reg_fits c.in_ok-form.form c.args.insn.now c.args.wide c.in_ok-form.ensures.form c.in_ok-form.ensures.fits
 
 pub returns-clause-chosen : goal.returns-clause-chosen
-returns-clause-chosen c = chosen_given c.in_ok-form.form c.args.insn.now c.args.wide c.bytes_of_encoding.result.items c.in_ok-form.ensures.form c.in_ok-form.ensures.fits (sym c.has_place.ensures ∙ c.if-not-has_place.false) (subst (λ (long : Bool). c.bytes_of_encoding.result.items ≡ form_bytes c.in_ok-form.form (place_for c.in_ok-form.form.rm long)) c.displacement_form.ensures c.bytes_of_encoding.ensures)
+returns-clause-chosen c = chosen_given c.in_ok-form.form c.args.insn.now c.args.wide c.bytes_of_encoding.result.items c.in_ok-form.ensures.form c.in_ok-form.ensures.fits (sym c.has_place.ensures ∙ c.if-not-has_place.false) (subst (λ (long : Bool). c.bytes_of_encoding.result.items ≡ form_bytes c.in_ok-form.form (rm_form_for c.in_ok-form.form.rm long)) c.displacement_form.ensures c.bytes_of_encoding.ensures)
 
 pub returns-clause-form : goal.returns-clause-form
 returns-clause-form c =
     let bytes = c.bytes_of_encoding.result.items in
-    let x = chosen_given c.in_ok-form.form c.args.insn.now c.args.wide bytes c.in_ok-form.ensures.form c.in_ok-form.ensures.fits (sym c.has_place.ensures ∙ c.if-not-has_place.false) (subst (λ (long : Bool). c.bytes_of_encoding.result.items ≡ form_bytes c.in_ok-form.form (place_for c.in_ok-form.form.rm long)) c.displacement_form.ensures c.bytes_of_encoding.ensures) in
+    let x = chosen_given c.in_ok-form.form c.args.insn.now c.args.wide bytes c.in_ok-form.ensures.form c.in_ok-form.ensures.fits (sym c.has_place.ensures ∙ c.if-not-has_place.false) (subst (λ (long : Bool). c.bytes_of_encoding.result.items ≡ form_bytes c.in_ok-form.form (rm_form_for c.in_ok-form.form.rm long)) c.displacement_form.ensures c.bytes_of_encoding.ensures) in
     (λ e. spelled_has_form c.args.insn.now bytes (x.chosen.row, fields_of x.chosen c.args.wide.displacement, x.spells), λ e. refl)
 
 pub returns-in_err-form-clause-none : goal.returns-in_err-form-clause-none

@@ -5,4 +5,4 @@ use Rattle.mx_look.proofs.pending.push_kept_between.Given as goal
 
 -- the lines so far
 abbrev pub invariant-loop-place : goal.invariant-loop-place
-invariant-loop-place l = l.out.items ≡ l.initial.out.items ++ flat_map (kept_line l.step l.before l.after) (range_with_len 0 l.place)
+invariant-loop-place l = l.out.items ≡ l.initial.out.items ++ flat_map (kept_line l.transition l.before l.after) (range_with_len 0 l.place)

@@ -7,7 +7,7 @@ use Rattle.mx_look.proofs.record.push_deliveries.Goals.{then-has_service+in_ok-p
 
 pub loop-slot-preserved : goal.loop-slot-preserved
 loop-slot-preserved c =
-    let line = delivery_line c.args.step.now in
+    let line = delivery_line c.args.transition.now in
     let slot = c.loop-slot.slot in
     elim c.if-has_service.branch [
       | then-has_service+in_ok-push_delivery w ↦
@@ -16,11 +16,11 @@ loop-slot-preserved c =
       | else-has_service w ↦
           ap (λ (v : Vec ℕ Global). v.items) w.out-is
           ∙ empty_row line slot c.args.out.now.items c.loop-slot.out.items c.loop-slot.invariant
-          (no_delivery c.args.step.now slot (sym c.has_service.ensures ∙ w.if-has_service.false))
+          (no_delivery c.args.transition.now slot (sym c.has_service.ensures ∙ w.if-has_service.false))
     ]
 
 pub returns : goal.returns
 unfolding delivery_lines
 returns c =
     let all : c.loop-slot.slot ≡ 32 = omega arith in
-    all_rows (delivery_line c.args.step.now) c.loop-slot.slot 32 c.args.out.now.items c.loop-slot.out.items all c.loop-slot.invariant
+    all_rows (delivery_line c.args.transition.now) c.loop-slot.slot 32 c.args.out.now.items c.loop-slot.out.items all c.loop-slot.invariant
