@@ -304,11 +304,11 @@ counter 1024 00000011 top+11 add dword [0x24], 0x1
 at 29.1 of 36, record 30: 0 back 6
 counter 1024 00000018 top+18 mov eax, dword [0x24]
 
-A position is K, below K records, or K.J, below J steps of the next record as well.
+A position is K, after K records, or K.J, after J steps of the next record as well.
 At a terminal each command is asked for with the position. Commands:
 
 forward [N], back [N]    by records         step [N], stepback [N]    by events
-goto K, K.J or end       to a position      where, why                the record above
+goto K, K.J or end       to a position      where, why                the record before
 ps, messages             as mx step, mx db  print SLOT NAME           a variable
 regs, list, stack [SLOT] its process        mem SLOT ADDRESS N        its bytes
 help, quit

@@ -32,7 +32,7 @@ transitions_drawn from w n (x ∷ xs) =
     drawn_of from (transition_of w n x)
     ++ transitions_drawn from (world_after_events w (events_of x.actor x.event)) (n + 1) xs
 
--- records that were accepted, or those above the first that is refused
+-- records that were accepted, or those before the first that is refused
 abbrev pub AreMade : World → List Record → Option (ℕ × Refusal) → List Record → Type 0
 AreMade w records None made = AreAccepted w (events_of_history records) × (made ≡ records)
 AreMade w records (Some p) made = IsRefusedAt w records p.0 p.1 × (made ≡ take (p.0 - 1) records)
@@ -84,7 +84,7 @@ IsDrawing w cpus total records from how Prints =
     × AreMade w records refused made × (how ≡ replayed_by refused)
     × IsSceneOf w cpus total made from refused v × IsPictureText v text × Prints text
 
--- WHAT IS PRINTED of a history: the picture of its records from `from` to the last that is drawn, or of those above the
+-- WHAT IS PRINTED of a history: the picture of its records from `from` to the last that is drawn, or of those before the
 -- first that is refused
 abbrev pub IsDrawingPrinted : World → ℕ → List Record → ℕ → ℕ → Replayed → (List ℕ → Type 0) → Type 0
 IsDrawingPrinted w cpus records from to how Prints =

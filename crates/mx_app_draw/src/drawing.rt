@@ -42,7 +42,7 @@ fn print_picture<W: Write>(alloc: Global, scene: &Scene, out: &mut W) -> Result<
 }
 
 /// Makes records, which are the first of a history, and prints the picture of a part of it. At an
-/// event that is refused it prints the picture of the records above it.
+/// event that is refused it prints the picture of the records before it.
 fn print_drawing<W: Write>(
     alloc: Global,
     machine: &mut Machine,
@@ -68,7 +68,7 @@ fn print_drawing<W: Write>(
 
 /// Starts the machine of a saved history, makes its records up to the last that it draws, and prints the
 /// picture of those from record `from` to record `to`, of at most 1,000. At an event that is refused it
-/// prints the picture of the records above it, which has the number of the record's line and the refusal.
+/// prints the picture of the records before it, which has the number of the record's line and the refusal.
 pub fn draw<R: Reader, W: Write>(
     alloc: Global,
     reader: &mut R,

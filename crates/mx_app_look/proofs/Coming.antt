@@ -6,7 +6,7 @@ use Rattle.mx_machine.specs.declared.history.Record.{Record}
 use Rattle.mx_machine.specs.Move.{world_after_event}
 use Rattle.mx_machine.specs.World.{World}
 use Rattle.mx_walk.specs.declared.positions.Position.{Position}
-use Rattle.mx_walk.specs.Positions.{IsAbove, IsPosition, IsUpTo, event_below, events_above, first, is_up_to, next_position, position_before, world_at}
+use Rattle.mx_walk.specs.Positions.{IsBefore, IsPosition, IsUpTo, next_event, events_before, first, is_up_to, next_position, position_before, world_at}
 use Rattle.mx_walk.specs.Seeking.{IsFirstMarked, IsLastMarked, IsPassed, is_marked}
 use Rattle.mx_walk.specs.Walks.{Walk, world_here}
 use Rattle.mx_walk.proofs.Next.{has_event, next_up_to, not_itself, up_to_of, world_next}
@@ -21,23 +21,23 @@ abbrev pub gone : Walk → Position → Walk
 gone k p = record k { here = p }
 
 module _ (k : Walk) (s : Points) where
-  -- above the step at a breakpoint
-  pub halts_above : (j : Walk) (p q : Position) (printed : List ℕ) → j ≡ gone k p → is_break j s j.here (event_below j.records j.here) ≡ true → printed ≡ [] → (j.here, printed) ≡ halt_by k s p q
+  -- before the step at a breakpoint
+  pub halts_above : (j : Walk) (p q : Position) (printed : List ℕ) → j ≡ gone k p → is_break j s j.here (next_event j.records j.here) ≡ true → printed ≡ [] → (j.here, printed) ≡ halt_by k s p q
   halts_above j p q printed moved is none =
-      let same : is_break k s p (event_below k.records p) ≡ true = subst (λ (w : Walk). is_break w s w.here (event_below w.records w.here) ≡ true) moved is in
+      let same : is_break k s p (next_event k.records p) ≡ true = subst (λ (w : Walk). is_break w s w.here (next_event w.records w.here) ≡ true) moved is in
       ap (λ t. (j.here, t)) none ∙ ap (λ (w : Walk). (w.here, [])) moved ∙ sym (ap (λ b. let h : Position × List ℕ = cond b (p, []) (q, changes_from k s p q) in h) same)
 
-  -- below it
-  pub halts_below : (j l : Walk) (p q : Position) (printed : List ℕ) → j ≡ gone k p → is_break j s j.here (event_below j.records j.here) ≡ false → l ≡ gone j q → printed ≡ changes_from j s j.here q → (l.here, printed) ≡ halt_by k s p q
+  -- after it
+  pub halts_below : (j l : Walk) (p q : Position) (printed : List ℕ) → j ≡ gone k p → is_break j s j.here (next_event j.records j.here) ≡ false → l ≡ gone j q → printed ≡ changes_from j s j.here q → (l.here, printed) ≡ halt_by k s p q
   halts_below j l p q printed moved isnt back e =
-      let same : is_break k s p (event_below k.records p) ≡ false = subst (λ (w : Walk). is_break w s w.here (event_below w.records w.here) ≡ false) moved isnt in
+      let same : is_break k s p (next_event k.records p) ≡ false = subst (λ (w : Walk). is_break w s w.here (next_event w.records w.here) ≡ false) moved isnt in
       ap (λ t. (l.here, t)) e ∙ ap (λ (w : Walk). (w.here, changes_from j s j.here q)) back ∙ ap (λ (w : Walk). (q, changes_from w s w.here q)) moved
       ∙ sym (ap (λ b. let h : Position × List ℕ = cond b (p, []) (q, changes_from k s p q) in h) same)
 
   -- the first event that is looked for
-  pub halts_there : (j : Walk) (above : Position) (h : Position × List ℕ) → j ≡ gone k j.here → IsPosition j.records j.here → IsUpTo j.here j.last
-      → IsFirstMarked (is_looked_for s) k.boot k.records k.here j.here → above ≡ position_before j.records j.here → h ≡ halt_by j s above j.here → IsHalt k s k.here h
-  halts_there j above h moved position early found up e =
+  pub halts_there : (j : Walk) (earlier : Position) (h : Position × List ℕ) → j ≡ gone k j.here → IsPosition j.records j.here → IsUpTo j.here j.last
+      → IsFirstMarked (is_looked_for s) k.boot k.records k.here j.here → earlier ≡ position_before j.records j.here → h ≡ halt_by j s earlier j.here → IsHalt k s k.here h
+  halts_there j earlier h moved position early found up e =
       let q = j.here in
       let records : j.records ≡ k.records = ap (λ (w : Walk). w.records) moved in
       let printed : h ≡ halt_by k s (position_before k.records q) q =
@@ -49,7 +49,7 @@ module _ (k : Walk) (s : Points) where
   halts_nowhere p printed at passed e = inr (passed, ap (λ t. (p, t)) e ∙ ap (λ (r : Position). (r, not_met)) at)
 
   -- the first event changes watched bytes, or doesn't
-  pub halts_after_one : (j : Walk) (x : ℕ × Event) (next : Position) (printed : List ℕ) → IsPosition k.records k.here → event_below k.records k.here ≡ Some x → next ≡ next_position k.records k.here
+  pub halts_after_one : (j : Walk) (x : ℕ × Event) (next : Position) (printed : List ℕ) → IsPosition k.records k.here → next_event k.records k.here ≡ Some x → next ≡ next_position k.records k.here
       → j ≡ gone k next → changes_watched s (world_here k) x (world_here j) ≡ true → printed ≡ changes_from k s k.here next
       → IsHaltAfter k s next (is_marked (changes_watched s) (world_here k) x) (j.here, printed)
   halts_after_one j x next printed h e there moved met text =
@@ -59,7 +59,7 @@ module _ (k : Walk) (s : Points) where
       let at : (j.here, printed) ≡ (next, changes_from k s k.here next) = ap (λ t. (j.here, t)) text ∙ ap (λ (w : Walk). (w.here, changes_from k s k.here next)) moved in
       subst (λ b. IsHaltAfter k s next b (j.here, printed)) (sym marked) at
 
-  pub halts_after_more : (j : Walk) (x : ℕ × Event) (next : Position) (h : Position × List ℕ) → IsPosition k.records k.here → event_below k.records k.here ≡ Some x → next ≡ next_position k.records k.here
+  pub halts_after_more : (j : Walk) (x : ℕ × Event) (next : Position) (h : Position × List ℕ) → IsPosition k.records k.here → next_event k.records k.here ≡ Some x → next ≡ next_position k.records k.here
       → j ≡ gone k next → changes_watched s (world_here k) x (world_here j) ≡ false → IsHalt j s j.here h
       → IsHaltAfter k s next (is_marked (changes_watched s) (world_here k) x) h
   halts_after_more j x next h l e there moved met halts =
@@ -70,10 +70,10 @@ module _ (k : Walk) (s : Points) where
       subst (λ b. IsHaltAfter k s next b h) (sym unmarked) from
 
   -- where the search on begins
-  pub next_halt : (x : ℕ × Event) (next : Position) (h : Position × List ℕ) → is_up_to k.last k.here ≡ false → event_below k.records k.here ≡ Some x → next ≡ next_position k.records k.here
+  pub next_halt : (x : ℕ × Event) (next : Position) (h : Position × List ℕ) → is_up_to k.last k.here ≡ false → next_event k.records k.here ≡ Some x → next ≡ next_position k.records k.here
       → IsHaltAfter k s next (is_marked (changes_watched s) (world_here k) x) h → IsNextHalt k s h
   next_halt x next h isnt e there halts =
-      let made : next_made k ≡ Some x = ap (λ b. cond b None (event_below k.records k.here)) isnt ∙ e in
+      let made : next_made k ≡ Some x = ap (λ b. cond b None (next_event k.records k.here)) isnt ∙ e in
       let after : IsHaltAfter k s (next_position k.records k.here) (is_marked (changes_watched s) (world_here k) x) h =
       subst (λ (p : Position). IsHaltAfter k s p (is_marked (changes_watched s) (world_here k) x) h) there halts in
       subst (λ (o : Option (ℕ × Event)). IsHaltBy k s o h) (sym made) after
@@ -82,10 +82,10 @@ module _ (k : Walk) (s : Points) where
   no_next printed none e = let at : (k.here, printed) ≡ (k.here, not_met) = ap (λ t. (k.here, t)) e in subst (λ (o : Option (ℕ × Event)). IsHaltBy k s o (k.here, printed)) (sym none) at
 
   pub none_is_next : (printed : List ℕ) → is_up_to k.last k.here ≡ true → printed ≡ not_met → IsNextHalt k s (k.here, printed)
-  none_is_next printed is e = no_next printed (ap (λ b. let o : Option (ℕ × Event) = cond b None (event_below k.records k.here) in o) is) e
+  none_is_next printed is e = no_next printed (ap (λ b. let o : Option (ℕ × Event) = cond b None (next_event k.records k.here) in o) is) e
 
-  pub none_is_below : (printed : List ℕ) → is_up_to k.last k.here ≡ false → event_below k.records k.here ≡ None → printed ≡ not_met → IsNextHalt k s (k.here, printed)
-  none_is_below printed isnt none e = no_next printed (ap (λ b. let o : Option (ℕ × Event) = cond b None (event_below k.records k.here) in o) isnt ∙ none) e
+  pub none_is_below : (printed : List ℕ) → is_up_to k.last k.here ≡ false → next_event k.records k.here ≡ None → printed ≡ not_met → IsNextHalt k s (k.here, printed)
+  none_is_below printed isnt none e = no_next printed (ap (λ b. let o : Option (ℕ × Event) = cond b None (next_event k.records k.here) in o) isnt ∙ none) e
 
   -- the last event that is looked for
   pub last_halt : (j l : Walk) (next : Position) (printed : List ℕ) → j ≡ gone k j.here → IsPosition j.records j.here → IsLastMarked (is_looked_for s) k.boot k.records j.here k.here → next ≡ next_position j.records j.here
@@ -101,7 +101,7 @@ module _ (k : Walk) (s : Points) where
   pub no_last_halt : (j : Walk) (printed : List ℕ) → j.here ≡ first → IsPassed (is_looked_for s) k.boot k.records first k.here → printed ≡ not_met → IsLastHalt k s (j.here, printed)
   no_last_halt j printed at passed e = inr (passed, ap (λ t. (j.here, t)) e ∙ ap (λ (p : Position). (p, not_met)) at)
 
--- ---- the last event that is looked for is above where one was
+-- ---- the last event that is looked for is before where one was
 
 none_there : {X : Type 0} (xs : List X) (a : X) (ys : List X) → [] ≡ xs ++ a ∷ ys → ⊥
 none_there [] a ys e = cc
@@ -116,7 +116,7 @@ up_to_trans p q r (inl lt) (inr h) = let same = h.0 in let less : p.records < r.
 up_to_trans p q r (inr g) (inl lt) = let same = g.0 in let less : p.records < r.records = omega (arith, lt, same) in inl less
 up_to_trans p q r (inr g) (inr h) = let a = g.1 in let b = h.1 in let few : p.steps ≤ r.steps = omega (arith, a, b) in inr (g.0 ∙ h.0, few)
 
-order : (p q : Position) → IsUpTo q p ⊎ IsAbove p q
+order : (p q : Position) → IsUpTo q p ⊎ IsBefore p q
 order p q = elim (cases_lt p.records q.records) [
   | inl lt ↦ inr (inl lt)
   | inr ge ↦ elim (cases_lt q.records p.records) [
@@ -130,31 +130,31 @@ order p q = elim (cases_lt p.records q.records) [
   ]
 ]
 
-above_by : (f : World → ℕ × Event → World → Bool) (boot : World) (records : List Record) (p q : Position) → IsPosition records p → IsPosition records q → IsLastMarked f boot records p q → IsUpTo q p ⊎ IsAbove p q → IsAbove p q
+above_by : (f : World → ℕ × Event → World → Bool) (boot : World) (records : List Record) (p q : Position) → IsPosition records p → IsPosition records q → IsLastMarked f boot records p q → IsUpTo q p ⊎ IsBefore p q → IsBefore p q
 above_by f boot records p q h l found (inr lt) = lt
 above_by f boot records p q h l found (inl le) =
     let r = begins records q p l h le in
-    absurd (longer (events_above records q) r.0 found.0 found.1 (found.2 ∙ ap (λ (es : List (ℕ × Event)). es ++ found.0 ∷ found.1) r.1))
+    absurd (longer (events_before records q) r.0 found.0 found.1 (found.2 ∙ ap (λ (es : List (ℕ × Event)). es ++ found.0 ∷ found.1) r.1))
 
 module _ (k : Walk) (s : Points) (j : Walk) (moved : j ≡ gone k j.here) (position : IsPosition j.records j.here) (l : IsPosition k.records k.here) (found : IsLastMarked (is_looked_for s) k.boot k.records j.here k.here) where
-  above : IsAbove j.here k.here
-  above =
+  earlier : IsBefore j.here k.here
+  earlier =
       let p = subst (λ (xs : List Record). IsPosition xs j.here) (ap (λ (w : Walk). w.records) moved) position in
       above_by (is_looked_for s) k.boot k.records j.here k.here p l found (order j.here k.here)
 
   -- so the next position is early
-  pub next_is_early : (x : ℕ × Event) (next : Position) → IsUpTo k.here k.last → event_below j.records j.here ≡ Some x → next ≡ next_position j.records j.here → IsUpTo next j.last
-  next_is_early x next early below there =
+  pub next_is_early : (x : ℕ × Event) (next : Position) → IsUpTo k.here k.last → next_event j.records j.here ≡ Some x → next ≡ next_position j.records j.here → IsUpTo next j.last
+  next_is_early x next early later there =
       let records : j.records ≡ k.records = ap (λ (w : Walk). w.records) moved in
       let p = subst (λ (xs : List Record). IsPosition xs j.here) records position in
-      let e : event_below k.records j.here ≡ Some x = ap (λ (xs : List Record). event_below xs j.here) (sym records) ∙ below in
-      let le : IsUpTo (next_position k.records j.here) k.here = next_up_to k.records j.here k.here x p l e (up_to_of j.here k.here above) (not_itself j.here k.here above) in
+      let e : next_event k.records j.here ≡ Some x = ap (λ (xs : List Record). next_event xs j.here) (sym records) ∙ later in
+      let le : IsUpTo (next_position k.records j.here) k.here = next_up_to k.records j.here k.here x p l e (up_to_of j.here k.here earlier) (not_itself j.here k.here earlier) in
       let at : next ≡ next_position k.records j.here = there ∙ ap (λ (xs : List Record). next_position xs j.here) records in
       subst (λ (q : Position). IsUpTo q j.last) (sym at)
       (subst (λ (q : Position). IsUpTo (next_position k.records j.here) q) (sym (ap (λ (w : Walk). w.last) moved)) (up_to_trans (next_position k.records j.here) k.here k.last le early))
 
-  -- and there is an event below
-  pub some_below : event_below j.records j.here ≡ None → ⊥
+  -- and there is a next event
+  pub some_below : next_event j.records j.here ≡ None → ⊥
   some_below none =
-      let x = has_event k.records j.here k.here l above in
-      let no : None ≡ Some x.0 = sym none ∙ ap (λ (xs : List Record). event_below xs j.here) (ap (λ (w : Walk). w.records) moved) ∙ x.1 in cc
+      let x = has_event k.records j.here k.here l earlier in
+      let no : None ≡ Some x.0 = sym none ∙ ap (λ (xs : List Record). next_event xs j.here) (ap (λ (w : Walk). w.records) moved) ∙ x.1 in cc

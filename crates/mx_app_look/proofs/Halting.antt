@@ -6,7 +6,7 @@ use Rattle.mx_machine.specs.History.{world_after_events}
 use Rattle.mx_machine.specs.Move.{world_after_event}
 use Rattle.mx_machine.specs.World.{World}
 use Rattle.mx_walk.specs.declared.positions.Position.{Position}
-use Rattle.mx_walk.specs.Positions.{IsPosition, IsUpTo, event_below, events_above, first, next_position, position_before, world_at}
+use Rattle.mx_walk.specs.Positions.{IsPosition, IsUpTo, next_event, events_before, first, next_position, position_before, world_at}
 use Rattle.mx_walk.specs.Seeking.{IsFirstMarked, IsLastMarked, IsPassed, NoneMarked, is_marked}
 use Rattle.mx_walk.specs.Walks.{Walk, world_here}
 use Rattle.mx_walk.proofs.Arriving.{begins, first_up_to}
@@ -22,7 +22,7 @@ use Rattle.mx_app_look.specs.Searches.{IsHalt, IsHaltAfter, IsHaltBy, IsLastHalt
 -- ---- what is passed isn't met
 
 first_position : (records : List Record) → IsPosition records first
-first_position records = record { above = omega arith; inside = omega arith }
+first_position records = record { earlier = omega arith; inside = omega arith }
 
 module _ (f : World → ℕ × Event → World → Bool) where
   -- an event among those of which none is marked
@@ -34,7 +34,7 @@ module _ (f : World → ℕ × Event → World → Bool) where
     pub passed_isnt_first : (from q last : Position) → IsPosition records q → IsPosition records last → IsUpTo q last → IsFirstMarked f boot records from q → IsPassed f boot records from last → ⊥
     passed_isnt_first from q last h l le s p =
         let r = begins records q last h l le in
-        let es = events_above records from in
+        let es = events_before records from in
         let whole : es ++ p.0 ≡ es ++ (s.0 ++ s.1 ∷ r.0) =
         sym p.1 ∙ r.1 ∙ ap (λ (xs : List (ℕ × Event)). xs ++ r.0) s.2 ∙ append_assoc es (s.0 ++ s.1 ∷ []) r.0 ∙ ap (λ (xs : List (ℕ × Event)). es ++ xs) (append_assoc s.0 (s.1 ∷ []) r.0) in
         let same : p.0 ≡ s.0 ++ s.1 ∷ r.0 = same_rest es p.0 (s.0 ++ s.1 ∷ r.0) whole in
@@ -43,7 +43,7 @@ module _ (f : World → ℕ × Event → World → Bool) where
     pub passed_isnt_last : (p here : Position) → IsPosition records p → IsLastMarked f boot records p here → IsPassed f boot records first here → ⊥
     passed_isnt_last p here h s g =
         let none = begins records first p (first_position records) h (first_up_to p) in
-        let es = events_above records first in
+        let es = events_before records first in
         let whole : es ++ g.0 ≡ es ++ (none.0 ++ s.0 ∷ s.1) =
         sym g.1 ∙ s.2 ∙ ap (λ (xs : List (ℕ × Event)). xs ++ s.0 ∷ s.1) none.1 ∙ append_assoc es none.0 (s.0 ∷ s.1) in
         let same : g.0 ≡ none.0 ++ s.0 ∷ s.1 = same_rest es g.0 (none.0 ++ s.0 ∷ s.1) whole in
@@ -84,8 +84,8 @@ module _ (k : Walk) (s : Points) where
 
   -- ---- on, and then back
 
-  -- from right below the first event
-  pub first_returns : (x : ℕ × Event) → IsPosition k.records k.here → event_below k.records k.here ≡ Some x → is_marked (changes_watched s) (world_here k) x ≡ true
+  -- from right after the first event
+  pub first_returns : (x : ℕ × Event) → IsPosition k.records k.here → next_event k.records k.here ≡ Some x → is_marked (changes_watched s) (world_here k) x ≡ true
       → IsLastHalt (record k { here = next_position k.records k.here }) s (k.here, changes_from k s k.here (next_position k.records k.here))
   first_returns x h e marked =
       let w = world_here k in
@@ -93,7 +93,7 @@ module _ (k : Walk) (s : Points) where
       let met : is_marked (is_looked_for s) w x ≡ true = ap (λ b. b || leaves_breakpoint s w x u) marked in
       inl (k.here, h, (x, [], above_it k.records k.here x h e, met, tt), refl)
 
-  -- from right below a later one
+  -- from right after a later one
   pub later_returns : (from q : Position) → IsPosition k.records q → IsFirstMarked (is_looked_for s) k.boot k.records from q
       → IsLastHalt (record k { here = q }) s (position_before k.records q, changes_from k s (position_before k.records q) q)
   later_returns from q h found =

@@ -16,7 +16,7 @@ read_is [] n x lt = absurd (omega (arith, lt))
 read_is (y ∷ ys) zero x lt = refl
 read_is (y ∷ ys) (suc n) x lt = read_is ys n x (omega (arith, lt))
 
--- ---- a record above a position
+-- ---- a record before a position
 
 inside_by : (records : List Record) (n : ℕ) (x : Record) → slice_get records n ≡ Some x → n < length records
 inside_by [] n x e = absurd cc
@@ -31,7 +31,7 @@ steps_by (y ∷ ys) (suc n) x e = steps_by ys n x e
 -- its steps are made, but not its own event
 pub begun_position : (records : List Record) (n : ℕ) (x : Record) → slice_get records n ≡ Some x → IsPosition records (record { records = n; steps = steps_in x.event })
 begun_position records n x e = record {
-  above = let lt = inside_by records n x e in omega (arith, lt);
+  earlier = let lt = inside_by records n x e in omega (arith, lt);
   inside = let same = steps_by records n x e in omega (arith, same);
 }
 
@@ -42,4 +42,4 @@ begun_is_early n j here last lt early =
 
 -- it is made
 pub made_position : (records : List Record) (n : ℕ) (x : Record) → slice_get records n ≡ Some x → IsPosition records (record { records = n + 1; steps = 0 })
-made_position records n x e = record { above = let lt = inside_by records n x e in omega (arith, lt); inside = omega arith }
+made_position records n x e = record { earlier = let lt = inside_by records n x e in omega (arith, lt); inside = omega arith }

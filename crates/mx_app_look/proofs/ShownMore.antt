@@ -11,7 +11,7 @@ use Rattle.mx_walk.specs.declared.positions.Position.{Position}
 use Rattle.mx_walk.specs.declared.progress.Part.{Part}
 use Rattle.mx_walk.specs.Parts.{HasGrown, parts_between, walk_between, walk_shown}
 use Rattle.mx_walk.specs.Walks.{Walk, shown_to, shown_way, world_here}
-use Rattle.mx_walk.specs.Positions.{IsPosition, IsUpTo, event_below, first, first_steps, is_up_to, next_position, position_before, steps_in, world_at}
+use Rattle.mx_walk.specs.Positions.{IsPosition, IsUpTo, next_event, first, first_steps, is_up_to, next_position, position_before, steps_in, world_at}
 use Rattle.mx_walk.specs.Seeking.{IsFirstMarked, IsLastMarked, IsPassed, is_marked}
 use Rattle.mx_walk.proofs.Next.{world_next}
 use Rattle.mx_walk.proofs.PartsShown.{joined}
@@ -19,12 +19,12 @@ use Rattle.mx_app_look.specs.declared.points.Points.{Points}
 use Rattle.mx_app_look.specs.declared.request.Request.{Request}
 use Rattle.mx_app_look.specs.declared.request.Request.TheVariants.{Nothing, Quit, Why}
 use Rattle.mx_app_look.specs.declared.sight.Sight.{Sight}
-use Rattle.mx_app_look.specs.Above.{record_above}
+use Rattle.mx_app_look.specs.Before.{record_before}
 use Rattle.mx_app_look.specs.Marks.{changes_watched, is_looked_for}
 use Rattle.mx_app_look.specs.Searches.{is_break, next_made}
 use Rattle.mx_app_look.specs.Shows.{IsLastShown, IsNextShown, IsRequestShown, IsSearchShown, IsShownAfter, IsShownFrom, halt_shown, record_shown, return_shown, steps_made, why_shown, why_shown_by}
 use Rattle.mx_app_look.specs.declared.happening.Happening.{Happening}
-use Rattle.mx_app_look.specs.Until.{below, halt_below, has, met, until_halt}
+use Rattle.mx_app_look.specs.Until.{past, halt_after, has, met, until_halt}
 use Rattle.mx_walk.proofs.Along.{up_trans}
 use Rattle.mx_app_look.proofs.Coming.{gone}
 use Rattle.mx_app_look.proofs.Meeting.{met_from}
@@ -75,27 +75,27 @@ Shows before after P = (ps : List Part) × (after ≡ before ++ ps) × P ps
 -- ---- a record
 
 pub record_is_shown : (k w : Walk) (n : ℕ) (x : Record) (p : Position) (before now after : List Part) → p ≡ steps_made n x → w ≡ gone k p
-    → now ≡ before ++ shown_to k p → after ≡ now ++ shown_to w (below n) → after ≡ before ++ record_shown k n x
+    → now ≡ before ++ shown_to k p → after ≡ now ++ shown_to w (past n) → after ≡ before ++ record_shown k n x
 record_is_shown k w n x p before now after there moved a b =
-    both_shown before now after (shown_to k p) (shown_to w (below n)) a b
-    ∙ ap (λ (v : Walk). before ++ (shown_to k p ++ shown_to v (below n))) moved
-    ∙ ap (λ (q : Position). before ++ (shown_to k q ++ shown_way k q (below n))) there
+    both_shown before now after (shown_to k p) (shown_to w (past n)) a b
+    ∙ ap (λ (v : Walk). before ++ (shown_to k p ++ shown_to v (past n))) moved
+    ∙ ap (λ (q : Position). before ++ (shown_to k q ++ shown_way k q (past n))) there
 
 -- and then within the next one
-pub then_none : (k w : Walk) (n : ℕ) (p : Position) (before now after ps : List Part) → n + 1 ≡ p.records → w ≡ gone k (below n) → now ≡ before ++ ps → after ≡ now ++ shown_to w p → after ≡ before ++ ps
+pub then_none : (k w : Walk) (n : ℕ) (p : Position) (before now after ps : List Part) → n + 1 ≡ p.records → w ≡ gone k (past n) → now ≡ before ++ ps → after ≡ now ++ shown_to w p → after ≡ before ++ ps
 then_none k w n p before now after ps one moved a b =
     let few : 0 ≤ p.steps = omega arith in
-    b ∙ ap (λ (v : Walk). now ++ shown_to v p) moved ∙ ap (λ (xs : List Part). now ++ xs) (none_shown (gone k (below n)) p (inr (one, few)) one) ∙ append-nil now ∙ a
+    b ∙ ap (λ (v : Walk). now ++ shown_to v p) moved ∙ ap (λ (xs : List Part). now ++ xs) (none_shown (gone k (past n)) p (inr (one, few)) one) ∙ append-nil now ∙ a
 
 pub why_is_shown : (k : Walk) (m : ℕ) (x : Record) → k.here.records ≡ suc m → slice_get k.records m ≡ Some x → why_shown k ≡ record_shown k m x
 why_is_shown k m x e h =
     let less : k.here.records - 1 ≡ m = omega (arith, e) in
-    ap (λ (o : Option Record). why_shown_by k (k.here.records - 1) o) (ap (record_above k.records) e ∙ h)
+    ap (λ (o : Option Record). why_shown_by k (k.here.records - 1) o) (ap (record_before k.records) e ∙ h)
     ∙ ap (λ i. record_shown k i x) less
 
 pub boot_shown : (k : Walk) (before : List Part) → k.here.records ≡ 0 → before ≡ before ++ why_shown k
 boot_shown k before e =
-    let none : why_shown k ≡ [] = ap (λ (o : Option Record). why_shown_by k (k.here.records - 1) o) (ap (record_above k.records) e) in
+    let none : why_shown k ≡ [] = ap (λ (o : Option Record). why_shown_by k (k.here.records - 1) o) (ap (record_before k.records) e) in
     sym (append-nil before) ∙ ap (λ (ps : List Part). before ++ ps) (sym none)
 
 -- at an index of what was read
@@ -141,16 +141,16 @@ module _ (k w : Walk) (records : List Record) (n : ℕ) (x : Record) (moved : w 
       let v : Walk = gone k w.here in
       let none : shown_to v (steps_made n y) ≡ [] = none_shown v (steps_made n y) up on.place in
       let less : n < n + 1 = omega arith in
-      let on : shown_way v (steps_made n y) (below n) ≡ parts_between all n (n + 1) = on_shown (gone v (steps_made n y)) (below n) (inl less) in
+      let on : shown_way v (steps_made n y) (past n) ≡ parts_between all n (n + 1) = on_shown (gone v (steps_made n y)) (past n) (inl less) in
       let one : record_shown w n y ≡ parts_between all n (n + 1) =
-      ap (λ (u : Walk). record_shown u n y) moved ∙ ap (λ (ps : List Part). ps ++ shown_way v (steps_made n y) (below n)) none ∙ on in
+      ap (λ (u : Walk). record_shown u n y) moved ∙ ap (λ (ps : List Part). ps ++ shown_way v (steps_made n y) (past n)) none ∙ on in
       both_shown before now after (parts_between all k.here.records n) (record_shown w n y) a b
       ∙ ap (λ (ps : List Part). before ++ (parts_between all k.here.records n ++ ps)) one
       ∙ ap (λ (ps : List Part). before ++ ps) (joined all k.here.records n (n + 1) begun (omega arith))
 
-  on_by_one : (u : Walk) → u.here ≡ below n → On k u (n + 1)
+  on_by_one : (u : Walk) → u.here ≡ past n → On k u (n + 1)
   on_by_one u at =
-      let start : On k (gone u (below n)) (n + 1) = record {
+      let start : On k (gone u (past n)) (n + 1) = record {
         place = refl;
         position = made_position k.records n y read;
         late = elim (cases_lt (n + 1) k.last.records) [
@@ -166,7 +166,7 @@ module _ (k w : Walk) (records : List Record) (n : ℕ) (x : Record) (moved : w 
         later = subst (λ (p : Position). IsUpTo k.here p) (sym at) start.later;
       }
 
-  pub on_one_more : (u : Walk) → u ≡ record w { here = below n } → On k u (n + 1)
+  pub on_one_more : (u : Walk) → u ≡ record w { here = past n } → On k u (n + 1)
   on_one_more u there = on_by_one u (ap (λ (j : Walk). j.here) there)
 
 -- all that is shown on the way to where it halts
@@ -174,7 +174,7 @@ until_shown : (k : Walk) (p : Position) (n : ℕ) (before after : List Part) →
 until_shown k p n before after up same a =
     a ∙ ap (λ i. before ++ parts_between (length k.records) k.here.records i) (sym same) ∙ ap (λ (ps : List Part). before ++ ps) (sym (on_shown k p up))
 
-pub shown_until_here : (k u w : Walk) (p : Position) (n : ℕ) (before after : List Part) → u ≡ record w { here = below n } → u ≡ gone k p → On k u (n + 1) → after ≡ before ++ parts_between (length k.records) k.here.records (n + 1) → after ≡ before ++ shown_to k p
+pub shown_until_here : (k u w : Walk) (p : Position) (n : ℕ) (before after : List Part) → u ≡ record w { here = past n } → u ≡ gone k p → On k u (n + 1) → after ≡ before ++ parts_between (length k.records) k.here.records (n + 1) → after ≡ before ++ shown_to k p
 shown_until_here k u w p n before after there halts on a =
     let at : u.here ≡ p = ap (λ (j : Walk). j.here) halts in
     until_shown k p (n + 1) before after (subst (λ (q : Position). IsUpTo k.here q) at on.later) (ap (λ (q : Position). q.records) (sym at) ∙ on.place) a
@@ -184,7 +184,7 @@ pub halts_last : (k : Walk) (h : Happening) (n : ℕ) → k.last.records ≤ n �
 halts_last k h n over none =
     let left : k.last.records - n ≡ 0 = omega (arith, over) in
     let nothing : met_from k h n ≡ None = ap (λ m. find (has k h) (range_with_len n m)) left in
-    ap (λ (o : Option ℕ). (halt_below k o).0) (sym none ∙ nothing)
+    ap (λ (o : Option ℕ). (halt_after k o).0) (sym none ∙ nothing)
 
 pub shown_until_last : (k w : Walk) (p : Position) (n : ℕ) (before now after : List Part) → w ≡ gone k w.here → On k w n → k.last.records ≤ n → p ≡ k.last
     → now ≡ before ++ parts_between (length k.records) k.here.records n → after ≡ now ++ shown_to w k.last → after ≡ before ++ shown_to k p
@@ -198,32 +198,32 @@ shown_until_last k w p n before now after moved on over at a b =
 
 -- ---- searches
 
--- halted above the step at a breakpoint, or below it again
-pub halt_is_shown : (k : Walk) (s : Points) (j : Walk) (p : Position) (before after : List Part) → j ≡ gone k p → is_break j s j.here (event_below j.records j.here) ≡ true
+-- halted before the step at a breakpoint, or after it again
+pub halt_is_shown : (k : Walk) (s : Points) (j : Walk) (p : Position) (before after : List Part) → j ≡ gone k p → is_break j s j.here (next_event j.records j.here) ≡ true
     → after ≡ before ++ shown_to k p → after ≡ before ++ halt_shown k s p k.here
 halt_is_shown k s j p before after moved is a =
-    let same : is_break k s p (event_below k.records p) ≡ true = subst (λ (w : Walk). is_break w s w.here (event_below w.records w.here) ≡ true) moved is in
+    let same : is_break k s p (next_event k.records p) ≡ true = subst (λ (w : Walk). is_break w s w.here (next_event w.records w.here) ≡ true) moved is in
     a ∙ ap (λ (ps : List Part). before ++ ps) (sym (append-nil (shown_to k p))) ∙ ap (λ b. before ++ (shown_to k p ++ cond b [] (shown_way k p k.here))) (sym same)
 
-pub halt_below_shown : (k : Walk) (s : Points) (j : Walk) (p : Position) (before now after : List Part) → j ≡ gone k p → is_break j s j.here (event_below j.records j.here) ≡ false
+pub halt_below_shown : (k : Walk) (s : Points) (j : Walk) (p : Position) (before now after : List Part) → j ≡ gone k p → is_break j s j.here (next_event j.records j.here) ≡ false
     → now ≡ before ++ shown_to k p → after ≡ now ++ shown_to j k.here → after ≡ before ++ halt_shown k s p k.here
 halt_below_shown k s j p before now after moved isnt a b =
-    let same : is_break k s p (event_below k.records p) ≡ false = subst (λ (w : Walk). is_break w s w.here (event_below w.records w.here) ≡ false) moved isnt in
+    let same : is_break k s p (next_event k.records p) ≡ false = subst (λ (w : Walk). is_break w s w.here (next_event w.records w.here) ≡ false) moved isnt in
     both_shown before now after (shown_to k p) (shown_to j k.here) a b ∙ ap (λ (w : Walk). before ++ (shown_to k p ++ shown_to w k.here)) moved
     ∙ ap (λ c. before ++ (shown_to k p ++ cond c [] (shown_way k p k.here))) (sym same)
 
 module _ (k : Walk) (s : Points) where
-  pub search_met : (j : Walk) (above : Position) (before now after : List Part) → j ≡ gone k j.here → IsPosition j.records j.here → IsUpTo j.here j.last
-      → IsFirstMarked (is_looked_for s) k.boot k.records k.here j.here → above ≡ position_before j.records j.here
-      → now ≡ before ++ walk_between k.records k.here j.here → after ≡ now ++ halt_shown j s above j.here → Shows before after (λ ps. IsSearchShown k s k.here ps)
-  search_met j above before now after moved position early found up a b =
+  pub search_met : (j : Walk) (earlier : Position) (before now after : List Part) → j ≡ gone k j.here → IsPosition j.records j.here → IsUpTo j.here j.last
+      → IsFirstMarked (is_looked_for s) k.boot k.records k.here j.here → earlier ≡ position_before j.records j.here
+      → now ≡ before ++ walk_between k.records k.here j.here → after ≡ now ++ halt_shown j s earlier j.here → Shows before after (λ ps. IsSearchShown k s k.here ps)
+  search_met j earlier before now after moved position early found up a b =
       let q = j.here in
       let records : j.records ≡ k.records = ap (λ (w : Walk). w.records) moved in
       let walked = walk_between k.records k.here q in
-      let halt : halt_shown j s above q ≡ halt_shown k s (position_before k.records q) q =
+      let halt : halt_shown j s earlier q ≡ halt_shown k s (position_before k.records q) q =
       ap (λ (p : Position). halt_shown j s p q) (up ∙ ap (λ (xs : List Record). position_before xs q) records) ∙ ap (λ (w : Walk). halt_shown w s (position_before k.records q) q) moved in (
-        walked ++ halt_shown j s above q,
-        both_shown before now after walked (halt_shown j s above q) a b,
+        walked ++ halt_shown j s earlier q,
+        both_shown before now after walked (halt_shown j s earlier q) a b,
         inl (
           q,
           subst (λ (xs : List Record). IsPosition xs q) records position,
@@ -237,7 +237,7 @@ module _ (k : Walk) (s : Points) where
       → after ≡ before ++ walk_between k.records k.here p → Shows before after (λ ps. IsSearchShown k s k.here ps)
   search_passed p before after at passed a = (walk_between k.records k.here p, a, inr (passed, ap (λ (q : Position). walk_between k.records k.here q) at))
 
-  pub is_marked_there : (j : Walk) (x : ℕ × Event) (next : Position) → IsPosition k.records k.here → event_below k.records k.here ≡ Some x → next ≡ next_position k.records k.here → j ≡ gone k next
+  pub is_marked_there : (j : Walk) (x : ℕ × Event) (next : Position) → IsPosition k.records k.here → next_event k.records k.here ≡ Some x → next ≡ next_position k.records k.here → j ≡ gone k next
       → is_marked (changes_watched s) (world_here k) x ≡ changes_watched s (world_here k) x (world_here j)
   is_marked_there j x next h e there moved =
       let world : world_here j ≡ world_after_event (world_here k) x.0 x.1 =
@@ -255,10 +255,10 @@ module _ (k : Walk) (s : Points) where
       let on : IsSearchShown k s next h.0 = subst (λ (w : Walk). IsSearchShown w s w.here h.0) moved h.2 in
       (ps, both_shown before now after (shown_to k next) h.0 a h.1, subst (λ c. IsShownAfter k s next c ps) (sym unmet) (h.0, refl, on))
 
-  pub next_shown : (x : ℕ × Event) (next : Position) (before after : List Part) → is_up_to k.last k.here ≡ false → event_below k.records k.here ≡ Some x → next ≡ next_position k.records k.here
+  pub next_shown : (x : ℕ × Event) (next : Position) (before after : List Part) → is_up_to k.last k.here ≡ false → next_event k.records k.here ≡ Some x → next ≡ next_position k.records k.here
       → Shows before after (λ ps. IsShownAfter k s next (is_marked (changes_watched s) (world_here k) x) ps) → Shows before after (λ ps. IsNextShown k s ps)
   next_shown x next before after isnt e there h =
-      let made : next_made k ≡ Some x = ap (λ b. let o : Option (ℕ × Event) = cond b None (event_below k.records k.here) in o) isnt ∙ e in
+      let made : next_made k ≡ Some x = ap (λ b. let o : Option (ℕ × Event) = cond b None (next_event k.records k.here) in o) isnt ∙ e in
       let on : IsShownAfter k s (next_position k.records k.here) (is_marked (changes_watched s) (world_here k) x) h.0 =
       subst (λ (p : Position). IsShownAfter k s p (is_marked (changes_watched s) (world_here k) x) h.0) there h.2 in
       (h.0, h.1, subst (λ (o : Option (ℕ × Event)). IsShownFrom k s o h.0) (sym made) on)
@@ -267,10 +267,10 @@ module _ (k : Walk) (s : Points) where
   no_shown before none = ([], sym (append-nil before), subst (λ (o : Option (ℕ × Event)). IsShownFrom k s o []) (sym none) refl)
 
   pub last_is_shown : (before : List Part) → is_up_to k.last k.here ≡ true → Shows before before (λ ps. IsNextShown k s ps)
-  last_is_shown before is = no_shown before (ap (λ b. let o : Option (ℕ × Event) = cond b None (event_below k.records k.here) in o) is)
+  last_is_shown before is = no_shown before (ap (λ b. let o : Option (ℕ × Event) = cond b None (next_event k.records k.here) in o) is)
 
-  pub end_is_shown : (before : List Part) → is_up_to k.last k.here ≡ false → event_below k.records k.here ≡ None → Shows before before (λ ps. IsNextShown k s ps)
-  end_is_shown before isnt none = no_shown before (ap (λ b. let o : Option (ℕ × Event) = cond b None (event_below k.records k.here) in o) isnt ∙ none)
+  pub end_is_shown : (before : List Part) → is_up_to k.last k.here ≡ false → next_event k.records k.here ≡ None → Shows before before (λ ps. IsNextShown k s ps)
+  end_is_shown before isnt none = no_shown before (ap (λ b. let o : Option (ℕ × Event) = cond b None (next_event k.records k.here) in o) isnt ∙ none)
 
   -- back
   abbrev back : Position → List Part

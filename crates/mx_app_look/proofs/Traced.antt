@@ -1,4 +1,4 @@
--- One session of the same lines; and what is shown of the record above.
+-- One session of the same lines; and what is shown of the record before.
 use Rattle.std.proofs.Common.{◌≡◌, ◌∙◌, ℕ, zero, suc, List, [], ◌∷◌, take, Some, slice_get, refl, ap, sym}
 use Rattle.std.proofs.lemmas.List.{append-nil}
 use Rattle.mx_machine.specs.declared.events.Event.{Event}

@@ -13,7 +13,7 @@ pub mod Slots
 pub mod Showing
 pub mod Seeking
 pub mod Shows
-pub mod Above
+pub mod Before
 pub mod Happenings
 pub mod Until
 pub mod Answers

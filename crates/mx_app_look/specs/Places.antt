@@ -14,10 +14,10 @@ use Rattle.mx_machine.specs.declared.history.Record.{Record}
 use Rattle.mx_machine.specs.World.{World, HeldProcess, held_by}
 use Rattle.mx_print_answers.specs.Slots.{symbols_by}
 use Rattle.mx_walk.specs.declared.positions.Position.{Position}
-use Rattle.mx_walk.specs.Positions.{event_below}
+use Rattle.mx_walk.specs.Positions.{next_event}
 use Rattle.mx_walk.specs.Walks.{Walk, refusal_here, world_here}
 
--- ---- a position: K, or K.J inside the record below
+-- ---- a position: K, or K.J inside the next record
 
 abbrev pub steps_text : ℕ → List ℕ
 steps_text zero = []
@@ -26,7 +26,7 @@ steps_text (suc j) = codes "." ++ decimal (suc j)
 abbrev pub position_text : Position → List ℕ
 position_text p = decimal p.records ++ steps_text p.steps
 
--- ---- the record below, with its number
+-- ---- the next record, with its number
 
 abbrev pub record_line : ℕ → Record → List ℕ
 record_line n x =
@@ -40,21 +40,21 @@ process_line w (Some l) =
     who (glance_of w) l.slot ++ codes " "
     ++ code_line (symbols_by (slice_get w.services l.slot)) l.out.image l.out.image.eip
 
--- of the event below, if it is a step
+-- of the next event, if it is a step
 abbrev pub step_line : World → Option (ℕ × Event) → List ℕ
 step_line w (Some (a, event.Step)) = process_line w (held_by w a)
 step_line w _ = []
 
 -- ---- THE PLACE
 
--- what is below: the next step; or, where the event below is refused, the line of the history and why
-abbrev pub below_line : Walk → Option Refusal → List ℕ
-below_line k None = step_line (world_here k) (event_below k.records k.here)
-below_line k (Some r) = refused_record_line (lines_above (world_here k).table.rules + (k.here.records + 1)) r
+-- what comes next: the next step; or, where the next event is refused, the line of the history and why
+abbrev pub ahead_line : Walk → Option Refusal → List ℕ
+ahead_line k None = step_line (world_here k) (next_event k.records k.here)
+ahead_line k (Some r) = refused_record_line (lines_above (world_here k).table.rules + (k.here.records + 1)) r
 
 abbrev pub rest_of_place : Walk → Option Record → List ℕ
 rest_of_place k None = codes ", the end\n"
-rest_of_place k (Some x) = record_line (k.here.records + 1) x ++ below_line k (refusal_here k)
+rest_of_place k (Some x) = record_line (k.here.records + 1) x ++ ahead_line k (refusal_here k)
 
 unfoldable pub place_text : Walk → List ℕ
 place_text k =

@@ -5,7 +5,7 @@ use Rattle.mx_text.specs.Fields.{fields, only, ◌>>=◌}
 use Rattle.mx_boot.specs.Script.{count_field, only_count}
 use Rattle.mx_app_look.specs.declared.point_request.PointRequest.TheVariants as point
 use Rattle.mx_walk.specs.declared.destinations.PositionWord.{PositionWord}
-use Rattle.mx_walk.specs.declared.destinations.PositionWord.TheVariants.{Below, End}
+use Rattle.mx_walk.specs.declared.destinations.PositionWord.TheVariants.{After, End}
 use Rattle.mx_app_look.specs.declared.request.Request.{Request}
 use Rattle.mx_app_look.specs.declared.request.Request.TheVariants as request
 use Rattle.mx_app_look.specs.declared.verb.Verb.{Verb}
@@ -25,11 +25,11 @@ is_dot b = b == 46
 abbrev pub position_by_dot : Option ℕ → List ℕ → Option PositionWord
 position_by_dot None word = do
   k ← count_field word
-  Some (Below k 0)
+  Some (After k 0)
 position_by_dot (Some i) word = do
   k ← count_field (take i word)
   j ← count_field (drop (i + 1) word)
-  Some (Below k j)
+  Some (After k j)
 
 unfoldable pub position_of_word : List ℕ → Option PositionWord
 position_of_word word = if bytes_eq word (codes "end") then Some End else position_by_dot (position is_dot word) word

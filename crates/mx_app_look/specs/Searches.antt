@@ -2,7 +2,7 @@
 use Rattle.std.specs.Prelude.{◌≡◌, ◌⊎◌, ℕ, Bool, true, false, List, [], codes, Option, Some, None, if◌then◌else◌}
 use Rattle.mx_machine.specs.declared.events.Event.{Event}
 use Rattle.mx_walk.specs.declared.positions.Position.{Position}
-use Rattle.mx_walk.specs.Positions.{IsPosition, IsUpTo, event_below, first, is_up_to, next_position, position_before, world_at}
+use Rattle.mx_walk.specs.Positions.{IsPosition, IsUpTo, next_event, first, is_up_to, next_position, position_before, world_at}
 use Rattle.mx_walk.specs.Seeking.{IsFirstMarked, IsLastMarked, IsPassed, is_marked}
 use Rattle.mx_walk.specs.Walks.{Walk, world_here}
 use Rattle.mx_app_look.specs.declared.points.Points.{Points}
@@ -17,15 +17,15 @@ not_met = codes "not met\n"
 abbrev pub changes_from : Walk → Points → Position → Position → List ℕ
 changes_from k s p q = change_text s (world_at k.boot k.records p) (world_at k.boot k.records q)
 
--- the event below a position is the step at a breakpoint
+-- the event after a position is the step at a breakpoint
 abbrev pub is_break : Walk → Points → Position → Option (ℕ × Event) → Bool
 is_break k s p None = false
 is_break k s p (Some x) = leaves_breakpoint s (world_at k.boot k.records p) x (world_at k.boot k.records p)
 
--- THE HALT of a search that goes on and meets the event from p to q: above it, if it is the step at a breakpoint; else
--- below it, and how bytes changed is printed
+-- THE HALT of a search that goes on and meets the event from p to q: before it, if it is the step at a breakpoint; else
+-- after it, and how bytes changed is printed
 abbrev pub halt_by : Walk → Points → Position → Position → Position × List ℕ
-halt_by k s p q = if is_break k s p (event_below k.records p) then (p, []) else (q, changes_from k s p q)
+halt_by k s p q = if is_break k s p (next_event k.records p) then (p, []) else (q, changes_from k s p q)
 
 -- a search from a position on halts so: at the first event that is looked for, or at the last position
 abbrev pub IsHalt : Walk → Points → Position → Position × List ℕ → Type 0
@@ -46,14 +46,14 @@ IsHaltBy k s (Some x) h =
 
 -- the event that can be made here
 abbrev pub next_made : Walk → Option (ℕ × Event)
-next_made k = if is_up_to k.last k.here then None else event_below k.records k.here
+next_made k = if is_up_to k.last k.here then None else next_event k.records k.here
 
 -- ON: where it halts, and what is printed. The first event leaves the place where one is: of it the bytes count, and no
 -- breakpoint
 abbrev pub IsNextHalt : Walk → Points → Position × List ℕ → Type 0
 IsNextHalt k s h = IsHaltBy k s (next_made k) h
 
--- BACK: right above the last event that is looked for, or at the first position
+-- BACK: right before the last event that is looked for, or at the first position
 abbrev pub IsLastHalt : Walk → Points → Position × List ℕ → Type 0
 IsLastHalt k s h =
     ((p : Position) × IsPosition k.records p × IsLastMarked (is_looked_for s) k.boot k.records p k.here

@@ -6,40 +6,40 @@ use Rattle.mx_walk.specs.declared.positions.Position.{Position}
 use Rattle.mx_walk.specs.declared.progress.Part.{Part}
 use Rattle.mx_walk.specs.Walks.{Walk, shown_to, shown_way, world_here}
 use Rattle.mx_walk.specs.Parts.{walk_between, walk_shown}
-use Rattle.mx_walk.specs.Positions.{IsPosition, IsUpTo, event_below, first, next_position, position_before, steps_in}
+use Rattle.mx_walk.specs.Positions.{IsPosition, IsUpTo, next_event, first, next_position, position_before, steps_in}
 use Rattle.mx_walk.specs.Seeking.{IsFirstMarked, IsLastMarked, IsPassed, is_marked}
 use Rattle.mx_app_look.specs.declared.points.Points.{Points}
 use Rattle.mx_app_look.specs.declared.request.Request.{Request}
 use Rattle.mx_app_look.specs.declared.request.Request.TheVariants.{Continue, Reverse, Why}
 use Rattle.mx_app_look.specs.declared.sight.Sight.{Sight}
-use Rattle.mx_app_look.specs.Above.{record_above}
+use Rattle.mx_app_look.specs.Before.{record_before}
 use Rattle.mx_app_look.specs.Answers.{to_of}
 use Rattle.mx_app_look.specs.Marks.{changes_watched, is_looked_for}
 use Rattle.mx_app_look.specs.Requests.{request_of}
 use Rattle.mx_app_look.specs.Searches.{is_break, next_made}
-use Rattle.mx_app_look.specs.Until.{below}
+use Rattle.mx_app_look.specs.Until.{past}
 
--- ---- why: back to where the steps of the record above are made, and past its own event
+-- ---- why: back to where the steps of the record before are made, and past its own event
 
 abbrev pub steps_made : ℕ → Record → Position
 steps_made n x = record { records = n; steps = steps_in x.event }
 
 abbrev pub record_shown : Walk → ℕ → Record → List Part
-record_shown k n x = shown_to k (steps_made n x) ++ shown_way k (steps_made n x) (below n)
+record_shown k n x = shown_to k (steps_made n x) ++ shown_way k (steps_made n x) (past n)
 
 abbrev pub why_shown_by : Walk → ℕ → Option Record → List Part
 why_shown_by k n None = []
 why_shown_by k n (Some x) = record_shown k n x
 
 abbrev pub why_shown : Walk → List Part
-why_shown k = why_shown_by k (k.here.records - 1) (record_above k.records k.here.records)
+why_shown k = why_shown_by k (k.here.records - 1) (record_before k.records k.here.records)
 
 -- ---- a search on
 
--- from below the event from p to q that it meets: back above it; and below it again, unless it is the step at a
+-- from after the event from p to q that it meets: back before it; and after it again, unless it is the step at a
 -- breakpoint
 abbrev pub halt_shown : Walk → Points → Position → Position → List Part
-halt_shown k s p q = shown_way k q p ++ (if is_break k s p (event_below k.records p) then [] else shown_way k p q)
+halt_shown k s p q = shown_way k q p ++ (if is_break k s p (next_event k.records p) then [] else shown_way k p q)
 
 -- from a position on: to the first event that is looked for, and to the halt by it; or to the last position
 abbrev pub IsSearchShown : Walk → Points → Position → List Part → Type 0

@@ -4,7 +4,7 @@ use Rattle.std.specs.List.{range_with_len}
 use Rattle.mx_machine.specs.declared.history.Record.{Record}
 use Rattle.mx_walk.specs.declared.positions.Position.{Position}
 use Rattle.mx_walk.specs.Walks.{Walk, world_here}
-use Rattle.mx_app_look.specs.Above.{step_above, why_text}
+use Rattle.mx_app_look.specs.Before.{step_before, why_text}
 use Rattle.mx_app_look.specs.declared.happening.Happening.{Happening}
 use Rattle.mx_app_look.specs.declared.happening.Happening.TheVariants.{Call, Death, Delivery}
 use Rattle.mx_app_look.specs.Happenings.{happens}
@@ -25,25 +25,25 @@ has_slots k (Delivery from to) = has_service k from && has_service k to
 
 abbrev pub has_by : Walk → Happening → ℕ → Option Record → Bool
 has_by k h n None = false
-has_by k h n (Some x) = happens h (step_above k.boot k.records n x)
+has_by k h n (Some x) = happens h (step_before k.boot k.records n x)
 
 -- it happens in record n + 1
 abbrev pub has : Walk → Happening → ℕ → Bool
 has k h n = has_by k h n (slice_get k.records n)
 
--- THE FIRST RECORD BELOW in which it happens, of those that can be made
+-- THE FIRST RECORD AFTER HERE in which it happens, of those that can be made
 abbrev pub met : Walk → Happening → Option ℕ
 met k h = find (has k h) (range_with_len k.here.records (k.last.records - k.here.records))
 
 -- ---- THE HALT, and what is printed before the place
 
-abbrev pub below : ℕ → Position
-below n = record { records = n + 1; steps = 0 }
+abbrev pub past : ℕ → Position
+past n = record { records = n + 1; steps = 0 }
 
-abbrev pub halt_below : Walk → Option ℕ → Position × List ℕ
-halt_below k None = (k.last, not_met)
-halt_below k (Some n) = (below n, why_text (record k { here = below n }))
+abbrev pub halt_after : Walk → Option ℕ → Position × List ℕ
+halt_after k None = (k.last, not_met)
+halt_after k (Some n) = (past n, why_text (record k { here = past n }))
 
--- right below the record that is met, with what it did; else at the last position
+-- right after the record that is met, with what it did; else at the last position
 abbrev pub until_halt : Walk → Happening → Position × List ℕ
-until_halt k h = halt_below k (met k h)
+until_halt k h = halt_after k (met k h)

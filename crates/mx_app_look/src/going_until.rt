@@ -62,7 +62,7 @@ fn go_on_unmet<P: Progress>(
     walker.go_to(alloc, last, progress)
 }
 
-/// Goes on to right below the first record in which it happens, and appends what that record did; to the
+/// Goes on to right after the first record in which it happens, and appends what that record did; to the
 /// last position if there is none. Takes no memory but for the text.
 fn go_on_until<P: Progress>(
     alloc: Global,
@@ -83,9 +83,9 @@ fn go_on_until<P: Progress>(
     let from = walker.here().records;
     let mut transition = resting_transition(walker.machine());
     let mut walker = walker;
-    for above in from..last.records {
-        let entry = walker.records()[above];
-        let placed = Placed { above, entry };
+    for earlier in from..last.records {
+        let entry = walker.records()[earlier];
+        let placed = Placed { earlier, entry };
         walker = see_record(alloc, walker, placed, &mut transition, progress)?;
         if happens(happening, &transition) {
             push_record(out, &transition)?;
@@ -95,7 +95,7 @@ fn go_on_until<P: Progress>(
     go_on_unmet(alloc, walker, out, progress)
 }
 
-/// Goes on to right below the first record in which it happens, and answers what that record did, and the
+/// Goes on to right after the first record in which it happens, and answers what that record did, and the
 /// place.
 fn go_on_to<P: Progress>(
     alloc: Global,
@@ -119,7 +119,7 @@ fn go_on_to<P: Progress>(
     Ok((Sight { walker, ..sight }, text))
 }
 
-/// Goes on to right below the first record in which it happens, if each slot that it is about has a service.
+/// Goes on to right after the first record in which it happens, if each slot that it is about has a service.
 pub(crate) fn go_until<P: Progress>(
     alloc: Global,
     sight: Sight,

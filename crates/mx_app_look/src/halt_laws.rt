@@ -3,18 +3,18 @@
 ghost use Rattle.std.specs.Prelude.{◌≡◌, ℕ, List, Some, true};
 ghost use Rattle.mx_machine.specs.declared.events.Event.{Event};
 ghost use Rattle.mx_walk.specs.declared.positions.Position.{Position};
-ghost use Rattle.mx_walk.specs.Positions.{IsPosition, event_below, next_position, position_before};
+ghost use Rattle.mx_walk.specs.Positions.{IsPosition, next_event, next_position, position_before};
 ghost use Rattle.mx_walk.specs.Seeking.{IsFirstMarked, is_marked};
 ghost use Rattle.mx_walk.specs.Walks.{Walk, world_here};
 ghost use Rattle.mx_app_look.specs.declared.points.Points.{Points};
 ghost use Rattle.mx_app_look.specs.Marks.{changes_watched, is_looked_for};
 ghost use Rattle.mx_app_look.specs.Searches.{IsLastHalt, IsNextHalt, changes_from};
 
-/// Law: from right below an event that changes watched bytes, the search back comes to right above it, and
+/// Law: from right after an event that changes watched bytes, the search back comes to right before it, and
 /// prints the same change. So `continue` and then `reverse` comes to the position before.
 pub fn searches_return()
     ensures first { (k : Walk) (s : Points) (x : ℕ × Event) → IsPosition k.records k.here
-        → event_below k.records k.here ≡ Some x
+        → next_event k.records k.here ≡ Some x
         → is_marked (changes_watched s) (world_here k) x ≡ true
         → IsLastHalt (record k { here = next_position k.records k.here }) s
         (k.here, changes_from k s k.here (next_position k.records k.here)) }

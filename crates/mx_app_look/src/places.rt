@@ -5,9 +5,9 @@ ghost use Rattle.mx_app_step.specs.Log.{lines_above};
 ghost use Rattle.mx_look.specs.Code.{code_line};
 ghost use Rattle.mx_machine.specs.World.{held_by};
 ghost use Rattle.mx_machine.specs.Machine.{world_of};
-ghost use Rattle.mx_walk.specs.Positions.{event_below};
+ghost use Rattle.mx_walk.specs.Positions.{next_event};
 ghost use Rattle.mx_walk.specs.Walks.{refusal_here, world_here};
-ghost use Rattle.mx_app_look.specs.Places.{below_line, place_text, position_text, process_line, record_line, rest_of_place, step_line};
+ghost use Rattle.mx_app_look.specs.Places.{ahead_line, place_text, position_text, process_line, record_line, rest_of_place, step_line};
 
 use mx_aout::Symbol;
 use mx_app_step::refusal_line;
@@ -20,7 +20,7 @@ use mx_print_report::{push_decimal, push_long};
 use mx_walk::{Position, Walker, next_event};
 use std::alloc::{AllocError, Global};
 
-/// Appends a position: `K`, or `K.J` inside the record below.
+/// Appends a position: `K`, or `K.J` inside the next record.
 pub(crate) fn push_position(out: &mut Vec<u8>, at: Position) -> Result<(), AllocError>
     ensures { OnOk result (out.new.items ≡ out.old.items ++ position_text at) }
 {
@@ -32,7 +32,7 @@ pub(crate) fn push_position(out: &mut Vec<u8>, at: Position) -> Result<(), Alloc
     push_decimal(out, at.steps)
 }
 
-/// Appends the record below, with its number.
+/// Appends the next record, with its number.
 fn push_record_line(out: &mut Vec<u8>, number: usize, entry: Record) -> Result<(), AllocError>
     ensures { OnOk result (out.new.items ≡ out.old.items ++ record_line number entry) }
 {
@@ -81,10 +81,10 @@ fn push_process(
     push_instruction(alloc, out, symbols_of(machine.kernel(), slot), image)
 }
 
-/// Appends the next step, if the event below is one.
+/// Appends the next step, if the next event is one.
 fn push_step(alloc: Global, out: &mut Vec<u8>, walker: &Walker) -> Result<(), AllocError>
     ensures { OnOk result (out.new.items ≡ out.old.items
-        ++ step_line (world_here walker.now) (event_below walker.now.records walker.now.here)) }
+        ++ step_line (world_here walker.now) (next_event walker.now.records walker.now.here)) }
 {
     let Some(next) = next_event(walker.records(), walker.here()) else {
         return Ok(());
@@ -95,9 +95,9 @@ fn push_step(alloc: Global, out: &mut Vec<u8>, walker: &Walker) -> Result<(), Al
     }
 }
 
-/// Appends what is below: the next step; or, if the event below is refused, the line of the history and
+/// Appends what comes next: the next step; or, if the next event is refused, the line of the history and
 /// why.
-fn push_below(
+fn push_ahead(
     alloc: Global,
     out: &mut Vec<u8>,
     walker: &Walker,
@@ -106,7 +106,7 @@ fn push_below(
 ) -> Result<(), AllocError>
     requires { line
         ≡ lines_above (world_here walker.now).table.rules + (walker.now.here.records + 1) }
-    ensures { OnOk result (out.new.items ≡ out.old.items ++ below_line walker.now refusal) }
+    ensures { OnOk result (out.new.items ≡ out.old.items ++ ahead_line walker.now refusal) }
 {
     match refusal {
         None => push_step(alloc, out, walker),
@@ -117,7 +117,7 @@ fn push_below(
     }
 }
 
-/// Appends the record below and what is below, or that this is the end.
+/// Appends the next record and what comes next, or that this is the end.
 fn push_rest(
     alloc: Global,
     out: &mut Vec<u8>,
@@ -135,7 +135,7 @@ fn push_rest(
             let number = here.records + 1;
             push_record_line(out, number, *entry)?;
             let line = lines_above(walker.machine().rules()) + number;
-            push_below(alloc, out, walker, line, refusal)
+            push_ahead(alloc, out, walker, line, refusal)
         }
     }
 }

@@ -22,11 +22,11 @@ pub(crate) fn position_named(word: &[u8]) -> Option<PositionWord>
         return Some(PositionWord::End);
     }
     match dot_in(word) {
-        None => Some(PositionWord::Below(count(word)?, 0)),
+        None => Some(PositionWord::After(count(word)?, 0)),
         Some(dot) => {
             let records = count(&word[..dot])?;
             let steps = count(&word[dot + 1..])?;
-            Some(PositionWord::Below(records, steps))
+            Some(PositionWord::After(records, steps))
         }
     }
 }

@@ -43,7 +43,7 @@ pub enum Request {
     Until(Happening),
     /// Where one is.
     Where,
-    /// What the record above did.
+    /// What the record before did.
     Why,
     /// The report.
     Processes,

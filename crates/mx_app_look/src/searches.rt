@@ -2,7 +2,7 @@
 
 ghost use Rattle.std.specs.Prelude.{◌≡◌, ◌++◌, IfErr, IfOk, List, OnOk, Some, false, string_bytes, true};
 ghost use Rattle.mx_machine.specs.World.{World};
-ghost use Rattle.mx_walk.specs.Positions.{IsAbove, IsPosition, IsUpTo, event_below, first, next_position, position_before};
+ghost use Rattle.mx_walk.specs.Positions.{IsBefore, IsPosition, IsUpTo, next_event, first, next_position, position_before};
 ghost use Rattle.mx_walk.specs.declared.progress.Part.{Part as Parts};
 ghost use Rattle.mx_walk.specs.Parts.{HasGrown, walk_shown};
 ghost use Rattle.mx_walk.specs.Walks.{Walk, shown_to, world_here};
@@ -34,10 +34,10 @@ fn meet_nothing(alloc: Global, walker: Walker) -> Result<(Walker, String), NoMem
     Ok((walker, not_met(alloc)?))
 }
 
-/// Whether the event below is the step at a breakpoint.
+/// Whether the next event is the step at a breakpoint.
 fn is_at_break(alloc: Global, walker: &Walker, points: &Points) -> Result<bool, AllocError>
     ensures { IfOk result (λ is. is ≡ is_break walker.now points.now walker.now.here
-        (event_below walker.now.records walker.now.here)) }
+        (next_event walker.now.records walker.now.here)) }
 {
     let Some(next) = next_event(walker.records(), walker.here()) else {
         return Ok(false);
@@ -71,30 +71,30 @@ fn go_and_compare<P: Progress>(
     Ok((walker, changes))
 }
 
-/// Goes back from right below an event that is looked for to right above it, and halts there if it is the
-/// step at a breakpoint; else below it again.
+/// Goes back from right after an event that is looked for to right before it, and halts there if it is the
+/// step at a breakpoint; else after it again.
 fn halt_by<P: Progress>(
     alloc: Global,
     walker: Walker,
     points: &Points,
-    above: Position,
+    earlier: Position,
     progress: &mut P,
 ) -> Result<(Walker, String), NoMemory>
-    requires position { IsPosition walker.records above }
-    requires early { IsUpTo above walker.last }
+    requires position { IsPosition walker.records earlier }
+    requires early { IsUpTo earlier walker.last }
     ensures walker { IfOk result (λ r. r.0 ≡ record walker { here = r.0.here }) }
     ensures halt { IfOk result (λ r. (r.0.here, string_bytes r.1)
-        ≡ halt_by walker points.now above walker.here) }
+        ≡ halt_by walker points.now earlier walker.here) }
     ensures shown { OnOk result (P.shown progress.new
-        ≡ P.shown progress.old ++ halt_shown walker points.now above walker.here) }
+        ≡ P.shown progress.old ++ halt_shown walker points.now earlier walker.here) }
     ensures grown { IfErr result (λ _. HasGrown (P.shown progress.old) (P.shown progress.new)) }
 {
-    let below = walker.here();
-    let walker = walker.go_to(alloc, above, progress)?;
+    let later = walker.here();
+    let walker = walker.go_to(alloc, earlier, progress)?;
     if is_at_break(alloc, &walker, points)? {
         return Ok((walker, String::new(alloc)));
     }
-    go_and_compare(alloc, walker, points, below, progress)
+    go_and_compare(alloc, walker, points, later, progress)
 }
 
 /// Goes on to the first event that is looked for, and halts there; at the last position if there is none.
@@ -118,12 +118,12 @@ fn go_on_from<P: Progress>(
         return meet_nothing(alloc, walker);
     }
     match position_before(walker.records(), walker.here()) {
-        Some(above) => halt_by(alloc, walker, points, above, progress),
+        Some(earlier) => halt_by(alloc, walker, points, earlier, progress),
         None => unreachable!(),
     }
 }
 
-/// Makes the event below, of which the watched bytes count and no breakpoint; goes on if it changed none.
+/// Makes the next event, of which the watched bytes count and no breakpoint; goes on if it changed none.
 fn go_on_past<P: Progress>(
     alloc: Global,
     walker: Walker,
@@ -131,9 +131,9 @@ fn go_on_past<P: Progress>(
     next: NextEvent,
     progress: &mut P,
 ) -> Result<(Walker, String), NoMemory>
-    requires below { event_below walker.records walker.here ≡ Some (next.actor, next.event) }
+    requires later { next_event walker.records walker.here ≡ Some (next.actor, next.event) }
     requires position { next.position ≡ next_position walker.records walker.here }
-    requires early { IsAbove walker.here walker.last }
+    requires early { IsBefore walker.here walker.last }
     requires here { IsPosition walker.records walker.here }
     requires last { IsPosition walker.records walker.last }
     ensures walker { IfOk result (λ r. r.0 ≡ record walker { here = r.0.here }) }
@@ -155,8 +155,8 @@ fn go_on_past<P: Progress>(
     go_on_from(alloc, walker, points, progress)
 }
 
-/// Goes on to right below the next event that changes watched bytes, or to the next position whose event
-/// below is the step at a breakpoint; else to the last position. Answers what is printed before the place.
+/// Goes on to right after the next event that changes watched bytes, or to the next position whose event
+/// after it is the step at a breakpoint; else to the last position. Answers what is printed before the place.
 pub fn go_on_to_point<P: Progress>(
     alloc: Global,
     walker: Walker,
@@ -179,7 +179,7 @@ pub fn go_on_to_point<P: Progress>(
     }
 }
 
-/// Goes back to right above the last event that is looked for; to the first position if there is none. Answers
+/// Goes back to right before the last event that is looked for; to the first position if there is none. Answers
 /// whether there is one.
 fn seek_back<P: Progress>(
     alloc: Global,
@@ -222,7 +222,7 @@ fn see_changes<P: Progress>(
     Ok((walker.go_to(alloc, here, progress)?, changes))
 }
 
-/// Goes back to right above the last event that changes watched bytes or is the step at a breakpoint; else
+/// Goes back to right before the last event that changes watched bytes or is the step at a breakpoint; else
 /// to the first position. Answers what is printed before the place. Takes memory to boot the machine again.
 pub fn go_back_to_point<P: Progress>(
     alloc: Global,
@@ -237,7 +237,7 @@ pub fn go_back_to_point<P: Progress>(
         × IsLastShown walker points.now ps) }
     ensures grown { IfErr result (λ _. HasGrown (P.shown progress.old) (P.shown progress.new)) }
 {
-    // Where it is now is a position, and not past the last: so is right below an event that is found.
+    // Where it is now is a position, and not past the last: so is right after an event that is found.
     let _ = walker.here();
     let (walker, found) = seek_back(alloc, walker, points, progress)?;
     if !found {

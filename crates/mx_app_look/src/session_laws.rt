@@ -7,7 +7,7 @@ ghost use Rattle.mx_machine.specs.World.{World};
 ghost use Rattle.mx_machine.specs.declared.history.Record.{Record};
 ghost use Rattle.mx_walk.specs.declared.progress.Part.{Part};
 ghost use Rattle.mx_walk.specs.Walks.{Walk};
-ghost use Rattle.mx_app_look.specs.Above.{step_above};
+ghost use Rattle.mx_app_look.specs.Before.{step_before};
 ghost use Rattle.mx_app_look.specs.Sessions.{IsBegun, IsSession, begun_text, sight_at};
 
 use mx_walk::positions_replay;
@@ -25,7 +25,7 @@ pub fn one_session()
 /// Law: what `why` shows of a record is the transition that a trace shows.
 pub fn why_is_traced()
     ensures { (boot : World) (records : List Record) (n : ℕ) (x : Record) → n + 1 < 2 ^ 32
-        → slice_get records n ≡ Some x → step_above boot records n x
+        → slice_get records n ≡ Some x → step_before boot records n x
         ≡ transition_of (world_after_events boot (events_of_history (take n records))) (n + 1) x }
 {
     positions_replay();

@@ -6,10 +6,10 @@ ghost use Rattle.mx_look.specs.Trace.{record_text};
 ghost use Rattle.mx_print_answers.specs.Messages.{delivery_lines};
 ghost use Rattle.mx_walk.specs.Parts.{HasGrown};
 ghost use Rattle.mx_walk.specs.Walks.{world_here};
-ghost use Rattle.mx_app_look.specs.Above.{step_above, why_text};
+ghost use Rattle.mx_app_look.specs.Before.{step_before, why_text};
 ghost use Rattle.mx_app_look.specs.Answers.{line_end, processes_text};
 ghost use Rattle.mx_app_look.specs.Shows.{record_shown, why_shown};
-ghost use Rattle.mx_app_look.specs.Until.{below};
+ghost use Rattle.mx_app_look.specs.Until.{past};
 
 use mx_app_failure::Failure;
 use mx_app_step::resting_transition;
@@ -24,14 +24,14 @@ use std::alloc::{AllocError, Global};
 /// A record's number is one of 32 bits.
 const NUMBERS: usize = 1 << 32;
 
-/// A record of a history, and how many are above it.
+/// A record of a history, and how many are before it.
 #[derive(Clone, Copy)]
 pub(crate) struct Placed {
-    pub above: usize,
+    pub earlier: usize,
     pub entry: Record,
 }
 
-/// Goes to right below a record, and fills a transition with it: the machine is looked at after the record's steps,
+/// Goes to right after a record, and fills a transition with it: the machine is looked at after the record's steps,
 /// and after its own event. Takes memory only to go back.
 pub(crate) fn see_record<P: Progress>(
     alloc: Global,
@@ -40,50 +40,50 @@ pub(crate) fn see_record<P: Progress>(
     transition: &mut Transition,
     progress: &mut P,
 ) -> Result<Walker, NoMemory>
-    requires there { placed.above + 1 ≤ walker.last.records }
-    requires entry { slice_get walker.records placed.above ≡ Some placed.entry }
-    ensures walker { IfOk result (λ w. w ≡ record walker { here = below placed.above }) }
+    requires there { placed.earlier + 1 ≤ walker.last.records }
+    requires entry { slice_get walker.records placed.earlier ≡ Some placed.entry }
+    ensures walker { IfOk result (λ w. w ≡ record walker { here = past placed.earlier }) }
     ensures transition { OnOk result (transition.new
-        ≡ step_above walker.boot walker.records placed.above placed.entry) }
+        ≡ step_before walker.boot walker.records placed.earlier placed.entry) }
     ensures shown { OnOk result (P.shown progress.new
-        ≡ P.shown progress.old ++ record_shown walker placed.above placed.entry) }
+        ≡ P.shown progress.old ++ record_shown walker placed.earlier placed.entry) }
     ensures grown { IfErr result (λ _. HasGrown (P.shown progress.old) (P.shown progress.new)) }
 {
-    let Placed { above, entry } = placed;
+    let Placed { earlier, entry } = placed;
     let begun = Position {
-        records: above,
+        records: earlier,
         steps: steps_in(entry.event),
     };
     let walker = walker.go_to(alloc, begun, progress)?;
     transition.before.look(walker.machine());
     let made = Position {
-        records: above + 1,
+        records: earlier + 1,
         steps: 0,
     };
     let walker = walker.go_to(alloc, made, progress)?;
     transition.after.look(walker.machine());
-    transition.number = ((above + 1) % NUMBERS) as u32;
+    transition.number = ((earlier + 1) % NUMBERS) as u32;
     transition.actor = entry.actor;
     transition.event = entry.event;
     Ok(walker)
 }
 
 /// Appends what a record did, and goes back to where the walker was.
-fn push_record_above<P: Progress>(
+fn push_record_before<P: Progress>(
     alloc: Global,
     out: &mut Vec<u8>,
     walker: Walker,
     placed: Placed,
     progress: &mut P,
 ) -> Result<Walker, Failure>
-    requires there { placed.above + 1 ≡ walker.here.records }
-    requires entry { slice_get walker.records placed.above ≡ Some placed.entry }
+    requires there { placed.earlier + 1 ≡ walker.here.records }
+    requires entry { slice_get walker.records placed.earlier ≡ Some placed.entry }
     ensures err { IfErr result IsWanting }
     ensures same { IfOk result (λ w. w ≡ walker) }
     ensures text { OnOk result (out.new.items ≡ out.old.items
-        ++ record_text (step_above walker.boot walker.records placed.above placed.entry)) }
+        ++ record_text (step_before walker.boot walker.records placed.earlier placed.entry)) }
     ensures shown { OnOk result (P.shown progress.new
-        ≡ P.shown progress.old ++ record_shown walker placed.above placed.entry) }
+        ≡ P.shown progress.old ++ record_shown walker placed.earlier placed.entry) }
     ensures grown { IfErr result (λ _. HasGrown (P.shown progress.old) (P.shown progress.new)) }
 {
     let here = walker.here();
@@ -93,7 +93,7 @@ fn push_record_above<P: Progress>(
     Ok(walker.go_to(alloc, here, progress)?)
 }
 
-/// Appends what the record above did, or that the machine booted. The walker is where it was.
+/// Appends what the record before did, or that the machine booted. The walker is where it was.
 pub(crate) fn push_why<P: Progress>(
     alloc: Global,
     out: &mut Vec<u8>,
@@ -111,9 +111,9 @@ pub(crate) fn push_why<P: Progress>(
         out.extend_from_slice(b"boot\n")?;
         return Ok(walker);
     }
-    let above = here.records - 1;
-    let entry = walker.records()[above];
-    push_record_above(alloc, out, walker, Placed { above, entry }, progress)
+    let earlier = here.records - 1;
+    let entry = walker.records()[earlier];
+    push_record_before(alloc, out, walker, Placed { earlier, entry }, progress)
 }
 
 /// The line feed that a text's last line wants.

@@ -20,13 +20,13 @@ IsFirstRefusal w (x ∷ xs) r =
     (event_refusal w x.0 x.1 ≡ Some r)
     ⊎ ((event_refusal w x.0 x.1 ≡ None) × IsFirstRefusal (world_after_event w x.0 x.1) xs r)
 
--- the record of this number, counted from 1, is of an event that is refused, and those above it are accepted
+-- the record of this number, counted from 1, is of an event that is refused, and those before it are accepted
 abbrev pub IsRefusedAt : World → List Record → ℕ → Refusal → Type 0
 IsRefusedAt w records n r =
-    (above below : List Record) × (x : Record)
-    × (records ≡ above ++ x ∷ below) × AreAccepted w (events_of_history above)
-    × IsFirstRefusal (world_after_events w (events_of_history above)) (events_of x.actor x.event) r
-    × (n ≡ length above + 1)
+    (earlier later : List Record) × (x : Record)
+    × (records ≡ earlier ++ x ∷ later) × AreAccepted w (events_of_history earlier)
+    × IsFirstRefusal (world_after_events w (events_of_history earlier)) (events_of x.actor x.event) r
+    × (n ≡ length earlier + 1)
 
 -- the line that is printed of it, by the record's line in the text
 abbrev pub refused_record_line : ℕ → Refusal → List ℕ

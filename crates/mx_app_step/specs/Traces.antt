@@ -51,13 +51,13 @@ trace_text from w n [] = []
 trace_text from w n (x ∷ xs) =
     told_of from (transition_of w n x) ++ trace_text from (world_after_events w (events_of x.actor x.event)) (n + 1) xs
 
--- the trace of records, or of those above the first that is refused
+-- the trace of records, or of those before the first that is refused
 abbrev pub IsTraced : World → List Record → ℕ → Option (ℕ × Refusal) → (List ℕ → Type 0) → Type 0
 IsTraced w records from None Prints = AreAccepted w (events_of_history records) × Prints (trace_text from w 1 records)
 IsTraced w records from (Some p) Prints =
     IsRefusedAt w records p.0 p.1 × Prints (trace_text from w 1 (take (p.0 - 1) records))
 
--- WHAT IS PRINTED of records: the trace, or that of those above the first that is refused, and its line
+-- WHAT IS PRINTED of records: the trace, or that of those before the first that is refused, and its line
 abbrev pub IsTracePrinted : World → List Record → ℕ → Replayed → (List ℕ → Type 0) → Type 0
 IsTracePrinted w records from replayed.Whole Prints =
     AreAccepted w (events_of_history records) × Prints (trace_text from w 1 records)

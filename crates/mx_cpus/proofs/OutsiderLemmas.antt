@@ -234,13 +234,13 @@ module _ (boot : World) (WasCalled : GateCall → Type 0) where
   -- what the outsider's loop leaves
   pub outsider_made : (xs : List OutsideCall) (s t : SeatView) → s.mine ≡ part_of s.seen s.actor → IsOutsiderRun boot WasCalled xs s t → HasMadeCalls xs s t
   outsider_made xs s t own run =
-      let before = calls_made run.above s run.last own run.made in
+      let before = calls_made run.earlier s run.last own run.made in
       elim run.ends [
         | inl all ↦
-            let both = calls_both run.above [] s run.last t before (only_saw [] run.last t (saw_to_end run.last t before.follows.own all.1)) in
-            subst (λ (ys : List OutsideCall). HasMadeCalls ys s t) (append-nil run.above ∙ all.0) both
+            let both = calls_both run.earlier [] s run.last t before (only_saw [] run.last t (saw_to_end run.last t before.follows.own all.1)) in
+            subst (λ (ys : List OutsideCall). HasMadeCalls ys s t) (append-nil run.earlier ∙ all.0) both
         | inr last ↦
-            let both = calls_both run.above (last.0 ∷ last.1) s run.last t before (only_saw (last.0 ∷ last.1) run.last t (saw_last last.0 run.last t last.3)) in
+            let both = calls_both run.earlier (last.0 ∷ last.1) s run.last t before (only_saw (last.0 ∷ last.1) run.last t (saw_last last.0 run.last t last.3)) in
             subst (λ (ys : List OutsideCall). HasMadeCalls ys s t) (sym last.2) both
       ]
 
@@ -274,7 +274,7 @@ module _ (boot : World) (WasCalled : GateCall → Type 0) where
   -- a call ends it
   calls_end : (xs : List OutsideCall) (k : ℕ) (d : OutsideCall) (s t u : SeatView) (side : FreeSide) → CallsSoFar xs k s t side → k < length xs → IsLast boot WasCalled (get_or xs k d) t u → IsOutsiderRun boot WasCalled xs s u
   calls_end xs k d s t u side so_far below last = record {
-    above = take k xs;
+    earlier = take k xs;
     last = t;
     made = so_far.made;
     ends = inr (
@@ -325,7 +325,7 @@ module _ (boot : World) (WasCalled : GateCall → Type 0) where
   -- all are made
   pub calls_all : (xs : List OutsideCall) (k : ℕ) (s t u : SeatView) (side : FreeSide) → CallsSoFar xs k s t side → take k xs ≡ xs → IsAskedToEnd boot WasCalled t u → IsOutsiderRun boot WasCalled xs s u
   calls_all xs k s t u side so_far all asked = record {
-    above = take k xs;
+    earlier = take k xs;
     last = t;
     made = so_far.made;
     ends = inl (all, asked);

@@ -107,26 +107,26 @@ IsAskedToEnd boot WasCalled s t =
     (so_many : ℕ) × (u : SeatView) × AreAsked boot WasCalled s so_many u × IsAsked boot WasCalled true u t false
 
 -- THE OUTSIDER'S LOOP from the seat s to the seat t: all calls were made, in order, and then the gate was asked until
--- it ended the loop; or those above one that ends the loop.
+-- it ended the loop; or those before one that ends the loop.
 pub record IsOutsiderRun (boot : World) (WasCalled : GateCall → Type 0) (xs : List OutsideCall)
     (s t : SeatView) : Type 0 where
-  pub above : List OutsideCall
+  pub earlier : List OutsideCall
   pub last : SeatView
-  pub made : AreMade boot WasCalled s above last
+  pub made : AreMade boot WasCalled s earlier last
   pub ends :
-      ((above ≡ xs) × IsAskedToEnd boot WasCalled last t)
-      ⊎ ((x : OutsideCall) × (below : List OutsideCall) × (xs ≡ above ++ x ∷ below) × IsLast boot WasCalled x last t)
+      ((earlier ≡ xs) × IsAskedToEnd boot WasCalled last t)
+      ⊎ ((x : OutsideCall) × (later : List OutsideCall) × (xs ≡ earlier ++ x ∷ later) × IsLast boot WasCalled x last t)
 
 -- all calls were made, in order, and then the gate was asked until it ended the loop
 abbrev pub HasMadeAll : World → (GateCall → Type 0) → List OutsideCall → SeatView → SeatView → Type 0
 HasMadeAll boot WasCalled xs s t =
     (last : SeatView) × AreMade boot WasCalled s xs last × IsAskedToEnd boot WasCalled last t
 
--- one of the calls ended the loop, after those above it were made
+-- one of the calls ended the loop, after those before it were made
 abbrev pub HasBrokenOff : World → (GateCall → Type 0) → List OutsideCall → SeatView → SeatView → Type 0
 HasBrokenOff boot WasCalled xs s t =
-    (above : List OutsideCall) × (x : OutsideCall) × (below : List OutsideCall) × (last : SeatView)
-    × (xs ≡ above ++ x ∷ below) × AreMade boot WasCalled s above last × IsLast boot WasCalled x last t
+    (earlier : List OutsideCall) × (x : OutsideCall) × (later : List OutsideCall) × (last : SeatView)
+    × (xs ≡ earlier ++ x ∷ later) × AreMade boot WasCalled s earlier last × IsLast boot WasCalled x last t
 
 -- THE OUTSIDER'S LOOP, by whether it is whole
 abbrev pub IsOutsiderRunTo : World → (GateCall → Type 0) → List OutsideCall → SeatView → SeatView → Bool → Type 0

@@ -8,7 +8,7 @@ use Rattle.mx_machine.specs.History.{world_after_events}
 use Rattle.mx_machine.specs.World.{World}
 use Rattle.mx_machine.specs.Machine.{MachineState, world_of}
 use Rattle.mx_walk.specs.declared.positions.Position.{Position}
-use Rattle.mx_walk.specs.Positions.{HasMade, IsAbove, IsAt, IsBlocked, IsPosition, IsRefused, IsStuck, IsUpTo, event_below, events_above, next_by, next_position, steps_in, steps_of, world_at}
+use Rattle.mx_walk.specs.Positions.{HasMade, IsBefore, IsAt, IsBlocked, IsPosition, IsRefused, IsStuck, IsUpTo, next_event, events_before, next_by, next_position, steps_in, steps_of, world_at}
 use Rattle.mx_walk.specs.Seeking.{HasCome, NoneMarked, is_marked}
 use Rattle.mx_walk.proofs.Along.{any_record, at, halted_in, more_above, steps_on}
 use Rattle.mx_walk.proofs.Made.{replicate_both}
@@ -45,7 +45,7 @@ module _ (f : World → ℕ × Event → World → Bool) (boot : World) (records
           let s = found yes in (
             steps_of x.actor s.0,
             (x.actor, event.Step),
-            sym (more_above records k any_record b j i) ∙ ap (λ (es : List (ℕ × Event)). events_above records (at k j) ++ es) (ap (λ c. steps_of x.actor c) s.1 ∙ steps_last s.0),
+            sym (more_above records k any_record b j i) ∙ ap (λ (es : List (ℕ × Event)). events_before records (at k j) ++ es) (ap (λ c. steps_of x.actor c) s.1 ∙ steps_last s.0),
             subst (λ (w : World). NoneMarked f w (steps_of x.actor s.0)) there.made.world s.2,
             subst (λ (w : World). is_marked f (world_after_events w (steps_of x.actor s.0)) (x.actor, event.Step) ≡ true) there.made.world s.3,
           );
@@ -85,9 +85,9 @@ unfolding next_position
 next_records records p = next_by_records p (drop p.records records)
 
 -- one event, which may be one of its steps
-pub by_event : (f : World → ℕ × Event → World → Bool) (boot : World) (records : List Record) (p to : Position) (n : MachineState) (o : Option (Position × Bool)) → IsPosition records p → IsPosition records to → IsAbove p to
+pub by_event : (f : World → ℕ × Event → World → Bool) (boot : World) (records : List Record) (p to : Position) (n : MachineState) (o : Option (Position × Bool)) → IsPosition records p → IsPosition records to → IsBefore p to
     → MatchOption o (IsStuck boot records p × IsAt boot records p n)
-    (λ gone. (x : ℕ × Event) × (event_below records p ≡ Some x) × (gone.0 ≡ next_position records p) × IsAt boot records gone.0 n × (gone.1 ≡ is_marked f (world_at boot records p) x))
+    (λ gone. (x : ℕ × Event) × (next_event records p ≡ Some x) × (gone.0 ≡ next_position records p) × IsAt boot records gone.0 n × (gone.1 ≡ is_marked f (world_at boot records p) x))
     → MatchOption o (IsStuck boot records p × IsAt boot records p n) (λ gone. HasCome f boot records p gone.0 gone.1 × IsAt boot records gone.0 n × IsUpTo gone.0 to × (gone.0.records ≤ p.records + 1))
 by_event f boot records p to n None h g lt s = s
 by_event f boot records p to n (Some gone) h g lt s = (

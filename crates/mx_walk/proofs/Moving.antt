@@ -4,7 +4,7 @@ use Rattle.std.proofs.lemmas.Bool.{cases_lt, le-ltb, ne_eqb}
 use Rattle.mx_machine.specs.declared.events.Event.{Event}
 use Rattle.mx_machine.specs.declared.history.Record.{Record}
 use Rattle.mx_walk.specs.declared.positions.Position.{Position}
-use Rattle.mx_walk.specs.Positions.{IsAbove, IsPosition, IsUpTo, event_below, first, is_up_to, next_position, position_before, steps_in}
+use Rattle.mx_walk.specs.Positions.{IsBefore, IsPosition, IsUpTo, next_event, first, is_up_to, next_position, position_before, steps_in}
 use Rattle.mx_walk.specs.Walks.{Walk}
 use Rattle.mx_walk.proofs.Next.{above_trans, back_inside, back_over, has_event, next_up_to, not_itself, up_to_of}
 use Rattle.mx_walk.proofs.Along.{any_record, at, is_few, is_inside, is_position}
@@ -13,10 +13,10 @@ use Rattle.mx_walk.specs.Moves.{steps_back, steps_on, up_to_last}
 pub up_to_itself : (p : Position) → IsUpTo p p
 up_to_itself p = let le : p.steps ≤ p.steps = omega arith in inr (refl, le)
 
--- the start of a record that isn't below a position is one
+-- the start of a record that isn't after a position is one
 pub start_is_position : (records : List Record) (p q : Position) → p.steps ≡ 0 → p.records ≤ q.records → IsPosition records q → IsPosition records p
 start_is_position records p q e le h = record {
-  above = let a = h.above in omega (arith, le, a);
+  earlier = let a = h.earlier in omega (arith, le, a);
   inside = omega (arith, e);
 }
 
@@ -47,11 +47,11 @@ pub on_stays : (k : Walk) (n : ℕ) (p : Position) → is_up_to k.last p ≡ tru
 on_stays k zero p e = refl
 on_stays k (suc n) p e = ap (λ b. let r : Position = cond b p (steps_on n k (next_position k.records p)) in r) e
 
-pub next_is_early : (records : List Record) (p last : Position) (x : ℕ × Event) → IsPosition records p → IsPosition records last → IsAbove p last → event_below records p ≡ Some x
+pub next_is_early : (records : List Record) (p last : Position) (x : ℕ × Event) → IsPosition records p → IsPosition records last → IsBefore p last → next_event records p ≡ Some x
     → IsUpTo (next_position records p) last
 next_is_early records p last x h l lt e = next_up_to records p last x h l e (up_to_of p last lt) (not_itself p last lt)
 
-pub no_end : (records : List Record) (p last : Position) → IsPosition records last → IsAbove p last → event_below records p ≡ None → ⊥
+pub no_end : (records : List Record) (p last : Position) → IsPosition records last → IsBefore p last → next_event records p ≡ None → ⊥
 no_end records p last l lt e = let x = has_event records p last l lt in let no : None ≡ Some x.0 = sym e ∙ x.1 in cc
 
 -- ---- one event back
@@ -63,11 +63,11 @@ no_and : (a b : Bool) → b ≡ false → a && b ≡ false
 no_and true b e = e
 no_and false b e = refl
 
-not_first : (q p : Position) → IsAbove q p → is_first p ≡ false
+not_first : (q p : Position) → IsBefore q p → is_first p ≡ false
 not_first q p (inl lt) = ap (λ b. b && eqb p.steps 0) (ne_eqb p.records 0 (λ e. omega (arith, e, lt)))
 not_first q p (inr h) = no_and (eqb p.records 0) (eqb p.steps 0) (ne_eqb p.steps 0 (λ e. let lt = h.1 in omega (arith, e, lt)))
 
-pub back_by_one : (k : Walk) (n : ℕ) (q p : Position) → IsAbove q p → steps_back (suc n) k p ≡ steps_back n k (position_before k.records p)
+pub back_by_one : (k : Walk) (n : ℕ) (q p : Position) → IsBefore q p → steps_back (suc n) k p ≡ steps_back n k (position_before k.records p)
 back_by_one k n q p lt = ap (λ b. let r : Position = cond b p (steps_back n k (position_before k.records p)) in r) (not_first q p lt)
 
 pub back_stays : (k : Walk) (n : ℕ) (p : Position) → p ≡ first → steps_back n k p ≡ p
@@ -76,15 +76,15 @@ back_stays k (suc n) p e =
     let is : is_first p ≡ true = ap is_first e in
     ap (λ b. let r : Position = cond b p (steps_back n k (position_before k.records p)) in r) is
 
-pub before_is_early : (q p last : Position) → IsAbove q p → IsUpTo p last → IsUpTo q last
+pub before_is_early : (q p last : Position) → IsBefore q p → IsUpTo p last → IsUpTo q last
 before_is_early q p last lt le = up_to_of q last (above_trans q p last lt le)
 
-before_first : (q p : Position) → p.steps ≤ 0 → p.records ≤ 0 → IsAbove q p → ⊥
+before_first : (q p : Position) → p.steps ≤ 0 → p.records ≤ 0 → IsBefore q p → ⊥
 before_first q p none no_more (inl lt) = omega (arith, lt, no_more)
 before_first q p none no_more (inr h) = let lt = h.1 in omega (arith, lt, none)
 
 -- the position before one that isn't the first is a position
-pub before_is_position : (records : List Record) (q p : Position) → IsPosition records p → IsAbove q p → IsPosition records (position_before records p)
+pub before_is_position : (records : List Record) (q p : Position) → IsPosition records p → IsBefore q p → IsPosition records (position_before records p)
 before_is_position records q p h lt = elim (cases_lt 0 p.steps) [
   | inl some ↦
       let k = p.records in
@@ -97,7 +97,7 @@ before_is_position records q p h lt = elim (cases_lt 0 p.steps) [
   | inr none ↦ elim (cases_lt 0 p.records) [
     | inl more ↦
         let k = p.records - 1 in
-        let a = h.above in
+        let a = h.earlier in
         let b : k < length records = omega (arith, a, more) in
         let one : k + 1 ≡ p.records = omega (arith, more) in
         let zero_steps : 0 ≡ p.steps = omega (arith, none) in

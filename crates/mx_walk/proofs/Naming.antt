@@ -7,7 +7,7 @@ use Rattle.mx_machine.specs.History.{world_after_events}
 use Rattle.mx_machine.specs.Move.{world_after_event}
 use Rattle.mx_machine.specs.World.{World}
 use Rattle.mx_walk.specs.declared.positions.Position.{Position}
-use Rattle.mx_walk.specs.Positions.{IsAbove, IsPosition, events_above, next_position, world_at}
+use Rattle.mx_walk.specs.Positions.{IsBefore, IsPosition, events_before, next_position, world_at}
 use Rattle.mx_walk.specs.Seeking.{IsFirstMarked, IsLastMarked, NoneMarked, is_marked}
 use Rattle.mx_walk.proofs.Along.{at}
 use Rattle.mx_walk.proofs.Made.{after_both}
@@ -46,7 +46,7 @@ module _ (f : World → ℕ × Event → World → Bool) where
 -- ---- the order of two positions
 
 abbrev Three : Position → Position → Type 0
-Three p q = (p ≡ q) ⊎ (IsAbove p q ⊎ IsAbove q p)
+Three p q = (p ≡ q) ⊎ (IsBefore p q ⊎ IsBefore q p)
 
 by_steps : (p q : Position) → p.records ≡ q.records → Three p q
 by_steps p q a = elim (cases_lt p.steps q.steps) [
@@ -66,24 +66,24 @@ three p q = elim (cases_lt p.records q.records) [
   ]
 ]
 
-one_of : (p q : Position) → Three p q → (IsAbove p q → ⊥) → (IsAbove q p → ⊥) → p ≡ q
+one_of : (p q : Position) → Three p q → (IsBefore p q → ⊥) → (IsBefore q p → ⊥) → p ≡ q
 one_of p q (inl e) a b = e
 one_of p q (inr (inl lt)) a b = absurd (a lt)
 one_of p q (inr (inr lt)) a b = absurd (b lt)
 
--- what is above a position and an event begin what is above a later one
-more : (records : List Record) (p q : Position) → IsPosition records p → IsPosition records q → IsAbove p q
-    → (e : ℕ × Event) × (rest : List (ℕ × Event)) × (events_above records q ≡ events_above records p ++ e ∷ rest)
+-- what is before a position and an event begin what is before a later one
+more : (records : List Record) (p q : Position) → IsPosition records p → IsPosition records q → IsBefore p q
+    → (e : ℕ × Event) × (rest : List (ℕ × Event)) × (events_before records q ≡ events_before records p ++ e ∷ rest)
 more records p q h g lt =
     let x = has_event records p q g lt in
     let r = begins records (next_position records p) q (is_position_too records p x.0 h x.1) g (next_up_to records p q x.0 h g x.1 (up_to_of p q lt) (not_itself p q lt)) in
-    (x.0, r.0, r.1 ∙ ap (λ (es : List (ℕ × Event)). es ++ r.0) (above_it records p x.0 h x.1) ∙ append_assoc (events_above records p) (x.0 ∷ []) r.0)
+    (x.0, r.0, r.1 ∙ ap (λ (es : List (ℕ × Event)). es ++ r.0) (above_it records p x.0 h x.1) ∙ append_assoc (events_before records p) (x.0 ∷ []) r.0)
 
 module _ (f : World → ℕ × Event → World → Bool) (w : World) (records : List Record) where
-  first_isnt_below : (from p q : Position) → IsPosition records p → IsPosition records q → IsFirstMarked f w records from p → IsFirstMarked f w records from q → IsAbove p q → ⊥
+  first_isnt_below : (from p q : Position) → IsPosition records p → IsPosition records q → IsFirstMarked f w records from p → IsFirstMarked f w records from q → IsBefore p q → ⊥
   first_isnt_below from p q h g s t lt =
       let m = more records p q h g lt in
-      let es = events_above records from in
+      let es = events_before records from in
       let rest : List (ℕ × Event) = m.0 ∷ m.1 in
       let whole : es ++ (t.0 ++ t.1 ∷ []) ≡ es ++ ((s.0 ++ s.1 ∷ []) ++ rest) =
       sym t.2 ∙ m.2 ∙ ap (λ (xs : List (ℕ × Event)). xs ++ rest) s.2 ∙ append_assoc es (s.0 ++ s.1 ∷ []) rest in
@@ -93,10 +93,10 @@ module _ (f : World → ℕ × Event → World → Bool) (w : World) (records : 
   pub first_is_one : (from p q : Position) → IsPosition records p → IsPosition records q → IsFirstMarked f w records from p → IsFirstMarked f w records from q → p ≡ q
   first_is_one from p q h g s t = one_of p q (three p q) (first_isnt_below from p q h g s t) (first_isnt_below from q p g h t s)
 
-  last_isnt_above : (p q to : Position) → IsPosition records p → IsPosition records q → IsLastMarked f w records p to → IsLastMarked f w records q to → IsAbove p q → ⊥
+  last_isnt_above : (p q to : Position) → IsPosition records p → IsPosition records q → IsLastMarked f w records p to → IsLastMarked f w records q to → IsBefore p q → ⊥
   last_isnt_above p q to h g s t lt =
       let m = more records p q h g lt in
-      let es = events_above records p in
+      let es = events_before records p in
       let whole : es ++ s.0 ∷ s.1 ≡ es ++ (m.0 ∷ (m.1 ++ t.0 ∷ t.1)) =
       sym s.2 ∙ t.2 ∙ ap (λ (xs : List (ℕ × Event)). xs ++ t.0 ∷ t.1) m.2 ∙ append_assoc es (m.0 ∷ m.1) (t.0 ∷ t.1) in
       let same : s.0 ∷ s.1 ≡ m.0 ∷ (m.1 ++ t.0 ∷ t.1) = same_rest es (s.0 ∷ s.1) (m.0 ∷ (m.1 ++ t.0 ∷ t.1)) whole in
@@ -114,7 +114,7 @@ module _ (f : World → ℕ × Event → World → Bool) (w : World) (records : 
 
 -- ---- a history has one last position
 
-stuck_isnt_above : (w : World) (records : List Record) (p q : Position) → IsLast w records p → IsLast w records q → IsAbove p q → ⊥
+stuck_isnt_above : (w : World) (records : List Record) (p q : Position) → IsLast w records p → IsLast w records q → IsBefore p q → ⊥
 stuck_isnt_above w records p q l m lt = elim l.stuck [
   | inl none ↦ let x = has_event records p q m.position lt in let no : None ≡ Some x.0 = sym none ∙ x.1 in cc
   | inr blocked ↦ not_blocked w records p q l.position m.position lt m.accepted blocked

@@ -4,18 +4,18 @@ use Rattle.mx_machine.specs.declared.history.Record.{Record}
 use Rattle.mx_walk.specs.declared.positions.Position.{Position}
 use Rattle.mx_walk.specs.declared.progress.Part.{Part}
 use Rattle.mx_walk.specs.Parts.{walk_between}
-use Rattle.mx_walk.specs.Positions.{IsAbove, IsUpTo}
+use Rattle.mx_walk.specs.Positions.{IsBefore, IsUpTo}
 use Rattle.mx_walk.proofs.Along.{up_trans}
 use Rattle.mx_walk.proofs.Next.{up_to_of}
 use Rattle.mx_walk.proofs.PartsShown.{after_place, then_between}
 
-pub later_on : (p q r : Position) → IsUpTo p q → IsAbove q r → IsUpTo p r
+pub later_on : (p q r : Position) → IsUpTo p q → IsBefore q r → IsUpTo p r
 later_on p q r l a = up_trans p q r l (up_to_of q r a)
 
 pub records_up : (p q : Position) → IsUpTo p q → p.records ≤ q.records
 records_up p q l = after_place p q q.records l refl
 
-pub shown_more : (records : List Record) (p q r : Position) (before now then : List Part) → IsUpTo p q → IsAbove q r
+pub shown_more : (records : List Record) (p q r : Position) (before now then : List Part) → IsUpTo p q → IsBefore q r
     → now ≡ before ++ walk_between records p q → then ≡ now ++ walk_between records q r → then ≡ before ++ walk_between records p r
 shown_more records p q r before now then l a shown more =
     then_between (length records) p.records q.records r.records before now then (records_up p q l) (records_up q r (up_to_of q r a)) shown more

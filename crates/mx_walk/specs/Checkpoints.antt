@@ -7,7 +7,7 @@ use Rattle.mx_walk.specs.Positions.{IsAt}
 use Rattle.mx_walk.specs.declared.checkpoints.Stored.{Stored}
 use Rattle.mx_walk.specs.declared.positions.Position.{Position}
 
--- A checkpoint is of a machine at its position, and the history of that machine is the records above the position.
+-- A checkpoint is of a machine at its position, and the history of that machine is the records before the position.
 pub record IsStored (boot : World) (records : List Record) (s : Stored) : Type 0 where
   pub there : IsAt boot records s.position s.checkpoint
   pub as_many : actors (world_of s.checkpoint) ≡ actors boot

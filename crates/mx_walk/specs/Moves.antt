@@ -1,7 +1,7 @@
 -- Where requests lead (our own).
 use Rattle.std.specs.Prelude.{ℕ, zero, suc, ◌+◌, ◌-◌, ◌==◌, ◌&&◌, Bool, if◌then◌else◌}
 use Rattle.mx_walk.specs.declared.destinations.PositionWord.{PositionWord}
-use Rattle.mx_walk.specs.declared.destinations.PositionWord.TheVariants.{Below, End}
+use Rattle.mx_walk.specs.declared.destinations.PositionWord.TheVariants.{After, End}
 use Rattle.mx_walk.specs.declared.positions.Position.{Position}
 use Rattle.mx_walk.specs.Positions.{is_position, is_up_to, next_position, position_before}
 use Rattle.mx_walk.specs.Walks.{Walk}
@@ -11,11 +11,11 @@ use Rattle.mx_walk.specs.Walks.{Walk}
 abbrev pub up_to_last : Walk → Position → Position
 up_to_last k p = if is_up_to p k.last then p else k.last
 
--- the start of the nth record below, at most the last position
+-- the start of the nth record after here, at most the last position
 abbrev pub forward_from : Walk → ℕ → Position
 forward_from k n = if n == 0 then k.here else up_to_last k (record { records = k.here.records + n; steps = 0 })
 
--- the start of the record that one is in, or of the one above; n times
+-- the start of the record that one is in, or of the one before; n times
 abbrev pub back_from : Walk → ℕ → Position
 back_from k n =
     if n == 0 then k.here else record { records = k.here.records - (if k.here.steps == 0 then n else n - 1); steps = 0 }
@@ -35,7 +35,7 @@ steps_back (suc n) k p = if (p.records == 0) && (p.steps == 0) then p else steps
 -- ---- to a position
 
 abbrev pub position_asked : Walk → PositionWord → Position
-position_asked k (Below i j) = record { records = i; steps = j }
+position_asked k (After i j) = record { records = i; steps = j }
 position_asked k End = k.last
 
 -- the history has it, and the machine comes there

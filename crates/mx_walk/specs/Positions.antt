@@ -59,38 +59,38 @@ abbrev pub first_event : ℕ → List Record → Option (ℕ × Event)
 first_event j [] = None
 first_event j (x ∷ xs) = Some (event_in j x)
 
--- A POSITION OF A HISTORY: below no more records than there are, and no more steps than the next one has
+-- A POSITION OF A HISTORY: after no more records than there are, and no more steps than the next one has
 pub record IsPosition (records : List Record) (p : Position) : Type 0 where
-  pub above : p.records ≤ length records
+  pub earlier : p.records ≤ length records
   pub inside : p.steps ≤ first_steps (drop p.records records)
 
--- above all records
+-- before all records
 abbrev pub first : Position
 first = record { records = 0; steps = 0 }
 
--- below all records
+-- after all records
 abbrev pub end_of : List Record → Position
 end_of records = record { records = length records; steps = 0 }
 
--- one position is above another
-abbrev pub IsAbove : Position → Position → Type 0
-IsAbove p q = (p.records < q.records) ⊎ ((p.records ≡ q.records) × (p.steps < q.steps))
+-- one position is before another
+abbrev pub IsBefore : Position → Position → Type 0
+IsBefore p q = (p.records < q.records) ⊎ ((p.records ≡ q.records) × (p.steps < q.steps))
 
 -- or it is the other
 abbrev pub IsUpTo : Position → Position → Type 0
 IsUpTo p q = (p.records < q.records) ⊎ ((p.records ≡ q.records) × (p.steps ≤ q.steps))
 
--- THE EVENTS ABOVE A POSITION: those of the records above it, and the steps of the next
-unfoldable pub events_above : List Record → Position → List (ℕ × Event)
-events_above records p = events_of_history (take p.records records) ++ begun p.steps (drop p.records records)
+-- THE EVENTS BEFORE A POSITION: those of the records before it, and the steps of the next
+unfoldable pub events_before : List Record → Position → List (ℕ × Event)
+events_before records p = events_of_history (take p.records records) ++ begun p.steps (drop p.records records)
 
--- THE EVENT BELOW A POSITION, if it isn't the end
-unfoldable pub event_below : List Record → Position → Option (ℕ × Event)
-event_below records p = first_event p.steps (drop p.records records)
+-- THE EVENT AFTER A POSITION, if it isn't the end
+unfoldable pub next_event : List Record → Position → Option (ℕ × Event)
+next_event records p = first_event p.steps (drop p.records records)
 
 -- THE WORLD AT A POSITION of a history that begins at world w
 abbrev pub world_at : World → List Record → Position → World
-world_at w records p = world_after_events w (events_above records p)
+world_at w records p = world_after_events w (events_before records p)
 
 -- the order of positions, and whether a position is in a history, as tests that compute
 abbrev pub is_up_to : Position → Position → Bool
@@ -116,23 +116,23 @@ IsRefusedFor w x r = event_refusal w x.0 x.1 ≡ Some r
 abbrev pub IsRefused : World → ℕ × Event → Type 0
 IsRefused w x = (r : Refusal) × IsRefusedFor w x r
 
--- A MACHINE IS AT A POSITION: its world is the one there, and each event above it was accepted
+-- A MACHINE IS AT A POSITION: its world is the one there, and each event before it was accepted
 pub record IsAt (boot : World) (records : List Record) (p : Position) (m : MachineState) : Type 0 where
   pub position : IsPosition records p
   pub booted : m.kernel.boot ≡ boot
-  pub made : HasMade boot (world_of m) (events_above records p)
+  pub made : HasMade boot (world_of m) (events_before records p)
 
--- the event below a position is refused there
+-- the event after a position is refused there
 abbrev pub IsBlocked : World → List Record → Position → Type 0
-IsBlocked boot records p = (x : ℕ × Event) × (event_below records p ≡ Some x) × IsRefused (world_at boot records p) x
+IsBlocked boot records p = (x : ℕ × Event) × (next_event records p ≡ Some x) × IsRefused (world_at boot records p) x
 
--- where a machine halts on its way to a position: there, or at an event above it that is refused
+-- where a machine halts on its way to a position: there, or at an event before it that is refused
 abbrev pub HasHalted : World → List Record → Position → Position → Type 0
-HasHalted boot records to p = (p ≡ to) ⊎ (IsAbove p to × IsBlocked boot records p)
+HasHalted boot records to p = (p ≡ to) ⊎ (IsBefore p to × IsBlocked boot records p)
 
--- nothing can be made at a position: it is the end, or the event below it is refused
+-- nothing can be made at a position: it is the end, or the event after it is refused
 abbrev pub IsStuck : World → List Record → Position → Type 0
-IsStuck boot records p = (event_below records p ≡ None) ⊎ IsBlocked boot records p
+IsStuck boot records p = (next_event records p ≡ None) ⊎ IsBlocked boot records p
 
 -- ---- from one position to the next
 
@@ -142,7 +142,7 @@ next_by p (x ∷ xs) =
     if nat_lt p.steps (steps_in x.event) then record p { steps = p.steps + 1 }
     else record { records = p.records + 1; steps = 0 }
 
--- THE NEXT POSITION, below the event that is below this one; the end stays
+-- THE NEXT POSITION, after the event that is after this one; the end stays
 unfoldable pub next_position : List Record → Position → Position
 next_position records p = next_by p (drop p.records records)
 
@@ -152,7 +152,7 @@ position_before records p =
     if nat_lt 0 p.steps then record p { steps = p.steps - 1 }
     else record { records = p.records - 1; steps = first_steps (drop (p.records - 1) records) }
 
--- how many events are below a position
+-- how many events are after a position
 abbrev pub left_by : ℕ → List Record → ℕ
 left_by j [] = 0
 left_by j (x ∷ xs) = (steps_in x.event - j) + 1 + left_by 0 xs

@@ -12,7 +12,7 @@ use Rattle.mx_machine.specs.Machine.{MachineState, world_of}
 use Rattle.mx_walk.specs.declared.positions.Position.{Position}
 use Rattle.mx_walk.specs.declared.progress.Part.{Part}
 use Rattle.mx_walk.specs.Parts.{walk_between}
-use Rattle.mx_walk.specs.Positions.{IsAt, IsPosition, IsStuck, IsUpTo, event_below, events_above, first, is_up_to, world_at}
+use Rattle.mx_walk.specs.Positions.{IsAt, IsPosition, IsStuck, IsUpTo, next_event, events_before, first, is_up_to, world_at}
 
 -- A WALK: where the history begins, its records, where the walker is, the last position that it can come to, and
 -- its marks: the positions, in order, from which it can go on without a walk from the first
@@ -30,13 +30,13 @@ abbrev pub last_or : Position → List Position → Position
 last_or p [] = p
 last_or p (q ∷ qs) = last_or q qs
 
--- WHERE A WALK BACK BEGINS: at the last mark that isn't below where it goes; at the first position if none is
-abbrev pub mark_above : List Position → Position → Position
-mark_above marks to = last_or first (filter (λ m. is_up_to m to) marks)
+-- WHERE A WALK BACK BEGINS: at the last mark that isn't after where it goes; at the first position if none is
+abbrev pub mark_before : List Position → Position → Position
+mark_before marks to = last_or first (filter (λ m. is_up_to m to) marks)
 
 -- WHERE A WALK BEGINS: where the walker is, if it goes on from there; else where a walk back begins
 abbrev pub start_to : Walk → Position → Position
-start_to k to = if is_up_to k.here to then k.here else mark_above k.marks to
+start_to k to = if is_up_to k.here to then k.here else mark_before k.marks to
 
 -- ---- what is shown on the way
 
@@ -50,7 +50,7 @@ shown_way k p q = shown_to (record k { here = p }) q
 
 -- ---- the world that is shown
 
--- THE WORLD that a walker shows: that after the records above it and the steps of the next
+-- THE WORLD that a walker shows: that after the records before it and the steps of the next
 abbrev pub world_here : Walk → World
 world_here k = world_at k.boot k.records k.here
 
@@ -59,9 +59,9 @@ abbrev pub refusal_of : World → Option (ℕ × Event) → Option Refusal
 refusal_of w None = None
 refusal_of w (Some x) = event_refusal w x.0 x.1
 
--- WHY THE EVENT BELOW a walker's position is refused there, if it is
+-- WHY THE EVENT AFTER a walker's position is refused there, if it is
 abbrev pub refusal_here : Walk → Option Refusal
-refusal_here k = refusal_of (world_here k) (event_below k.records k.here)
+refusal_here k = refusal_of (world_here k) (next_event k.records k.here)
 
 -- this world is that of a configuration's boot
 pub record IsBootOf (c : Config) (w : World) : Type 0 where
@@ -69,10 +69,10 @@ pub record IsBootOf (c : Config) (w : World) : Type 0 where
   pub some : 0 < length w.services
   pub few : length w.services ≤ 32
 
--- THE LAST POSITION of a history: each event above it was accepted, and none can be made there
+-- THE LAST POSITION of a history: each event before it was accepted, and none can be made there
 pub record IsLast (boot : World) (records : List Record) (p : Position) : Type 0 where
   pub position : IsPosition records p
-  pub accepted : AreAccepted boot (events_above records p)
+  pub accepted : AreAccepted boot (events_before records p)
   pub stuck : IsStuck boot records p
 
 -- What always holds of a walker.

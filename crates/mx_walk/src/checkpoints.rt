@@ -6,7 +6,7 @@ ghost use Rattle.mx_machine.specs.World.{actors};
 ghost use Rattle.mx_walk.specs.Checkpoints.{AreStored, IsStored, positions_of};
 ghost use Rattle.mx_walk.specs.declared.checkpoints.Stored.{Stored};
 ghost use Rattle.mx_walk.specs.Positions.{IsAt, IsUpTo, first};
-ghost use Rattle.mx_walk.specs.Walks.{mark_above};
+ghost use Rattle.mx_walk.specs.Walks.{mark_before};
 
 use crate::{Position, is_up_to, steps_in};
 use mx_exec::{Code, Image};
@@ -188,13 +188,13 @@ impl Checkpoints {
     }
 }
 
-/// The last checkpoint that isn't below a position.
-pub(crate) fn last_above(checkpoints: &[Stored], to: Position) -> Option<usize>
-    ensures { MatchOption result (mark_above (positions_of checkpoints.now) to ≡ first)
+/// The last checkpoint that isn't after a position.
+pub(crate) fn last_before(checkpoints: &[Stored], to: Position) -> Option<usize>
+    ensures { MatchOption result (mark_before (positions_of checkpoints.now) to ≡ first)
         (λ index. (index < length checkpoints.now)
         × ((d : Stored) → IsUpTo (slice_index_or checkpoints.now index d).position to)
         × ((d : Stored) → (slice_index_or checkpoints.now index d).position
-        ≡ mark_above (positions_of checkpoints.now) to)) }
+        ≡ mark_before (positions_of checkpoints.now) to)) }
 {
     let mut last = None;
     for index in 0..checkpoints.len() {
@@ -220,6 +220,6 @@ pub(crate) fn machine_of(
         actors (world_of again) ≡ actors machine.kernel.boot) }
 {
     let services = machine.into_kernel().into_services();
-    let above = &records[..stored.position.records];
-    stored.checkpoint.machine(alloc, services, above)
+    let earlier = &records[..stored.position.records];
+    stored.checkpoint.machine(alloc, services, earlier)
 }

@@ -13,13 +13,13 @@ use std::alloc::Global;
 /// A position of a history, as it is asked for.
 #[derive(Clone, Copy)]
 pub enum PositionWord {
-    /// Below this many records, and this many steps of the next.
-    Below(u32, u32),
+    /// After this many records, and this many steps of the next.
+    After(u32, u32),
     /// The last position.
     End,
 }
 
-/// A position, or the last one if that is above it.
+/// A position, or the last one if that is before it.
 fn up_to_last(walker: &Walker, to: Position) -> Position
     requires { to.steps ≡ 0 }
     ensures value { result ≡ up_to_last walker.now to }
@@ -30,7 +30,7 @@ fn up_to_last(walker: &Walker, to: Position) -> Position
     if is_up_to(to, last) { to } else { last }
 }
 
-/// The start of a record below, at most the last position.
+/// The start of a later record, at most the last position.
 pub fn forward_from(walker: &Walker, count: u32) -> Position
     ensures value { result ≡ forward_from walker.now count }
     ensures position { IsPosition walker.now.records result }
@@ -46,7 +46,7 @@ pub fn forward_from(walker: &Walker, count: u32) -> Position
     }
 }
 
-/// The start of the record that one is in, or of one above.
+/// The start of the record that one is in, or of one before.
 pub fn back_from(walker: &Walker, count: u32) -> Position
     ensures value { result ≡ back_from walker.now count }
     ensures position { IsPosition walker.now.records result }
@@ -56,9 +56,9 @@ pub fn back_from(walker: &Walker, count: u32) -> Position
     if count == 0 {
         return here;
     }
-    let above = if here.steps == 0 { count } else { count - 1 };
+    let earlier = if here.steps == 0 { count } else { count - 1 };
     Position {
-        records: here.records.saturating_sub(above as usize),
+        records: here.records.saturating_sub(earlier as usize),
         steps: 0,
     }
 }
@@ -103,7 +103,7 @@ fn position_asked(walker: &Walker, asked: PositionWord) -> Position
     ensures { result ≡ position_asked walker.now asked }
 {
     match asked {
-        PositionWord::Below(records, steps) => Position {
+        PositionWord::After(records, steps) => Position {
             records: records as usize,
             steps,
         },

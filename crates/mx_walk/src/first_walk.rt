@@ -34,16 +34,16 @@ pub(crate) fn walk_first<P: Progress>(
     ensures most { checkpoints.new.most ≡ checkpoints.old.most }
 {
     let mut at = FIRST;
-    for above in 0..records.len() {
+    for earlier in 0..records.len() {
         let next = Position {
-            records: above + 1,
+            records: earlier + 1,
             steps: 0,
         };
         at = go_on(machine, records, at, next, progress);
         if at != next {
             return at;
         }
-        checkpoints.pass(machine, records, at, records[above]);
+        checkpoints.pass(machine, records, at, records[earlier]);
     }
     at
 }

@@ -1,11 +1,11 @@
 //! Positions in a history.
 
 ghost use Rattle.std.specs.Prelude.{◌≡◌, MatchOption, Some, None, true, false};
-ghost use Rattle.mx_walk.specs.Positions.{IsAbove, IsPosition, IsUpTo, event_below, is_position, is_up_to, next_position, own_event, position_before, steps_in};
+ghost use Rattle.mx_walk.specs.Positions.{IsBefore, IsPosition, IsUpTo, next_event, is_position, is_up_to, next_position, own_event, position_before, steps_in};
 
 use mx_machine::{Event, Record, Recorded};
 
-/// A position in a history: below this many of its records, and below this many steps of the record that
+/// A position in a history: after this many of its records, and after this many steps of the record that
 /// comes next.
 #[derive(Clone, Copy, Debug, PartialEq, Eq)]
 pub struct Position {
@@ -13,16 +13,16 @@ pub struct Position {
     pub steps: u32,
 }
 
-/// The first position: above all records.
+/// The first position: before all records.
 pub const FIRST: Position = Position {
     records: 0,
     steps: 0,
 };
 
-/// Whether a position is above another, or is it.
+/// Whether a position is before another, or is it.
 pub fn is_up_to(at: Position, to: Position) -> bool
     ensures yes { result ≡ true → IsUpTo at to }
-    ensures no { result ≡ false → IsAbove to at }
+    ensures no { result ≡ false → IsBefore to at }
     ensures value { result ≡ is_up_to at to }
 {
     if at.records == to.records {
@@ -60,7 +60,7 @@ pub fn own_event(event: Recorded) -> Event
     }
 }
 
-/// The event below a position, its actor, and the position below it.
+/// The event after a position, its actor, and the position after it.
 #[derive(Clone, Copy)]
 pub struct NextEvent {
     pub actor: u8,
@@ -68,11 +68,11 @@ pub struct NextEvent {
     pub position: Position,
 }
 
-/// The event below a position, if it isn't the end.
+/// The event after a position, if it isn't the end.
 pub fn next_event(records: &[Record], at: Position) -> Option<NextEvent>
     requires { IsPosition records.now at }
-    ensures { MatchOption result (event_below records.now at ≡ None) (λ next.
-        (event_below records.now at ≡ Some (next.actor, next.event))
+    ensures { MatchOption result (next_event records.now at ≡ None) (λ next.
+        (next_event records.now at ≡ Some (next.actor, next.event))
         × (next.position ≡ next_position records.now at)) }
 {
     if at.records >= records.len() {
@@ -103,7 +103,7 @@ pub fn next_event(records: &[Record], at: Position) -> Option<NextEvent>
 pub fn position_before(records: &[Record], at: Position) -> Option<Position>
     requires { IsPosition records.now at }
     ensures { MatchOption result (at ≡ record { records = 0; steps = 0 }) (λ before.
-        (before ≡ position_before records.now at) × IsAbove before at) }
+        (before ≡ position_before records.now at) × IsBefore before at) }
 {
     if at.steps > 0 {
         return Some(Position {
@@ -114,10 +114,10 @@ pub fn position_before(records: &[Record], at: Position) -> Option<Position>
     if at.records == 0 {
         return None;
     }
-    let above = at.records - 1;
+    let earlier = at.records - 1;
     Some(Position {
-        records: above,
-        steps: steps_in(records[above].event),
+        records: earlier,
+        steps: steps_in(records[earlier].event),
     })
 }
 

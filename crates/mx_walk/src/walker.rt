@@ -8,14 +8,14 @@ ghost use Rattle.mx_machine.specs.World.{actors};
 ghost use Rattle.mx_machine.specs.Machine.{world_of};
 ghost use Rattle.mx_walk.specs.declared.positions.Position.{Position as At};
 ghost use Rattle.mx_walk.specs.Checkpoints.{AreStored, positions_of};
-ghost use Rattle.mx_walk.specs.Positions.{IsAbove, IsAt, IsPosition, IsUpTo, first, is_up_to, position_before};
+ghost use Rattle.mx_walk.specs.Positions.{IsBefore, IsAt, IsPosition, IsUpTo, first, is_up_to, position_before};
 ghost use Rattle.mx_walk.specs.Seeking.{IsFirstMarked, IsLastMarked, IsPassed};
 ghost use Rattle.mx_walk.specs.Watching.{is_changed};
-ghost use Rattle.mx_walk.specs.Walks.{IsBootOf, IsLast, mark_above, refusal_here, shown_to, world_here};
+ghost use Rattle.mx_walk.specs.Walks.{IsBootOf, IsLast, mark_before, refusal_here, shown_to, world_here};
 ghost use Rattle.mx_walk.specs.Parts.{walk_between, walk_shown};
 
 use crate::booting::boot_again;
-use crate::checkpoints::{Checkpoints, Stored, last_above, machine_of};
+use crate::checkpoints::{Checkpoints, Stored, last_before, machine_of};
 use crate::first_walk::walk_first;
 use crate::walking_forward::go_on;
 use crate::watching::{ByteChange, BytePlace};
@@ -35,7 +35,7 @@ pub struct Walker {
     records: Vec<Record>,
     here: Position,
     last: Position,
-    /// In the order of their positions; none of them is below `last`.
+    /// In the order of their positions; none of them is after `last`.
     checkpoints: Vec<Stored>,
 }
 
@@ -83,7 +83,7 @@ struct Origin<'a> {
     checkpoints: &'a [Stored],
 }
 
-/// A machine at the last checkpoint that isn't below a position, and where that is; booted again if there is
+/// A machine at the last checkpoint that isn't after a position, and where that is; booted again if there is
 /// none.
 fn machine_again(
     alloc: Global,
@@ -93,15 +93,15 @@ fn machine_again(
 ) -> Result<(Machine, Position), NoMemory>
     requires booted { IsBootOf origin.config.now machine.kernel.boot }
     requires stored { AreStored machine.kernel.boot origin.records.now origin.checkpoints.now }
-    ensures there { IfOk result (λ above.
-        IsAt machine.kernel.boot origin.entry.records.now above.1 above.0) }
-    ensures early { IfOk result (λ above. IsUpTo above.1 to) }
-    ensures mark { IfOk result (λ above. above.1
-        ≡ mark_above (positions_of origin.entry.checkpoints.now) to) }
-    ensures actors { IfOk result (λ above.
-        actors (world_of above.0) ≡ actors machine.kernel.boot) }
+    ensures there { IfOk result (λ earlier.
+        IsAt machine.kernel.boot origin.entry.records.now earlier.1 earlier.0) }
+    ensures early { IfOk result (λ earlier. IsUpTo earlier.1 to) }
+    ensures mark { IfOk result (λ earlier. earlier.1
+        ≡ mark_before (positions_of origin.entry.checkpoints.now) to) }
+    ensures actors { IfOk result (λ earlier.
+        actors (world_of earlier.0) ≡ actors machine.kernel.boot) }
 {
-    match last_above(origin.checkpoints, to) {
+    match last_before(origin.checkpoints, to) {
         Some(index) => {
             let stored = &origin.checkpoints[index];
             let again = machine_of(alloc, machine, origin.records, stored)?;
@@ -114,9 +114,9 @@ fn machine_again(
     }
 }
 
-/// A machine at a position or above it, and where it is: the machine as it is, or that of a checkpoint, or
+/// A machine at a position or before it, and where it is: the machine as it is, or that of a checkpoint, or
 /// booted again.
-fn machine_above(
+fn machine_before(
     alloc: Global,
     machine: Machine,
     origin: Origin<'_>,
@@ -127,13 +127,13 @@ fn machine_above(
     requires stored { AreStored machine.kernel.boot origin.records.now origin.checkpoints.now }
     requires there { IsAt machine.kernel.boot origin.records.now here machine }
     requires actors { actors (world_of machine) ≡ actors machine.kernel.boot }
-    ensures there { IfOk result (λ above.
-        IsAt machine.kernel.boot origin.entry.records.now above.1 above.0) }
-    ensures early { IfOk result (λ above. IsUpTo above.1 to) }
-    ensures start { IfOk result (λ above. above.1 ≡ (if is_up_to here to then here
-        else mark_above (positions_of origin.entry.checkpoints.now) to)) }
-    ensures actors { IfOk result (λ above.
-        actors (world_of above.0) ≡ actors machine.kernel.boot) }
+    ensures there { IfOk result (λ earlier.
+        IsAt machine.kernel.boot origin.entry.records.now earlier.1 earlier.0) }
+    ensures early { IfOk result (λ earlier. IsUpTo earlier.1 to) }
+    ensures start { IfOk result (λ earlier. earlier.1 ≡ (if is_up_to here to then here
+        else mark_before (positions_of origin.entry.checkpoints.now) to)) }
+    ensures actors { IfOk result (λ earlier.
+        actors (world_of earlier.0) ≡ actors machine.kernel.boot) }
 {
     if is_up_to(here, to) {
         return Ok((machine, here));
@@ -212,7 +212,7 @@ impl Walker {
         self.records.as_slice()
     }
 
-    /// Why the event below this position is refused here, if it is: none at the end, and none above the last
+    /// Why the event after this position is refused here, if it is: none at the end, and none before the last
     /// position. Nothing changes. Takes no memory.
     pub fn refusal(&mut self) -> Option<Refusal>
         ensures same { self.new ≡ self.old }
@@ -251,14 +251,14 @@ impl Walker {
             last,
             checkpoints,
         } = self;
-        let above = records.as_slice();
+        let earlier = records.as_slice();
         let stored = checkpoints.as_slice();
         let origin = Origin {
             config: &config,
-            records: above,
+            records: earlier,
             checkpoints: stored,
         };
-        let (mut machine, from) = machine_above(alloc, machine, origin, here, to)?;
+        let (mut machine, from) = machine_before(alloc, machine, origin, here, to)?;
         go_on(&mut machine, records.as_slice(), from, to, progress);
         Ok(Walker {
             machine,
@@ -270,7 +270,7 @@ impl Walker {
         })
     }
 
-    /// Goes on up to right below the first event that is marked; to the last position if there is none. Shows
+    /// Goes on up to right after the first event that is marked; to the last position if there is none. Shows
     /// each record that it passes. Answers whether there is one. Takes no memory.
     pub fn seek<M: Mark, P: Progress>(&mut self, mark: &mut M, progress: &mut P) -> bool
         ensures same { self.new ≡ record self.old { here = self.new.here } }
@@ -304,7 +304,7 @@ impl Walker {
         }
     }
 
-    /// Walks from the first position to here again, shows each record that it passes, and answers right above
+    /// Walks from the first position to here again, shows each record that it passes, and answers right before
     /// which event it came last that is marked. Takes memory to boot the machine again, before it shows
     /// anything.
     fn look_back<M: Mark, P: Progress>(
@@ -316,7 +316,7 @@ impl Walker {
         ensures same { IfOk result (λ back. back.0 ≡ self) }
         ensures marked { IfOk result (λ back. MatchOption back.1
             (IsPassed (M.marks mark.old) self.boot self.records first self.here)
-            (λ p. IsPosition self.records p × IsAbove p self.here
+            (λ p. IsPosition self.records p × IsBefore p self.here
             × IsLastMarked (M.marks mark.old) self.boot self.records p self.here)) }
         ensures shown { OnOk result (P.shown progress.new
             ≡ P.shown progress.old ++ walk_shown self.records self.here) }
@@ -347,7 +347,7 @@ impl Walker {
         Ok((walker, found))
     }
 
-    /// Goes back to right above the last event that is marked; to the first position if there is none. Shows
+    /// Goes back to right before the last event that is marked; to the first position if there is none. Shows
     /// each record from the first position to here, and then those on its way there. Answers whether there is
     /// one. Takes memory to boot the machine again.
     pub fn seek_back<M: Mark, P: Progress>(
@@ -371,10 +371,10 @@ impl Walker {
         Ok((walker, found.is_some()))
     }
 
-    /// Goes on up to right above the first event that is marked; to the last position if there is none. Shows each
-    /// record that it passes, and those on its way back above the event. Answers whether there is one. Takes
+    /// Goes on up to right before the first event that is marked; to the last position if there is none. Shows each
+    /// record that it passes, and those on its way back before the event. Answers whether there is one. Takes
     /// memory to boot the machine again.
-    pub fn seek_above<M: Mark, P: Progress>(
+    pub fn seek_before<M: Mark, P: Progress>(
         self,
         alloc: Global,
         mark: &mut M,
@@ -400,12 +400,12 @@ impl Walker {
             return Ok((walker, false));
         }
         match position_before(walker.records(), walker.here()) {
-            Some(above) => Ok((walker.go_to(alloc, above, progress)?, true)),
+            Some(earlier) => Ok((walker.go_to(alloc, earlier, progress)?, true)),
             None => unreachable!(),
         }
     }
 
-    /// Goes on to right below the next event that changes a byte; to the last position if there is none. Shows each
+    /// Goes on to right after the next event that changes a byte; to the last position if there is none. Shows each
     /// record that it passes. Answers whether there is one. Takes no memory.
     pub fn go_to_next_change<P: Progress>(&mut self, place: BytePlace, progress: &mut P) -> bool
         ensures same { self.new ≡ record self.old { here = self.new.here } }
@@ -421,7 +421,7 @@ impl Walker {
         self.seek(&mut mark, progress)
     }
 
-    /// Goes back to right above the last event that changed a byte; to the first position if there is none. Shows
+    /// Goes back to right before the last event that changed a byte; to the first position if there is none. Shows
     /// each record from the first position to here, and then those on its way there. Answers whether there is
     /// one. Takes memory to boot the machine again.
     pub fn go_to_last_change<P: Progress>(

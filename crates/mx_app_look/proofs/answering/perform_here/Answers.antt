@@ -2,7 +2,7 @@ use Rattle.std.proofs.Common.{refl}
 use Rattle.mx_app_look.specs.declared.request.Request.TheVariants.{Help, Messages, Point, Processes, Show, Where, Why}
 use Rattle.mx_print_answers.specs.Messages.{delivery_lines}
 use Rattle.mx_walk.specs.Walks.{world_here}
-use Rattle.mx_app_look.specs.Above.{why_text}
+use Rattle.mx_app_look.specs.Before.{why_text}
 use Rattle.mx_app_look.specs.Answers.{help_text, processes_text}
 use Rattle.mx_app_look.specs.Places.{place_text}
 use Rattle.mx_app_look.specs.Seeking.{point_made, point_text}

@@ -39,7 +39,7 @@ returns c =
     ∙ ap (λ (i : Image). who (glance_of w) l.slot ++ (32 ∷ []) ++ code_line c.symbols_of.result.now i i.eip) image
     ∙ ap (λ (s : List Symbol). who (glance_of w) l.slot ++ (32 ∷ []) ++ code_line s l.out.image l.out.image.eip) symbols
     ∙ ap (λ (o : Option HeldProcess). process_line w o) (sym there) in
-    let above : c.extend_from_slice.new.self.items ≡ out ++ (name ++ 32 ∷ []) =
+    let earlier : c.extend_from_slice.new.self.items ≡ out ++ (name ++ 32 ∷ []) =
     c.in_ok-extend_from_slice.ensures.items ∙ ap (λ t. t ++ 32 ∷ []) c.in_ok-push_who.ensures ∙ append_assoc out name (32 ∷ []) in
     subst (λ t. OnOk c.push_instruction.result (c.push_instruction.new.out.items ≡ t))
-    (ap (λ t. t ++ code) above ∙ append_assoc out (name ++ 32 ∷ []) code ∙ ap (λ t. out ++ t) text) c.push_instruction.ensures
+    (ap (λ t. t ++ code) earlier ∙ append_assoc out (name ++ 32 ∷ []) code ∙ ap (λ t. out ++ t) text) c.push_instruction.ensures

@@ -2,7 +2,7 @@ use Rattle.std.proofs.Common.{◌≡◌, ◌∙◌, ◌++◌, List, Some, None, 
 use Rattle.std.proofs.lemmas.Result.{IfOk-weaker}
 use Rattle.mx_machine.specs.declared.history.Record.{Record}
 use Rattle.mx_walk.specs.declared.positions.Position.{Position}
-use Rattle.mx_walk.specs.Positions.{IsPosition, IsUpTo, event_below, next_position}
+use Rattle.mx_walk.specs.Positions.{IsPosition, IsUpTo, next_event, next_position}
 use Rattle.mx_walk.specs.Walks.{Walk}
 use Rattle.mx_walk.proofs.Next.{is_position_too}
 use Rattle.mx_app_look.specs.Shows.{return_shown}
@@ -33,9 +33,9 @@ pub see_changes-requires-clause-position : goal.see_changes-requires-clause-posi
 see_changes-requires-clause-position g c =
     let j = c.in_ok-walker.walker in
     let p = c.here-halt.result in
-    let below : event_below j.records p ≡ Some (c.in-Some.next.actor, c.in-Some.next.event) = ap (λ (rs : List Record). event_below rs p) (sym c.records.ensures) ∙ c.in-Some.ensures.0 in
+    let later : next_event j.records p ≡ Some (c.in-Some.next.actor, c.in-Some.next.event) = ap (λ (rs : List Record). next_event rs p) (sym c.records.ensures) ∙ c.in-Some.ensures.0 in
     subst (λ (q : Position). IsPosition j.records q) (sym (c.in-Some.ensures.1 ∙ ap (λ (rs : List Record). next_position rs p) c.records.ensures))
-    (is_position_too j.records p (c.in-Some.next.actor, c.in-Some.next.event) c.here-halt.ensures.position below)
+    (is_position_too j.records p (c.in-Some.next.actor, c.in-Some.next.event) c.here-halt.ensures.position later)
 
 pub see_changes-requires-clause-early : goal.see_changes-requires-clause-early
 see_changes-requires-clause-early g c =
@@ -43,12 +43,12 @@ see_changes-requires-clause-early g c =
     let j = c.in_ok-walker.walker in
     let p = c.here-halt.result in
     let found = c.in_ok-walker.ensures.found c.if-not-found.false in
-    let below : event_below j.records p ≡ Some (c.in-Some.next.actor, c.in-Some.next.event) = ap (λ (rs : List Record). event_below rs p) (sym c.records.ensures) ∙ c.in-Some.ensures.0 in
+    let later : next_event j.records p ≡ Some (c.in-Some.next.actor, c.in-Some.next.event) = ap (λ (rs : List Record). next_event rs p) (sym c.records.ensures) ∙ c.in-Some.ensures.0 in
     let position = subst (λ (q : Position). IsPosition j.records q) c.here-halt.ensures.here c.here-halt.ensures.position in
     let l = subst (λ (q : Position). IsPosition k.records q) c.here.ensures.here c.here.ensures.position in
     let early = subst (λ (q : Position). IsUpTo q k.last) c.here.ensures.here c.here.ensures.early in
     next_is_early k c.args.points.now j c.in_ok-walker.ensures.same position l found (c.in-Some.next.actor, c.in-Some.next.event) c.in-Some.next.position early
-    (subst (λ (q : Position). event_below j.records q ≡ Some (c.in-Some.next.actor, c.in-Some.next.event)) c.here-halt.ensures.here below)
+    (subst (λ (q : Position). next_event j.records q ≡ Some (c.in-Some.next.actor, c.in-Some.next.event)) c.here-halt.ensures.here later)
     (c.in-Some.ensures.1 ∙ ap (λ (rs : List Record). next_position rs p) c.records.ensures ∙ ap (λ (q : Position). next_position j.records q) c.here-halt.ensures.here)
 
 pub unreachable-requires : goal.unreachable-requires
@@ -57,10 +57,10 @@ unreachable-requires g c =
     let j = c.in_ok-walker.walker in
     let p = c.here-halt.result in
     let found = c.in_ok-walker.ensures.found c.if-not-found.false in
-    let none : event_below j.records p ≡ None = ap (λ (rs : List Record). event_below rs p) (sym c.records.ensures) ∙ c.in-None.ensures in
+    let none : next_event j.records p ≡ None = ap (λ (rs : List Record). next_event rs p) (sym c.records.ensures) ∙ c.in-None.ensures in
     let l = subst (λ (q : Position). IsPosition k.records q) c.here.ensures.here c.here.ensures.position in
     let position = subst (λ (q : Position). IsPosition j.records q) c.here-halt.ensures.here c.here-halt.ensures.position in
-    some_below k c.args.points.now j c.in_ok-walker.ensures.same position l found (subst (λ (q : Position). event_below j.records q ≡ None) c.here-halt.ensures.here none)
+    some_below k c.args.points.now j c.in_ok-walker.ensures.same position l found (subst (λ (q : Position). next_event j.records q ≡ None) c.here-halt.ensures.here none)
 
 pub returns-clause-walker : goal.returns-clause-walker
 returns-clause-walker g c =

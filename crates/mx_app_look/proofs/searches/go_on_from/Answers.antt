@@ -58,9 +58,9 @@ returns-clause-halt g c =
     let here = c.here.ensures.here in
     let position = subst (λ (p : Position). IsPosition j.records p) here c.here.ensures.position in
     let early = subst (λ (p : Position). IsUpTo p j.last) here c.here.ensures.early in
-    let up : c.in-Some.above ≡ position_before j.records j.here =
+    let up : c.in-Some.earlier ≡ position_before j.records j.here =
     c.in-Some.ensures.0 ∙ ap (λ (rs : List Record). position_before rs c.here.result) c.records.ensures ∙ ap (λ (p : Position). position_before j.records p) here in
-    IfOk-weaker c.halt_by.result _ _ (λ r e. halts_there k s j c.in-Some.above _ c.seek.ensures.same position early found up e) c.halt_by.ensures.halt
+    IfOk-weaker c.halt_by.result _ _ (λ r e. halts_there k s j c.in-Some.earlier _ c.seek.ensures.same position early found up e) c.halt_by.ensures.halt
 
 pub returns-then-not-seek-clause-shown : goal.returns-then-not-seek-clause-shown
 returns-then-not-seek-clause-shown g c =
@@ -82,11 +82,11 @@ returns-clause-shown g c =
     let here = c.here.ensures.here in
     let position = subst (λ (p : Position). IsPosition j.records p) here c.here.ensures.position in
     let early = subst (λ (p : Position). IsUpTo p j.last) here c.here.ensures.early in
-    let up : c.in-Some.above ≡ position_before j.records j.here =
+    let up : c.in-Some.earlier ≡ position_before j.records j.here =
     c.in-Some.ensures.0 ∙ ap (λ (rs : List Record). position_before rs c.here.result) c.records.ensures ∙ ap (λ (p : Position). position_before j.records p) here in
     let now = g.P.Progress.shown c.seek.new.progress in
     let after = g.P.Progress.shown c.halt_by.new.progress in
-    ok_weaker c.halt_by.result _ _ (λ (shown : after ≡ now ++ halt_shown j s c.in-Some.above j.here). search_met k s j c.in-Some.above (g.P.Progress.shown c.args.progress.now) now after c.seek.ensures.same position early found up c.seek.ensures.shown shown) c.halt_by.ensures.shown
+    ok_weaker c.halt_by.result _ _ (λ (shown : after ≡ now ++ halt_shown j s c.in-Some.earlier j.here). search_met k s j c.in-Some.earlier (g.P.Progress.shown c.args.progress.now) now after c.seek.ensures.same position early found up c.seek.ensures.shown shown) c.halt_by.ensures.shown
 
 pub returns-in_err-mark-clause-grown : goal.returns-in_err-mark-clause-grown
 returns-in_err-mark-clause-grown g c = err_always c.from_residual.result _ (grown_none _)

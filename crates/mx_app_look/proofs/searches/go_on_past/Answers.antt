@@ -18,13 +18,13 @@ use Rattle.mx_app_look.proofs.searches.go_on_past.Goals as goal
 pub go_and_compare-requires-clause-position : goal.go_and_compare-requires-clause-position
 go_and_compare-requires-clause-position g c =
     let k = c.args.walker in
-    subst (λ (p : Position). IsPosition k.records p) (sym c.requires.position) (is_position_too k.records k.here (c.args.next.actor, c.args.next.event) c.requires.here c.requires.below)
+    subst (λ (p : Position). IsPosition k.records p) (sym c.requires.position) (is_position_too k.records k.here (c.args.next.actor, c.args.next.event) c.requires.here c.requires.later)
 
 pub go_and_compare-requires-clause-early : goal.go_and_compare-requires-clause-early
 go_and_compare-requires-clause-early g c =
     let k = c.args.walker in
     subst (λ (p : Position). IsUpTo p k.last) (sym c.requires.position)
-    (next_up_to k.records k.here k.last (c.args.next.actor, c.args.next.event) c.requires.here c.requires.last c.requires.below (up_to_of k.here k.last c.requires.early) (not_itself k.here k.last c.requires.early))
+    (next_up_to k.records k.here k.last (c.args.next.actor, c.args.next.event) c.requires.here c.requires.last c.requires.later (up_to_of k.here k.last c.requires.early) (not_itself k.here k.last c.requires.early))
 
 pub returns-then-is_met-clause-halt : goal.returns-then-is_met-clause-halt
 returns-then-is_met-clause-halt g c =
@@ -39,7 +39,7 @@ returns-then-is_met-clause-halt g c =
     ∙ ap (λ (f : Marks). f w x u) (c.look.ensures.same ∙ bytes_are s c.in_ok-bytes.bytes.marks.items c.in_ok-bytes.ensures)
     ∙ ap (λ (v : World). changes_watched s v x u) c.machine.ensures.world
     ∙ ap (λ (v : World). changes_watched s (world_here k) x v) c.machine-2.ensures.world in
-    halts_after_one k s j x c.args.next.position _ c.requires.here c.requires.below c.requires.position c.in_ok-walker.ensures.walker (sym met ∙ c.if-is_met.true) c.in_ok-walker.ensures.changes
+    halts_after_one k s j x c.args.next.position _ c.requires.here c.requires.later c.requires.position c.in_ok-walker.ensures.walker (sym met ∙ c.if-is_met.true) c.in_ok-walker.ensures.changes
 
 pub returns-clause-halt : goal.returns-clause-halt
 returns-clause-halt g c =
@@ -55,7 +55,7 @@ returns-clause-halt g c =
     ∙ ap (λ (v : World). changes_watched s v x u) c.machine.ensures.world
     ∙ ap (λ (v : World). changes_watched s (world_here k) x v) c.machine-2.ensures.world in
     IfOk-weaker c.go_on_from.result _ _
-    (λ r h. halts_after_more k s j x c.args.next.position _ c.requires.here c.requires.below c.requires.position c.in_ok-walker.ensures.walker (sym met ∙ c.if-is_met.false) h) c.go_on_from.ensures.halt
+    (λ r h. halts_after_more k s j x c.args.next.position _ c.requires.here c.requires.later c.requires.position c.in_ok-walker.ensures.walker (sym met ∙ c.if-is_met.false) h) c.go_on_from.ensures.halt
 
 pub returns-then-is_met-clause-shown : goal.returns-then-is_met-clause-shown
 returns-then-is_met-clause-shown g c =
@@ -70,7 +70,7 @@ returns-then-is_met-clause-shown g c =
     ∙ ap (λ (f : Marks). f w x u) (c.look.ensures.same ∙ bytes_are s c.in_ok-bytes.bytes.marks.items c.in_ok-bytes.ensures)
     ∙ ap (λ (v : World). changes_watched s v x u) c.machine.ensures.world
     ∙ ap (λ (v : World). changes_watched s (world_here k) x v) c.machine-2.ensures.world in
-    let marked = is_marked_there k s j x c.args.next.position c.requires.here c.requires.below c.requires.position c.in_ok-walker.ensures.walker ∙ sym met in
+    let marked = is_marked_there k s j x c.args.next.position c.requires.here c.requires.later c.requires.position c.in_ok-walker.ensures.walker ∙ sym met in
     shown_one k s c.args.next.position (g.P.Progress.shown c.args.progress.now) (g.P.Progress.shown c.go_and_compare.new.progress) _ (marked ∙ c.if-is_met.true) c.in_ok-walker.ensures.shown
 
 pub returns-clause-shown : goal.returns-clause-shown
@@ -86,7 +86,7 @@ returns-clause-shown g c =
     ∙ ap (λ (f : Marks). f w x u) (c.look.ensures.same ∙ bytes_are s c.in_ok-bytes.bytes.marks.items c.in_ok-bytes.ensures)
     ∙ ap (λ (v : World). changes_watched s v x u) c.machine.ensures.world
     ∙ ap (λ (v : World). changes_watched s (world_here k) x v) c.machine-2.ensures.world in
-    let marked = is_marked_there k s j x c.args.next.position c.requires.here c.requires.below c.requires.position c.in_ok-walker.ensures.walker ∙ sym met in
+    let marked = is_marked_there k s j x c.args.next.position c.requires.here c.requires.later c.requires.position c.in_ok-walker.ensures.walker ∙ sym met in
     let now = g.P.Progress.shown c.go_and_compare.new.progress in
     let after = g.P.Progress.shown c.go_on_from.new.progress in
     ok_weaker c.go_on_from.result _ _ (λ (h : Shows now after (λ (ps : List Part). IsSearchShown j s j.here ps)). shown_further k s j c.args.next.position (g.P.Progress.shown c.args.progress.now) now after _ (marked ∙ c.if-is_met.false) c.in_ok-walker.ensures.walker c.in_ok-walker.ensures.shown h) c.go_on_from.ensures.shown

@@ -4,7 +4,7 @@ use Rattle.mx_machine.specs.declared.history.Record.{Record}
 use Rattle.mx_machine.specs.Machine.{world_of}
 use Rattle.mx_machine.specs.World.{World}
 use Rattle.mx_walk.specs.declared.positions.Position.{Position}
-use Rattle.mx_walk.specs.Positions.{event_below}
+use Rattle.mx_walk.specs.Positions.{next_event}
 use Rattle.mx_walk.specs.Walks.{world_here}
 use Rattle.mx_app_look.specs.Marks.{leaves_breakpoint}
 use Rattle.mx_app_look.specs.Searches.{is_break}
@@ -18,8 +18,8 @@ returns c =
     let x : ℕ × Event = (c.in-Some.next.actor, c.in-Some.next.event) in
     let w = world_of c.machine.result.now in
     let u = world_of c.machine-2.result.now in
-    let there : event_below k.records k.here ≡ Some x =
-    ap (λ (p : Position). event_below k.records p) (sym c.here.ensures.here) ∙ ap (λ (rs : List Record). event_below rs c.here.result) (sym c.records.ensures) ∙ c.in-Some.ensures.0 in
+    let there : next_event k.records k.here ≡ Some x =
+    ap (λ (p : Position). next_event k.records p) (sym c.here.ensures.here) ∙ ap (λ (rs : List Record). next_event rs c.here.result) (sym c.records.ensures) ∙ c.in-Some.ensures.0 in
     c.is_met.ensures w x c.look.ensures.seen
     ∙ ap (λ (f : Marks). f w x u) (c.look.ensures.same ∙ breaks_are s c.in_ok-mark.mark.marks.items c.in_ok-mark.ensures)
     ∙ ap (λ (v : World). leaves_breakpoint s v x u) c.machine.ensures.world

@@ -6,7 +6,7 @@ use Rattle.mx_app_look.proofs.Moving.{records_up_to}
 use Rattle.mx_walk.specs.declared.positions.Position.{Position}
 use Rattle.mx_app_look.specs.Shows.{record_shown}
 use Rattle.mx_app_look.proofs.ShownMore.{err_always, grown_by, grown_more, grown_same, then_none}
-use Rattle.mx_app_look.proofs.world_texts.push_record_above.Goals as goal
+use Rattle.mx_app_look.proofs.world_texts.push_record_before.Goals as goal
 
 pub see_record-requires-clause-there : goal.see_record-requires-clause-there
 see_record-requires-clause-there g c =
@@ -28,7 +28,7 @@ returns-clause-same g c =
 pub returns-clause-shown : goal.returns-clause-shown
 returns-clause-shown g c =
     let k = c.args.walker in
-    let n = c.args.placed.above in
+    let n = c.args.placed.earlier in
     then_none k c.in_ok-walker.walker n c.here-here.result (g.P.Progress.shown c.args.progress.now) (g.P.Progress.shown c.see_record.new.progress) (g.P.Progress.shown c.go_to.new.progress) (record_shown k n c.args.placed.entry)
     (c.requires.there ∙ ap (λ (p : Position). p.records) (sym c.here-here.ensures.here)) c.in_ok-walker.ensures.walker c.in_ok-walker.ensures.shown c.in_ok-go_to.ensures.shown
 

@@ -1,7 +1,7 @@
 use Rattle.std.proofs.Common.{◌∙◌, sym}
 use Rattle.mx_walk.proofs.ShownWalks.{found_before, found_here}
-use Rattle.mx_walk.proofs.checkpoints.last_above.Goals.{then-is_up_to, else-is_up_to}
-use Rattle.mx_walk.proofs.checkpoints.last_above.Goals as goal
+use Rattle.mx_walk.proofs.checkpoints.last_before.Goals.{then-is_up_to, else-is_up_to}
+use Rattle.mx_walk.proofs.checkpoints.last_before.Goals as goal
 
 pub loop-index-preserved : goal.loop-index-preserved
 loop-index-preserved c =

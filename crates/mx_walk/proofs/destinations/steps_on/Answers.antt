@@ -1,7 +1,7 @@
 use Rattle.std.proofs.Common.{◌≡◌, ◌∙◌, ◌-◌, ◌+◌, true, false, List, Some, ap, subst, sym}
 use Rattle.mx_machine.specs.declared.history.Record.{Record}
 use Rattle.mx_walk.specs.declared.positions.Position.{Position}
-use Rattle.mx_walk.specs.Positions.{IsAbove, IsPosition, IsUpTo, event_below, is_up_to, next_position}
+use Rattle.mx_walk.specs.Positions.{IsBefore, IsPosition, IsUpTo, next_event, is_up_to, next_position}
 use Rattle.mx_walk.specs.Moves.{steps_on}
 use Rattle.mx_walk.proofs.Moving.{next_is_early, no_end, none_left, on_by_one, on_stays, one_less}
 use Rattle.mx_walk.proofs.Next.{is_position_too}
@@ -27,9 +27,9 @@ loop-preserved c =
     let n = c.args.count - (c.loop.counter + 1) in
     let e = c.in-Some.ensures in
     let l : IsPosition k.records k.last = subst (λ (q : Position). IsPosition k.records q) c.last.ensures.last c.last.ensures.is.position in
-    let lt : IsAbove p k.last = subst (λ (q : Position). IsAbove p q) c.last.ensures.last (c.is_up_to.ensures.no c.if-is_up_to.false) in
+    let lt : IsBefore p k.last = subst (λ (q : Position). IsBefore p q) c.last.ensures.last (c.is_up_to.ensures.no c.if-is_up_to.false) in
     let isnt : is_up_to k.last p ≡ false = ap (λ (q : Position). is_up_to q p) (sym c.last.ensures.last) ∙ sym c.is_up_to.ensures.value ∙ c.if-is_up_to.false in
-    let there : event_below k.records p ≡ Some (c.in-Some.next.actor, c.in-Some.next.event) = ap (λ (rs : List Record). event_below rs p) (sym c.records.ensures) ∙ e.0 in
+    let there : next_event k.records p ≡ Some (c.in-Some.next.actor, c.in-Some.next.event) = ap (λ (rs : List Record). next_event rs p) (sym c.records.ensures) ∙ e.0 in
     let next : c.in-Some.next.position ≡ next_position k.records p = e.1 ∙ ap (λ (rs : List Record). next_position rs p) c.records.ensures in
     record {
       left = ap (λ (q : Position). steps_on n k q) next ∙ sym (on_by_one k n p isnt) ∙ ap (λ i. steps_on i k p) (sym (one_less c.args.count c.loop.counter c.loop-test.true)) ∙ inv.left;
@@ -42,8 +42,8 @@ unreachable-requires c =
     let k = c.args.walker.now in
     let p = c.loop.at in
     let l : IsPosition k.records k.last = subst (λ (q : Position). IsPosition k.records q) c.last.ensures.last c.last.ensures.is.position in
-    let lt : IsAbove p k.last = subst (λ (q : Position). IsAbove p q) c.last.ensures.last (c.is_up_to.ensures.no c.if-is_up_to.false) in
-    no_end k.records p k.last l lt (ap (λ (rs : List Record). event_below rs p) (sym c.records.ensures) ∙ c.in-None.ensures)
+    let lt : IsBefore p k.last = subst (λ (q : Position). IsBefore p q) c.last.ensures.last (c.is_up_to.ensures.no c.if-is_up_to.false) in
+    no_end k.records p k.last l lt (ap (λ (rs : List Record). next_event rs p) (sym c.records.ensures) ∙ c.in-None.ensures)
 
 pub next_event-requires : goal.next_event-requires
 next_event-requires c =

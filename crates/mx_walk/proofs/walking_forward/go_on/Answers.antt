@@ -7,14 +7,14 @@ use Rattle.mx_walk.proofs.walking_forward.go_on.Goals as goal
 pub returns-in-Err-clause-there : goal.returns-in-Err-clause-there
 returns-in-Err-clause-there g c =
     let rs = c.args.records.now in
-    let b : c.loop-done.done < length rs = omega (arith, c.loop-done-test.true, c.requires.to.above) in
+    let b : c.loop-done.done < length rs = omega (arith, c.loop-done-test.true, c.requires.to.earlier) in
     let e = c.in-Err.ensures.err in
     stuck_on rs c.loop-done.done any_record b c.args.machine.now.kernel.boot c.loop-done.machine c.finish_record.new.machine c.loop-done.steps c.in-Err.halted.made c.loop-done.invariant.there c.finish_record.ensures.boot e.0 e.1 e.2
 
 pub returns-in-Err-clause-halted : goal.returns-in-Err-clause-halted
 returns-in-Err-clause-halted g c =
     let rs = c.args.records.now in
-    let b : c.loop-done.done < length rs = omega (arith, c.loop-done-test.true, c.requires.to.above) in
+    let b : c.loop-done.done < length rs = omega (arith, c.loop-done-test.true, c.requires.to.earlier) in
     let e = c.in-Err.ensures.err in
     halted_at rs c.loop-done.done any_record b c.args.machine.now.kernel.boot c.finish_record.new.machine c.in-Err.halted.made c.args.to
     (stuck_on rs c.loop-done.done any_record b c.args.machine.now.kernel.boot c.loop-done.machine c.finish_record.new.machine c.loop-done.steps c.in-Err.halted.made c.loop-done.invariant.there c.finish_record.ensures.boot e.0 e.1 e.2)
@@ -37,7 +37,7 @@ loop-done-init g c = record {
 pub loop-done-preserved : goal.loop-done-preserved
 loop-done-preserved g c =
     let rs = c.args.records.now in
-    let b : c.loop-done.done < length rs = omega (arith, c.loop-done-test.true, c.requires.to.above) in
+    let b : c.loop-done.done < length rs = omega (arith, c.loop-done-test.true, c.requires.to.earlier) in
     record {
       there = rest_on rs c.loop-done.done any_record b c.args.machine.now.kernel.boot c.loop-done.machine c.finish_record.new.machine c.loop-done.steps c.loop-done.invariant.there c.finish_record.ensures.boot c.in-Ok.ensures.ok;
       early = early_next rs c.loop-done.done any_record b c.args.to c.loop-done-test.true;

@@ -1,4 +1,4 @@
--- What the record above did (our own).
+-- What the record before did (our own).
 use Rattle.std.specs.Prelude.{ℕ, zero, suc, ◌+◌, ◌-◌, ◌%◌, ◌^◌, List, codes, Option, Some, None, slice_get}
 use Rattle.mx_look.specs.Glances.{glance_of}
 use Rattle.mx_look.specs.Transition.{Transition as Seen}
@@ -9,8 +9,8 @@ use Rattle.mx_walk.specs.Positions.{steps_in, world_at}
 use Rattle.mx_walk.specs.Walks.{Walk}
 
 -- record n + 1: it is looked at after its steps, and after its own event. Its number is one of 32 bits
-abbrev pub step_above : World → List Record → ℕ → Record → Seen
-step_above boot records n x = record {
+abbrev pub step_before : World → List Record → ℕ → Record → Seen
+step_before boot records n x = record {
   number = (n + 1) % 2 ^ 32;
   before = glance_of (world_at boot records (record { records = n; steps = steps_in x.event }));
   actor = x.actor;
@@ -20,12 +20,12 @@ step_above boot records n x = record {
 
 abbrev pub why_by : Walk → ℕ → Option Record → List ℕ
 why_by k n None = codes "boot\n"
-why_by k n (Some x) = record_text (step_above k.boot k.records n x)
+why_by k n (Some x) = record_text (step_before k.boot k.records n x)
 
-abbrev pub record_above : List Record → ℕ → Option Record
-record_above records zero = None
-record_above records (suc n) = slice_get records n
+abbrev pub record_before : List Record → ℕ → Option Record
+record_before records zero = None
+record_before records (suc n) = slice_get records n
 
--- WHY the world is as it is: what the record above did, or that the machine booted
+-- WHY the world is as it is: what the record before did, or that the machine booted
 abbrev pub why_text : Walk → List ℕ
-why_text k = why_by k (k.here.records - 1) (record_above k.records k.here.records)
+why_text k = why_by k (k.here.records - 1) (record_before k.records k.here.records)
