@@ -1,5 +1,10 @@
 //! `mx db`: a machine under a debugger, by a `DebugScript` of `DebugLine`s; each look prints and changes
 //! nothing.
+//!
+//! # One variant for all that only looks
+//!
+//! A `Look` prints something and changes nothing. What a debugger's script does to a machine is said once for all of
+//! them, so a new one has one place in the code and one in the definitions, and no proof.
 #![tactic(auto)]
 
 mod db_command;

@@ -2,6 +2,11 @@
 //!
 //! For example, a program file is shorter than its header says: the line is `mx: 20 Truncated`, and the
 //! status is 1.
+//!
+//! # A failure knows its subject
+//!
+//! It is made where the fault is met, with what the file is to the command, and the file's text is moved into it: so no
+//! memory is taken to say that there is none. Nobody has to find out afterwards which file it was about.
 #![tactic(auto)]
 
 mod failure;

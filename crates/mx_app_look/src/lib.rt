@@ -1,5 +1,11 @@
 //! `mx look`: a saved history, looked at forward and back: a session of `Request`s with `Verb`s, typed at a
 //! prompt, over a `Sight` with a walker, points, watches and what is happening here; and what text has grown.
+//!
+//! # A session is a relation
+//!
+//! Where a search halts is said as the first or the last position that fits (`specs/Searches`), and not as a loop that
+//! finds it. So a session is a relation between the lines that are typed and the text that is printed. That they
+//! determine it is a law (`session_laws`); so is that going on and going back halt at the same place (`halt_laws`).
 #![tactic(auto)]
 
 mod answering;

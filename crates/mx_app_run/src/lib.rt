@@ -1,5 +1,11 @@
 //! `mx run`: a machine whose processors are threads, by a gate that ends their loops;
 //! and its history, saved at the end.
+//!
+//! # When a run ends
+//!
+//! A loop may end only for what its actor has seen itself: the machine is at rest and nothing more will come from
+//! outside, or the history is full. So no loop asks another, and none ends too early. The gate remembers in atomics
+//! what it was asked, which no clause names: its calls are tested.
 #![tactic(auto)]
 
 mod gate;

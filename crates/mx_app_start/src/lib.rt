@@ -1,5 +1,16 @@
 //! From files' names to a booted machine: all files are asked for, read and checked in order, answers are
 //! noted, what is written replaces files, and progress is shown.
+//!
+//! # Files as questions and answers
+//!
+//! Which file is read next depends on the one before. So a `Reader`'s contract is a log of the names that it was asked
+//! for, each with its answer, and a command's contract is about that log; a writer's and a terminal's are logs too.
+//! Tests and proofs need no file system, and that nothing else is read or written is part of what is promised.
+//!
+//! # A file is replaced whole
+//!
+//! It is written beside the old one and then renamed, where that can be done: so who interrupts a command has the old
+//! file or the new one.
 #![tactic(auto)]
 
 mod channels;

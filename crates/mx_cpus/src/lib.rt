@@ -14,6 +14,19 @@
 //! # Threads
 //!
 //! A loop for each processor, one that makes ticks and respawns, and one that makes outside events.
+//!
+//! # What a call can promise
+//!
+//! When a call has ended others go on, so no clause can say what is in the machine now. It says what its seat has seen:
+//! the history up to the call, which begins with all that the seat saw before, and ends with the call's own record.
+//! What was seen stays true, since histories only grow. So two threads never disagree: each has seen a front of one
+//! history.
+//!
+//! # What it costs
+//!
+//! A process runs without the lock, which is held for an event at a time. Loops wait by time, a millisecond at most,
+//! and nobody depends on being woken. What is lent is moved by value: its calls take about twice the instructions of
+//! the kernel's own.
 #![tactic(auto)]
 
 mod blank;

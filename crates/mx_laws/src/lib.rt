@@ -1,5 +1,24 @@
 //! The laws of isolation and of looking at a run: functions without a body of their own, whose contracts are the
 //! promises.
+//!
+//! # Why laws
+//!
+//! A contract says what one call does. That a process can't read or change another's memory is about any events in a
+//! row on any two machines, and no call promises it. So it is said of the definition of what events do (`Move`), which
+//! the contracts of the kernel are about, and it holds of whatever is proved to do that: one thread, threads, a replay.
+//!
+//! # Isolation, from two sides
+//!
+//! *Secrecy* (`secrecy_laws`): two machines that differ in one process's image answer each event alike, and go on to
+//! differ in it alone, until that process steps or returns, or a message or a copy is taken from it. So nobody learns
+//! of an image what wasn't sent or opened. *Diaries* (`diary_laws`): an image is what its diary makes of its program:
+//! its own steps, the results and messages of its own calls, and copies that were allowed. So nobody changes an image
+//! otherwise. No code keeps a diary; it is a function of the event and the machine before it.
+//!
+//! # Looking
+//!
+//! What is printed of an event is worked out from the worlds before and after it. `look_laws` say that this is what the
+//! event did.
 #![tactic(auto)]
 
 mod diary_laws;

@@ -7,6 +7,12 @@
 //!
 //! A glance is about six kilobytes long. `Glance::look` fills one that is there, since a new one is
 //! moved from call to call.
+//!
+//! # From two glances
+//!
+//! What an event did is worked out from the worlds before and after it; nothing observes it being done, so a machine
+//! that nobody looks at pays nothing. That the facts which are found so are what the event did is a law (`look_laws` of
+//! `mx_laws`).
 #![tactic(auto)]
 
 mod accesses;

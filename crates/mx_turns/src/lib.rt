@@ -7,6 +7,12 @@
 //! text of its trial is compared with that of a machine that is run on without the fault.
 //!
 //! `specs/Turns.antt` says which events come of turns; `specs/Sweep.antt` what a trial is, and how it is printed.
+//!
+//! # Why the order is fixed
+//!
+//! A turn offers an event to each actor in one order, and what the machine refuses changes nothing. So a driver decides
+//! nothing: the history of turns follows from the configuration and from what comes from outside. That is why a sweep
+//! may compare two runs, with a fault and without, and why two numbers of turns join (`joining_laws`).
 #![tactic(auto)]
 
 mod booting;
