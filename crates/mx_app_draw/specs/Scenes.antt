@@ -84,8 +84,8 @@ IsDrawing w cpus total records from how Prints =
     × AreMade w records refused made × (how ≡ replayed_by refused)
     × IsSceneOf w cpus total made from refused v × IsPictureText v text × Prints text
 
--- WHAT IS PRINTED of a history: the picture of its records from `from` to the last that is drawn, or of those before the
--- first that is refused
+-- WHAT IS PRINTED of a history: the picture of its records from `from` to the last that is drawn, or of those before
+-- the first that is refused
 abbrev pub IsDrawingPrinted : World → ℕ → List Record → ℕ → ℕ → Replayed → (List ℕ → Type 0) → Type 0
 IsDrawingPrinted w cpus records from to how Prints =
     IsDrawing w cpus (length records) (take (last_drawn from to) records) from how Prints
