@@ -1,8 +1,9 @@
 """What a lab checks: each row of its `points.json` is made, run and compared with what is wanted.
 
-A row has a `name`, `points`, what to `do` (a function `do_..` of Check), and `draws`: the function of `drawn` that draws
-its cases. The rest are words of that `do`.
+A row has a `name`, `points`, what to `do` (a function `do_..` of Check), and `draws`: the function that draws its cases, in
+the file of `drawn` that `points.json` names. The rest are words of that `do`.
 """
+import importlib
 import json
 import os
 import re
@@ -32,6 +33,7 @@ class Lab:
         with open(os.path.join(folder, "checks", "points.json"), encoding="utf-8") as it:
             made = json.load(it)
         self.name, self.checks = made["name"], made["points"]
+        self.drawn = f".drawn.{made['drawn']}"  # the file with the functions that draw
         self.programs = [name for it in self.checks if it["do"] == "make" for name in it["programs"]]
         self.files = [it["file"] for it in self.checks if it["do"] == "answers"]
 
@@ -67,7 +69,7 @@ class Check:
 
     def cases(self):
         source = drawn.source_of(self.student.seed, self.row["name"])
-        return list(getattr(drawn, self.row["draws"])(source))
+        return list(getattr(importlib.import_module(self.lab.drawn, __package__), self.row["draws"])(source))
 
     def make(self, name):
         """The file of a student's program. If it can't be made, what was run is the command that failed."""
@@ -182,7 +184,7 @@ class Check:
 
     def do_sweep(self):
         """A fault at each position of a run: the machine ends at rest, with the wanted console and states, at each of
-        them. A case without a fault is a run alone."""
+        them; and at some the history is looked at. A case without a fault is a run alone."""
         for case in self.cases():
             config, bound = self.machine(case), ["--turns", str(self.row["turns"])]
             printed = self.mx("turns", config, self.log, *bound)
@@ -190,28 +192,50 @@ class Check:
                 self.compare(case, printed)
                 continue
             self.compare({**case, "name": f"{case['name']}: without the fault"}, printed)
-            self.compare_sweep(case, config, self.write("fault", case["fault"]), bound)
+            sweep = ["sweep", config, self.log, self.write("fault", case["fault"]), *bound]
+            found = self.compare_sweep(case, sweep)
+            for share in case["looks"]:
+                self.look_at(case, sweep, found[int(share * len(found))]["position"])
 
-    def compare_sweep(self, case, config, fault, bound):
+    def compare_sweep(self, case, sweep):
+        """Compares each block of a sweep with what is wanted, and gives them."""
         wanted, states = case["want"]["console"], case["want"].get("states", {})
-        for block in blocks(self.mx("sweep", config, self.log, fault, *bound)):
+        range_of = ["--from", str(case["positions"][0]), "--to", str(case["positions"][1])] if "positions" in case else []
+        found = blocks(self.mx(*sweep, *range_of))
+        for block in found:
             came = {words[0]: " ".join(words[2:]) for words in map(str.split, block["states"])}
             if (block["ending"], block["console"]) == ("rest", wanted) and states.items() <= came.items():
                 continue
-            at = ["--from", block["position"], "--to", block["position"]]
-            saved = f"{self.number}.fault.log"
-            self.mx("sweep", config, self.log, fault, *bound, *at, "--save", saved)
-            self.log, self.place = saved, str(int(block["position"]) + 1)
-            self.shows = f"--from {self.place} | sed -n 1,40p"
+            self.log = self.save_fault(sweep, block["position"])
             ends = "".join(f"; {name} {it}" for name, it in states.items())
-            raise Lost(f"{', '.join(case['fault'])} at {block['head']}", f"rest, console {wanted!r}{ends}",
+            raise Lost(f"{case['told']} at {block['head']}", f"rest, console {wanted!r}{ends}",
                        f"{block['ending']}, console {block['console']!r}; {', '.join(block['states'])}")
+        return found
+
+    def save_fault(self, sweep, position):
+        """Saves the history of a fault at one position, which is what is shown if points are lost: its name."""
+        saved = f"{self.number}.fault.log"
+        self.mx(*sweep, "--from", position, "--to", position, "--save", saved)
+        self.place = str(int(position) + 1)
+        self.shows = f"--from {self.place} | sed -n 1,40p"
+        return saved
+
+    def look_at(self, case, sweep, position):
+        """What was said, asked and opened after a fault at one position."""
+        before, self.log = self.log, self.save_fault(sweep, position)
+        named = {**case, "name": f"{case['name']}: {case['told']} at position {position}"}
+        self.compare_said(named, facts.events(self.trace()))
+        self.log = before
+        self.show_at("end")
+
+    def trace(self):
+        return run([MX, "trace", self.config, self.log], self.room, self.student.bounds)
 
     def do_threads(self):
         """Runs by threads: each has what is wanted, and its history prints the same report again."""
         for case in self.cases():
             config = self.machine(case)
-            for number in range(self.row["runs"]):
+            for number in range(min(self.row["runs"], self.student.runs)):
                 printed = self.mx("run", config, self.log, "--ticks", "0")
                 self.compare({**case, "name": f"run {number + 1}"}, printed)
                 if self.mx("replay", config, self.log) != printed:
@@ -233,7 +257,7 @@ class Check:
         at = next((i for i, it in enumerate(lines) if re.match(r"console \d+$", it)), None)
         if at is None:
             raise Lost(told(case), "a report", printed)
-        trace = run([MX, "trace", self.config, self.log], self.room, self.student.bounds)
+        trace = self.trace()
         states = {words[1]: " ".join(words[3:-2]) for words in map(str.split, lines[:at - 1])}
         ending = ended(states)
         self.compare_console(case, "\n".join(lines[at + 1:]), trace, ending)
@@ -259,6 +283,8 @@ class Check:
             raise Lost(told(case), f"console {wanted!r}", came)
         if "starts" in want and not text.startswith(wanted):
             raise Lost(told(case), f"console {wanted!r} and so on", came)
+        if text not in want.get("consoles", [text]):
+            raise Lost(told(case), f"console {' or '.join(map(repr, want['consoles']))}", came)
         self.show_at("end")
 
     def show_at(self, place):
@@ -267,11 +293,9 @@ class Check:
         self.shows = "| tail -n 30" if place == "end" else f"--from {max(1, int(place) - 9)} --to {place}"
 
     def compare_history(self, case, trace):
-        """What was said in the run: by a model, by facts, by who asked whom for what, by reports, and by memory."""
+        """What was said in the run: by models, by facts, by who asked whom for what, by reports, and by memory."""
         found, want = facts.events(trace), case.get("want", {})
-        if "model" in case:
-            name, service = case["model"]
-            models.MODELS[name](told(case), service).follow(found)
+        self.compare_said(case, found)
         facts.require(told(case), case.get("facts", []), found)
         for pair, wanted in want.get("asks", {}).items():
             who, whom = pair.split()
@@ -282,19 +306,28 @@ class Check:
             models.compare_taken(told(case), *want["taken"], found)
         if "steps" in want:
             models.compare_steps(told(case), want["steps"], found)
-        for row in case.get("memory", []):
-            self.compare_memory(case, row, found)
 
-    def compare_memory(self, case, row, found):
+    def compare_said(self, case, found):
+        """What holds of a run whatever becomes of others: by models, and by memory."""
+        for name, service in case.get("models", []):
+            models.MODELS[name](told(case), service).follow(found)
+        self.compare_memory(case, [(it, row) for it in found for row in case.get("memory", []) if facts.fits(it, row["at"])])
+
+    def compare_memory(self, case, looked_at):
         """The bytes of a process at the address that is a message's second word, when that message was taken."""
-        event = next(it for it in found if facts.fits(it, row["at"]))
-        wanted = row["bytes"].encode()
-        words = f"goto {event.record}\nmem {row['slot']} {models.numbers(event)[1]} {len(wanted)}\n"
-        came = memory_of(run([MX, "look", self.config, self.log], self.room, self.student.bounds, given=words).splitlines())
-        if came != wanted:
-            lost = Lost(told(case), f"at the address of `{' '.join(event.words)}` the bytes {wanted!r}", repr(came))
-            lost.record = event.record
-            raise lost
+        if not looked_at:
+            return
+        words = "".join(f"goto {event.record}\nmem {row['slot']} {models.numbers(event)[1]} {len(row['bytes'])}\n"
+                        for event, row in looked_at)
+        printed = run([MX, "look", self.config, self.log], self.room, self.student.bounds, given=words)
+        came = memory_of(printed.splitlines())
+        for event, row in looked_at:
+            wanted = row["bytes"].encode()
+            if came[:len(wanted)] != wanted:
+                lost = Lost(told(case), f"at the address of `{' '.join(event.words)}` the bytes {wanted!r}", repr(came))
+                lost.record = event.record
+                raise lost
+            came = came[len(wanted):]
 
 
 def memory_of(lines):

@@ -15,7 +15,7 @@ from . import told
 from .alike import alike
 from .checks import Check, Lab
 from .commands import Lost, printable, stop_running
-from .making import LABS, MX, Kit, Student
+from .making import LABS, MOST_RUNS, MX, Kit, Student
 
 REFUSED, INTERRUPTED = 2, 130  # statuses: nothing was graded; not all was
 SECONDS = 30  # of one command
@@ -32,12 +32,12 @@ def room_of(lab, folder, keep):
     return os.path.join(keep, os.path.basename(lab.folder), f"{name}-{hashlib.sha256(os.fsencode(path)).hexdigest()[:8]}")
 
 
-def grade(lab, folder, keep, seconds, secret):
+def grade(lab, folder, keep, *rest):
     """All checks of a lab over a folder: what each gave, and all together."""
     room = room_of(lab, folder, keep)
     shutil.rmtree(room, ignore_errors=True)
     os.makedirs(room)
-    student = Student(lab, folder, room, Kit(keep), seconds, secret)
+    student = Student(lab, folder, room, Kit(keep), *rest)
     results = []
     for number, row in enumerate(lab.checks, 1):
         check = Check(lab, number, row, student)
@@ -117,7 +117,7 @@ def end_worker(*_):
 
 def graded_all(words, lab, keep, secret):
     """What came of each folder: in turn, or by several processes as soon as each is done."""
-    rest = keep, words.seconds, secret
+    rest = keep, words.seconds, secret, words.runs
     if words.jobs == 1 or len(words.folders) == 1:
         yield from (grade(lab, it, *rest) for it in words.folders)
         return
@@ -187,12 +187,13 @@ def parsed(doc, words):
         parser.add_argument(f"--{name}", metavar="FILE", help=argparse.SUPPRESS)
     parser.add_argument("--keep", default="graded", help=argparse.SUPPRESS)
     parser.add_argument("--seconds", type=int, default=SECONDS, help=argparse.SUPPRESS)
+    parser.add_argument("--runs", type=int, default=MOST_RUNS, help=argparse.SUPPRESS)
     parser.add_argument("-j", type=int, default=1, dest="jobs", help=argparse.SUPPRESS)
     found = parser.parse_args(words)
     if len(found.folders) > 1 and not (found.all or found.alike):
         parser.error("several folders want --all")
-    if found.jobs < 1 or found.seconds < 1:
-        parser.error("-j and --seconds want a number of 1 at least")
+    if min(found.jobs, found.seconds, found.runs) < 1:
+        parser.error("-j, --seconds and --runs want a number of 1 at least")
     return found
 
 

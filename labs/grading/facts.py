@@ -4,7 +4,8 @@ An event of a history is a line of words:
 
     message FROM to TO type T words W ..      a message was taken; also `notify` for a notification
     call WHO NAME W .. answer R W ..          a kernel call and its result
-    trap WHO SEND WHOM result R               a trap that wasn't a kernel call, if its result was known at once
+    try WHO SEND WHOM                         a trap that wasn't a kernel call, as it began; WHOM is `any` too
+    trap WHO SEND WHOM result R               its result, if that was known at once
     console WHO 0xHH                          a byte was written
     line N WHO                                an interrupt of a line that somebody has taken
     tick N                                    the uptime
@@ -38,7 +39,7 @@ def signed(word):
 
 
 def events(trace):
-    """The events of a history, in order. `who` is whose endpoint it was: of a message the sender's and the taker's."""
+    """The events of a history, in order. `who` is whose endpoint it was: of a message and of a `try` who sends and who takes."""
     found, last = [], None  # last: the trap of this record
     for line in trace.splitlines():
         last = read(line, found, last)
@@ -50,6 +51,7 @@ def read(line, found, last):
     if it := CALL.match(line):
         return it[1], it[2], it[3], ["call", it[2], it[4], *it[5].split(), "answer"]
     if it := TRAP.match(line):
+        found.append(Event(int(it[1]), ["try", it[2], it[4], it[5] or "any"], (it[3], it[6])))
         return it[1], it[2], it[3], ["trap", it[2], it[4], it[5] or "any", "result"]
     if (it := ANSWER.match(line)) and last:
         found.append(Event(int(it[1]), [*last[3], it[2], *it[3].split()], (last[2],)))

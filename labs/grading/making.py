@@ -16,6 +16,7 @@ MX = os.environ.get("MX", os.path.join(TOP, "mx"))
 KIT = os.path.join(TOP, "examples", "c")
 MOST_BYTES = 1 << 20  # of a student's file
 MOST_HEADERS = 20
+MOST_RUNS = 1 << 20  # by threads: more than a check makes
 CFLAGS = """-std=c11 -O2 -m32 -march=i386 -mno-sse -mno-mmx -mno-80387 -mpreferred-stack-boundary=2
     -fno-align-functions -fno-align-jumps -fno-align-loops -fno-align-labels -ffreestanding -nostdlib -fno-pic -fno-pie
     -fno-stack-protector -fcf-protection=none -fno-asynchronous-unwind-tables -fno-tree-loop-distribute-patterns
@@ -70,9 +71,9 @@ class Kit:
 class Student:
     """A student's folder: its files are copied from it once, and nothing in it is ever run."""
 
-    def __init__(self, lab, folder, room, kit, seconds, secret=""):
+    def __init__(self, lab, folder, room, kit, seconds, secret="", runs=MOST_RUNS):
         self.lab, self.folder, self.room, self.kit = lab, folder, room, kit
-        self.bounds = Bounds(seconds)
+        self.bounds, self.runs = Bounds(seconds), runs
         self.secret = secret
         self.pasted = None  # the last command by which a program was made
         self.made = {}  # of each program that was tried: its file, or what was lost, and the command

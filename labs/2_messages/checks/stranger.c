@@ -1,5 +1,5 @@
 /* Another partner for one of the pair, with a number that is drawn; it writes nothing. It is in the one slot that it may
- * not send to. */
+ * not send to. In the end it takes what is sent to it besides. */
 #include "mx.h"
 
 volatile int32_t number = 4;
@@ -18,5 +18,7 @@ int main(void)
     receive(other, &others);
     if (result == ELOCKED)
         send(other, &mine);
+    while (receive(ANY, &others) == OK)
+        ;
     return 0;
 }

@@ -1,0 +1,75 @@
+"""Lab 4: a driver that answers with numbers of its own and dies, by itself or by a kill, and stays dead for a while."""
+from .machines import bystanders, deaths, looked, machine, rounds, service
+
+
+def answering(draw, restarts, lives=()):
+    """A driver with answers of its own to 1 to 6, whose last digits differ from one another and from those of the squares.
+    Each of its lives in turn ends at a request after so many answers."""
+    digits = draw.sample(range(10), 6)
+    while any(digits[i] == (i + 1) ** 2 % 10 for i in range(6)):
+        digits = draw.sample(range(10), 6)
+    answers = [10 * draw.randint(1, 9999) + it for it in digits]
+    made = {"answers": [0, *answers], "lives": deaths(lives)}
+    line = service("driver", "teller.out", send="fffe", calls="81", level=4, restarts=restarts)
+    return line, made, "".join(str(it % 10) for it in answers)
+
+
+def squares(draw, name, noise, lives=(), **more):
+    driver, made, digits = answering(draw, 20, lives)
+    # In the machine that is handed out slot 2 is there.
+    others, plans = bystanders(draw, 0 if noise else 1)
+    lines = [driver, service("client", "client.out", calls="91")]
+    if noise:
+        lines.append(service("noise", "noise.out", send="2", calls="1", level=6))
+    asked = [f"1+ message client to driver type 1 words {it} .." for it in range(1, 7)]
+    return {"name": name, "config": machine(1, *lines, *others), "set": {"driver": made, **plans},
+            "want": {"console": digits, "states": {"client": "down exit"}}, "models": [("asker", "client")],
+            "facts": [*asked, looked("client", lives)], **more}
+
+
+def quiet_squares(draw):
+    """Each digit is written before the next number is asked for."""
+    turn = [f"message client to driver type 1 words {i} ..; message driver to client type 0 ..; console client *"
+            for i in range(1, 7)]
+    case = squares(draw, "driver and client", False)
+    yield case | {"facts": [*case["facts"], "in order: " + "; ".join(turn)]}
+
+
+def noisy_squares(draw):
+    yield squares(draw, "with noise", True)
+
+
+def down_for_a_while(draw, *before):
+    """A kill after which slot 0 is down while others run: so who asks for its process is told several times that it is dead.
+    The histories of some positions are looked at."""
+    count = draw.randint(6, 12)
+    return {"fault": [*before, "kill slot 0", *rounds(count)], "looks": [draw.random() for _ in range(4)],
+            "told": f"kill slot 0, which is down for {count} traps" + (", after another kill" if before else "")}
+
+
+def swept_squares(draw, name, noise, *before):
+    """A driver that ends by itself too, once: so the successor of a kill has one endpoint or another."""
+    yield squares(draw, name, noise, [draw.randint(1, 4)], **down_for_a_while(draw, *before))
+
+
+def killed_squares(draw):
+    yield from swept_squares(draw, "a kill at every position", False)
+
+
+def twice_killed_squares(draw):
+    first = ["kill slot 0", *rounds(draw.randint(0, 2)), "respawn 0", *rounds(draw.randint(0, 1))]
+    yield from swept_squares(draw, "two kills at every position", False, *first)
+
+
+def noisy_killed_squares(draw):
+    yield from swept_squares(draw, "a kill at every position, with noise", True)
+
+
+def mortal_squares(draw):
+    """A driver that ends again and again at a request, some ten times: it answers less than six before its last life. At some
+    positions it is killed besides."""
+    lives = [1] * draw.randint(2, 5) + [0] * draw.randint(8, 9)
+    draw.shuffle(lives)
+    first = draw.randint(20, 60)
+    yield squares(draw, f"a driver that ends {len(lives)} times at a request", False, lives, **down_for_a_while(draw),
+                  positions=(first, first + 20))

@@ -1,0 +1,102 @@
+"""Lab 2: a server's clients, and a pair of which one may be a stranger with another number."""
+from .machines import ASK, POKE, TELL, WORK, bystanders, machine, served, service
+
+ADD, READ = 1, 2
+SERVER = service("server", "server.out", send="fffe", calls="1", level=4)
+PAIR = {"left": 2, "right": 3}
+
+
+def totals(draw, name, actors, **more):
+    return served(draw, name, actors, "totals", server=SERVER, **more)
+
+
+def additions(draw, count, most=1000):
+    return [(ASK, 0, ADD, draw.randint(1, most)) for _ in range(count)]
+
+
+def one_adder(draw):
+    yield totals(draw, "one client adds", [("asker", additions(draw, draw.randint(4, 8)), 7, 0)])
+
+
+def two_adders(draw, cpus=1):
+    actors = [(it, additions(draw, draw.randint(4, 6)), 7, 0) for it in ("asker", "second")]
+    yield totals(draw, f"two clients, {cpus} processors", actors, cpus=cpus)
+
+
+def adders_of_three(draw):
+    yield from two_adders(draw, 3)
+
+
+def strange_requests(draw):
+    """Types that there aren't, a notification, numbers that don't fit in a byte or are below 0."""
+    kinds = [-1, 0, 3, 4, draw.randint(5, 99), (1 << 31) - 1]
+    draw.shuffle(kinds)
+    steps = [(ASK, 0, it, draw.randint(1, 99)) for it in kinds]
+    numbers = [draw.randint(1, 9), draw.randint(1 << 17, 1 << 29), -draw.randint(1 << 17, 1 << 29), -draw.randint(1, 9)]
+    draw.shuffle(numbers)
+    steps += [(POKE, 0), (ASK, 0, READ, 7), *[(ASK, 0, ADD, it) for it in numbers]]
+    steps += [(ASK, 0, READ, 7), (ASK, 0, ADD, draw.randint(1, 9)), (ASK, 0, READ, 7)]
+    yield totals(draw, "a client that asks for what there is not", [("asker", steps, 7, 0)],
+                 want={"states": {"server": "receiving any"}})
+
+
+def dead_clients(draw):
+    """A client that is dead when it is answered; one that ends, is replaced and asks again under another endpoint."""
+    hasty, reader = [(TELL, 0, ADD, draw.randint(2, 99))], [(ASK, 0, ADD, draw.randint(2, 99))]
+    rest = {"want": {"states": {"server": "receiving any"}}}
+    yield totals(draw, "a client ends before it has its answer", [("hasty", hasty, 6, 0), ("reader", reader, 8, 0)],
+                 **rest)
+    twice = [(WORK, draw.randint(1, 3)), (ASK, 0, ADD, draw.randint(2, 99))]
+    yield totals(draw, "a client ends and is replaced", [("asker", twice, 7, draw.randint(2, 4))], **rest)
+
+
+def many_requests(draw):
+    yield totals(draw, "many requests", [("asker", additions(draw, draw.randint(105, 120)), 7, 0)])
+
+
+def pair_case(draw, name, cpus, levels, other=None, number=0):
+    """Left and right, or one of them with a stranger in the place of `other`."""
+    mine = {it: number if it == other else PAIR[it] for it in PAIR}
+    names = ["stranger" if it == other else it for it in PAIR]
+    partner = dict(zip(names, reversed(names)))
+    digit = f"0x{ord('0') + sum(mine.values()):02x}"
+    facts = [] if other else ["1+ trap * * * result -101"]
+    for slot, it in zip(PAIR, names):
+        facts.append(f"1 message {it} to {partner[it]} type 1 words {mine[slot]} ..")
+        facts.append(f"1 message {it} to {partner[it]} ..")
+        if it != "stranger":
+            facts += [f"in order: message {partner[it]} to {it} ..; console {it} {digit}", f"1 console {it} *"]
+    lines = [service(it, f"{it}.out", send=("2", "1")[i], level=levels[i]) for i, it in enumerate(names)]
+    others, plans = bystanders(draw)
+    students = [it for it in names if it != "stranger"]
+    return {"name": name, "config": machine(cpus, *lines, *others), "facts": facts,
+            "models": [("exchange", it) for it in students], "set": plans | ({"stranger": {"number": [number]}} if other else {}),
+            "want": {"states": {it: "down exit" for it in students}}}
+
+
+def with_strangers(draw, cpus):
+    """A partner whose number is another one, in each place. It is first or second."""
+    for other, numbers in (("right", [1, 4, 5, 6, 7]), ("left", [1, 4, 5, 6])):
+        for levels in ((7, 7), (8, 7)):
+            number = draw.choice(numbers)
+            yield pair_case(draw, f"a stranger with {number} in the place of {other}", cpus, levels, other, number)
+
+
+def left_first(draw):
+    yield pair_case(draw, "left first", 1, (7, 7))
+    yield from with_strangers(draw, 1)
+
+
+def right_first(draw):
+    yield pair_case(draw, "right first", 1, (8, 7))
+    yield from with_strangers(draw, 1)
+
+
+def pair_of_two(draw):
+    yield pair_case(draw, "two processors", 2, (7, 7))
+    yield from with_strangers(draw, 2)
+
+
+def strangers(draw):
+    yield from with_strangers(draw, 1)
+    yield from with_strangers(draw, draw.randint(2, 4))

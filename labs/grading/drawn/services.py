@@ -1,0 +1,133 @@
+"""Lab 6: a name server, a queue, consumers and producers; and adders with a board."""
+from .machines import ASK, POKE, TELL, WORK, machine, plan, requests, served, service
+
+REGISTER, LOOKUP = 1, 2
+PUT, GET, TRY, END = 1, 2, 3, 4
+ITEMS = 12
+
+
+def called(name, program, level, calls="1", send="3"):
+    return service(name, program, send=send, calls=calls, level=level)
+
+
+def all_but(slot):
+    return f"{0xFFFF & ~(1 << slot):x}"
+
+
+def looked_up(draw):
+    """Names that are looked up before anybody has them, by several; a name that another one takes; what there is not; a
+    process that ends while it waits."""
+    name, other = draw.sample([0, 3, 4, 5, 6, 7], 2)
+    first = [(ASK, 0, LOOKUP, name), (ASK, 0, draw.randint(5, 99), 0), (ASK, 0, LOOKUP, draw.randint(8, 99)),
+             (ASK, 0, REGISTER, -draw.randint(1, 9))]
+    actors = [("first", first, 4, 0), ("second", [(ASK, 0, LOOKUP, name)], 5, 0), ("hasty", [(TELL, 0, LOOKUP, name)], 5, 0),
+              ("third", [(ASK, 0, LOOKUP, name), (ASK, 0, LOOKUP, other)], 6, 0), ("queue", [(ASK, 0, LOOKUP, 1)], 6, 0),
+              ("judge", [(ASK, 0, LOOKUP, 2)], 6, 0),
+              ("owner", [(POKE, 0), (WORK, draw.randint(2, 5)), (ASK, 0, REGISTER, other), (ASK, 0, REGISTER, name)], 8, 0),
+              ("heir", [(ASK, 0, REGISTER, name), (ASK, 0, LOOKUP, name), (ASK, 0, LOOKUP, other)], 9, 0)]
+    yield served(draw, "names that are looked up before anybody has them, or never has", actors, "names",
+                 server=service("names", "names.out", "fffe", "1", 3))
+
+
+def queued(draw):
+    """Room, order and end; who waits longest is served first; a consumer that dies while it waits."""
+    items = draw.sample(range(1, 10_000), 14)
+    names = service("names", "good_names.out", all_but(0), "1", 2)
+    queue = service("queue", "queue.out", all_but(1), "1", 3)
+
+    def case(name, *actors):
+        lines = [called(it, "actor.out", level) for it, _, level in actors]
+        return {"name": name, "config": machine(1, names, queue, *lines), "models": [("queue", "queue")],
+                "facts": [requests(it, "queue", steps) for it, steps, _ in actors],
+                "set": {it: plan((WORK, 4), *steps) for it, steps, _ in actors}}
+
+    filler = [(POKE, 1), (ASK, 1, TRY), (ASK, 1, draw.randint(5, 99)), *[(ASK, 1, PUT, it) for it in items[:9]], (ASK, 1, END)]
+    taker = [(ASK, 1, (GET, TRY)[i % 2]) for i in range(7)] + [(ASK, 1, END)] + [(ASK, 1, GET)] * 4 + [(ASK, 1, TRY)]
+    yield case("a producer that fills the queue, and a consumer", ("filler", filler, 5), ("taker", taker, 7))
+    put = [(WORK, 6), *[(ASK, 1, PUT, it) for it in items[9:12]], (ASK, 1, END), (ASK, 1, END)]
+    yield case("three consumers wait, and one of them dies", ("hasty", [(TELL, 1, GET)], 4), ("first", [(ASK, 1, GET)] * 2, 5),
+               ("second", [(ASK, 1, GET)] * 2, 6), ("putter", put, 8))
+    full = [*[(ASK, 1, PUT, it) for it in items[:8]]]
+    yield case("two producers wait for room", ("filler", full, 4), ("first", [(ASK, 1, PUT, items[8])], 5),
+               ("second", [(ASK, 1, PUT, items[9])], 6), ("taker", [(ASK, 1, GET)] * 10 + [(ASK, 1, TRY)], 8))
+
+
+def asked(who, kinds):
+    return {f"{who} queue": " ".join(map(str, kinds))}
+
+
+def patient(draw):
+    """A queue that has nothing, and one that has something after a while."""
+    names = service("names", "good_names.out", "fffe", "1", 3)
+    waits, polls = (called(it, f"{it}.out", 7, "3", "7") for it in ("waits", "polls"))
+    judge = service("judge", "judge.out", all_but(2), "11", 5)
+    yield {"name": "two consumers and no producer",
+           "config": machine(1, names, service("queue", "good_queue.out", all_but(1), "1", 4), judge, waits, polls),
+           "want": {"console": "", "asks": asked("waits", [GET]) | asked("polls", [TRY] * 20 + [GET]),
+                    "states": {"waits": "awaiting 1", "polls": "awaiting 1"}}}
+    patience = draw.randint(5, 19)
+    yield {"name": f"a queue with an item after {patience} answers NOTHING, and then one for a GET",
+           "config": machine(1, names, service("queue", "slow_queue.out", all_but(1), "1", 4), judge, polls),
+           "set": {"queue": {"patience": [patience]}},
+           "want": {"asks": asked("polls", [TRY] * (patience + 1 + 20) + [GET, TRY]), "states": {"polls": "down exit"}}}
+
+
+def six(draw, cpus, slots=False, **want):
+    """Name server, queue, judge, two producers with items of their own, two consumers; `slots`: in other slots."""
+    items = [[draw.randint(1, 1000) for _ in range(ITEMS)] for _ in range(2)]
+    rows = [("queue", "queue.out", 4, "1"), ("judge", "judge.out", 5, "11"), ("ann", "maker.out", 7, "1"),
+            ("ben", "maker.out", 7, "1"), ("waits", "waits.out", 7, "3"), ("polls", "polls.out", 7, "3")]
+    if slots:
+        rows = [(name, program, draw.choice([5, 7, 8]), calls) for name, program, _, calls in rows]
+        draw.shuffle(rows)
+    servers = [0, *[slot for slot, it in enumerate(rows, 1) if it[0] in ("queue", "judge")]]
+    to_servers = f"{sum(1 << it for it in servers):x}"
+    config = machine(cpus, service("names", "names.out", all_but(0), "1", 3),
+                     *[called(name, program, level, calls, all_but(slot) if slot in servers else to_servers)
+                       for slot, (name, program, level, calls) in enumerate(rows, 1)])
+    return {"config": config, "set": {it: {"items": items[i]} for i, it in enumerate(("ann", "ben"))},
+            "facts": ["1+ message waits to queue type 2 ..", "1+ message polls to queue type 3 .."],
+            "want": {"starts": f"24 items, sum {sum(map(sum, items))}\n", "taken": ["queue", "judge"],
+                     "states": {it: "down exit" for it in ("judge", "ann", "ben", "waits", "polls")}, **want}}
+
+
+def by_turns(draw):
+    yield six(draw, 1) | {"name": "on one processor"}
+    yield six(draw, 4) | {"name": "on four processors"}
+
+
+def in_other_slots(draw):
+    yield six(draw, 2, True) | {"name": "on two processors"}
+
+
+def with_reports(draw):
+    yield six(draw, 4, steps="judge") | {"name": "on four processors"}
+
+
+ADDERS = ("ann", "ben", "cleo")
+
+
+def locked(who):
+    """An adder holds the lock over each read and write, and writes three times."""
+    return [f"each call {who} VIRCOPY {way} answer 0 ..: after message board to {who} type 0 words 0 *; "
+            f"no message {who} to board type 2 .. since" for way in ("0 * * * *", "* * 0 * *")] + [
+            f"3 call {who} VIRCOPY * * 0 * 4 answer 0 ..", f"1+ call {who} VIRCOPY 0 * * * 4 answer 0 .."]
+
+
+def added(draw, cpus):
+    """A board whose count doesn't begin with 0."""
+    first = draw.randint(10, 9000)
+    lines = [service(it, "adder.out", calls="21") for it in ADDERS]
+    return {"name": f"on {cpus} processors", "set": {"board": {"count": [first]}},
+            "config": machine(cpus, service("board", "counter.out", "e", "111", 4), *lines),
+            "want": {"console": str(first + 9), "states": {it: "down exit" for it in ("board", *ADDERS)}},
+            "facts": [fact for it in ADDERS for fact in locked(it)]}
+
+
+def added_by_turns(draw):
+    for cpus in (1, 2, 3, 4):
+        yield added(draw, cpus)
+
+
+def added_by_threads(draw):
+    yield added(draw, 4)

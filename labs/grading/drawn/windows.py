@@ -1,0 +1,124 @@
+"""Lab 5: stores and savers with bytes of their own, a thief, and a store that dies."""
+from .machines import TELL, bystanders, deaths, looked, machine, plan, rounds, service
+
+PUT, GET = 1, 2
+BLOCKS, BYTES = 8, 64
+STORE = service("store", "store.out", send="fffe", calls="a1", level=4, restarts=20)
+KEEPER = STORE.replace("store.out", "keeper.out")
+THIEF = STORE.replace("store.out", "thief.out").replace("calls a1", "calls b9")
+SAVER = service("saver", "saver.out", calls="191")
+LODGER = service("lodger", "lodger.out", calls="191")
+OF_STORE = [("store", "store")]
+OF_SAVER = [("windows", "saver"), ("asker", "saver")]
+
+
+def prober(draw):
+    """A client that stores bytes of its own in all blocks, beside one that doesn't wait for its answer; one that computes
+    while it is served."""
+    others, plans = bystanders(draw, 1)
+    lines = [service("hasty", "actor.out", calls="1", level=6), service("prober", "prober.out", calls="191")]
+    plans["hasty"] = plan((TELL, 0, draw.choice([PUT, GET]), draw.randint(8, 99)))
+    plans["prober"] = {"seed": [draw.randint(1, 1 << 30), draw.randint(0, 7), draw.randint(0, 7)]}
+    yield {"name": "a client that tries the store", "config": machine(1, STORE, *others, *lines), "set": plans,
+           "models": OF_STORE, "want": {"console": "." * 31}}
+    line = service("hurried", "hurried.out", calls="191")
+    yield {"name": "a client that runs on another processor while it is served", "config": machine(2, STORE, line),
+           "set": {"hurried": {"work": [draw.randint(12, 20)]}}, "models": OF_STORE, "want": {"console": ".."}}
+
+
+def letters(draw, count):
+    """The bytes of a block: small letters, which aren't those that a saver has itself."""
+    return [draw.choice(b"bcdefghijklmnopqrstuvwxy") for _ in range(count)]
+
+
+def dwords(data):
+    return [int.from_bytes(data[i:i + 4], "little") for i in range(0, len(data), 4)]
+
+
+def ends(data):
+    return chr(data[0]) + chr(data[-1])
+
+
+SAVED = ["in order: message saver to store type 1 words 3 * ..; call store VIRCOPY 1 * * * 64 answer 0 ..; "
+         "message store to saver type 0 ..; message saver to store type 2 words 3 * ..; "
+         "call store VIRCOPY * * 1 * 64 answer 0 ..; message store to saver type 0 ..; console saver *"]
+FILLED = [{"at": "message saver to store type 1 words 3 * ..", "slot": 1, "bytes": "a" * BYTES + "z" * BYTES},
+          {"at": "message saver to store type 2 words 3 * ..", "slot": 1, "bytes": "\0" * BYTES + "z" * BYTES}]
+
+
+def saving(name, cpus, store, values, console="aa", **more):
+    """A case of a saver and a store: what is drawn for each service, and what the saver writes in the end."""
+    others = [service(it, "actor.out", send="0", calls="1") for it in values if it != "store"]
+    return {"name": name, "config": machine(cpus, store, SAVER, *others), "set": values, "facts": SAVED, "memory": FILLED,
+            "models": OF_SAVER + (OF_STORE if store == STORE else []),
+            "want": {"console": console, "states": {"saver": "down exit"}}, **more}
+
+
+def lodged(draw, name, cpus, **more):
+    """A case of a student's store and a saver with bytes and two blocks that are drawn, which isn't in slot 1."""
+    first, second = letters(draw, BYTES), letters(draw, BYTES)
+    others, plans = bystanders(draw, 1)
+    drawn = {"plain": dwords(first + second), "blocks": draw.sample(range(BLOCKS), 2)}
+    return {"name": name, "config": machine(cpus, STORE, *others, LODGER), "set": {**plans, "lodger": drawn},
+            "models": OF_STORE, "want": {"console": ends(first) + ends(second), "states": {"lodger": "down exit"}}, **more}
+
+
+def kept(data, lives=()):
+    """What a keeper has: the bytes that it gives back, and how long each of its lives is."""
+    return {"given": dwords(data), "lives": deaths(lives)}
+
+
+def ended_once(draw, cpus):
+    """A store that ends at the first request. Who doesn't go on loses nothing here; but whoever asks its successor opens no
+    more for that one, and nobody writes what no store gave."""
+    _, plans = bystanders(draw, 1)
+    data = letters(draw, BYTES)
+    case = saving(f"a store that ends at the first request, {cpus} processors", cpus, KEEPER,
+                  {**plans, "store": kept(data, [0])})
+    return case | {"facts": [], "want": {"consoles": ["", "\0\0", ends(data)]}}
+
+
+def saved(draw, cpus):
+    _, plans = bystanders(draw, 1)
+    yield saving(f"{cpus} processors", cpus, STORE, plans)
+    # A store that gives other bytes back than it got, and a saver with other bytes.
+    data = letters(draw, BYTES)
+    yield saving(f"a store with bytes of its own, {cpus} processors", cpus, KEEPER, {**plans, "store": kept(data)}, ends(data))
+    yield lodged(draw, f"a client with bytes of its own, {cpus} processors", cpus)
+    yield ended_once(draw, cpus)
+
+
+def saved_on_one(draw):
+    yield from saved(draw, 1)
+
+
+def saved_on_two(draw):
+    yield from saved(draw, 2)
+
+
+def thieves(draw):
+    """A thief that looks again every few turns, from each turn on."""
+    for every in (3, 4):
+        for first in range(every):
+            data = letters(draw, BYTES)
+            events = ["line 9"] * first + (["line 5"] + ["line 9"] * (every - 1)) * (120 // every)
+            yield saving(f"a thief in slot 0, which looks again every {every} turns, from turn {first} on", 1, THIEF,
+                         {"store": {"given": dwords(data)}}, events=events, want={"console": ends(data)})
+    yield ended_once(draw, 1)
+
+
+def down_for_a_while(draw):
+    count = draw.randint(6, 12)
+    return {"fault": ["kill slot 0", *rounds(count)], "looks": [draw.random() for _ in range(4)],
+            "told": f"kill slot 0, which is down for {count} traps"}
+
+
+def killed_store(draw):
+    """A store of the grader's, which ends by itself too; a student's store; a store that ends again and again."""
+    data = letters(draw, BYTES)
+    _, plans = bystanders(draw, 1)
+    for name, lives in (("a kill at every position", 1), ("a store that ends {} times at a request", draw.randint(5, 9))):
+        ends_at = [draw.randint(0, 1) for _ in range(lives)]
+        case = saving(name.format(lives), 1, KEEPER, {**plans, "store": kept(data, ends_at)}, ends(data))
+        yield case | {"facts": [*SAVED, looked("saver", ends_at)]} | (down_for_a_while(draw) if lives == 1 else {})
+    yield lodged(draw, "a kill of your store at every position", 1, **down_for_a_while(draw))

@@ -1,0 +1,11 @@
+"""What a lab's programs should do, worked out from what they were told: a model follows a history's events, and says which
+answer, letter, window or request is wanted next. A model is made with the name of its case and the name of the service."""
+from .common import numbers
+from .driver import Button
+from .partners import Asker, Exchange
+from .reports import compare_steps, compare_taken
+from .servers import Names, Queue, Totals
+from .windows import Stored, Windows
+
+MODELS = {"windows": Windows, "store": Stored, "asker": Asker, "exchange": Exchange, "totals": Totals, "names": Names,
+          "queue": Queue, "button": Button}

@@ -1,0 +1,57 @@
+"""Processes that send to others: one of lab 2's pair, and who asks the process of slot 0 in labs 4 and 5."""
+from .common import GENERATION, said, wrong
+
+ELOCKED = -101
+SENDS = ("SEND", "SENDREC")
+
+
+class Exchange:
+    """One of lab 2's pair: it sends first and once, and once more only after ELOCKED and what the other one sent."""
+
+    def __init__(self, name, who):
+        self.name, self.who = name, who
+        self.sends = self.locked = 0
+        self.has_received = False
+
+    def follow(self, found):
+        for it in found:
+            words = it.words
+            if words[:2] == ["try", self.who] and words[3] != "SYSTEM":
+                self.begin(it, words[2])
+            elif words[:2] == ["trap", self.who] and words[2] in SENDS and words[-1] == str(ELOCKED):
+                self.locked += 1
+            elif words[0] == "message" and words[3] == self.who:
+                self.has_received = True
+
+    def begin(self, event, trap):
+        if trap == "RECEIVE" and self.sends == 0:
+            raise wrong(self.name, event, f"{self.who} sends before it receives", said(event))
+        if trap not in SENDS:
+            return
+        if self.sends > self.locked:
+            raise wrong(self.name, event, f"{self.who} sends once more after ELOCKED alone", said(event))
+        if self.locked and not self.has_received:
+            raise wrong(self.name, event, f"{self.who} receives after ELOCKED, before it sends again", said(event))
+        self.sends += 1
+
+
+class Asker:
+    """Who asks the process of slot 0 asks the first one, or one that WHOIS told."""
+
+    def __init__(self, name, who):
+        self.name, self.who = name, who
+        self.known = {"0"}
+
+    def follow(self, found):
+        for it in found:
+            words = it.words
+            if words[:6] == ["call", self.who, "WHOIS", "0", "answer", "0"]:
+                self.known.add((words[6:] + ["0"])[0])
+            elif words[:2] == ["try", self.who] and words[2] in SENDS and words[3] != "SYSTEM":
+                self.compare(it)
+
+    def compare(self, event):
+        whom = event.who[1]
+        if whom is not None and int(whom) % GENERATION == 0 and whom not in self.known:
+            wanted = f"a request to {' or '.join(sorted(self.known, key=int))}, which WHOIS told"
+            raise wrong(self.name, event, wanted, f"one to {whom}")

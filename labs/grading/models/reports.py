@@ -1,0 +1,28 @@
+"""What lab 6's consumers report: what they took, and the steps that TIMES answered."""
+from .common import numbers, said, wrong
+
+
+def compare_steps(name, to, found):
+    """In each report to a service (type 1) the third word is the count of steps that TIMES answered its sender just
+    before: the sender has sent nothing since then."""
+    steps = {}
+    for it in found:
+        if it.words[0] == "call" and it.words[2] == "TIMES" and it.words[4] == "0":
+            steps[it.words[1]] = (it.words[5:] + ["0"] * 3)[1]
+        elif it.words[0] == "message":
+            answered = steps.pop(it.words[1], "that TIMES answered just before")
+            if it.words[3] == to and it.words[5] == "1" and str(numbers(it)[2]) != answered:
+                raise wrong(f"{name}: the report of {it.words[1]}", it, f"p[2] {answered}", said(it))
+
+
+def compare_taken(name, queue, to, found):
+    """In each report to a service (type 1) the first two words are how many items the queue gave its sender, and their
+    sum."""
+    taken = {}
+    for it in found:
+        if it.words[0] == "message" and it.words[1] == queue and it.words[5] == "0":
+            taken.setdefault(it.words[3], []).append(numbers(it)[0])
+        elif it.words[0] == "message" and it.words[3] == to and it.words[5] == "1":
+            items = taken.get(it.words[1], [])
+            if numbers(it)[:2] != [len(items), sum(items)]:
+                raise wrong(f"{name}: the report of {it.words[1]}", it, f"{len(items)} items, sum {sum(items)}", said(it))

@@ -1,0 +1,151 @@
+"""Servers that answer requests: lab 2's total, lab 6's names and queue."""
+from .common import BAD_REQUEST, EINVAL, NOTIFICATION, numbers, said, wrong
+
+
+def told(event):
+    return f"to {' '.join(event.words[1:2] + event.words[4:])} (record {event.record})"
+
+
+def shown(answer):
+    return " ".join(map(str, ["type", answer[0], *(["words", *answer[1]] if answer[1] else [])]))
+
+
+class Served:
+    """A server's requests and answers. Each model says which answers are due when a request is taken."""
+
+    def __init__(self, name, server):
+        self.name, self.server = name, server
+        self.due = {}  # of each endpoint that waits for an answer: its request, the answer's type and words
+        self.dead = set()
+
+    def follow(self, found):
+        for it in found:
+            if it.words[0] == "down":
+                self.dead.add(it.who[0])
+            elif it.words[0] == "message" and self.others(it) == {self.server}:
+                (self.take if it.words[3] == self.server else self.compare)(it)
+        for who, (request, answer) in self.due.items():
+            if who not in self.dead:
+                raise wrong(self.name, request, f"{told(request)}: an answer {shown(answer)}", "no answer")
+
+    def others(self, event):
+        """The servers that a message is from or to: what a server says to the name server is no answer of its own."""
+        return {it for it in (event.words[1], event.words[3]) if it in (self.server, "names")}
+
+    def take(self, event):
+        kind = int(event.words[5])
+        if kind != NOTIFICATION:
+            self.serve(event, event.who[0], kind, numbers(event))
+
+    def answer(self, event, who, kind, *words):
+        self.due[who] = event, (kind, words)
+
+    def compare(self, event):
+        """An answer has to be the one that is due to who gets it."""
+        request, answer = self.due.pop(event.who[1], (None, None))
+        if request is None:
+            raise wrong(self.name, event, f"no message of {self.server} to {event.words[3]} now", said(event))
+        kind, words = answer
+        came = numbers(event)
+        if int(event.words[5]) != kind or any(it != came[i] for i, it in enumerate(words)):
+            raise wrong(self.name, event, f"{told(request)}: an answer {shown(answer)}", said(event))
+
+
+class Totals(Served):
+    """Lab 2's server: one total."""
+
+    total = 0
+
+    def serve(self, event, who, kind, words):
+        if kind not in (1, 2):
+            self.answer(event, who, BAD_REQUEST)
+            return
+        if kind == 1:
+            self.total = (self.total + words[0]) % (1 << 32)
+        self.answer(event, who, 0, self.total)
+
+
+class Names(Served):
+    """Lab 6's name server: who waits longest for a name is answered first."""
+
+    REGISTER, LOOKUP, MOST = 1, 2, 8
+
+    def __init__(self, name, server):
+        super().__init__(name, server)
+        self.owners, self.waiting = {}, []
+        self.turn = []  # who is answered next of those that waited for one name
+
+    def serve(self, event, who, kind, words):
+        if kind not in (self.REGISTER, self.LOOKUP):
+            self.answer(event, who, BAD_REQUEST)
+        elif words[0] >= self.MOST:
+            self.answer(event, who, EINVAL)
+        elif kind == self.REGISTER:
+            self.owners[words[0]] = int(who)
+            self.answer(event, who, 0)
+            served = [it for it in self.waiting if it[2] == words[0]]
+            self.waiting = [it for it in self.waiting if it[2] != words[0]]
+            self.turn += [it[1] for it in served if it[1] not in self.dead]
+            for request, one, _ in served:
+                self.answer(request, one, 0, int(who))
+        elif words[0] in self.owners:
+            self.answer(event, who, 0, self.owners[words[0]])
+        else:
+            self.waiting.append((event, who, words[0]))
+
+    def compare(self, event):
+        who = event.who[1]
+        self.turn = [it for it in self.turn if it not in self.dead]
+        if who in self.turn:
+            if self.turn[0] != who:
+                first = told(self.due[self.turn[0]][0])
+                raise wrong(self.name, event, f"{first} comes first, since it waits longer", said(event))
+            self.turn.remove(who)
+        super().compare(event)
+
+
+class Queue(Served):
+    """Lab 6's queue: eight items, the oldest is taken first; who waits longest for the same is served first."""
+
+    PUT, GET, TRY, END = 1, 2, 3, 4
+    NOTHING, ENDED = 1, 2
+    ROOM, PRODUCERS = 8, 2
+
+    def __init__(self, name, server):
+        super().__init__(name, server)
+        self.items, self.waiting, self.ended = [], [], 0
+
+    def serve(self, event, who, kind, words):
+        if not self.PUT <= kind <= self.END:
+            self.answer(event, who, BAD_REQUEST)
+        elif kind == self.END:
+            self.ended += 1
+            self.answer(event, who, 0)
+        elif not self.is_served(event, who, kind, words[0]):
+            self.waiting.append((event, who, kind, words[0]))
+        self.serve_waiting()
+
+    def serve_waiting(self):
+        """Who waits for an item and died is forgotten, and no item is lost by that."""
+        while True:
+            self.waiting = [it for it in self.waiting if it[1] not in self.dead or it[2] == self.PUT]
+            served = next((it for it in self.waiting if self.is_served(*it)), None)
+            if served is None:
+                return
+            self.waiting.remove(served)
+
+    def is_served(self, event, who, kind, item):
+        if kind == self.PUT:
+            if len(self.items) == self.ROOM:
+                return False
+            self.items.append(item)
+            self.answer(event, who, 0)
+        elif self.items:
+            self.answer(event, who, 0, self.items.pop(0))
+        elif self.ended == self.PRODUCERS:
+            self.answer(event, who, self.ENDED)
+        elif kind == self.TRY:
+            self.answer(event, who, self.NOTHING)
+        else:
+            return False
+        return True
