@@ -1,11 +1,5 @@
 //! A line of assembler: its tokens, the `Statement` with `Argument`s that they form, the spot of what is wrong,
 //! and the instruction that it names.
-//!
-//! # A line by itself
-//!
-//! What a line says depends on no other line. A name stays a name in its statement, so the line's length is known
-//! before any address is, and the assembler (`mx_asm`) reads each line once. A line has one statement at most
-//! (`line_laws`).
 #![tactic(auto)]
 
 mod argument;

@@ -9,7 +9,7 @@ use Rattle.mx_machine.specs.declared.config.ServiceLine.{ServiceLine}
 use Rattle.mx_boot.specs.declared.service.ServiceWords.{ServiceWords}
 use Rattle.mx_boot.specs.declared.item.ConfigItem.{ConfigItem}
 use Rattle.mx_boot.specs.declared.item.ConfigItem.TheVariants.{Service}
-use Rattle.mx_boot.specs.Above.{ItemsAbove, IsBefore, nothing_above}
+use Rattle.mx_boot.specs.Above.{ItemsAbove, IsAbove, nothing_above}
 use Rattle.mx_boot.specs.Items.{IsItemWithin, IsServiceWithin}
 use Rattle.mx_boot.specs.Lines.{is_service_too_many, AreLinesOf, IsLineOf, IsItemTaken, IsItemWrong, AreItemsTaken, IsFirstItemWrong, TellsConfigFault}
 
@@ -66,8 +66,8 @@ one_within : (w : ServiceWords) → IsServiceWithin w → All IsServiceWithin (w
 one_within w is zero d below = is
 one_within w is (suc k) d below = absurd (omega (arith, below))
 
-pub services_more : (a : ItemsAbove) (new : List ServiceWords) (item : ConfigItem) (w : ServiceWords) → item ≡ Service w → is_service_too_many a item ≡ false → IsItemWithin item → IsBefore a
-    → new ≡ a.services ++ w ∷ [] → IsBefore (record a { services = new })
+pub services_more : (a : ItemsAbove) (new : List ServiceWords) (item : ConfigItem) (w : ServiceWords) → item ≡ Service w → is_service_too_many a item ≡ false → IsItemWithin item → IsAbove a
+    → new ≡ a.services ++ w ∷ [] → IsAbove (record a { services = new })
 services_more a new item w is room within above e =
     let left : nat_le 32 (length a.services) ≡ false = subst (λ (x : ConfigItem). is_service_too_many a x ≡ false) is room in
     let within_w : IsServiceWithin w = subst IsItemWithin is within in

@@ -18,7 +18,7 @@ abbrev pub IsBetween : ℕ → ℕ → Option ℕ → Type 0
 IsBetween least most said = IfSome said (λ n. (least ≤ n) × (n ≤ most))
 
 -- all of it lies within a configuration's limits
-pub record IsBefore (a : ItemsAbove) : Type 0 where
+pub record IsAbove (a : ItemsAbove) : Type 0 where
   pub cpus : IsBetween 1 8 a.cpus
   pub log : IsBetween 1 1048576 a.log
   pub others : IsBetween 1 4 a.others

@@ -32,7 +32,7 @@ pub struct Draft<'a> {
 }
 
 impl<'a> Model for Draft<'a> {
-    ghost use Rattle.mx_boot.specs.Above.{ItemsAbove, IsBefore};
+    ghost use Rattle.mx_boot.specs.Above.{ItemsAbove, IsAbove};
 
     ghost Value = { ItemsAbove };
 
@@ -45,7 +45,7 @@ impl<'a> Model for Draft<'a> {
     } };
 
     ghost invariant = { λ d.
-        IsBefore (record {
+        IsAbove (record {
           cpus = d.cpus;
           log = d.log;
           others = d.others;

@@ -11,8 +11,8 @@
 //!
 //! # Why no two wait for each other
 //!
-//! A send is refused (`ELOCKED`) if a chain of waiting processes leads from its destination back to the sender. So
-//! chains of callers have no cycle, which is part of what a sound table is.
+//! A send is refused (`ELOCKED`) if a chain of waiting processes leads from its destination back to the sender. So chains
+//! of callers have no cycle, which is part of what a sound table is.
 #![tactic(auto)]
 
 ghost use Rattle.std.specs.Prelude.{◌≡◌, ◌≢◌, ℕ, ◌<◌, Some, None, true, false, length};
