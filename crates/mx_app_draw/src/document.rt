@@ -55,7 +55,9 @@ fn push_told_title(alloc: Global, out: &mut Vec<u8>, scene: &Scene) -> Result<()
 fn description() -> &'static [u8]
     ensures { result.now ≡ description }
 {
-    b"<desc>Time runs from left to right, one column a record. Each service has a row, whose bars show its state; arrows are messages and notifications; the lowest row has what was written to the console. mx trace prints the same records in words.</desc>\n"
+    b"<desc>Time runs from left to right, one column a record. Each service has a row, whose bars show its \
+        state; arrows are messages and notifications; the lowest row has what was written to the console. mx \
+        trace prints the same records in words.</desc>\n"
 }
 
 /// Appends the style of the paper, the bars and the texts.
@@ -67,10 +69,12 @@ fn push_letters_style(out: &mut Vec<u8>) -> Result<(), AllocError>
     out.extend_from_slice(b"text{font-family:monospace;fill:#222}\n")?;
     out.extend_from_slice(b".paper{fill:#fff}.band{fill:#f4f4f2}.grid{fill:#d8d8d4}\n")?;
     out.extend_from_slice(
-        b".out{fill:#0060a0}.doomed{fill:#d55e00}.ready{fill:#56b4e9}.sending{fill:#e69f00}.awaiting{fill:#cc79a7}.receiving{fill:#999}\n",
+        b".out{fill:#0060a0}.doomed{fill:#d55e00}.ready{fill:#56b4e9}.sending{fill:#e69f00}\
+            .awaiting{fill:#cc79a7}.receiving{fill:#999}\n",
     )?;
     out.extend_from_slice(
-        b".title{font-size:13px;font-weight:bold}.name{font-size:12px;font-weight:bold}.end,.key{font-size:11px}.axis,.call,.note,.bad,.byte{font-size:9px}\n",
+        b".title{font-size:13px;font-weight:bold}.name{font-size:12px;font-weight:bold}.end,.key{font-size:11px}\
+            .axis,.call,.note,.bad,.byte{font-size:9px}\n",
     )
 }
 
@@ -80,7 +84,8 @@ fn push_words_style(out: &mut Vec<u8>) -> Result<(), AllocError>
     ensures { OnOk result (out.new.items ≡ out.old.items ++ words_style) }
 {
     out.extend_from_slice(
-        b".axis{fill:#6b6b6b}.call{fill:#555}.bad,.refused{font-weight:bold;fill:#b34000}.refused{font-size:12px}.char{font-size:14px;font-weight:bold}\n",
+        b".axis{fill:#6b6b6b}.call{fill:#555}.bad,.refused{font-weight:bold;fill:#b34000}\
+            .refused{font-size:12px}.char{font-size:14px;font-weight:bold}\n",
     )?;
     out.extend_from_slice(b".cpu{font-size:10px;font-weight:bold;fill:#fff;pointer-events:none}\n")
 }
@@ -91,10 +96,12 @@ fn push_figures_style(out: &mut Vec<u8>) -> Result<(), AllocError>
     ensures { OnOk result (out.new.items ≡ out.old.items ++ figures_style) }
 {
     out.extend_from_slice(
-        b".message,.notify,.pending,.tick,.line{stroke:#222;fill:#222}.notify .stem,.pending .stem{stroke-dasharray:3 2}.notify .head,.pending .head{fill:#fff}\n",
+        b".message,.notify,.pending,.tick,.line{stroke:#222;fill:#222}\
+            .notify .stem,.pending .stem{stroke-dasharray:3 2}.notify .head,.pending .head{fill:#fff}\n",
     )?;
     out.extend_from_slice(
-        b".kill{stroke:#d55e00;fill:#d55e00}.respawn,.birth{stroke:#009e73;fill:#009e73}.death{stroke:#d55e00;stroke-width:3}.halo{stroke:#fff;stroke-width:7}\n",
+        b".kill{stroke:#d55e00;fill:#d55e00}.respawn,.birth{stroke:#009e73;fill:#009e73}\
+            .death{stroke:#d55e00;stroke-width:3}.halo{stroke:#fff;stroke-width:7}\n",
     )
 }
 
@@ -104,10 +111,12 @@ fn push_dark_style(out: &mut Vec<u8>) -> Result<(), AllocError>
     ensures { OnOk result (out.new.items ≡ out.old.items ++ dark_style) }
 {
     out.extend_from_slice(
-        b"@media (prefers-color-scheme:dark){text,.note{fill:#e8e8e8}.paper{fill:#16181c}.band{fill:#1f2227}.grid{fill:#363a40}.axis{fill:#999}.call{fill:#bbb}\n",
+        b"@media (prefers-color-scheme:dark){text,.note{fill:#e8e8e8}.paper{fill:#16181c}.band{fill:#1f2227}\
+            .grid{fill:#363a40}.axis{fill:#999}.call{fill:#bbb}\n",
     )?;
     out.extend_from_slice(
-        b".out{fill:#2a7ab8}.bad,.refused{fill:#ff9a5c}.cpu{fill:#fff}.message,.notify,.pending,.tick,.line{stroke:#e8e8e8;fill:#e8e8e8}\n",
+        b".out{fill:#2a7ab8}.bad,.refused{fill:#ff9a5c}.cpu{fill:#fff}\
+            .message,.notify,.pending,.tick,.line{stroke:#e8e8e8;fill:#e8e8e8}\n",
     )?;
     out.extend_from_slice(b".notify .head,.pending .head{fill:#16181c}.halo{stroke:#16181c}}\n")?;
     out.extend_from_slice(b"</style>\n")

@@ -81,18 +81,23 @@ abbrev pub record_wanted : CommandRequest → List ℕ
 record_wanted (Step config script save numbered) =
     codes "an event: take C, step C K, back C, line L, tick, kill E or respawn S"
 record_wanted (Db config script) =
-    codes "an event, or break S PLACE, clear S PLACE, go C K, regs C, regs of S, mem C M N, mem of S M N, messages or messages N"
+    codes "an event, or break S PLACE, clear S PLACE, go C K, regs C, regs of S, mem C M N, mem of S M N, "
+    ++ codes "messages or messages N"
 record_wanted (Run config log ticks events) =
     codes "line L, tick, kill E or wait N; --events wants others 2 or more in CONFIG"
 record_wanted (Turns config log ticks events bound) = codes "an outside event: line L, tick or kill E"
 record_wanted (Sweep config log fault bound from to strict save) =
     codes "in LOG a record and its line feed; in FAULT an event of a script, or kill slot S"
 record_wanted r =
-    codes "a record and its line feed: A take, A back N, A line L, A tick, A kill E or A respawn S; or rules 2 on line 1"
+    codes "a record and its line feed: A take, A back N, A line L, A tick, A kill E or A respawn S; or "
+    ++ codes "rules 2 on line 1"
 
 abbrev pub lines_wanted : CommandRequest → BootError → List ℕ
 lines_wanted r (lines.BadLine n) =
-    codes "an item: cpus 1 to 8, others 1 to 4, log 1 to 1048576, rules 1 or 2, or service NAME FILE traps T send S calls C level L best B quantum Q restarts R, with T, S, C hexadecimal without 0x, L 0 to 14, B 0 to L, Q 1 to 65535, R 0 to 1048575, NAME at most 8 bytes and no register; a line feed alone at the end, no byte order mark; and at least one service"
+    codes "an item: cpus 1 to 8, others 1 to 4, log 1 to 1048576, rules 1 or 2, or service NAME FILE traps "
+    ++ codes "T send S calls C level L best B quantum Q restarts R, with T, S, C hexadecimal without 0x, L 0 "
+    ++ codes "to 14, B 0 to L, Q 1 to 65535, R 0 to 1048575, NAME at most 8 bytes and no register; a line "
+    ++ codes "feed alone at the end, no byte order mark; and at least one service"
 lines_wanted r (lines.TwiceNamed n) =
     codes "each item once, and a name of its own for each service"
 lines_wanted r (lines.TooMany n) = codes "at most 32 services"

@@ -23,7 +23,8 @@ problem_wanted problems.BadNumber = codes "a number of 32 bits, decimal or hexad
 problem_wanted problems.OpenText = codes "the quote that ends a text"
 problem_wanted problems.UnknownWord = codes "an instruction or a directive, in lower case"
 problem_wanted problems.BadOperands =
-    codes "operands that the statement takes: registers, numbers that fit, and at most one bracket, with byte, word or dword before it if no register has the size; a comment begins with ;"
+    codes "operands that the statement takes: registers, numbers that fit, and at most one bracket, with "
+    ++ codes "byte, word or dword before it if no register has the size; a comment begins with ;"
 problem_wanted problems.Twice = codes "each label, .sep, .entry and .stack once"
 problem_wanted problems.Undefined = codes "a name that a line defines"
 problem_wanted problems.TooFar = codes "a target at most 127 bytes ahead or 128 back"

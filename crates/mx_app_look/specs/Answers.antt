@@ -29,7 +29,28 @@ processes_text w = report_text w.table w.services ++ line_end (report_text w.tab
 
 abbrev pub help_text : List ℕ
 help_text =
-    codes "forward [N], back [N]       by N records, or one\nstep [N], stepback [N]      by N events, or one: a step, or what a record does besides\ngoto K, goto K.J, goto end  later K records; and J steps of the next; the last position\nbreak SLOT ADDRESS          a breakpoint of the slot's process\nwatch SLOT ADDRESS N        watches N bytes of its memory, 1 to 16\npoints, clear               what is set; takes all of them away\ncontinue, reverse           on to the next breakpoint or change of watched bytes, or back\nuntil SLOT TYPE             on to a kernel call of the slot's process, as TIMES or 0x601\nuntil death SLOT            on to its death\nuntil message FROM TO       on to what one slot's process gets of another\nwhere, why                  the position again; what the record earlier did\nps, messages                the report; what was delivered\nregs [SLOT]                 registers of the slot's process\nmem SLOT ADDRESS N          N bytes of its memory\nlist [SLOT [ADDRESS]]       its code, from the address or from EIP on\nstack [SLOT [N]]            N dwords of its stack, or eight\nprint SLOT NAME             its variable of that name\nhelp, quit                  this; the end\nA record is one event; back N is N steps of a process, and then its return.\nA command may be shortened, as f or stepb. Without SLOT it is the process on the\nprocessor whose record is next. ADDRESS is a number, decimal or 0x.., or a symbol\nof the slot's program, as count or top+4.\n"
+    codes "forward [N], back [N]       by N records, or one\n"
+    ++ codes "step [N], stepback [N]      by N events, or one: a step, or what a record does besides\n"
+    ++ codes "goto K, goto K.J, goto end  after K records; and J steps of the next; the last position\n"
+    ++ codes "break SLOT ADDRESS          a breakpoint of the slot's process\n"
+    ++ codes "watch SLOT ADDRESS N        watches N bytes of its memory, 1 to 16\n"
+    ++ codes "points, clear               what is set; takes all of them away\n"
+    ++ codes "continue, reverse           on to the next breakpoint or change of watched bytes, or back\n"
+    ++ codes "until SLOT TYPE             on to a kernel call of the slot's process, as TIMES or 0x601\n"
+    ++ codes "until death SLOT            on to its death\n"
+    ++ codes "until message FROM TO       on to what one slot's process gets of another\n"
+    ++ codes "where, why                  the position again; what the record before did\n"
+    ++ codes "ps, messages                the report; what was delivered\n"
+    ++ codes "regs [SLOT]                 registers of the slot's process\n"
+    ++ codes "mem SLOT ADDRESS N          N bytes of its memory\n"
+    ++ codes "list [SLOT [ADDRESS]]       its code, from the address or from EIP on\n"
+    ++ codes "stack [SLOT [N]]            N dwords of its stack, or eight\n"
+    ++ codes "print SLOT NAME             its variable of that name\n"
+    ++ codes "help, quit                  this; the end\n"
+    ++ codes "A record is one event; back N is N steps of a process, and then its return.\n"
+    ++ codes "A command may be shortened, as f or stepb. Without SLOT it is the process on the\n"
+    ++ codes "processor whose record is next. ADDRESS is a number, decimal or 0x.., or a symbol\n"
+    ++ codes "of the slot's program, as count or top+4.\n"
 
 -- ---- REQUESTS
 

@@ -33,8 +33,28 @@ use mx_walk::{
 use std::alloc::{AllocError, Global};
 
 /// What `help` prints.
-const HELP: &str =
-    "forward [N], back [N]       by N records, or one\nstep [N], stepback [N]      by N events, or one: a step, or what a record does besides\ngoto K, goto K.J, goto end  later K records; and J steps of the next; the last position\nbreak SLOT ADDRESS          a breakpoint of the slot's process\nwatch SLOT ADDRESS N        watches N bytes of its memory, 1 to 16\npoints, clear               what is set; takes all of them away\ncontinue, reverse           on to the next breakpoint or change of watched bytes, or back\nuntil SLOT TYPE             on to a kernel call of the slot's process, as TIMES or 0x601\nuntil death SLOT            on to its death\nuntil message FROM TO       on to what one slot's process gets of another\nwhere, why                  the position again; what the record earlier did\nps, messages                the report; what was delivered\nregs [SLOT]                 registers of the slot's process\nmem SLOT ADDRESS N          N bytes of its memory\nlist [SLOT [ADDRESS]]       its code, from the address or from EIP on\nstack [SLOT [N]]            N dwords of its stack, or eight\nprint SLOT NAME             its variable of that name\nhelp, quit                  this; the end\nA record is one event; back N is N steps of a process, and then its return.\nA command may be shortened, as f or stepb. Without SLOT it is the process on the\nprocessor whose record is next. ADDRESS is a number, decimal or 0x.., or a symbol\nof the slot's program, as count or top+4.\n";
+const HELP: &str = "forward [N], back [N]       by N records, or one\n\
+        step [N], stepback [N]      by N events, or one: a step, or what a record does besides\n\
+        goto K, goto K.J, goto end  after K records; and J steps of the next; the last position\n\
+        break SLOT ADDRESS          a breakpoint of the slot's process\n\
+        watch SLOT ADDRESS N        watches N bytes of its memory, 1 to 16\n\
+        points, clear               what is set; takes all of them away\n\
+        continue, reverse           on to the next breakpoint or change of watched bytes, or back\n\
+        until SLOT TYPE             on to a kernel call of the slot's process, as TIMES or 0x601\n\
+        until death SLOT            on to its death\n\
+        until message FROM TO       on to what one slot's process gets of another\n\
+        where, why                  the position again; what the record before did\n\
+        ps, messages                the report; what was delivered\n\
+        regs [SLOT]                 registers of the slot's process\n\
+        mem SLOT ADDRESS N          N bytes of its memory\n\
+        list [SLOT [ADDRESS]]       its code, from the address or from EIP on\n\
+        stack [SLOT [N]]            N dwords of its stack, or eight\n\
+        print SLOT NAME             its variable of that name\n\
+        help, quit                  this; the end\n\
+        A record is one event; back N is N steps of a process, and then its return.\n\
+        A command may be shortened, as f or stepb. Without SLOT it is the process on the\n\
+        processor whose record is next. ADDRESS is a number, decimal or 0x.., or a symbol\n\
+        of the slot's program, as count or top+4.\n";
 
 /// What a position that isn't there is answered.
 const NO_POSITION: &str = "refused 63 NoPosition\n";
