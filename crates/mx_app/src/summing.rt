@@ -148,6 +148,7 @@ fn compare_sums<R: Reader>(
     ensures { (q : Asked) × (R.asked reader.new ≡ R.asked reader.old ++ q ∷ [])
         × ComparesSums name.now sums.now q result }
 {
+    // A law: sums that all pass are this machine's.
     passed_sums_are_own();
     let text = match reader.read(alloc, name) {
         Ok(text) => text,

@@ -97,6 +97,7 @@ fn drive_blank<M: Naming + Send + Sync, T: Threads + Wait + Clock + Sync, P: Sha
     match drive_seats(place, &shared, seats, log, outside) {
         Ok((seats, whole)) => Ok((shared.into_kernel(seats), whole)),
         Err(NoMemory) => {
+            // What is shared can't be dropped: it ends as a kernel.
             let _kernel = shared.into_kernel(Vec::new(place.alloc));
             Err(NoMemory)
         }
@@ -335,6 +336,7 @@ pub fn run<
     ensures shown { P.shown progress.new ≡ P.shown progress.old }
 {
     let begun = begin(alloc, &mut channels.reader, wanted.config, wanted.events)?;
+    // Which files have its programs is known only now.
     spare_programs(&begun.config, wanted.log)?;
     run_begun(rt, alloc, channels, wanted, begun, progress)
 }

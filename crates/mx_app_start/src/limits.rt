@@ -26,6 +26,7 @@ pub(crate) fn read_text<R: Files + AllocGlobal>(rt: &R, name: &str) -> io::Resul
 {
     let file = fs::open(rt, name)?;
     let mut bytes = Vec::new(rt.alloc());
+    // One byte more than is allowed says that there is more, of a file without an end too.
     read_more(file, LONGEST_TEXT + 1, &mut bytes)?;
     if bytes.len() as u64 > LONGEST_TEXT {
         return Err(io::Error::from(io::ErrorKind::FileTooLarge));
@@ -38,6 +39,7 @@ pub(crate) fn read_program<R: Files + AllocGlobal>(rt: &R, name: &str) -> io::Re
     let file = fs::open(rt, name)?;
     let mut bytes = Vec::new(rt.alloc());
     let file = read_more(file, LONGEST_HEADER, &mut bytes)?;
+    // What follows doesn't matter, however long it is.
     let asked = length_asked(bytes.as_slice());
     read_more(file, asked.saturating_sub(LONGEST_HEADER), &mut bytes)?;
     Ok(bytes)

@@ -116,6 +116,7 @@ impl<'a, R: Clock + Eprint> ProgressLine<'a, R> {
     fn clear(&self) {
         let now = self.now().unwrap_or(NEVER);
         self.cleared.store(now, Ordering::SeqCst);
+        // Only what was printed is taken away: a command that isn't slow writes nothing.
         if self.is_printed.swap(false, Ordering::SeqCst) {
             let _ = eprint!(self.rt; "{EMPTY_LINE}");
         }

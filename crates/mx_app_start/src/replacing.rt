@@ -74,6 +74,7 @@ pub(crate) fn replace_file<R: Files>(
     let Ok(part) = part_name(alloc, name) else {
         return Err(io::Error::from(io::ErrorKind::OutOfMemory));
     };
+    // A file of that name may be somebody's, so it isn't taken.
     let Ok(file) = fs::File::create_new(rt, part.as_str()) else {
         return fs::write(rt, name, bytes);
     };

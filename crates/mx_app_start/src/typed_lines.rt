@@ -59,6 +59,7 @@ fn read_line<B: BufRead>(input: &mut B, line: &mut Vec<u8>) -> io::Result<bool> 
     if line.last() == Some(&b'\n') {
         line.pop();
     } else if count >= GIVEN {
+        // The rest of a line that is too long isn't kept.
         input.skip_until(b'\n')?;
     }
     Ok(count > 0)

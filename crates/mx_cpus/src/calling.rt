@@ -39,6 +39,7 @@ fn make_event<M: Naming, G: WatchingGate, R: Wait>(
     let (seat, answer) = context.shared.event(context.rt, seat, event);
     match answer {
         Err(Refusal::LogFull) => (seat, side, CallEnd::Full),
+        // A refused event changes nothing, and the next one may be accepted.
         _ => (seat, side, CallEnd::Made),
     }
 }

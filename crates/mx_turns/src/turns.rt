@@ -42,6 +42,7 @@ fn make_turn(machine: &mut Machine, next: Option<Event>) -> bool
     let cpus = machine.kernel().cpus();
     let slots = u32::from(machine.kernel().table().slot_count());
     let is_full = offer_takes(machine, cpus);
+    // After a full history too: each take has kept room for its return.
     offer_runs(machine, cpus);
     if is_full {
         return true;

@@ -119,6 +119,7 @@ fn add(
     ensures one { length checkpoints.new.items ≤ length checkpoints.old.items + 1 }
 {
     if let Some(stored) = store(alloc, machine, records, at) {
+        // Without it a walk back is longer, and nothing else.
         let _added = checkpoints.push(stored);
     }
 }

@@ -168,6 +168,7 @@ impl Walker {
         let mut machine = machine;
         let mut checkpoints = Checkpoints::plan(alloc, &machine, records.as_slice());
         let walked = records.as_slice();
+        // Once to the end: only so are the last position and the checkpoints known.
         let last = walk_first(&mut machine, walked, &mut checkpoints, progress);
         let machine = boot_again(alloc, machine, &config)?;
         Ok(Walker {
@@ -218,6 +219,7 @@ impl Walker {
         ensures same { self.new ≡ self.old }
         ensures refusal { result ≡ refusal_here self.old }
     {
+        // The first walk made every earlier event.
         if self.here != self.last {
             return None;
         }
