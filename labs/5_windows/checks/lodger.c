@@ -1,18 +1,19 @@
-/* A saver with two blocks of bytes, which are drawn. It writes the first and the last byte of each that it got back, or an x
- * for each word that is another. */
+/* A saver with several blocks of bytes, which are drawn: more than half of those that a store has. It writes the first and the
+ * last byte of each that it got back, and before that an x for each word that is another. */
 #include "mx.h"
 
 #define STORE_SLOT 0
 #define PUT 1
 #define GET 2
+#define COUNT 5
 #define WORDS 16
 #define BYTES (4 * WORDS)
 
-volatile uint32_t plain[2 * WORDS] = {1};
-volatile int32_t blocks[2] = {5, 2};
+volatile uint32_t plain[COUNT * WORDS] = {1};
+volatile int32_t blocks[COUNT] = {5, 2};
 
 static uint32_t place[WORDS];
-static uint32_t came[2 * WORDS];
+static uint32_t came[COUNT * WORDS];
 static int store;
 
 static int ask(int type, int number, int access)
@@ -49,22 +50,28 @@ static int get(int number)
 
 static int save(void)
 {
+    int result = OK, i;
+
     while (sys_whois(STORE_SLOT, &store) != OK)
         ;
-    return put(0) != OK || put(1) != OK || get(0) != OK || get(1) != OK;
+    for (i = 0; i < COUNT && result == OK; i++)
+        result = put(i);
+    for (i = 0; i < COUNT && result == OK; i++)
+        result = get(i);
+    return result;
 }
 
 int main(void)
 {
     int i;
 
-    while (save() != 0)
+    while (save() != OK)
         ;
-    for (i = 0; i < 2 * WORDS; i++) {
+    for (i = 0; i < COUNT * WORDS; i++) {
         if (came[i] != plain[i])
             sys_out(CONSOLE_REGISTER, 'x');
     }
-    for (i = 0; i < 2; i++) {
+    for (i = 0; i < COUNT; i++) {
         sys_out(CONSOLE_REGISTER, ((char *)came)[BYTES * i]);
         sys_out(CONSOLE_REGISTER, ((char *)came)[BYTES * i + BYTES - 1]);
     }

@@ -1,5 +1,5 @@
 """Lab 4: a driver that answers with numbers of its own and dies, by itself or by a kill, and stays dead for a while."""
-from .machines import bystanders, deaths, looked, machine, rounds, service
+from .machines import bystanders, deaths, killed, looked, machine, rounds, service
 
 
 def answering(draw, restarts, lives=()):
@@ -16,8 +16,8 @@ def answering(draw, restarts, lives=()):
 
 def squares(draw, name, noise, lives=(), **more):
     driver, made, digits = answering(draw, 20, lives)
-    # In the machine that is handed out slot 2 is there.
-    others, plans = bystanders(draw, 0 if noise else 1)
+    # So there are more processes than in the machine that is handed out.
+    others, plans = bystanders(draw, 1 if noise else 2)
     lines = [driver, service("client", "client.out", calls="91")]
     if noise:
         lines.append(service("noise", "noise.out", send="2", calls="1", level=6))
@@ -39,17 +39,11 @@ def noisy_squares(draw):
     yield squares(draw, "with noise", True)
 
 
-def down_for_a_while(draw, *before):
-    """A kill after which slot 0 is down while others run: so who asks for its process is told several times that it is dead.
-    The histories of some positions are looked at."""
-    count = draw.randint(6, 12)
-    return {"fault": [*before, "kill slot 0", *rounds(count)], "looks": [draw.random() for _ in range(4)],
-            "told": f"kill slot 0, which is down for {count} traps" + (", after another kill" if before else "")}
 
 
-def swept_squares(draw, name, noise, *before):
+def swept_squares(draw, name, noise, before=()):
     """A driver that ends by itself too, once: so the successor of a kill has one endpoint or another."""
-    yield squares(draw, name, noise, [draw.randint(1, 4)], **down_for_a_while(draw, *before))
+    yield squares(draw, name, noise, [draw.randint(1, 4)], **killed(draw, before))
 
 
 def killed_squares(draw):
@@ -58,7 +52,7 @@ def killed_squares(draw):
 
 def twice_killed_squares(draw):
     first = ["kill slot 0", *rounds(draw.randint(0, 2)), "respawn 0", *rounds(draw.randint(0, 1))]
-    yield from swept_squares(draw, "two kills at every position", False, *first)
+    yield from swept_squares(draw, "two kills at every position", False, first)
 
 
 def noisy_killed_squares(draw):
@@ -71,5 +65,5 @@ def mortal_squares(draw):
     lives = [1] * draw.randint(2, 5) + [0] * draw.randint(8, 9)
     draw.shuffle(lives)
     first = draw.randint(20, 60)
-    yield squares(draw, f"a driver that ends {len(lives)} times at a request", False, lives, **down_for_a_while(draw),
+    yield squares(draw, f"a driver that ends {len(lives)} times at a request", False, lives, **killed(draw),
                   positions=(first, first + 20))

@@ -42,10 +42,12 @@ def sensor(draw):
 
 
 def bounces(draw):
-    """Two bounces at each distance from a tick, then three quiet ticks and perhaps one more."""
+    """Two bounces at each distance from a tick, then three quiet ticks and perhaps one more; news of the sensor before or
+    between them."""
     for distance in range(8):
         rest = " ".join(["t 9"] * (3 if distance < 2 else draw.randint(3, 4)))
-        yield button_case("bounces", f"{draw.randint(8, 11)} b {distance} t 8 t {distance} b 8 t 8 t 8 b 8 {rest}")
+        first, between = draw.choice([("s 8", ""), ("", "s 8")])
+        yield button_case("bounces", f"{draw.randint(8, 11)} {first} b {distance} t 8 {between} t {distance} b 8 t 8 t 8 b 8 {rest}")
 
 
 def releases(draw):
@@ -60,10 +62,10 @@ def releases(draw):
 
 
 def both_lines(draw):
-    """Both interrupts come while another process runs, in any order, also twice."""
+    """Both interrupts come while another process runs, in any order, also twice, and again before the button is released."""
     for lines in ("b s", "s b s", "b b s", f"s {draw.randint(2, 4)} b s"):
         yield button_case("both lines while another process runs",
-                          f"{draw.randint(12, 14)} t {lines} 40 t 22 t 22 t 22 t 22", True)
+                          f"{draw.randint(12, 14)} t {lines} 40 t 22 s 22 b 40 t 22 t 22 t 22", True)
 
 
 def busy(draw):

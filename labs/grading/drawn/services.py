@@ -108,10 +108,10 @@ ADDERS = ("ann", "ben", "cleo")
 
 
 def locked(who):
-    """An adder holds the lock over each read and write, and writes three times."""
+    """An adder holds the lock over each read and write, and reads and writes three times."""
     return [f"each call {who} VIRCOPY {way} answer 0 ..: after message board to {who} type 0 words 0 *; "
             f"no message {who} to board type 2 .. since" for way in ("0 * * * *", "* * 0 * *")] + [
-            f"3 call {who} VIRCOPY * * 0 * 4 answer 0 ..", f"1+ call {who} VIRCOPY 0 * * * 4 answer 0 .."]
+            f"3 call {who} VIRCOPY * * 0 * 4 answer 0 ..", f"3 call {who} VIRCOPY 0 * * * 4 answer 0 .."]
 
 
 def added(draw, cpus):

@@ -1,8 +1,9 @@
 """Lab 5: stores and savers with bytes of their own, a thief, and a store that dies."""
-from .machines import TELL, bystanders, deaths, looked, machine, plan, rounds, service
+from .machines import TELL, bystanders, deaths, killed, looked, machine, plan, service
 
 PUT, GET = 1, 2
 BLOCKS, BYTES = 8, 64
+LODGED = 5  # blocks of a lodger
 STORE = service("store", "store.out", send="fffe", calls="a1", level=4, restarts=20)
 KEEPER = STORE.replace("store.out", "keeper.out")
 THIEF = STORE.replace("store.out", "thief.out").replace("calls a1", "calls b9")
@@ -55,12 +56,12 @@ def saving(name, cpus, store, values, console="aa", **more):
 
 
 def lodged(draw, name, cpus, **more):
-    """A case of a student's store and a saver with bytes and two blocks that are drawn, which isn't in slot 1."""
-    first, second = letters(draw, BYTES), letters(draw, BYTES)
+    """A case of a student's store and a saver with bytes that are drawn for most of the blocks. It isn't in slot 1."""
+    texts = [letters(draw, BYTES) for _ in range(LODGED)]
     others, plans = bystanders(draw, 1)
-    drawn = {"plain": dwords(first + second), "blocks": draw.sample(range(BLOCKS), 2)}
+    drawn = {"plain": dwords([byte for it in texts for byte in it]), "blocks": draw.sample(range(BLOCKS), LODGED)}
     return {"name": name, "config": machine(cpus, STORE, *others, LODGER), "set": {**plans, "lodger": drawn},
-            "models": OF_STORE, "want": {"console": ends(first) + ends(second), "states": {"lodger": "down exit"}}, **more}
+            "models": OF_STORE, "want": {"console": "".join(map(ends, texts)), "states": {"lodger": "down exit"}}, **more}
 
 
 def kept(data, lives=()):
@@ -107,12 +108,6 @@ def thieves(draw):
     yield ended_once(draw, 1)
 
 
-def down_for_a_while(draw):
-    count = draw.randint(6, 12)
-    return {"fault": ["kill slot 0", *rounds(count)], "looks": [draw.random() for _ in range(4)],
-            "told": f"kill slot 0, which is down for {count} traps"}
-
-
 def killed_store(draw):
     """A store of the grader's, which ends by itself too; a student's store; a store that ends again and again."""
     data = letters(draw, BYTES)
@@ -120,5 +115,5 @@ def killed_store(draw):
     for name, lives in (("a kill at every position", 1), ("a store that ends {} times at a request", draw.randint(5, 9))):
         ends_at = [draw.randint(0, 1) for _ in range(lives)]
         case = saving(name.format(lives), 1, KEEPER, {**plans, "store": kept(data, ends_at)}, ends(data))
-        yield case | {"facts": [*SAVED, looked("saver", ends_at)]} | (down_for_a_while(draw) if lives == 1 else {})
-    yield lodged(draw, "a kill of your store at every position", 1, **down_for_a_while(draw))
+        yield case | {"facts": [*SAVED, looked("saver", ends_at)]} | (killed(draw) if lives == 1 else {})
+    yield lodged(draw, "a kill of your store at every position", 1, **killed(draw))
