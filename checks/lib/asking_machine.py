@@ -41,17 +41,17 @@ broken: mov ecx, 0
         div ecx
 """
 
-# Asks the kernel who stands in a slot, waits for an alarm, and kills who it was, four times.
-KILLS = HEAD + """
-        mov dword [left], 4
-        mov ebx, buf
-again:  mov dword [buf+4], 0x607
+# Parts of texts: who stands in a slot, an alarm that rings at the next tick, and EXIT.
+WHO = """
+        mov dword [buf+4], 0x607
         mov dword [buf+8], SLOT
         mov ecx, 3
         mov eax, -2
         int 33
         mov eax, [buf+8]
         mov [whom], eax
+"""
+ALARM = """
         mov dword [buf+4], 0x602
         mov dword [buf+8], 1
         mov ecx, 3
@@ -60,6 +60,20 @@ again:  mov dword [buf+4], 0x607
         mov ecx, 2
         mov eax, -3
         int 33
+"""
+EXIT = """
+        mov dword [buf+4], 0x600
+        mov ecx, 3
+        mov eax, -2
+        int 33
+"""
+
+# Asks the kernel who stands in a slot, waits for an alarm, and kills who it was, four times.
+KILLS = f"""{HEAD}
+        mov dword [left], 4
+        mov ebx, buf
+again:
+{WHO}{ALARM}
         mov dword [buf+4], 0x606
         mov eax, [whom]
         mov [buf+8], eax
@@ -68,23 +82,14 @@ again:  mov dword [buf+4], 0x607
         int 33
         sub dword [left], 1
         jnz again
-        mov dword [buf+4], 0x600
-        mov ecx, 3
-        mov eax, -2
-        int 33
-"""
+{EXIT}"""
 
 # Asks the kernel who stands in a slot, and asks that one, forty times. If it is dead it waits for an alarm.
-LOOKS_UP = HEAD + """
+LOOKS_UP = f"""{HEAD}
         mov dword [left], 40
         mov ebx, buf
-who:    mov dword [buf+4], 0x607
-        mov dword [buf+8], SLOT
-        mov ecx, 3
-        mov eax, -2
-        int 33
-        mov eax, [buf+8]
-        mov [whom], eax
+who:
+{WHO}
         cmp dword [buf+4], 0
         jnz dead
 ask:    mov ecx, 3
@@ -94,27 +99,10 @@ ask:    mov ecx, 3
         jnz dead
         sub dword [left], 1
         jnz ask
-        mov dword [buf+4], 0x600
-        mov ecx, 3
-        mov eax, -2
-        int 33
-dead:   mov dword [buf+4], 0x602
-        mov dword [buf+8], 1
-        mov ecx, 3
-        mov eax, -2
-        int 33
-        mov ecx, 2
-        mov eax, -3
-        int 33
+{EXIT}
+dead:
+{ALARM}
         jmp who
-"""
-
-# The kernel call EXIT.
-EXIT = """
-        mov dword [buf+4], 0x600
-        mov ecx, 3
-        mov eax, -2
-        int 33
 """
 
 
