@@ -10,6 +10,6 @@ pub compare_exchange_with-requires : goal.compare_exchange_with-requires
 compare_exchange_with-requires c =
     let v = c.args.both.now.me.0 in
     let x = c.args.said.now in
-    let y = c.of-shown.result in
+    let y = c.of-told.result in
     let r = c.requires in
-    (r.table, omega arith, allows_at view_after_return _ _ v _ 2 3 y _ r.own_record r.joined (subst (λ (z : Announcement). JoinedFacts v → StepFacts v z (view_after_return v z) 2 3) (sym c.of-shown.ensures) (returns v x r.joined r.own_back.0 r.own_back.1 r.out)))
+    (r.table, omega arith, allows_at view_after_return _ _ v _ 2 3 y _ r.own_record r.joined (subst (λ (z : Announcement). JoinedFacts v → StepFacts v z (view_after_return v z) 2 3) (sym c.of-told.ensures) (returns v x r.joined r.own_back.0 r.own_back.1 r.out)))

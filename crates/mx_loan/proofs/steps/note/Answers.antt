@@ -10,6 +10,6 @@ pub compare_exchange_with-requires : goal.compare_exchange_with-requires
 compare_exchange_with-requires c =
     let v = c.args.both.now.me.0 in
     let x = c.args.said.now in
-    let y = c.of-shown.result in
+    let y = c.of-told.result in
     let r = c.requires in
-    (r.table, omega arith, allows_at view_after_note _ _ v _ c.args.at c.args.rest y _ r.own_record r.joined (subst (λ (z : Announcement). JoinedFacts v → StepFacts v z (view_after_note v z) c.args.at c.args.rest) (sym c.of-shown.ensures) (notes v x r.joined c.args.at c.args.rest r.at r.rest (search rules))))
+    (r.table, omega arith, allows_at view_after_note _ _ v _ c.args.at c.args.rest y _ r.own_record r.joined (subst (λ (z : Announcement). JoinedFacts v → StepFacts v z (view_after_note v z) c.args.at c.args.rest) (sym c.of-told.ensures) (notes v x r.joined c.args.at c.args.rest r.at r.rest (search rules))))
