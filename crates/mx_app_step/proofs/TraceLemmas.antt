@@ -11,7 +11,7 @@ use Rattle.mx_machine.specs.declared.history.Record.{Record}
 use Rattle.mx_machine.specs.History.{AreAccepted, world_after_events, events_of, events_of_history}
 use Rattle.mx_machine.specs.Move.{event_refusal, world_after_event}
 use Rattle.mx_machine.specs.World.{World}
-use Rattle.mx_look.specs.Glance.{Glance}
+use Rattle.mx_look.specs.declared.glance.Glance.{Glance}
 use Rattle.mx_look.specs.Glances.{glance_of}
 use Rattle.mx_look.specs.Transition.{Transition}
 use Rattle.mx_app_start.specs.Config.{Config}

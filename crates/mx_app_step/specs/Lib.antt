@@ -21,5 +21,5 @@ pub use Rattle.mx_app_start.specs.Written
 pub use Rattle.mx_app_start.specs.Text
 pub use Rattle.mx_app_start.specs.Log
 pub use Rattle.mx_look.specs.Glances
-pub use Rattle.mx_look.specs.Glance
-pub use Rattle.mx_look.specs.Transition
+pub use Rattle.mx_look.specs.declared.glance.Glance
+pub use Rattle.mx_look.specs.declared.transition.Transition

@@ -24,6 +24,3 @@ pub mod Refusals
 pub mod KernelCalls
 pub mod FaultLines
 pub mod Trace
-pub use Rattle.mx_look.specs.declared.transition.Transition
-pub use Rattle.mx_look.specs.Glances
-pub use Rattle.mx_look.specs.declared.glance.Glance

@@ -4,7 +4,7 @@ use Rattle.mx_aout.specs.declared.program.Symbol.{Symbol}
 use Rattle.mx_app_step.specs.Service.{Service}
 use Rattle.mx_exec.specs.declared.image.Image.{Image}
 use Rattle.mx_look.specs.Code.{code_line}
-use Rattle.mx_look.specs.Glance.{Glance}
+use Rattle.mx_look.specs.declared.glance.Glance.{Glance}
 use Rattle.mx_look.specs.Glances.{glance_of}
 use Rattle.mx_look.specs.Words.{who}
 use Rattle.mx_machine.specs.Machine.{world_of}
