@@ -43,15 +43,15 @@ abbrev pub detail_told : Detail → List ℕ
 detail_told d = wanted_told (label_told d.label) d.wanted.now (found_told d.found)
 
 -- at a place of a configuration's line that has these words
-abbrev pub field_told : List (List ℕ) → Field → List ℕ
-field_told words place =
+abbrev pub wanted_of_field : List (List ℕ) → Field → List ℕ
+wanted_of_field words place =
     wanted_told (field_label words (words_before place) (value_name place)) (wanted_at place)
     (found_at (slice_get words (words_before place)))
 
 -- THE DETAIL of a configuration's line, if it has a fault of its own
 abbrev pub field_detail : List (List ℕ) → Option Field → Option (List ℕ)
 field_detail words None = None
-field_detail words (Some place) = Some (field_told words place)
+field_detail words (Some place) = Some (wanted_of_field words place)
 
 abbrev pub config_detail : List ℕ → ℕ → Option (List ℕ)
 config_detail text number = let words = words_at text number in field_detail words (fault_in words)

@@ -50,5 +50,5 @@ found_told Unseen = []
 found_told Nothing = nothing_told
 found_told (Word text) = word_told text.now
 found_told Return = return_told
-found_told Mark = mark_told
+found_told ByteOrderMark = mark_told
 found_told Bytes = bytes_told

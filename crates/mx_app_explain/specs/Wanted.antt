@@ -1,5 +1,5 @@
 -- What is wanted of a program's file, and of a line of a text for the assembler (our own words).
-use Rattle.std.specs.Prelude.{ℕ, List, codes}
+use Rattle.std.specs.Prelude.{ℕ, List, ◌++◌, codes}
 use Rattle.mx_aout.specs.declared.program.FileError.{FileError}
 use Rattle.mx_aout.specs.declared.program.FileError.TheVariants as errors
 use Rattle.mx_asm.specs.declared.fault.Problem.{Problem}

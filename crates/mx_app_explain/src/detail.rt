@@ -5,7 +5,7 @@ ghost use Rattle.mx_text.specs.Fields.{fields};
 ghost use Rattle.mx_text.specs.Lines.{lines};
 ghost use Rattle.mx_app_explain.specs.ConfigFaults.{fault_in};
 ghost use Rattle.mx_app_explain.specs.ConfigFields.{value_name, words_before};
-ghost use Rattle.mx_app_explain.specs.Details.{after_words, config_detail, detail_told, label_told, field_detail, field_label, field_told};
+ghost use Rattle.mx_app_explain.specs.Details.{after_words, config_detail, detail_told, label_told, field_detail, field_label, wanted_of_field};
 
 use crate::config_field::Field;
 use crate::config_line::line_fault;
@@ -135,7 +135,7 @@ fn field_label(line: &[u8], place: Field) -> Label<'_>
 
 /// What was wanted at a place of a configuration's line.
 fn field_detail(line: &[u8], place: Field) -> Detail<'_>
-    ensures { detail_told result ≡ field_told (fields line.now) place }
+    ensures { detail_told result ≡ wanted_of_field (fields line.now) place }
 {
     Detail {
         label: field_label(line, place),

@@ -1,7 +1,7 @@
 -- What the record before did (our own).
 use Rattle.std.specs.Prelude.{ℕ, zero, suc, ◌+◌, ◌-◌, ◌%◌, ◌^◌, List, codes, Option, Some, None, slice_get}
 use Rattle.mx_look.specs.Glances.{glance_of}
-use Rattle.mx_look.specs.Transition.{Transition as Seen}
+use Rattle.mx_look.specs.declared.transition.Transition.{Transition as Seen}
 use Rattle.mx_look.specs.Trace.{record_text}
 use Rattle.mx_machine.specs.declared.history.Record.{Record}
 use Rattle.mx_machine.specs.World.{World}

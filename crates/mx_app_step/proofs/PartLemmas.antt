@@ -4,7 +4,7 @@ use Rattle.std.proofs.lemmas.Bool.{lt-ltb, ltb-true}
 use Rattle.mx_machine.specs.declared.history.Record.{Record}
 use Rattle.mx_machine.specs.History.{world_after_events, events_of}
 use Rattle.mx_machine.specs.World.{World}
-use Rattle.mx_look.specs.Transition.{Transition}
+use Rattle.mx_look.specs.declared.transition.Transition.{Transition}
 use Rattle.mx_look.specs.Trace.{record_text}
 use Rattle.mx_app_step.specs.Traces.{transition_of, told_of, trace_text}
 

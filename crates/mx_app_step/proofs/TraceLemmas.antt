@@ -13,7 +13,7 @@ use Rattle.mx_machine.specs.Move.{event_refusal, world_after_event}
 use Rattle.mx_machine.specs.World.{World}
 use Rattle.mx_look.specs.declared.glance.Glance.{Glance}
 use Rattle.mx_look.specs.Glances.{glance_of}
-use Rattle.mx_look.specs.Transition.{Transition}
+use Rattle.mx_look.specs.declared.transition.Transition.{Transition}
 use Rattle.mx_app_start.specs.Config.{Config}
 use Rattle.mx_app_start.specs.Service.{Service}
 use Rattle.mx_machine.specs.Boot.{world_at_boot}

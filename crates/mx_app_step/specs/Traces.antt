@@ -9,7 +9,7 @@ use Rattle.mx_machine.specs.declared.history.Recorded.TheVariants as recorded
 use Rattle.mx_machine.specs.History.{AreAccepted, world_after_events, events_of, events_of_history}
 use Rattle.mx_machine.specs.World.{World}
 use Rattle.mx_look.specs.Glances.{glance_of}
-use Rattle.mx_look.specs.Transition.{Transition}
+use Rattle.mx_look.specs.declared.transition.Transition.{Transition}
 use Rattle.mx_look.specs.Trace.{record_text}
 use Rattle.mx_app_step.specs.declared.records.Replayed.{Replayed}
 use Rattle.mx_app_step.specs.declared.records.Replayed.TheVariants as replayed

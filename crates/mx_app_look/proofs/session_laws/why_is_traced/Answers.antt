@@ -1,7 +1,7 @@
 use Rattle.std.proofs.Common.{◌≡◌, ◌∙◌, ◌+◌, ◌^◌, ◌%◌, ℕ, suc, List, take, ap, arith}
 use Rattle.mx_app_step.specs.Traces.{steps_before}
 use Rattle.mx_look.specs.Glances.{glance_of}
-use Rattle.mx_look.specs.Transition.{Transition as Seen}
+use Rattle.mx_look.specs.declared.transition.Transition.{Transition as Seen}
 use Rattle.mx_machine.specs.declared.events.Event.{Event}
 use Rattle.mx_machine.specs.History.{events_of_history, world_after_events}
 use Rattle.mx_machine.specs.World.{World}
