@@ -39,7 +39,7 @@ pub returns-in-Messages-clause-grown : goal.returns-in-Messages-clause-grown
 returns-in-Messages-clause-grown g c = err_always c.show_deliveries.result _ (grown_none _)
 
 pub returns-in-Show-clause-shown : goal.returns-in-Show-clause-shown
-returns-in-Show-clause-shown g c = stayed_shown c.show.result c.args.sight c.args.request.now (Show c.in-Show.shown) (g.P.Progress.shown c.args.progress.now) c.in-Show.is refl
+returns-in-Show-clause-shown g c = stayed_shown c.show.result c.args.sight c.args.request.now (Show c.in-Show.query) (g.P.Progress.shown c.args.progress.now) c.in-Show.is refl
 
 pub returns-in-Show-clause-grown : goal.returns-in-Show-clause-grown
 returns-in-Show-clause-grown g c = err_always c.show.result _ (grown_none _)
@@ -76,7 +76,7 @@ returns-in-Messages-clause-made g c =
 pub returns-in-Show-clause-made : goal.returns-in-Show-clause-made
 returns-in-Show-clause-made g c =
     let s = c.args.sight in
-    let p = c.in-Show.shown in
+    let p = c.in-Show.query in
     made_as c.show.result s c.args.request.now (Show p) s (query_text s.walker p) c.in-Show.is (λ v t e h. (e, h)) c.show.ensures.same c.show.ensures.text
 
 pub returns-in-Point-clause-made : goal.returns-in-Point-clause-made
