@@ -1,5 +1,5 @@
 -- A walker comes to each position that isn't after its last.
-use Rattle.std.proofs.Common.{◌≡◌, ◌≢◌, ◌∙◌, ◌≤◌, ◌⊎◌, ℕ, zero, suc, List, [], ◌∷◌, ◌++◌, length, append_assoc, Some, None, ap, sym, subst, inl, inr, arith}
+use Rattle.std.proofs.Common.{◌≡◌, ◌≢◌, ◌∙◌, ◌<◌, ◌≤◌, ◌⊎◌, ℕ, zero, suc, List, [], ◌∷◌, ◌++◌, length, append_assoc, Some, None, ap, sym, subst, inl, inr, arith}
 use Rattle.std.proofs.lemmas.Bool.{cases_lt}
 use Rattle.std.proofs.lemmas.List.{append-nil}
 use Rattle.mx_machine.specs.declared.events.Event.{Event}
@@ -11,7 +11,7 @@ use Rattle.mx_machine.specs.Machine.{MachineState, world_of}
 use Rattle.mx_walk.specs.declared.positions.Position.{Position}
 use Rattle.mx_walk.specs.Positions.{HasHalted, IsBefore, IsAt, IsBlocked, IsPosition, IsStuck, IsUpTo, next_event, events_before, events_left, first, next_position, world_at}
 use Rattle.mx_walk.specs.Walks.{IsLast, refusal_of}
-use Rattle.mx_walk.proofs.Along.{at, none_above}
+use Rattle.mx_walk.proofs.Along.{at, itself, none_above}
 use Rattle.mx_walk.proofs.Made.{none_made, made_as}
 use Rattle.mx_walk.proofs.Next.{above_it, above_to, above_trans, at_end, fewer_left, has_event, is_position_too, next_up_to, not_itself, up_to_of}
 
@@ -93,6 +93,11 @@ not_blocked boot records p q h g lt a blocked =
 pub arrives_by : (boot : World) (records : List Record) (p to : Position) (last : Position) → IsPosition records p → IsLast boot records last → IsUpTo to last → HasHalted boot records to p → p ≡ to
 arrives_by boot records p to last h l le (inl e) = e
 arrives_by boot records p to last h l le (inr s) = absurd (not_blocked boot records p last h l.position (above_trans p to last s.0 le) l.accepted s.1)
+
+-- who halts on the way to a position isn't after it
+pub halted_up : (boot : World) (records : List Record) (to p : Position) → HasHalted boot records to p → IsUpTo p to
+halted_up boot records to p (inl e) = subst (λ (q : Position). IsUpTo p q) e (itself p)
+halted_up boot records to p (inr h) = up_to_of p to h.0
 
 -- who goes to a position that isn't after the last arrives there
 pub arrives : (boot : World) (records : List Record) (p to last : Position) (m : MachineState) → IsLast boot records last → IsUpTo to last → IsAt boot records p m → HasHalted boot records to p → IsAt boot records to m

@@ -63,3 +63,7 @@ after_place p q k (inr h) e = let same = h.0 in omega (arith, same, e)
 -- all that is between the first place and another
 pub all_between : (all n : ℕ) → parts_between all 0 n ≡ parts_shown all n
 all_between all n = let e : n - 0 ≡ n = omega arith in ap (λ i. map (part_after all) (range_with_len 0 i)) e
+
+-- as many parts from one place on
+pub up_to : (all m n k : ℕ) (before : List Part) → n - m ≡ k - m → before ++ parts_between all m n ≡ before ++ parts_between all m k
+up_to all m n k before e = ap (λ i. before ++ map (part_after all) (range_with_len m i)) e

@@ -1,33 +1,46 @@
-//! Checkpoints along a history: where they are taken, and how a machine is made from one.
+//! Checkpoints along a history: where they are taken, what they take, and how a machine is made from one.
+//!
+//! # Where they are
+//!
+//! A checkpoint saves the steps before it, and costs two copies of the machine: one when it is taken, one each time that
+//! a machine is made from it. So along a history they are at equal distances that are worth a copy: a copy of as many
+//! bytes takes a tenth of the time of as many steps. There are at most `MOST_CHECKPOINTS`, and they take at most
+//! `MOST_BYTES`, so a step back takes a sixtieth of the whole walk at most, if that is long. One more is near where a
+//! session last went back: it makes a second step back at one place quick, however long the history is.
 
-ghost use Rattle.std.specs.Prelude.{◌≡◌, ◌+◌, ◌/◌, ◌<◌, ◌≤◌, [], IfOk, IfSome, MatchOption, length, min, slice_index_or};
+ghost use Rattle.std.specs.Prelude.{◌≡◌, ◌+◌, ◌-◌, ◌/◌, ◌^◌, ◌<◌, ◌≤◌, [], IfOk, IfSome, MatchOption, None, length, min, slice_index_or};
 ghost use Rattle.mx_machine.specs.Machine.{world_of};
 ghost use Rattle.mx_machine.specs.World.{actors};
 ghost use Rattle.mx_walk.specs.Checkpoints.{AreStored, IsStored, positions_of};
+ghost use Rattle.mx_walk.specs.Sizes.{checkpoint_bytes, image_bytes, most_checkpoints, segment_bytes, text_bytes};
 ghost use Rattle.mx_walk.specs.declared.checkpoints.Stored.{Stored};
-ghost use Rattle.mx_walk.specs.Positions.{IsAt, IsUpTo, first};
+ghost use Rattle.mx_walk.specs.Positions.{IsAt, IsPosition, IsUpTo, first};
 ghost use Rattle.mx_walk.specs.Walks.{mark_before};
 
-use crate::{Position, is_up_to, steps_in};
+use crate::{FIRST, Position, is_up_to, steps_in};
 use mx_exec::{Code, Image};
 use mx_machine::{Checkpoint, Machine, Record};
 use mx_word::NoMemory;
 use std::alloc::Global;
 
 /// The most checkpoints of a walker.
-pub const MOST_CHECKPOINTS: usize = 63;
+pub const MOST_CHECKPOINTS: u128 = 63;
 /// The most bytes that they take in all: 256 MiB.
-pub const MOST_BYTES: usize = 0x1000_0000;
+pub const MOST_BYTES: u128 = 0x1000_0000;
 /// How long a record takes in addition to its steps, in steps: 0.25 microseconds, where a step takes 3.3 nanoseconds.
-const RECORD_COST: u64 = 76;
-/// A walk that takes fewer steps, about a second, gets no checkpoint.
-const LEAST_COST: u64 = 300_000_000;
+const RECORD_COST: u32 = 76;
+/// How far from each other the checkpoints along a history are at least, in steps: some 3 milliseconds.
+const LEAST_DISTANCE: u64 = 1_000_000;
+/// How far the near checkpoint is from where a session went back to, in steps.
+const NEAR_DISTANCE: u32 = 100_000;
 /// What a page of a segment takes: its bytes, its place in the list of pages, and what an allocation adds.
-const PAGE_BYTES: usize = 4_096 + 32;
+const PAGE_BYTES: u128 = 4_096 + 32;
 /// What a slot takes in addition to its pages, whether its process is on a processor or not.
-const SLOT_BYTES: usize = 4_096;
+const SLOT_BYTES: u128 = 4_096;
 /// What the table takes in addition to its slots: the console, the last deliveries and the devices.
-const TABLE_BYTES: usize = 65_536;
+const TABLE_BYTES: u128 = 65_536;
+/// What a record takes in a machine that is made from a checkpoint.
+const RECORD_BYTES: u64 = 8;
 
 /// A checkpoint, and the position at which it was taken.
 #[derive(Drop)]
@@ -36,44 +49,76 @@ pub(crate) struct Stored {
     pub checkpoint: Checkpoint,
 }
 
-/// What a segment of this many bytes takes.
-fn segment_bytes(limit: usize) -> usize {
-    (limit / 4_096).saturating_add(1).saturating_mul(PAGE_BYTES)
+/// The checkpoints of a walker.
+#[derive(Drop)]
+pub(crate) struct Stock {
+    /// Those along the history, in the order of their positions.
+    pub along: Vec<Stored>,
+    /// The one near the position that the walker last went back to.
+    pub near: Option<Stored>,
+    /// How many there may be.
+    pub most: usize,
 }
 
-/// What a copy of an image takes.
-fn image_bytes(image: &Image) -> usize {
-    let memory = segment_bytes(image.memory.limit());
-    match &image.code {
-        Code::Separate(text) => memory.saturating_add(segment_bytes(text.limit())),
-        Code::Shared => memory,
+/// What a segment of this many bytes takes.
+fn segment_bytes(limit: usize) -> u128
+    ensures value { result ≡ segment_bytes limit }
+    ensures few { result ≤ 2 ^ 65 }
+{
+    (limit as u128 / 4_096 + 1) * PAGE_BYTES
+}
+
+/// What a text of its own takes.
+fn text_bytes(code: &Code) -> u128
+    ensures value { result ≡ text_bytes code.now }
+    ensures few { result ≤ 2 ^ 65 }
+{
+    match code {
+        Code::Separate(text) => segment_bytes(text.limit()),
+        Code::Shared => 0,
     }
 }
 
-/// What a checkpoint of a machine takes, if none of its processes is on a processor.
-fn checkpoint_bytes(machine: &Machine) -> usize
-    ensures { 65536 ≤ result }
+/// What a copy of an image takes.
+fn image_bytes(image: &Image) -> u128
+    ensures value { result ≡ image_bytes image.now }
+    ensures few { result ≤ 2 ^ 66 }
+{
+    segment_bytes(image.memory.limit()) + text_bytes(&image.code)
+}
+
+/// What a checkpoint of a machine takes, whether its processes are on processors or not, if each is as long as now.
+fn checkpoint_bytes(machine: &Machine) -> u128
+    ensures value { result ≡ checkpoint_bytes (world_of machine.now) }
+    ensures some { 65536 ≤ result }
 {
     let table = machine.kernel().table();
     let mut bytes = TABLE_BYTES;
     for slot in 0..table.slot_count() {
-        let image = image_bytes(&table.process(slot).image);
-        bytes = bytes.saturating_add(SLOT_BYTES).saturating_add(image);
+        bytes += SLOT_BYTES + image_bytes(&table.process(slot).image);
     }
     bytes
 }
 
 /// How many checkpoints a walker has, if one takes this many bytes.
-fn most_of(bytes: usize) -> usize
+fn most_of(bytes: u128) -> usize
     requires { 0 < bytes }
     ensures { result ≡ min 63 (268435456 / bytes) }
 {
-    MOST_CHECKPOINTS.min(MOST_BYTES / bytes)
+    MOST_CHECKPOINTS.min(MOST_BYTES / bytes) as usize
+}
+
+/// How far from each other checkpoints along these records are at least, in steps, if one takes this many bytes: a step
+/// for each byte of a machine that is made from one.
+fn least_distance(bytes: u128, records: &[Record]) -> u64 {
+    let bytes = u64::try_from(bytes).unwrap_or(u64::MAX);
+    let records = RECORD_BYTES.saturating_mul(records.len() as u64);
+    bytes.saturating_add(records).max(LEAST_DISTANCE)
 }
 
 /// How long a record takes, in steps.
 fn cost(entry: Record) -> u64 {
-    RECORD_COST + u64::from(steps_in(entry.event))
+    u64::from(RECORD_COST) + u64::from(steps_in(entry.event))
 }
 
 /// How long these records take, in steps.
@@ -86,7 +131,12 @@ fn cost_of_all(records: &[Record]) -> u64 {
 }
 
 /// A checkpoint of a machine at a position. None if there is no memory for it.
-fn store(alloc: Global, machine: &Machine, records: &[Record], at: Position) -> Option<Stored>
+pub(crate) fn store(
+    alloc: Global,
+    machine: &Machine,
+    records: &[Record],
+    at: Position,
+) -> Option<Stored>
     requires there { IsAt machine.now.kernel.boot records.now at machine.now }
     requires actors { actors (world_of machine.now) ≡ actors machine.now.kernel.boot }
     ensures { IfSome result (λ stored. IsStored machine.now.kernel.boot records.now stored) }
@@ -127,7 +177,7 @@ fn add(
 /// The checkpoints that a walk takes.
 #[derive(Drop)]
 pub(crate) struct Checkpoints {
-    /// How many it takes at most.
+    /// How many there may be, with the near one, for which one is left.
     pub most: usize,
     /// How far they are from each other, in steps.
     pub distance: u64,
@@ -141,17 +191,14 @@ impl Checkpoints {
     /// None yet. They will be taken at equal distances along these records, if the walk is a long one.
     pub(crate) fn plan(alloc: Global, machine: &Machine, records: &[Record]) -> Checkpoints
         ensures none { result.taken.items ≡ [] }
-        ensures most { result.most ≤ 63 }
+        ensures most { result.most ≡ most_checkpoints (world_of machine.now) }
     {
-        let total = cost_of_all(records);
-        let most = if total < LEAST_COST {
-            0
-        } else {
-            most_of(checkpoint_bytes(machine))
-        };
+        let bytes = checkpoint_bytes(machine);
+        let most = most_of(bytes);
+        let equal = cost_of_all(records) / (most as u64).max(1);
         Checkpoints {
             most,
-            distance: (total / (most as u64 + 1)).saturating_add(1),
+            distance: equal.saturating_add(1).max(least_distance(bytes, records)),
             passed: 0,
             alloc,
             taken: Vec::new(alloc),
@@ -169,23 +216,29 @@ impl Checkpoints {
         requires there { IsAt machine.now.kernel.boot records.now at machine.now }
         requires actors { actors (world_of machine.now) ≡ actors machine.now.kernel.boot }
         requires stored { AreStored machine.now.kernel.boot records.now self.old.taken.items }
-        requires few { length self.old.taken.items ≤ self.old.most }
+        requires few { length self.old.taken.items ≤ self.old.most - 1 }
         ensures stored { AreStored machine.now.kernel.boot records.now self.new.taken.items }
-        ensures few { length self.new.taken.items ≤ self.new.most }
+        ensures few { length self.new.taken.items ≤ self.new.most - 1 }
         ensures most { self.new.most ≡ self.old.most }
     {
         self.passed = self.passed.saturating_add(cost(entry));
-        if self.passed >= self.distance && self.taken.len() < self.most {
+        if self.passed >= self.distance && self.taken.len() + 1 < self.most {
             add(self.alloc, machine, records, at, &mut self.taken);
             self.passed = 0;
         }
     }
 
-    /// The checkpoints that were taken.
-    pub(crate) fn into_taken(self) -> Vec<Stored>
-        ensures { result.items ≡ self.taken.items }
+    /// The checkpoints that were taken, and no near one.
+    pub(crate) fn into_stock(self) -> Stock
+        ensures along { result.along.items ≡ self.taken.items }
+        ensures near { result.near ≡ None }
+        ensures most { result.most ≡ self.most }
     {
-        self.taken
+        Stock {
+            along: self.taken,
+            near: None,
+            most: self.most,
+        }
     }
 }
 
@@ -204,6 +257,31 @@ pub(crate) fn last_before(checkpoints: &[Stored], to: Position) -> Option<usize>
         }
     }
     last
+}
+
+/// Where a checkpoint near a position is taken: so many steps before it, or at the first position.
+pub(crate) fn near_before(records: &[Record], to: Position) -> Position
+    requires { IsPosition records.now to }
+    ensures position { IsPosition records.now result }
+    ensures early { IsUpTo result to }
+{
+    let mut left = NEAR_DISTANCE;
+    let mut at = to;
+    while at.steps < left {
+        if at.records == 0 {
+            return FIRST;
+        }
+        let before = at.records - 1;
+        left = (left - at.steps).saturating_sub(RECORD_COST);
+        at = Position {
+            records: before,
+            steps: steps_in(records[before].event),
+        };
+    }
+    Position {
+        records: at.records,
+        steps: at.steps - left,
+    }
 }
 
 /// The machine of a checkpoint. The services are taken from another machine of the same boot, which is let go.

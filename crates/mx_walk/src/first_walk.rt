@@ -1,6 +1,6 @@
 //! The first walk along a history, with the checkpoints that it takes.
 
-ghost use Rattle.std.specs.Prelude.{◌≡◌, ◌<◌, ◌≤◌, ◌++◌, All, length};
+ghost use Rattle.std.specs.Prelude.{◌≡◌, ◌<◌, ◌≤◌, ◌-◌, ◌++◌, All, length};
 ghost use Rattle.mx_machine.specs.declared.history.Record.{Record as Noted};
 ghost use Rattle.mx_machine.specs.World.{actors};
 ghost use Rattle.mx_machine.specs.Machine.{world_of};
@@ -25,12 +25,12 @@ pub(crate) fn walk_first<P: Progress>(
     requires there { IsAt machine.old.kernel.boot records.now first machine.old }
     requires many { actors (world_of machine.old) ≡ actors machine.old.kernel.boot }
     requires stored { AreStored machine.old.kernel.boot records.now checkpoints.old.taken.items }
-    requires few { length checkpoints.old.taken.items ≤ checkpoints.old.most }
+    requires few { length checkpoints.old.taken.items ≤ checkpoints.old.most - 1 }
     ensures there { IsAt machine.old.kernel.boot records.now result machine.new }
     ensures halted { HasHalted machine.old.kernel.boot records.now (end_of records.now) result }
     ensures shown { P.shown progress.new ≡ P.shown progress.old ++ walk_shown records.now result }
     ensures stored { AreStored machine.old.kernel.boot records.now checkpoints.new.taken.items }
-    ensures few { length checkpoints.new.taken.items ≤ checkpoints.new.most }
+    ensures few { length checkpoints.new.taken.items ≤ checkpoints.new.most - 1 }
     ensures most { checkpoints.new.most ≡ checkpoints.old.most }
 {
     let mut at = FIRST;

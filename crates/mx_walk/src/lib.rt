@@ -6,8 +6,8 @@
 //! A record of a history says what came, and not what a process computed: so a position is made by making its records
 //! again. `Walker` is a machine at a position of a history. Going on makes the next records; going back makes a machine
 //! again, from the nearest checkpoint before the position that is wanted, or from the boot, and goes on from there. So
-//! the way back costs what the way from the checkpoint costs. A checkpoint is a copy of the whole machine; one is kept
-//! in each of some equal parts of the steps, and they are bounded in number and in bytes.
+//! the way back costs what the way from the checkpoint costs. A checkpoint is a copy of the whole machine: some are along
+//! the history, and one near where the walker last went back; they are bounded in number and in bytes.
 //!
 //! A search (`seek`) goes on until a `Mark` marks an event, or is told to stop, or the history ends. Where the requests
 //! of a session lead a walker, by records, events or a `PositionWord`, is in `destinations`.
@@ -24,6 +24,7 @@ mod positions;
 mod progress;
 mod quiet;
 mod records;
+mod resuming;
 mod seeking;
 mod several;
 mod showing;
@@ -32,7 +33,6 @@ mod walker;
 mod walking_forward;
 mod watching;
 
-pub use checkpoints::{MOST_BYTES, MOST_CHECKPOINTS};
 pub use destinations::{PositionWord, back_from, forward_from, go_to_asked, steps_back, steps_on};
 pub use either::Either;
 pub use position_laws::{events_are_made, positions_alternate, positions_replay};

@@ -1,7 +1,7 @@
 //! What is shown of a walk.
 
 ghost use Rattle.std.specs.Prelude.{◌≡◌, ◌≤◌, ◌+◌, ◌++◌};
-ghost use Rattle.mx_walk.specs.Parts.{walk_between};
+ghost use Rattle.mx_walk.specs.Parts.{parts_between, walk_between};
 
 use crate::positions::Position;
 use crate::progress::{Part, Progress};
@@ -22,6 +22,18 @@ pub(crate) fn show_passed<P: Progress>(
         progress.show(Part {
             done: next.records,
             all: records.len(),
+        });
+    }
+}
+
+/// Shows the parts of a work from one place to another, as those that needn't be done again.
+pub(crate) fn show_parts<P: Progress>(all: usize, from: usize, to: usize, progress: &mut P)
+    ensures { P.shown progress.new ≡ P.shown progress.old ++ parts_between all from to }
+{
+    for done in from..to {
+        progress.show(Part {
+            done: done + 1,
+            all,
         });
     }
 }

@@ -1,22 +1,24 @@
 //! A walker: a machine at a position of a history.
 
-ghost use Rattle.std.specs.Prelude.{◌≡◌, ◌⊎◌, ◌<◌, ◌≤◌, ◌++◌, ℕ, true, false, All, IfErr, IfOk, MatchOption, OnOk, length, if◌then◌else◌};
+ghost use Rattle.std.specs.Prelude.{◌≡◌, ◌⊎◌, ◌<◌, ◌≤◌, ◌-◌, ◌++◌, ℕ, true, false, All, IfErr, IfOk, MatchOption, OnOk, length, if◌then◌else◌};
 ghost use Rattle.mx_machine.specs.declared.events.Event.{Event as Made};
 ghost use Rattle.mx_machine.specs.declared.history.Record.{Record as Noted};
 ghost use Rattle.mx_machine.specs.Move.{event_refusal};
 ghost use Rattle.mx_machine.specs.World.{actors};
 ghost use Rattle.mx_machine.specs.Machine.{world_of};
 ghost use Rattle.mx_walk.specs.declared.positions.Position.{Position as At};
-ghost use Rattle.mx_walk.specs.Checkpoints.{AreStored, positions_of};
-ghost use Rattle.mx_walk.specs.Positions.{IsBefore, IsAt, IsPosition, IsUpTo, first, is_up_to, position_before};
+ghost use Rattle.mx_walk.specs.Positions.{IsBefore, IsPosition, IsUpTo, first, is_up_to, position_before};
 ghost use Rattle.mx_walk.specs.Seeking.{IsFirstMarked, IsLastMarked, IsPassed};
+ghost use Rattle.mx_walk.specs.Sizes.{most_checkpoints};
 ghost use Rattle.mx_walk.specs.Watching.{is_changed};
-ghost use Rattle.mx_walk.specs.Walks.{IsBootOf, IsLast, mark_before, refusal_here, shown_to, world_here};
+ghost use Rattle.mx_walk.specs.Walks.{IsBootOf, IsLast, refusal_here, shown_to, world_here};
 ghost use Rattle.mx_walk.specs.Parts.{walk_between, walk_shown};
 
 use crate::booting::boot_again;
-use crate::checkpoints::{Checkpoints, Stored, last_before, machine_of};
+use crate::checkpoints::{Checkpoints, Stock};
 use crate::first_walk::walk_first;
+use crate::resuming::{Origin, go_on_near, machine_again, machine_on_the_way, mark_before};
+use crate::showing::show_parts;
 use crate::walking_forward::go_on;
 use crate::watching::{ByteChange, BytePlace};
 use crate::{
@@ -35,8 +37,7 @@ pub struct Walker {
     records: Vec<Record>,
     here: Position,
     last: Position,
-    /// In the order of their positions; none of them is after `last`.
-    checkpoints: Vec<Stored>,
+    stock: Stock,
 }
 
 impl Drop for Walker {
@@ -47,13 +48,13 @@ impl Drop for Walker {
             records: _,
             here: _,
             last: _,
-            checkpoints: _,
+            stock: _,
         } = self;
     }
 }
 
 impl Model for Walker {
-    ghost use Rattle.mx_walk.specs.Checkpoints.{AreStored, positions_of};
+    ghost use Rattle.mx_walk.specs.Checkpoints.{IsStock, positions_of};
     ghost use Rattle.mx_walk.specs.Walks.{IsWalk, Walk};
 
     ghost Value = { Walk };
@@ -63,7 +64,7 @@ impl Model for Walker {
       records = w.records.items;
       here = w.here;
       last = w.last;
-      marks = positions_of w.checkpoints.items;
+      marks = positions_of w.stock.along.items;
     } };
 
     ghost invariant = { λ w. IsWalk w.machine w.config (record {
@@ -71,74 +72,8 @@ impl Model for Walker {
       records = w.records.items;
       here = w.here;
       last = w.last;
-      marks = positions_of w.checkpoints.items;
-    }) × AreStored w.machine.kernel.boot w.records.items w.checkpoints.items };
-}
-
-/// What a machine is made again of: the configuration that it boots from, the history, and checkpoints along it.
-#[derive(Clone, Copy)]
-struct Origin<'a> {
-    config: &'a Config,
-    records: &'a [Record],
-    checkpoints: &'a [Stored],
-}
-
-/// A machine at the last checkpoint that isn't after a position, and where that is; booted again if there is
-/// none.
-fn machine_again(
-    alloc: Global,
-    machine: Machine,
-    origin: Origin<'_>,
-    to: Position,
-) -> Result<(Machine, Position), NoMemory>
-    requires booted { IsBootOf origin.config.now machine.kernel.boot }
-    requires stored { AreStored machine.kernel.boot origin.records.now origin.checkpoints.now }
-    ensures there { IfOk result (λ earlier.
-        IsAt machine.kernel.boot origin.entry.records.now earlier.1 earlier.0) }
-    ensures early { IfOk result (λ earlier. IsUpTo earlier.1 to) }
-    ensures mark { IfOk result (λ earlier. earlier.1
-        ≡ mark_before (positions_of origin.entry.checkpoints.now) to) }
-    ensures actors { IfOk result (λ earlier.
-        actors (world_of earlier.0) ≡ actors machine.kernel.boot) }
-{
-    match last_before(origin.checkpoints, to) {
-        Some(index) => {
-            let stored = &origin.checkpoints[index];
-            let again = machine_of(alloc, machine, origin.records, stored)?;
-            Ok((again, stored.position))
-        }
-        None => {
-            let again = boot_again(alloc, machine, origin.config)?;
-            Ok((again, FIRST))
-        }
-    }
-}
-
-/// A machine at a position or before it, and where it is: the machine as it is, or that of a checkpoint, or
-/// booted again.
-fn machine_before(
-    alloc: Global,
-    machine: Machine,
-    origin: Origin<'_>,
-    here: Position,
-    to: Position,
-) -> Result<(Machine, Position), NoMemory>
-    requires booted { IsBootOf origin.config.now machine.kernel.boot }
-    requires stored { AreStored machine.kernel.boot origin.records.now origin.checkpoints.now }
-    requires there { IsAt machine.kernel.boot origin.records.now here machine }
-    requires actors { actors (world_of machine) ≡ actors machine.kernel.boot }
-    ensures there { IfOk result (λ earlier.
-        IsAt machine.kernel.boot origin.entry.records.now earlier.1 earlier.0) }
-    ensures early { IfOk result (λ earlier. IsUpTo earlier.1 to) }
-    ensures start { IfOk result (λ earlier. earlier.1 ≡ (if is_up_to here to then here
-        else mark_before (positions_of origin.entry.checkpoints.now) to)) }
-    ensures actors { IfOk result (λ earlier.
-        actors (world_of earlier.0) ≡ actors machine.kernel.boot) }
-{
-    if is_up_to(here, to) {
-        return Ok((machine, here));
-    }
-    machine_again(alloc, machine, origin, to)
+      marks = positions_of w.stock.along.items;
+    }) × IsStock w.machine.kernel.boot w.records.items w.stock };
 }
 
 impl Walker {
@@ -158,7 +93,7 @@ impl Walker {
         ensures made { IfOk result (λ w. (w.boot ≡ machine.kernel.boot)
             × (w.records ≡ records.items) × (w.here ≡ first)) }
         ensures last { IfOk result (λ w. IsLast w.boot w.records w.last) }
-        ensures few { IfOk result (λ w. length w.marks ≤ 63) }
+        ensures few { IfOk result (λ w. length w.marks ≤ most_checkpoints w.boot - 1) }
         ensures shown { IfOk result (λ w. P.shown progress.new
             ≡ P.shown progress.old ++ walk_shown w.records w.last) }
         ensures walked { IfErr result (λ _. (last : At)
@@ -177,7 +112,7 @@ impl Walker {
             records,
             here: FIRST,
             last,
-            checkpoints: checkpoints.into_taken(),
+            stock: checkpoints.into_stock(),
         })
     }
 
@@ -230,8 +165,97 @@ impl Walker {
         }
     }
 
-    /// Goes to any position that it can come to, and shows each record that it passes. Takes memory only to go back,
-    /// before it shows anything.
+    /// Goes on to a later position, and shows each record that it passes. Takes memory only for the machine of a
+    /// checkpoint on the way, before it shows anything.
+    fn go_forward<P: Progress>(
+        self,
+        alloc: Global,
+        to: Position,
+        progress: &mut P,
+    ) -> Result<Walker, NoMemory>
+        requires position { IsPosition self.records to }
+        requires early { IsUpTo to self.last }
+        requires later { is_up_to self.here to ≡ true }
+        requires up { IsUpTo self.here to }
+        ensures gone { IfOk result (λ w. w ≡ record self { here = to }) }
+        ensures shown { OnOk result (P.shown progress.new
+            ≡ P.shown progress.old ++ shown_to self to) }
+        ensures unshown { IfErr result (λ _. P.shown progress.new ≡ P.shown progress.old) }
+    {
+        let Walker {
+            machine,
+            config,
+            records,
+            here,
+            last,
+            stock,
+        } = self;
+        let passed = records.as_slice();
+        let origin = Origin {
+            config: &config,
+            records: passed,
+            stock: &stock,
+        };
+        let (mut machine, from) = machine_on_the_way(alloc, machine, origin, here, to)?;
+        show_parts(passed.len(), here.records, from.records, progress);
+        go_on(&mut machine, passed, from, to, progress);
+        Ok(Walker {
+            machine,
+            config,
+            records,
+            here: to,
+            last,
+            stock,
+        })
+    }
+
+    /// Goes back to a position, and shows each record from where the walk begins. A checkpoint stays near the position.
+    /// Takes memory for the machine, before it shows anything.
+    fn go_back<P: Progress>(
+        self,
+        alloc: Global,
+        to: Position,
+        progress: &mut P,
+    ) -> Result<Walker, NoMemory>
+        requires position { IsPosition self.records to }
+        requires early { IsUpTo to self.last }
+        requires back { is_up_to self.here to ≡ false }
+        ensures gone { IfOk result (λ w. w ≡ record self { here = to }) }
+        ensures shown { OnOk result (P.shown progress.new
+            ≡ P.shown progress.old ++ shown_to self to) }
+        ensures unshown { IfErr result (λ _. P.shown progress.new ≡ P.shown progress.old) }
+    {
+        let Walker {
+            machine,
+            config,
+            records,
+            here: _,
+            last,
+            stock,
+        } = self;
+        let passed = records.as_slice();
+        let origin = Origin {
+            config: &config,
+            records: passed,
+            stock: &stock,
+        };
+        let start = mark_before(&stock, to);
+        let (mut machine, from) = machine_again(alloc, machine, origin, to)?;
+        show_parts(passed.len(), start.records, from.records, progress);
+        let way = Way { from, to };
+        let (_, stock) = go_on_near(alloc, &mut machine, passed, way, stock, progress);
+        Ok(Walker {
+            machine,
+            config,
+            records,
+            here: to,
+            last,
+            stock,
+        })
+    }
+
+    /// Goes to any position that it can come to, and shows each record that it passes. Takes memory to go back, or to
+    /// go on from a checkpoint, before it shows anything.
     pub fn go_to<P: Progress>(
         self,
         alloc: Global,
@@ -245,31 +269,10 @@ impl Walker {
             ≡ P.shown progress.old ++ shown_to self to) }
         ensures unshown { IfErr result (λ _. P.shown progress.new ≡ P.shown progress.old) }
     {
-        let Walker {
-            machine,
-            config,
-            records,
-            here,
-            last,
-            checkpoints,
-        } = self;
-        let earlier = records.as_slice();
-        let stored = checkpoints.as_slice();
-        let origin = Origin {
-            config: &config,
-            records: earlier,
-            checkpoints: stored,
-        };
-        let (mut machine, from) = machine_before(alloc, machine, origin, here, to)?;
-        go_on(&mut machine, records.as_slice(), from, to, progress);
-        Ok(Walker {
-            machine,
-            config,
-            records,
-            here: to,
-            last,
-            checkpoints,
-        })
+        if is_up_to(self.here(), to) {
+            return self.go_forward(alloc, to, progress);
+        }
+        self.go_back(alloc, to, progress)
     }
 
     /// Goes on up to right after the first event that is marked; to the last position if there is none. Shows
@@ -330,7 +333,7 @@ impl Walker {
             records,
             here,
             last,
-            checkpoints,
+            stock,
         } = self;
         let mut machine = boot_again(alloc, machine, &config)?;
         let way = Way {
@@ -344,7 +347,7 @@ impl Walker {
             records,
             here,
             last,
-            checkpoints,
+            stock,
         };
         Ok((walker, found))
     }

@@ -1,4 +1,4 @@
-use Rattle.std.proofs.Common.{◌≡◌, ◌≤◌, ◌++◌, length}
+use Rattle.std.proofs.Common.{◌≡◌, ◌≤◌, ◌-◌, ◌++◌, length}
 use Rattle.mx_machine.specs.World.{actors}
 use Rattle.mx_machine.specs.Machine.{world_of}
 use Rattle.mx_walk.specs.Checkpoints.{AreStored}
@@ -14,7 +14,7 @@ invariant-loop-earlier g l = record {
   there : IsAt l.initial.machine.kernel.boot l.records l.at l.machine;
   as_many : actors (world_of l.machine) ≡ actors (world_of l.initial.machine);
   stored : AreStored l.initial.machine.kernel.boot l.records l.checkpoints.taken.items;
-  few : length l.checkpoints.taken.items ≤ l.checkpoints.most;
+  few : length l.checkpoints.taken.items ≤ l.checkpoints.most - 1;
   most : l.checkpoints.most ≡ l.initial.checkpoints.most;
   shown : g.P.Progress.shown l.progress ≡ g.P.Progress.shown l.initial.progress ++ parts_between (length l.records) 0 l.earlier;
 }

@@ -1,5 +1,9 @@
+use Rattle.std.proofs.Common.{sym, subst}
+use Rattle.mx_walk.specs.declared.positions.Position.{Position}
+use Rattle.mx_walk.specs.Positions.{IsUpTo, first}
+use Rattle.mx_walk.proofs.Along.{itself}
 use Rattle.mx_walk.proofs.Arriving.{at_first}
-use Rattle.mx_walk.proofs.walker.machine_again.Goals as goal
+use Rattle.mx_walk.proofs.resuming.machine_again.Goals as goal
 
 pub returns-in_ok-again-in-None-clause-there : goal.returns-in_ok-again-in-None-clause-there
 returns-in_ok-again-in-None-clause-there c =
