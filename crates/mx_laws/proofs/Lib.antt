@@ -27,3 +27,4 @@ mod Latest
 mod Getting
 mod Ordered
 mod AreMade
+mod StillLemmas

@@ -10,3 +10,4 @@ pub mod Entries
 pub mod DiaryLaws
 pub mod Told
 pub mod Made
+pub mod Still

@@ -19,10 +19,15 @@
 //!
 //! What is printed of an event is worked out from the worlds before and after it. `look_laws` say that this is what the
 //! event did.
+//!
+//! # Rest
+//!
+//! Who waits where nothing can wake anybody waits for ever (`rest_laws`): no events but kills change that machine.
 #![tactic(auto)]
 
 mod diary_laws;
 mod look_laws;
+mod rest_laws;
 mod secrecy_laws;
 
 pub use diary_laws::{
@@ -30,4 +35,5 @@ pub use diary_laws::{
     kernels_agree, kernels_tell_images, lives_tell_images, others_leave_images,
 };
 pub use look_laws::{told_are_made, told_gone_on};
+pub use rest_laws::still_machines_stay;
 pub use secrecy_laws::{all_else_is_same, images_stay_secret, other_images_differ, rules_stay};
