@@ -26,7 +26,7 @@ ghost use Rattle.mx_app_turns.specs.declared.sweeping.Swept.TheVariants as swept
 ghost use Rattle.mx_app_turns.specs.Blocks.{block_text, positions_of, total_text};
 ghost use Rattle.mx_app_turns.specs.Tallied.{both, has_room, tally_of, with_next};
 ghost use Rattle.mx_app_turns.specs.Untested.{untested_by};
-ghost use Rattle.mx_turns.specs.Swept.{IsSwept};
+ghost use Rattle.mx_turns.specs.Swept.{IsPair, IsSwept};
 ghost use Rattle.mx_app_turns.specs.Sweeping.{IsBegun, IsNotBegun, IsShown, IsUnsaved, Sweeps, blocks_at, ended, findings_at, refusal_at, run_at, saved_if, saves_program, text_at, total_of};
 ghost use Rattle.mx_app_step.specs.Kept.{kept_of, text_kept};
 ghost use Rattle.mx_app_turns.specs.Begun.{IsDone, IsReady, begun_of, is_ready, sweep_of};
@@ -41,8 +41,9 @@ use mx_app_start::{
 use mx_app_step::{perform_records, print_refusal, write_history};
 use mx_boot::lines_above;
 use mx_machine::{Config, Machine, Record, Refusal};
-use mx_turns::{FaultLine, Findings, Range, Sweep, Trial, trial_at};
+use mx_turns::{FaultLine, Findings, Pair, Range, Sweep, Trial, trial_at};
 use mx_walk::{Part, Progress};
+use mx_word::NoMemory;
 use std::alloc::Global;
 use std::io::Write;
 
@@ -226,26 +227,30 @@ struct Done {
 /// The trial of a position of a sweep. It is shown then that the position is done.
 fn trial_shown<P: Progress>(
     alloc: Global,
-    machine: Machine,
+    pair: Pair,
     sweep: Sweep<'_>,
     position: usize,
     progress: &mut P,
 ) -> Result<Trial, Failure>
-    requires swept { IsSwept sweep machine.kernel.boot }
+    requires swept { IsSwept sweep pair.along.kernel.boot }
+    requires pair { IsPair sweep.records.now pair }
+    requires later { pair.position ≤ position }
     requires from { sweep.range.from ≤ position }
     requires end { position < sweep.range.end }
     requires within { sweep.range.end ≤ length sweep.records.now + 1 }
     ensures err { IfErr result IsWanting }
-    ensures outcome { IfOk result (λ o. let s = sweep_of sweep.entry machine.kernel.boot in
+    ensures outcome { IfOk result (λ o. let s = sweep_of sweep.entry pair.along.kernel.boot in
         (o.text.items ≡ text_at s position) × (o.findings ≡ findings_at s position)
-        × (o.machine.kernel ≡ (run_at s position).kernel)) }
-    ensures boot { IfOk result (λ o. o.machine.kernel.boot ≡ machine.kernel.boot) }
+        × (o.pair.copy.kernel ≡ (run_at s position).kernel)) }
+    ensures pair { IfOk result (λ o. IsPair sweep.entry.records.now o.pair) }
+    ensures there { IfOk result (λ o. o.pair.position ≡ position) }
+    ensures boot { IfOk result (λ o. o.pair.along.kernel.boot ≡ pair.along.kernel.boot) }
     ensures shown { OnOk result (let range = sweep.entry.range in P.shown progress.new
         ≡ P.shown progress.old
         ++ record { done = position - range.from + 1; all = range.end - range.from } ∷ []) }
     ensures same { IfErr result (λ _. P.shown progress.new ≡ P.shown progress.old) }
 {
-    let outcome = trial_at(alloc, machine, sweep, position)?;
+    let outcome = trial_at(alloc, pair, sweep, position)?;
     progress.show(Part {
         done: position - sweep.range.from + 1,
         all: sweep.range.end - sweep.range.from,
@@ -261,25 +266,27 @@ fn print_more<P: Progress, W: Write>(
     progress: &mut P,
     out: &mut W,
 ) -> Result<Done, Failure>
-    requires swept { IsSwept sweep first.machine.kernel.boot }
+    requires swept { IsSwept sweep first.pair.along.kernel.boot }
+    requires pair { IsPair sweep.records.now first.pair }
+    requires there { first.pair.position ≡ sweep.range.from }
     requires some { sweep.range.from < sweep.range.end }
     requires within { sweep.range.end ≤ length sweep.records.now + 1 }
-    requires first { let s = sweep_of sweep first.machine.kernel.boot in
+    requires first { let s = sweep_of sweep first.pair.along.kernel.boot in
         (first.text.items ≡ text_at s sweep.range.from)
         × (first.findings ≡ findings_at s sweep.range.from)
-        × (first.machine.kernel ≡ (run_at s sweep.range.from).kernel) }
+        × (first.pair.copy.kernel ≡ (run_at s sweep.range.from).kernel) }
     ensures err { IfErr result IsWanting }
     ensures printed { OnOk result (let range = sweep.entry.range in
         Appends (W.contents out.old) (W.contents out.new)
-        (flat_map block_text (blocks_at (sweep_of sweep.entry first.machine.kernel.boot)
+        (flat_map block_text (blocks_at (sweep_of sweep.entry first.pair.along.kernel.boot)
         (range.end - range.from) range.from))) }
     ensures total { IfOk result (λ done. let range = sweep.entry.range in
-        let s = sweep_of sweep.entry first.machine.kernel.boot in
+        let s = sweep_of sweep.entry first.pair.along.kernel.boot in
         done.total ≡ total_of s (range.end - range.from) range.from) }
     ensures refusal { IfOk result (λ done. done.refusal
-        ≡ refusal_at (sweep_of sweep.entry first.machine.kernel.boot) sweep.entry.range.from) }
+        ≡ refusal_at (sweep_of sweep.entry first.pair.along.kernel.boot) sweep.entry.range.from) }
     ensures kernel { IfOk result (λ done. done.machine.kernel
-        ≡ (run_at (sweep_of sweep.entry first.machine.kernel.boot)
+        ≡ (run_at (sweep_of sweep.entry first.pair.along.kernel.boot)
         (sweep.entry.range.end - 1)).kernel) }
     ensures shown { IsShown (P.shown progress.old) (P.shown progress.new)
         (sweep.entry.range.end - sweep.entry.range.from) result }
@@ -287,21 +294,32 @@ fn print_more<P: Progress, W: Write>(
     let range = sweep.range;
     let all = range.end - range.from;
     let refusal = first.findings.refusal;
-    let mut machine = first.machine;
+    let mut pair = first.pair;
     let mut tally = Tally::one(range.from, first.text, first.findings);
     progress.show(Part { done: 1, all });
     for position in range.from + 1..range.end {
-        let outcome = trial_shown(alloc, machine, sweep, position, progress)?;
-        machine = outcome.machine;
+        let outcome = trial_shown(alloc, pair, sweep, position, progress)?;
+        pair = outcome.pair;
         let next = Tally::one(position, outcome.text, outcome.findings);
         tally.push(alloc, next, progress, out)?;
     }
     print_block(alloc, &tally.block, progress, out)?;
     Ok(Done {
-        machine,
+        machine: pair.copy,
         total: tally.total,
         refusal,
     })
+}
+
+/// A pair of machines at the boot of another machine, which is let go.
+fn pair_of(alloc: Global, machine: Machine, sweep: Sweep<'_>) -> Result<Pair, NoMemory>
+    requires { IsSwept sweep machine.kernel.boot }
+    ensures pair { IfOk result (λ pair. IsPair sweep.entry.records.now pair) }
+    ensures first { IfOk result (λ pair. pair.position ≡ 0) }
+    ensures boot { IfOk result (λ pair. pair.along.kernel.boot ≡ machine.kernel.boot) }
+{
+    let services = machine.into_kernel().into_services();
+    Pair::new(alloc, sweep.config, services.as_slice())
 }
 
 /// Sweeps positions, and prints their blocks.
@@ -338,7 +356,8 @@ fn print_positions<P: Progress, W: Write>(
             refusal: None,
         });
     }
-    let first = trial_at(alloc, machine, sweep, sweep.range.from)?;
+    let pair = pair_of(alloc, machine, sweep)?;
+    let first = trial_at(alloc, pair, sweep, sweep.range.from)?;
     print_more(alloc, first, sweep, progress, out)
 }
 

@@ -5,5 +5,6 @@ pub mod LawLemmas
 pub mod RoundLemmas
 pub mod GrowthLemmas
 pub mod ShownLemmas
+pub mod AlongLemmas
 pub mod RunLemmas
 pub mod LineLemmas

@@ -1,15 +1,20 @@
 -- What a machine has made.
-use Rattle.std.proofs.Common.{◌≡◌, ◌∙◌, ℕ, suc, zero, ◌++◌, Bool, true, false, List, [], ◌∷◌, length, Option, Some, None, Result, Ok, Err, IfErr, OnOk, replicate, refl, ap, sym, subst}
+use Rattle.std.proofs.Common.{◌≡◌, ◌∙◌, cond, not, slice_get, ℕ, suc, zero, ◌++◌, Bool, true, false, List, [], ◌∷◌, length, Option, Some, None, Result, Ok, Err, IfErr, OnOk, replicate, refl, ap, sym, subst}
 use Rattle.mx_machine.specs.declared.events.Answer.{Answer}
 use Rattle.mx_machine.specs.declared.events.Event.{Event}
-use Rattle.mx_machine.specs.declared.events.Event.TheVariants.{Step, Back}
+use Rattle.mx_machine.specs.declared.events.Event.TheVariants.{Step, Back, Respawn}
 use Rattle.mx_machine.specs.declared.events.Refusal.{Refusal}
-use Rattle.mx_machine.specs.declared.events.Refusal.TheVariants.{LogFull, CpuEmpty}
+use Rattle.mx_machine.specs.declared.events.Refusal.TheVariants.{LogFull, CpuEmpty, NotDown, Worn}
 use Rattle.mx_machine.specs.History.{AreAccepted, BootAndHistory, world_after_events}
 use Rattle.mx_machine.specs.Held.{held_run}
-use Rattle.mx_machine.specs.Move.{back_refusal, event_answer, event_refusal, move, move_by, moves, world_after_event}
+use Rattle.mx_machine.specs.Move.{back_refusal, event_answer, event_refusal, if_full, move, move_by, moves, respawn_refusal, world_after_event}
+use Rattle.mx_machine.specs.Proc.States.{is_down}
+use Rattle.mx_machine.specs.Proc.TableState.{process_at}
+use Rattle.mx_machine.specs.Proc.declared.process.Process.{Process}
+use Rattle.mx_machine.specs.Respawn.{is_worn}
+use Rattle.mx_machine.specs.Service.{Service}
 use Rattle.mx_machine.specs.Steps.{steps_of}
-use Rattle.mx_machine.specs.World.{World, HeldProcess, held_by}
+use Rattle.mx_machine.specs.World.{World, HeldProcess, free_records, held_by}
 use Rattle.mx_machine.proofs.ReplayLemmas.{accepted_append, after_append}
 use Rattle.mx_machine.specs.Machine.{HasWorked, MachineState, kept_after, kept_along, record_of, with_records, world_of}
 use Rattle.mx_turns.specs.Made.{HasMade, HasOffered, is_full}
@@ -58,7 +63,7 @@ offer_done m n a e r h k = offer_by m n a e (event_refusal (world_of m) a e) r r
 pub none_made : (m : MachineState) → HasMade m [] m
 none_made m = record { accepted = tt; world = refl; kernel = refl }
 
-kept_append : (w : World) (k : BootAndHistory) (xs ys : Offers) → AreAccepted w xs → kept_along k (xs ++ ys) (moves w (xs ++ ys)).0 ≡ kept_along (kept_along k xs (moves w xs).0) ys (moves (world_after_events w xs) ys).0
+pub kept_append : (w : World) (k : BootAndHistory) (xs ys : Offers) → AreAccepted w xs → kept_along k (xs ++ ys) (moves w (xs ++ ys)).0 ≡ kept_along (kept_along k xs (moves w xs).0) ys (moves (world_after_events w xs) ys).0
 kept_append w k [] ys h = refl
 kept_append w k (x ∷ xs) ys h =
     let r = (move w x.0 x.1).0 in
@@ -122,6 +127,21 @@ full_done m n xs ys zs e h = subst (λ (o : Offered). HasOffered m o true n) (sy
 -- one offer more, by its answer
 pub next_done : (m n p : MachineState) (xs : Offers) (x : ℕ × Event) (zs : Offers) (r full : Bool) → zs ≡ xs ++ x ∷ [] → HasOffered m (offered (world_of m) xs) false n → HasOffered n (offered (world_of n) (x ∷ [])) r p → r ≡ full → HasOffered m (offered (world_of m) zs) full p
 next_done m n p xs x zs r full e h g same = more_done m n p xs (x ∷ []) zs full e h (subst (λ b. HasOffered n (offered (world_of n) (x ∷ [])) b p) same g)
+
+-- ---- a new process for a slot that isn't down: it is refused, and not since the history is full
+
+by_service : (w : World) (x : ℕ × Event) (accepted : Offered) (left : ℕ) (p : Process) (o : Option Service) → is_down p.state ≡ false → offered_first x (respawn_refusal left p o) (offered w []) accepted ≡ offered w []
+by_service w x accepted left p None up = refl
+by_service w x accepted left p (Some v) up =
+    ap (λ b. offered_first x (cond (not b) (Some NotDown) (cond (is_worn p v) (Some Worn) (if_full left 1))) (offered w []) accepted) up
+
+respawn_refused : (w : World) (other s : ℕ) → is_down (process_at w.table s).state ≡ false → offered w ((other, Respawn s) ∷ []) ≡ offered w []
+unfolding event_refusal
+respawn_refused w other s up =
+    by_service w (other, Respawn s) (offered (world_after_event w other (Respawn s)) []) (free_records w) (process_at w.table s) (slice_get w.services s) up
+
+pub respawn_of_none_down : (m : MachineState) (other s : ℕ) → is_down (process_at (world_of m).table s).state ≡ false → HasOffered m (offered (world_of m) ((other, Respawn s) ∷ [])) false m
+respawn_of_none_down m other s up = subst (λ (o : Offered). HasOffered m o false m) (sym (respawn_refused (world_of m) other s up)) (none_offered m)
 
 -- ---- a processor's steps and its return
 

@@ -116,11 +116,7 @@ module _ (other : ℕ) (fault : List FaultLine) (i : ℕ) (d : FaultLine) (b : i
       ∙ sym (ap (λ (p : Said × World). faults_kept (fault_kept k w other line) p.1 other (drop (i + 1) fault)) h)
       ∙ sym (ap (λ (ls : List FaultLine). faults_kept k w other ls) left) ∙ before
 
--- ---- the world above the position, and its processors
-
-pub world_above : (boot w v : World) (records above : List Record) (k : ℕ) → above ≡ take k records → w ≡ boot → v ≡ world_after_events w (events_of_history above) → v ≡ world_after_events boot (events_of_history (take k records))
-world_above boot w v records above k up booted is =
-    is ∙ ap (λ (u : World). world_after_events u (events_of_history above)) booted ∙ ap (λ (rs : List Record). world_after_events boot (events_of_history rs)) up
+-- ---- the processors at the position
 
 -- an actor that is no processor stays
 pub alone_still : (boot w v : World) (xs : List (ℕ × Event)) → w ≡ boot → v ≡ world_after_events w xs → length boot.cpus < actors boot → length v.cpus < actors v
@@ -130,14 +126,6 @@ alone_still boot w v xs booted is h =
     subst (λ n. n < actors v) (sym own) (subst (λ n. length boot.cpus < n) (sym all) h)
 
 -- ---- a run, from its parts
-
--- what was kept of it, above the position
-pub kept_above : (boot : World) (records above : List Record) (k : ℕ) (m n : MachineState) → above ≡ take k records → m.kernel ≡ record { boot = boot; history = [] } → world_of m ≡ boot
-    → n.kernel ≡ kept_of m.kernel (world_of m) (events_of_history above) → n.kernel ≡ kept_of (record { boot = boot; history = [] }) boot (events_of_history (take k records))
-kept_above boot records above k m n up first booted is =
-    is ∙ ap (λ (x : BootAndHistory). kept_of x (world_of m) (events_of_history above)) first
-    ∙ ap (λ (u : World). kept_of (record { boot = boot; history = [] }) u (events_of_history above)) booted
-    ∙ ap (λ (rs : List Record). kept_of (record { boot = boot; history = [] }) boot (events_of_history rs)) up
 
 -- from a machine on: the fault's lines, and then turns
 pub run_done : (n known : ℕ) (other : ℕ) (rest : List Record) (fault : List FaultLine) (m0 m1 m2 : MachineState) (evs : List Event) (course : Course)

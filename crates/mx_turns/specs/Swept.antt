@@ -1,10 +1,12 @@
 -- Machines that are swept.
-use Rattle.std.specs.Prelude.{◌≡◌, ◌<◌, ◌≤◌, All, length}
+use Rattle.std.specs.Prelude.{◌≡◌, ◌<◌, ◌≤◌, ℕ, List, [], All, length, take}
+use Rattle.mx_app_step.specs.Kept.{kept_of}
 use Rattle.mx_app_step.specs.Machine.{MachineState, world_of}
 use Rattle.mx_machine.specs.Boot.{world_at_boot}
 use Rattle.mx_machine.specs.declared.history.Record.{Record}
-use Rattle.mx_machine.specs.History.{AreAccepted, events_of_history}
+use Rattle.mx_machine.specs.History.{AreAccepted, BootAndHistory, events_of_history, world_after_events}
 use Rattle.mx_machine.specs.World.{World, actors}
+use Rattle.mx_turns.specs.declared.pairs.Pair.{Pair}
 use Rattle.mx_turns.specs.declared.faulted_run.Course.{Course}
 use Rattle.mx_turns.specs.declared.faulted_run.Sweep.{Sweep}
 use Rattle.mx_turns.specs.Sweep.{Run}
@@ -26,3 +28,18 @@ pub record HasRun (r : Run) (m : MachineState) (c : Course) : Type 0 where
   pub ending : c.ending ≡ r.ending
   pub world : world_of m ≡ r.world
   pub kernel : m.kernel ≡ r.kernel
+
+-- what a kernel keeps of records from its boot on
+abbrev pub kept_from : World → List Record → BootAndHistory
+kept_from boot records = kept_of (record { boot = boot; history = [] }) boot (events_of_history records)
+
+-- A MACHINE HAS GONE ALONG a history, from its boot to position k: it has made the records before it, and nothing else.
+pub record IsAlong (records : List Record) (k : ℕ) (m : MachineState) : Type 0 where
+  pub world : world_of m ≡ world_after_events m.kernel.boot (events_of_history (take k records))
+  pub kernel : m.kernel ≡ kept_from m.kernel.boot (take k records)
+
+-- one machine of a pair has gone along a history up to its position, and the other is of the same boot
+pub record IsPair (records : List Record) (p : Pair) : Type 0 where
+  pub along : IsAlong records p.position p.along
+  pub within : p.position ≤ length records
+  pub boot : p.copy.kernel.boot ≡ p.along.kernel.boot

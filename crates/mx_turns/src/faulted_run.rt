@@ -5,15 +5,13 @@ ghost use Rattle.mx_app_step.specs.Machine.{world_of};
 ghost use Rattle.mx_machine.specs.World.{actors};
 ghost use Rattle.mx_turns.specs.Faults.{faults_kept, faults_made};
 ghost use Rattle.mx_turns.specs.Sweep.{run_from, run_of};
-ghost use Rattle.mx_turns.specs.Swept.{HasRun, IsSwept};
+ghost use Rattle.mx_turns.specs.Swept.{HasRun, IsAlong, IsSwept};
 
-use crate::booting::boot_again;
 use crate::coming::coming_of;
 use crate::faults::{FaultLine, perform_fault_line};
 use crate::{Ending, Outside, make_turns};
 use mx_app_start::NoProgress;
-use mx_app_step::perform_records;
-use mx_machine::{Config, Machine, Record};
+use mx_machine::{Checkpoint, Config, Machine, Record, Service};
 use mx_print_answers::Said;
 use mx_word::NoMemory;
 use std::alloc::{AllocError, Global};
@@ -97,24 +95,26 @@ fn run_on(
     Ok(Course { said, ending })
 }
 
-/// Boots a machine again, makes the records of the history up to a position, does what the fault's lines say, and
+/// Makes the machine of a checkpoint, which stands for a machine at the position, does what the fault's lines say, and
 /// makes turns, with the lines and the ticks of the other records to come. Answers the machine, and how it ran.
 pub(crate) fn run_at(
     alloc: Global,
-    machine: Machine,
+    checkpoint: &Checkpoint,
+    along: &Machine,
+    services: Vec<Service>,
     sweep: Sweep<'_>,
     position: usize,
 ) -> Result<(Machine, Course), NoMemory>
-    requires swept { IsSwept sweep machine.kernel.boot }
+    requires same { checkpoint.now ≡ along.now }
+    requires along { IsAlong sweep.records.now position along.now }
+    requires services { services.items ≡ along.now.kernel.boot.services }
+    requires swept { IsSwept sweep along.now.kernel.boot }
     requires position { position ≤ length sweep.records.now }
-    ensures run { IfOk result (λ done. HasRun (run_of machine.kernel.boot sweep.entry.other
+    ensures run { IfOk result (λ done. HasRun (run_of along.now.kernel.boot sweep.entry.other
         sweep.entry.records.now sweep.entry.bound sweep.entry.fault.now position) done.0 done.1) }
-    ensures boot { IfOk result (λ done. done.0.kernel.boot ≡ machine.kernel.boot) }
+    ensures boot { IfOk result (λ done. done.0.kernel.boot ≡ along.now.kernel.boot) }
 {
-    let mut machine = boot_again(alloc, machine, sweep.config)?;
-    if let Err(_) = perform_records(&mut machine, &sweep.records[..position]) {
-        unreachable!();
-    }
+    let mut machine = checkpoint.machine(alloc, services, along.kernel().history())?;
     let course = run_on(alloc, &mut machine, sweep, &sweep.records[position..])?;
     Ok((machine, course))
 }

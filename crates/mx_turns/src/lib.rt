@@ -3,8 +3,8 @@
 //!
 //! # A position of a sweep
 //!
-//! A machine is booted again, brought to the position, given the `FaultLine`s of the fault and run on by turns. The
-//! text of its trial is compared with that of a machine that is run on without the fault.
+//! One machine goes along the history (`Pair`). A copy of it at the position is given the `FaultLine`s of the fault and
+//! run on by turns. The text of its trial is compared with that of a copy that is run on without the fault.
 //!
 //! `specs/Turns.antt` says which events come of turns; `specs/Sweep.antt` what a trial is, and how it is printed.
 //!
@@ -15,13 +15,14 @@
 //! may compare two runs, with a fault and without, and why two numbers of turns join (`joining_laws`).
 #![tactic(auto)]
 
-mod booting;
 mod coming;
 mod faulted_run;
 mod faults;
 mod joining_laws;
 mod offers;
 mod outside;
+mod pairs;
+mod services;
 mod trials;
 mod turns;
 
@@ -29,5 +30,6 @@ pub use faulted_run::{Range, Sweep};
 pub use faults::FaultLine;
 pub use joining_laws::{rest_is_still, turn_of_one, turns_join};
 pub use outside::Outside;
+pub use pairs::Pair;
 pub use trials::{Findings, Trial, trial_at};
 pub use turns::{Ending, make_turns};

@@ -4,6 +4,8 @@ ghost use Rattle.std.specs.Prelude.{◌≡◌, ◌∷◌, [], ◌++◌, ◌<◌,
 ghost use Rattle.mx_machine.specs.Machine.{IsActor, world_of};
 ghost use Rattle.mx_machine.specs.declared.events.Event.TheVariants as events;
 ghost use Rattle.mx_machine.specs.Steps.{steps_of};
+ghost use Rattle.mx_machine.specs.Proc.States.{is_down};
+ghost use Rattle.mx_machine.specs.Proc.TableState.{process_at};
 ghost use Rattle.mx_machine.specs.World.{actors};
 ghost use Rattle.mx_turns.specs.Made.{HasOffered, is_full};
 ghost use Rattle.mx_turns.specs.Turns.{most_steps, offered, outside, respawns, run_of, runs, takes};
@@ -100,6 +102,32 @@ pub(crate) fn offer_runs(machine: &mut Machine, cpus: u8)
     }
 }
 
+/// Whether the process of a slot is down.
+#[tactic(auto, unfolding(mx_machine::specs::Machine::world_of))]
+fn is_down(machine: &Machine, slot: u32) -> bool
+    ensures { result ≡ false → is_down (process_at (world_of machine.now).table slot).state ≡ false }
+{
+    let table = machine.kernel().table();
+    if slot >= u32::from(table.slot_count()) {
+        return true;
+    }
+    table.process(slot as u8).state.is_down()
+}
+
+/// Offers a slot a new process, if it is down: otherwise the machine refuses it. Answers whether the history was too
+/// full for it.
+fn offer_respawn(machine: &mut Machine, other: u8, slot: u32) -> bool
+    requires { other < actors (world_of machine.old) }
+    ensures offered { HasOffered machine.old
+        (offered (world_of machine.old) ((other, events.Respawn slot) ∷ [])) result machine.new }
+    ensures actors { actors (world_of machine.new) ≡ actors (world_of machine.old) }
+{
+    if is_down(machine, slot) {
+        return offer(machine, other, Event::Respawn(slot));
+    }
+    false
+}
+
 /// Offers each slot a new process, up to the first offer that is refused because the history is full.
 /// Answers whether one was.
 fn offer_respawns(machine: &mut Machine, other: u8, slots: u32) -> bool
@@ -109,7 +137,7 @@ fn offer_respawns(machine: &mut Machine, other: u8, slots: u32) -> bool
     ensures actors { actors (world_of machine.new) ≡ actors (world_of machine.old) }
 {
     for slot in 0..slots {
-        if offer(machine, other, Event::Respawn(slot)) {
+        if offer_respawn(machine, other, slot) {
             return true;
         }
     }

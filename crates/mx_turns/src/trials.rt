@@ -6,12 +6,13 @@ ghost use Rattle.mx_app_step.specs.Machine.{world_of};
 ghost use Rattle.mx_machine.specs.History.{replay};
 ghost use Rattle.mx_print_report.specs.declared.doing.Naming.TheVariants as by;
 ghost use Rattle.mx_turns.specs.Sweep.{end_text, ending_word, kept_text, trial_text, process_lines, run_of, said_text, seen_text, shown};
-ghost use Rattle.mx_turns.specs.Findings.{findings_of, is_refused, refusal_of};
-ghost use Rattle.mx_turns.specs.Swept.{HasRun, IsSwept};
+ghost use Rattle.mx_turns.specs.Findings.{findings_of, is_full, is_refused, refusal_of};
+ghost use Rattle.mx_turns.specs.Swept.{HasRun, IsAlong, IsPair, IsSwept};
 
 use crate::Ending;
 use crate::faulted_run::{Course, Sweep, run_at};
-use mx_machine::{Kernel, Machine, Refusal, Service};
+use crate::pairs::{Pair, go_along};
+use mx_machine::{Checkpoint, Kernel, Machine, Refusal, Service};
 use mx_print_answers::Said;
 use mx_print_report::{Naming, push_console, push_count, push_process};
 use mx_proc::Table;
@@ -30,10 +31,10 @@ pub struct Findings {
     pub is_full: bool,
 }
 
-/// The trial of a position: the machine after its run, its lines, and what it tells of the fault.
+/// The trial of a position: the machine there with the one after its run, its lines, and what it tells of the fault.
 #[derive(Drop)]
 pub struct Trial {
-    pub machine: Machine,
+    pub pair: Pair,
     pub text: Vec<u8>,
     pub findings: Findings,
 }
@@ -47,6 +48,20 @@ fn push_said(alloc: Global, text: &mut Vec<u8>, said: &[Said]) -> Result<(), All
         text.extend_from_slice(line.as_bytes())?;
     }
     Ok(())
+}
+
+/// Whether two texts are the same, byte for byte.
+fn are_same(one: &[u8], other: &[u8]) -> bool
+    ensures { result ≡ bytes_eq one.now other.now }
+{
+    one == other
+}
+
+/// Whether turns ended since the history was full.
+fn is_full(ending: Ending) -> bool
+    ensures { result ≡ is_full ending }
+{
+    matches!(ending, Ending::Full)
 }
 
 /// Whether an answer is a refusal.
@@ -199,62 +214,117 @@ fn push_trial(
 /// Makes the run of a position, as `run_at` does, and answers what is compared of its trial too.
 fn compared_at(
     alloc: Global,
-    machine: Machine,
+    checkpoint: &Checkpoint,
+    along: &Machine,
+    services: Vec<Service>,
     sweep: Sweep<'_>,
     position: usize,
 ) -> Result<(Machine, Course, Vec<u8>), NoMemory>
-    requires swept { IsSwept sweep machine.kernel.boot }
+    requires same { checkpoint.now ≡ along.now }
+    requires along { IsAlong sweep.records.now position along.now }
+    requires services { services.items ≡ along.now.kernel.boot.services }
+    requires swept { IsSwept sweep along.now.kernel.boot }
     requires position { position ≤ length sweep.records.now }
-    ensures run { IfOk result (λ done. let run = run_of machine.kernel.boot sweep.entry.other
+    ensures run { IfOk result (λ done. let run = run_of along.now.kernel.boot sweep.entry.other
         sweep.entry.records.now sweep.entry.bound sweep.entry.fault.now position in
         HasRun run done.0 done.1 × (done.2.items ≡ seen_text run)) }
-    ensures boot { IfOk result (λ done. done.0.kernel.boot ≡ machine.kernel.boot) }
+    ensures boot { IfOk result (λ done. done.0.kernel.boot ≡ along.now.kernel.boot) }
 {
-    let (machine, course) = run_at(alloc, machine, sweep, position)?;
+    let (machine, course) = run_at(alloc, checkpoint, along, services, sweep, position)?;
     let seen = compared_text(alloc, &machine, course.ending)?;
     Ok((machine, course, seen))
 }
 
-/// The trial of a position of a history: without the fault first, and then with it. Takes memory to boot the
-/// machine twice.
-pub fn trial_at(
+/// The trial of the position that a machine has gone to: without the fault first, and then with it. Takes memory for
+/// copies of the machine.
+fn trial_here(
     alloc: Global,
-    machine: Machine,
+    along: Machine,
+    services: Vec<Service>,
     sweep: Sweep<'_>,
     position: usize,
 ) -> Result<Trial, NoMemory>
-    requires swept { IsSwept sweep machine.kernel.boot }
+    requires swept { IsSwept sweep along.kernel.boot }
+    requires along { IsAlong sweep.records.now position along }
+    requires services { services.items ≡ along.kernel.boot.services }
     requires position { position ≤ length sweep.records.now }
-    ensures boot { IfOk result (λ done. done.machine.kernel.boot ≡ machine.kernel.boot) }
-    ensures kernel { IfOk result (λ done. done.machine.kernel ≡ (run_of machine.kernel.boot
+    ensures pair { IfOk result (λ done. IsPair sweep.entry.records.now done.pair) }
+    ensures there { IfOk result (λ done. done.pair.position ≡ position) }
+    ensures boot { IfOk result (λ done. done.pair.along.kernel.boot ≡ along.kernel.boot) }
+    ensures kernel { IfOk result (λ done. done.pair.copy.kernel ≡ (run_of along.kernel.boot
         sweep.entry.other sweep.entry.records.now sweep.entry.bound sweep.entry.fault.now
         position).kernel) }
-    ensures world { IfOk result (λ done. world_of done.machine ≡ (run_of machine.kernel.boot
+    ensures world { IfOk result (λ done. world_of done.pair.copy ≡ (run_of along.kernel.boot
         sweep.entry.other sweep.entry.records.now sweep.entry.bound sweep.entry.fault.now
         position).world) }
-    ensures text { IfOk result (λ done. done.text.items ≡ trial_text
-        (run_of machine.kernel.boot sweep.entry.other sweep.entry.records.now sweep.entry.bound
-        sweep.entry.fault.now position)) }
-    ensures findings { IfOk result (λ done. let run = run_of machine.kernel.boot sweep.entry.other
+    ensures text { IfOk result (λ done. done.text.items ≡ trial_text (run_of along.kernel.boot
+        sweep.entry.other sweep.entry.records.now sweep.entry.bound sweep.entry.fault.now
+        position)) }
+    ensures findings { IfOk result (λ done. let run = run_of along.kernel.boot sweep.entry.other
         sweep.entry.records.now sweep.entry.bound in
         done.findings ≡ findings_of (run sweep.entry.fault.now position) (run [] position)) }
 {
+    let checkpoint = Checkpoint::new(alloc, &along)?;
     let unharmed = Sweep {
         fault: &[],
         ..sweep
     };
-    let (machine, _, without) = compared_at(alloc, machine, unharmed, position)?;
-    let (machine, course, with) = compared_at(alloc, machine, sweep, position)?;
+    let (copy, _, without) = compared_at(alloc, &checkpoint, &along, services, unharmed, position)?;
+    let services = copy.into_kernel().into_services();
+    let (copy, course, with) = compared_at(alloc, &checkpoint, &along, services, sweep, position)?;
     let mut text = Vec::new(alloc);
-    push_trial(alloc, &mut text, &machine, &course)?;
+    push_trial(alloc, &mut text, &copy, &course)?;
     let findings = Findings {
-        is_alike: with.as_slice() == without.as_slice(),
+        is_alike: are_same(with.as_slice(), without.as_slice()),
         refusal: refusal_of(course.said.as_slice()),
-        is_full: course.ending == Ending::Full,
+        is_full: is_full(course.ending),
+    };
+    let pair = Pair {
+        along,
+        position,
+        copy,
     };
     Ok(Trial {
-        machine,
+        pair,
         text,
         findings,
     })
+}
+
+/// The trial of a position of a history, which isn't before the pair's. Takes memory for copies of the machine at the
+/// position.
+pub fn trial_at(
+    alloc: Global,
+    pair: Pair,
+    sweep: Sweep<'_>,
+    position: usize,
+) -> Result<Trial, NoMemory>
+    requires swept { IsSwept sweep pair.along.kernel.boot }
+    requires pair { IsPair sweep.records.now pair }
+    requires later { pair.position ≤ position }
+    requires position { position ≤ length sweep.records.now }
+    ensures pair { IfOk result (λ done. IsPair sweep.entry.records.now done.pair) }
+    ensures there { IfOk result (λ done. done.pair.position ≡ position) }
+    ensures boot { IfOk result (λ done. done.pair.along.kernel.boot ≡ pair.along.kernel.boot) }
+    ensures kernel { IfOk result (λ done. done.pair.copy.kernel ≡ (run_of pair.along.kernel.boot
+        sweep.entry.other sweep.entry.records.now sweep.entry.bound sweep.entry.fault.now
+        position).kernel) }
+    ensures world { IfOk result (λ done. world_of done.pair.copy ≡ (run_of
+        pair.along.kernel.boot sweep.entry.other sweep.entry.records.now sweep.entry.bound
+        sweep.entry.fault.now position).world) }
+    ensures text { IfOk result (λ done. done.text.items ≡ trial_text
+        (run_of pair.along.kernel.boot sweep.entry.other sweep.entry.records.now sweep.entry.bound
+        sweep.entry.fault.now position)) }
+    ensures findings { IfOk result (λ done. let run = run_of pair.along.kernel.boot
+        sweep.entry.other sweep.entry.records.now sweep.entry.bound in
+        done.findings ≡ findings_of (run sweep.entry.fault.now position) (run [] position)) }
+{
+    let Pair {
+        mut along,
+        position: from,
+        copy,
+    } = pair;
+    go_along(&mut along, sweep, from, position);
+    let services = copy.into_kernel().into_services();
+    trial_here(alloc, along, services, sweep, position)
 }

@@ -24,14 +24,16 @@ one s p text found told which =
 
 pub loop-position-init : goal.loop-position-init
 loop-position-init g c =
-    let s = sweep_of c.args.sweep c.args.first.machine.kernel.boot in
+    let s = sweep_of c.args.sweep c.args.first.pair.along.kernel.boot in
     let first = c.requires.first in
     let from = c.args.sweep.range.from in
     let end = c.args.sweep.range.end in
     record {
-      swept = subst (λ (t : Tally). SweptSoFar s from end (from + 1) (g.W.Write.contents c.args.out.now) (g.W.Write.contents c.args.out.now) (positions_of t.block) t.total c.args.first.machine.kernel) (sym c.one-tally.ensures)
-          (first_swept s from end (g.W.Write.contents c.args.out.now) (positions_of (tally_of from c.args.first.text c.args.first.findings).block) (total_one c.args.first.findings) c.args.first.machine.kernel c.requires.some
+      swept = subst (λ (t : Tally). SweptSoFar s from end (from + 1) (g.W.Write.contents c.args.out.now) (g.W.Write.contents c.args.out.now) (positions_of t.block) t.total c.args.first.pair.copy.kernel) (sym c.one-tally.ensures)
+          (first_swept s from end (g.W.Write.contents c.args.out.now) (positions_of (tally_of from c.args.first.text c.args.first.findings).block) (total_one c.args.first.findings) c.args.first.pair.copy.kernel c.requires.some
           (one s from c.args.first.text c.args.first.findings first.0 first.1) (ap total_one first.1) first.2);
+      pair = c.requires.pair;
+      there = ap (λ n. n + 1) c.requires.there;
       boot = refl;
       shown = next_shown (c.args.sweep.range.end - c.args.sweep.range.from) 0 (c.args.sweep.range.from + 1 - c.args.sweep.range.from) 1 (g.P.Progress.shown c.args.progress.now) (g.P.Progress.shown c.args.progress.now) (g.P.Progress.shown c.show.new.self) _ (omega arith) (omega arith) refl
           (sym (append-nil (g.P.Progress.shown c.args.progress.now))) c.show.ensures;
@@ -39,7 +41,7 @@ loop-position-init g c =
 
 pub loop-position-preserved : goal.loop-position-preserved
 loop-position-preserved g c =
-    let s = sweep_of c.args.sweep c.args.first.machine.kernel.boot in
+    let s = sweep_of c.args.sweep c.args.first.pair.along.kernel.boot in
     let inv = c.loop-position.invariant in
     let p = c.loop-position.position in
     let from = c.args.sweep.range.from in
@@ -48,11 +50,13 @@ loop-position-preserved g c =
     let made = c.in_ok-outcome.ensures in
     let pushed = c.in_ok-push.ensures in
     let tally = c.loop-position.tally in
-    let is = subst (λ (w : World). (let s = sweep_of c.args.sweep w in (outcome.text.items ≡ text_at s p) × (outcome.findings ≡ findings_at s p) × (outcome.machine.kernel ≡ (run_at s p).kernel))) inv.boot made.outcome in
+    let is = subst (λ (w : World). (let s = sweep_of c.args.sweep w in (outcome.text.items ≡ text_at s p) × (outcome.findings ≡ findings_at s p) × (outcome.pair.copy.kernel ≡ (run_at s p).kernel))) inv.boot made.outcome in
     let next_part : p + 1 - from ≡ p - from + 1 = omega (arith, inv.swept.above, c.loop-position-test.true) in
     record {
-      swept = goes s from end p (g.W.Write.contents c.args.out.now) (g.W.Write.contents c.loop-position.out) (g.W.Write.contents c.push.new.out) c.loop-position.machine.kernel outcome.machine.kernel tally c.push.new.self c.one-next.result outcome.text outcome.findings
+      swept = goes s from end p (g.W.Write.contents c.args.out.now) (g.W.Write.contents c.loop-position.out) (g.W.Write.contents c.push.new.out) c.loop-position.pair.copy.kernel outcome.pair.copy.kernel tally c.push.new.self c.one-next.result outcome.text outcome.findings
           (bytes_eq (text_at s p) tally.block.text.items) inv.swept c.loop-position-test.true is.1 c.one-next.ensures is.0 refl pushed.goes_on pushed.begins is.2;
+      pair = made.pair;
+      there = ap (λ n. n + 1) made.there;
       boot = made.boot ∙ inv.boot;
       shown = pushed.shown ∙ next_shown (end - from) (p - from) (p + 1 - from) (p - from + 1) (g.P.Progress.shown c.args.progress.now) (g.P.Progress.shown c.loop-position.progress) (g.P.Progress.shown c.trial_shown.new.progress) _ next_part (sym next_part) refl inv.shown c.in_ok-outcome.ensures.shown;
     }
@@ -64,8 +68,8 @@ returns-clause-printed g c =
     let end = c.args.sweep.range.end in
     let last : p ≡ end = omega (arith, so_far.within, c.loop-position-test.false) in
     let block = positions_of c.loop-position.tally.block in
-    last_printed (sweep_of c.args.sweep c.args.first.machine.kernel.boot) c.args.sweep.range.from end p (g.W.Write.contents c.args.out.now) (g.W.Write.contents c.loop-position.out) block c.loop-position.tally.total
-    c.loop-position.machine.kernel so_far last (g.W.Write.contents c.print_block.new.out) c.in_ok-print_block.ensures.bytes
+    last_printed (sweep_of c.args.sweep c.args.first.pair.along.kernel.boot) c.args.sweep.range.from end p (g.W.Write.contents c.args.out.now) (g.W.Write.contents c.loop-position.out) block c.loop-position.tally.total
+    c.loop-position.pair.copy.kernel so_far last (g.W.Write.contents c.print_block.new.out) c.in_ok-print_block.ensures.bytes
 
 pub returns-clause-total : goal.returns-clause-total
 returns-clause-total g c =
@@ -74,7 +78,7 @@ returns-clause-total g c =
     let end = c.args.sweep.range.end in
     let last : p ≡ end = omega (arith, so_far.within, c.loop-position-test.false) in
     let tally = c.loop-position.tally in
-    last_total (sweep_of c.args.sweep c.args.first.machine.kernel.boot) c.args.sweep.range.from end p (g.W.Write.contents c.args.out.now) (g.W.Write.contents c.loop-position.out) (positions_of tally.block) tally.total c.loop-position.machine.kernel so_far last
+    last_total (sweep_of c.args.sweep c.args.first.pair.along.kernel.boot) c.args.sweep.range.from end p (g.W.Write.contents c.args.out.now) (g.W.Write.contents c.loop-position.out) (positions_of tally.block) tally.total c.loop-position.pair.copy.kernel so_far last
 
 pub returns-clause-refusal : goal.returns-clause-refusal
 returns-clause-refusal g c = ap (λ (f : Findings). f.refusal) c.requires.first.1
@@ -86,7 +90,7 @@ returns-clause-kernel g c =
     let end = c.args.sweep.range.end in
     let last : p ≡ end = omega (arith, so_far.within, c.loop-position-test.false) in
     let tally = c.loop-position.tally in
-    last_kernel (sweep_of c.args.sweep c.args.first.machine.kernel.boot) c.args.sweep.range.from end p (g.W.Write.contents c.args.out.now) (g.W.Write.contents c.loop-position.out) (positions_of tally.block) tally.total c.loop-position.machine.kernel so_far last
+    last_kernel (sweep_of c.args.sweep c.args.first.pair.along.kernel.boot) c.args.sweep.range.from end p (g.W.Write.contents c.args.out.now) (g.W.Write.contents c.loop-position.out) (positions_of tally.block) tally.total c.loop-position.pair.copy.kernel so_far last
 
 -- as many as there are positions so far, and one more
 pub push-requires : goal.push-requires
@@ -117,6 +121,12 @@ trial_shown-requires-clause-swept g c =
 
 pub trial_shown-requires-clause-from : goal.trial_shown-requires-clause-from
 trial_shown-requires-clause-from g c = let h = c.loop-position.invariant.swept.above in omega (arith, h)
+
+pub trial_shown-requires-clause-pair : goal.trial_shown-requires-clause-pair
+trial_shown-requires-clause-pair g c = c.loop-position.invariant.pair
+
+pub trial_shown-requires-clause-later : goal.trial_shown-requires-clause-later
+trial_shown-requires-clause-later g c = let h = c.loop-position.invariant.there in omega (arith, h)
 
 pub returns-in_err-outcome-clause-shown : goal.returns-in_err-outcome-clause-shown
 returns-in_err-outcome-clause-shown g c =

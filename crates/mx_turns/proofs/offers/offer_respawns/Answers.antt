@@ -10,13 +10,13 @@ loop-slot-preserved c =
     let slot = c.loop-slot.slot in
     let other = c.args.other in
     record {
-      offered = next_done c.args.machine.now c.loop-slot.machine c.offer.new.machine (respawns other slot) (other, Respawn slot) (respawns other (slot + 1)) c.offer.result false (respawns_more other slot) c.loop-slot.invariant.offered c.offer.ensures.offered c.if-offer.false;
-      as_many = c.offer.ensures.actors ∙ c.loop-slot.invariant.as_many;
+      offered = next_done c.args.machine.now c.loop-slot.machine c.offer_respawn.new.machine (respawns other slot) (other, Respawn slot) (respawns other (slot + 1)) c.offer_respawn.result false (respawns_more other slot) c.loop-slot.invariant.offered c.offer_respawn.ensures.offered c.if-offer_respawn.false;
+      as_many = c.offer_respawn.ensures.actors ∙ c.loop-slot.invariant.as_many;
     }
 
-pub returns-then-offer-clause-offered : goal.returns-then-offer-clause-offered
-returns-then-offer-clause-offered c =
+pub returns-then-offer_respawn-clause-offered : goal.returns-then-offer_respawn-clause-offered
+returns-then-offer_respawn-clause-offered c =
     let slot = c.loop-slot.slot in
     let other = c.args.other in
-    full_done c.args.machine.now c.offer.new.machine (respawns other (slot + 1)) (drop (slot + 1) (respawns other c.args.slots)) (respawns other c.args.slots) (respawns_part other (slot + 1) c.args.slots (omega (arith, c.loop-slot-test.true)))
-    (next_done c.args.machine.now c.loop-slot.machine c.offer.new.machine (respawns other slot) (other, Respawn slot) (respawns other (slot + 1)) c.offer.result true (respawns_more other slot) c.loop-slot.invariant.offered c.offer.ensures.offered c.if-offer.true)
+    full_done c.args.machine.now c.offer_respawn.new.machine (respawns other (slot + 1)) (drop (slot + 1) (respawns other c.args.slots)) (respawns other c.args.slots) (respawns_part other (slot + 1) c.args.slots (omega (arith, c.loop-slot-test.true)))
+    (next_done c.args.machine.now c.loop-slot.machine c.offer_respawn.new.machine (respawns other slot) (other, Respawn slot) (respawns other (slot + 1)) c.offer_respawn.result true (respawns_more other slot) c.loop-slot.invariant.offered c.offer_respawn.ensures.offered c.if-offer_respawn.true)
