@@ -4,6 +4,7 @@ A row has a `name`, `points`, what to `do` (a function `do_..` of Check), and `d
 the file of `drawn` that `points.json` names. The rest are words of that `do`.
 """
 import importlib
+import itertools
 import json
 import os
 import re
@@ -198,11 +199,11 @@ class Check:
                 self.look_at(case, sweep, found[int(share * len(found))]["position"])
 
     def compare_sweep(self, case, sweep):
-        """Compares each block of a sweep with what is wanted, and gives them."""
-        wanted, states = case["want"]["console"], case["want"].get("states", {})
+        """Compares each block of a sweep with what is wanted, if anything is, and gives them."""
+        wanted, states = case["want"].get("console"), case["want"].get("states", {})
         range_of = ["--from", str(case["positions"][0]), "--to", str(case["positions"][1])] if "positions" in case else []
         found = blocks(self.mx(*sweep, *range_of))
-        for block in found:
+        for block in found if wanted is not None else []:
             came = {words[0]: " ".join(words[2:]) for words in map(str.split, block["states"])}
             if (block["ending"], block["console"]) == ("rest", wanted) and states.items() <= came.items():
                 continue
@@ -258,8 +259,9 @@ class Check:
         if at is None:
             raise Lost(told(case), "a report", printed)
         trace = self.trace()
-        states = {words[1]: " ".join(words[3:-2]) for words in map(str.split, lines[:at - 1])}
-        ending = ended(states)
+        rows = [it.split() for it in lines[:at - 1]]
+        states = {words[1]: " ".join(words[3:-2]) for words in rows}
+        ending = ended({words[1] + after_ends(int(words[2])): states[words[1]] for words in rows})
         self.compare_console(case, "\n".join(lines[at + 1:]), trace, ending)
         try:
             self.compare_history(case, trace)
@@ -317,17 +319,24 @@ class Check:
         """The bytes of a process at the address that is a message's second word, when that message was taken."""
         if not looked_at:
             return
-        words = "".join(f"goto {event.record}\nmem {row['slot']} {models.numbers(event)[1]} {len(row['bytes'])}\n"
-                        for event, row in looked_at)
+        wants = ["".join(row["arrays"].values()).encode() for _, row in looked_at]
+        words = "".join(f"goto {event.record}\nmem {row['slot']} {models.numbers(event)[1]} {len(wanted)}\n"
+                        for (event, row), wanted in zip(looked_at, wants))
         printed = run([MX, "look", self.config, self.log], self.room, self.student.bounds, given=words)
         came = memory_of(printed.splitlines())
-        for event, row in looked_at:
-            wanted = row["bytes"].encode()
+        for (event, row), wanted in zip(looked_at, wants):
             if came[:len(wanted)] != wanted:
-                lost = Lost(told(case), f"at the address of `{' '.join(event.words)}` the bytes {wanted!r}", repr(came))
+                arrays = [f"`{name}`, {in_words(it.encode())}" for name, it in row["arrays"].items()]
+                place = f"at the address of `{' '.join(event.words)}` {', and right behind it '.join(arrays)}"
+                lost = Lost(told(case), place, in_words(came[:len(wanted)]))
                 lost.record = event.record
                 raise lost
             came = came[len(wanted):]
+
+
+def in_words(data):
+    """Bytes as they are told: how many of each follow one another."""
+    return ", ".join(f"{len(list(those))} bytes {chr(it)!r}" for it, those in itertools.groupby(data)) or "no bytes"
 
 
 def memory_of(lines):
@@ -348,6 +357,11 @@ def blocks(printed):
         elif re.fullmatch(r"  \S+ \d+ (ready|out|doomed|down .*|(sending|calling|receiving|awaiting) \S+)", line):
             found[-1]["states"].append(line.strip())
     return [{**it, "console": "\n".join(it["console"])} for it in found]
+
+
+def after_ends(endpoint):
+    """What is told behind a service's name if it has ended before."""
+    return f" (it has ended, and is now {endpoint})" if endpoint >= models.GENERATION else ""
 
 
 def ended(states):

@@ -12,7 +12,7 @@ int main(void)
         send(0, &m);
         if (receive(ANY, &m) != OK)
             return 1;
-        sys_out(CONSOLE_REGISTER, '0' + m.p[0] % 10);
+        sys_out(CONSOLE_REGISTER, '0' + (uint32_t)m.p[0] % 10);
     }
     return 0;
 }

@@ -43,8 +43,8 @@ def ends(data):
 SAVED = ["in order: message saver to store type 1 words 3 * ..; call store VIRCOPY 1 * * * 64 answer 0 ..; "
          "message store to saver type 0 ..; message saver to store type 2 words 3 * ..; "
          "call store VIRCOPY * * 1 * 64 answer 0 ..; message store to saver type 0 ..; console saver *"]
-FILLED = [{"at": "message saver to store type 1 words 3 * ..", "slot": 1, "bytes": "a" * BYTES + "z" * BYTES},
-          {"at": "message saver to store type 2 words 3 * ..", "slot": 1, "bytes": "\0" * BYTES + "z" * BYTES}]
+FILLED = [{"at": f"message saver to store type {it} words 3 * ..", "slot": 1,
+           "arrays": {"plain": letter * BYTES, "secret": "z" * BYTES}} for it, letter in ((PUT, "a"), (GET, "\0"))]
 
 
 def saving(name, cpus, store, values, console="aa", **more):

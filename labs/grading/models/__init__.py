@@ -1,6 +1,6 @@
 """What a lab's programs should do, worked out from what they were told: a model follows a history's events, and says which
 answer, letter, window or request is wanted next. A model is made with the name of its case and the name of the service."""
-from .common import numbers
+from .common import GENERATION, numbers
 from .driver import Button
 from .partners import Asker, Exchange
 from .reports import compare_steps, compare_taken
