@@ -805,7 +805,7 @@ static LEVELS: &[Spent] = &[
 fn level_after(rt: &impl Abort, table: &mut Table, slot: Slot) -> u8 {
     assert!(rt; slot < table.slot_count());
     let process = table.process(slot);
-    assert!(rt; process.state.is_ready() && process.traps < 1000 && process.schedule.ticks == 5);
+    assert!(rt; process.state.is_ready() && process.steps < 1000 && process.schedule.ticks == 5);
     dequeue(table, slot);
     table.spend(slot, 5);
     enqueue(table, slot);
