@@ -304,6 +304,8 @@ class Check:
             came = " ".join(it.words[5] for it in found if it.words[:4] == ["message", who, "to", whom])
             if came != wanted:
                 raise Lost(told(case), f"messages of {who} to {whom} of the types {wanted}", came or "none")
+        if "counted" in want:
+            self.compare_counted(told(case), want["counted"], found)
         if "taken" in want:
             models.compare_taken(told(case), *want["taken"], found)
         if "steps" in want:
@@ -320,10 +322,8 @@ class Check:
         if not looked_at:
             return
         wants = ["".join(row["arrays"].values()).encode() for _, row in looked_at]
-        words = "".join(f"goto {event.record}\nmem {row['slot']} {models.numbers(event)[1]} {len(wanted)}\n"
-                        for (event, row), wanted in zip(looked_at, wants))
-        printed = run([MX, "look", self.config, self.log], self.room, self.student.bounds, given=words)
-        came = memory_of(printed.splitlines())
+        came = self.bytes_at((event.record, row["slot"], models.numbers(event)[1], len(wanted))
+                             for (event, row), wanted in zip(looked_at, wants))
         for (event, row), wanted in zip(looked_at, wants):
             if came[:len(wanted)] != wanted:
                 arrays = [f"`{name}`, {in_words(it.encode())}" for name, it in row["arrays"].items()]
@@ -332,6 +332,24 @@ class Check:
                 lost.record = event.record
                 raise lost
             came = came[len(wanted):]
+
+
+    def compare_counted(self, name, first, found):
+        """Each dword that is written to slot 0 is one more than the one before it; `first` is there at first."""
+        writes = [it for it in found if facts.fits(it, "call * VIRCOPY * * 0 * 4 answer 0 ..")]
+        came = self.bytes_at((it.record, 0, it.words[6], 4) for it in writes)
+        for it, (count,) in zip(writes, struct.iter_unpack("<I", came)):
+            first += 1
+            if count != first:
+                lost = Lost(name, f"{it.words[1]} writes {first}, one more than there was", f"{count}")
+                lost.record = it.record
+                raise lost
+
+    def bytes_at(self, places):
+        """The bytes at places of the history, one after the other. A place is a record, a slot, an address and how many."""
+        words = "".join("goto {}\nmem {} {} {}\n".format(*it) for it in places)
+        printed = run([MX, "look", self.config, self.log], self.room, self.student.bounds, given=words)
+        return memory_of(printed.splitlines())
 
 
 def in_words(data):
@@ -349,14 +367,23 @@ def blocks(printed):
     found = []
     for line in printed.splitlines():
         if line.startswith("position"):
-            found.append({"head": line, "position": line.split()[1], "ending": "", "console": [], "states": []})
+            found.append({"head": line, "position": line.split()[1], "ending": "", "console": [], "bytes": 0,
+                          "states": []})
         elif line.startswith("  > "):
             found[-1]["console"].append(line[4:])
+        elif it := re.fullmatch(r"  console (\d+)", line):
+            found[-1]["bytes"] = int(it[1])
         elif line in ("  rest", "  turns", "  full"):
             found[-1]["ending"] = line.strip()
         elif re.fullmatch(r"  \S+ \d+ (ready|out|doomed|down .*|(sending|calling|receiving|awaiting) \S+)", line):
             found[-1]["states"].append(line.strip())
-    return [{**it, "console": "\n".join(it["console"])} for it in found]
+    return [{**it, "console": console_of(it)} for it in found]
+
+
+def console_of(block):
+    """What the console has: of an LF at its end only the count of bytes tells."""
+    text = "\n".join(block["console"])
+    return text + "\n" * (block["bytes"] - len(text)) if block["bytes"] < 4096 else text
 
 
 def after_ends(endpoint):

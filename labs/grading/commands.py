@@ -15,6 +15,30 @@ NOT_PASSED = ("CPATH", "C_INCLUDE_PATH", "COMPILER_PATH", "GCC_EXEC_PREFIX", "DE
 RUNNING = []  # the command that this process waits for
 
 
+class Interrupts:
+    """An interrupt, which waits while something is made or told whole.
+
+    Where a process forks, Python calls hooks in which nothing can be raised: what was raised there would be lost."""
+
+    is_held = has_come = False
+
+    def __enter__(self):
+        self.is_held = True
+
+    def __exit__(self, *_):
+        self.is_held = False
+        if self.has_come:
+            raise KeyboardInterrupt
+
+    def come(self, *_):
+        self.has_come = True
+        if not self.is_held:
+            raise KeyboardInterrupt
+
+
+INTERRUPTS = Interrupts()  # of this process
+
+
 class Lost(Exception):
     """Why a check's points are lost: what was wanted, and what came."""
 
@@ -59,8 +83,7 @@ def run(words, folder, bounds, status=(0,), given=None):
         text.write((given or "").encode())
         text.seek(0)
         try:
-            made = subprocess.Popen(words, cwd=folder, stdin=text, stdout=out, stderr=errors, env=surroundings(),
-                                    preexec_fn=bounds.take, start_new_session=True)
+            made = begun(words, bounds, cwd=folder, stdin=text, stdout=out, stderr=errors, env=surroundings())
         except OSError as it:
             raise Lost(f"{words[0]} can't be run: {it.strerror}") from None
         ended = wait(made, bounds)
@@ -72,6 +95,18 @@ def run(words, folder, bounds, status=(0,), given=None):
     return printed
 
 
+def begun(words, bounds, **rest):
+    """Begins a command. If an interrupt comes meanwhile, the command is stopped before that is raised."""
+    try:
+        with INTERRUPTS:
+            made = subprocess.Popen(words, preexec_fn=bounds.take, start_new_session=True, **rest)
+            RUNNING.append(made.pid)
+        return made
+    except KeyboardInterrupt:
+        stop_running()
+        raise
+
+
 def stop_running():
     """Stops the command that runs just now, if one does, with all that it started."""
     if RUNNING:
@@ -80,7 +115,6 @@ def stop_running():
 
 def wait(made, bounds):
     """The status of a command; None if it has to be stopped, with all that it started."""
-    RUNNING.append(made.pid)
     try:
         # Others may have the processors: its own seconds are bounded by the system.
         return made.wait(timeout=3 * bounds.seconds)

@@ -14,7 +14,7 @@ import tempfile
 from . import told
 from .alike import alike
 from .checks import Check, Lab
-from .commands import Lost, printable, stop_running
+from .commands import INTERRUPTS, Lost, printable, stop_running
 from .making import LABS, MOST_RUNS, MX, Kit, Student
 
 REFUSED, INTERRUPTED = 2, 130  # statuses: nothing was graded; not all was
@@ -123,32 +123,14 @@ def graded_all(words, lab, keep, secret):
         return
     with concurrent.futures.ProcessPoolExecutor(words.jobs, initializer=begin_worker) as pool:
         try:
-            made = [pool.submit(grade, lab, it, *rest) for it in words.folders]
+            with INTERRUPTS:  # the first one begins the processes
+                made = [pool.submit(grade, lab, it, *rest) for it in words.folders]
             yield from (it.result() for it in concurrent.futures.as_completed(made))
         except (KeyboardInterrupt, GeneratorExit):
             pool.shutdown(wait=False, cancel_futures=True)
             for it in multiprocessing.active_children():
                 it.terminate()
             raise
-
-
-class Interrupts:
-    """An interrupt, which waits while a student is told and written everywhere."""
-
-    is_held = has_come = False
-
-    def __enter__(self):
-        self.is_held = True
-
-    def __exit__(self, *_):
-        self.is_held = False
-        if self.has_come:
-            raise KeyboardInterrupt
-
-    def come(self, *_):
-        self.has_come = True
-        if not self.is_held:
-            raise KeyboardInterrupt
 
 
 def grade_all(words, lab):
@@ -158,10 +140,10 @@ def grade_all(words, lab):
     tell = told.print_json if words.json else told.print_line if words.all else told.print_results
     keep = made_keep(words.keep)
     secret, files = secret_of(words.secret, keep), writers(words, lab)
-    complete, interrupts = True, Interrupts()
-    signal.signal(signal.SIGINT, interrupts.come)
+    complete = True
+    signal.signal(signal.SIGINT, INTERRUPTS.come)
     for it in graded_all(words, lab, keep, secret):
-        with interrupts:
+        with INTERRUPTS:
             tell(it)
             for file in files:
                 file.add(it)

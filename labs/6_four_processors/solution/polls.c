@@ -15,7 +15,7 @@ static int ask(int to, int type, int word, message *m)
     return result == OK ? m->m_type : result;
 }
 
-/* The next item in the message: OK, or ENDED. */
+/* The next item in the message: OK, or ENDED, or what the SENDREC failed with. */
 static int next(int queue, message *m)
 {
     int i;
@@ -34,14 +34,16 @@ int main(void)
     uint32_t items = 0, sum = 0, uptime;
     uint64_t steps;
     message m;
-    int queue, judge;
+    int queue, judge, result;
 
     ask(NAMES_SLOT, LOOKUP, NAME_QUEUE, &m);
     queue = m.p[0];
-    while (next(queue, &m) == OK) {
+    while ((result = next(queue, &m)) == OK) {
         items++;
         sum += m.p[0];
     }
+    if (result != ENDED)
+        return 1;
     ask(NAMES_SLOT, LOOKUP, NAME_JUDGE, &m);
     judge = m.p[0];
     sys_times(&uptime, &steps);

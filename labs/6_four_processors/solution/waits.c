@@ -17,14 +17,16 @@ int main(void)
     uint32_t items = 0, sum = 0, uptime;
     uint64_t steps;
     message m;
-    int queue, judge;
+    int queue, judge, result;
 
     ask(NAMES_SLOT, LOOKUP, NAME_QUEUE, &m);
     queue = m.p[0];
-    while (ask(queue, GET, 0, &m) == OK) {
+    while ((result = ask(queue, GET, 0, &m)) == OK) {
         items++;
         sum += m.p[0];
     }
+    if (result != ENDED)
+        return 1;
     ask(NAMES_SLOT, LOOKUP, NAME_JUDGE, &m);
     judge = m.p[0];
     sys_times(&uptime, &steps);

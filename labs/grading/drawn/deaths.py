@@ -74,8 +74,8 @@ def noisy_killed_squares(draw):
 
 
 def mortal_squares(draw):
-    """A driver that ends again and again. At some positions it is killed besides."""
+    """A driver that ends again and again. At some positions it is killed besides, and it is down for long."""
     lives = many(draw)
     first = draw.randint(20, 60)
-    yield squares(draw, f"a driver that ends {len(lives)} times at a request", False, lives, **killed(draw),
+    yield squares(draw, f"a driver that ends {len(lives)} times at a request", False, lives, **killed(draw, down=(40, 50)),
                   positions=(first, first + 20))

@@ -60,11 +60,11 @@ def rounds(count):
     return ["take 0", "step 0 20000", "back 0"] * count
 
 
-def killed(draw, before=(), looks=4):
+def killed(draw, before=(), looks=4, down=(6, 12)):
     """A fault: slot 0's process is killed, and so is its successor before it does anything, so that the next one isn't one
-    generation later; and then slot 0 is down while others run, so that who asks for its process is told several times that
-    there is none. The histories of some positions are looked at."""
-    more, count = draw.randint(1, 2), draw.randint(6, 12)
+    generation later; and then slot 0 is down for so many traps of others, so that who asks for its process is told several
+    times that there is none. The histories of some positions are looked at."""
+    more, count = draw.randint(1, 2), draw.randint(*down)
     told = f"kill slot 0, and {more} successors, and it is down for {count} traps" + (", after another kill" if before else "")
     return {"fault": [*before, *["kill slot 0", "respawn 0"] * more, "kill slot 0", *rounds(count)], "told": told,
             "looks": [draw.random() for _ in range(looks)]}

@@ -1,5 +1,5 @@
 """Lab 2: a server's clients, and a pair of which one may be a stranger with another number."""
-from .machines import ASK, POKE, TELL, WORK, bystanders, machine, served, service
+from .machines import ASK, POKE, TAKE, TELL, WORK, bystanders, machine, served, service
 
 ADD, READ = 1, 2
 SERVER = service("server", "server.out", send="fffe", calls="1", level=4)
@@ -7,7 +7,10 @@ PAIR = {"left": 2, "right": 3}
 
 
 def totals(draw, name, actors, **more):
-    return served(draw, name, actors, "totals", server=SERVER, **more)
+    """The server with these clients. In the slots before theirs are some that live and send nothing, so who receives from one
+    slot after the other waits for ever."""
+    silent = [(f"silent{i}", [(TAKE, 0)], draw.randint(5, 9), 0) for i in range(draw.randint(1, 2))]
+    return served(draw, name, [*silent, *actors], "totals", server=SERVER, **more)
 
 
 def additions(draw, count, most=1000):

@@ -4,6 +4,8 @@ from .machines import ASK, POKE, TELL, WORK, machine, plan, requests, served, se
 REGISTER, LOOKUP = 1, 2
 PUT, GET, TRY, END = 1, 2, 3, 4
 ITEMS = 12
+LARGEST = 10_000_000  # of an item, so that no sum of a machine is below 0
+CROWD = 27  # clients: with the others of their machine nearly as many as there are slots
 
 
 def called(name, program, level, calls="1", send="3"):
@@ -15,8 +17,8 @@ def all_but(slot):
 
 
 def looked_up(draw):
-    """Names that are looked up before anybody has them, by several; a name that another one takes; what there is not; a
-    process that ends while it waits."""
+    """Names that are looked up before anybody has them, by several; a name that another one takes, and its successor after
+    it; what there is not; a process that ends while it waits. And a name that a crowd waits for."""
     name, other = draw.sample([0, 3, 4, 5, 6, 7], 2)
     first = [(ASK, 0, LOOKUP, name), (ASK, 0, draw.randint(5, 99), 0), (ASK, 0, LOOKUP, draw.randint(8, 99)),
              (ASK, 0, REGISTER, -draw.randint(1, 9))]
@@ -24,21 +26,27 @@ def looked_up(draw):
               ("third", [(ASK, 0, LOOKUP, name), (ASK, 0, LOOKUP, other)], 6, 0), ("queue", [(ASK, 0, LOOKUP, 1)], 6, 0),
               ("judge", [(ASK, 0, LOOKUP, 2)], 6, 0),
               ("owner", [(POKE, 0), (WORK, draw.randint(2, 5)), (ASK, 0, REGISTER, other), (ASK, 0, REGISTER, name)], 8, 0),
-              ("heir", [(ASK, 0, REGISTER, name), (ASK, 0, LOOKUP, name), (ASK, 0, LOOKUP, other)], 9, 0)]
-    yield served(draw, "names that are looked up before anybody has them, or never has", actors, "names",
-                 server=service("names", "names.out", "fffe", "1", 3))
+              ("heir", [(ASK, 0, REGISTER, name), (ASK, 0, LOOKUP, name), (ASK, 0, LOOKUP, other)], 9, draw.randint(1, 2))]
+    server = service("names", "names.out", "fffe", "1", 3)
+    yield served(draw, "names that are looked up before anybody has them, or never has", actors, "names", server=server)
+    # Name 0: what a server writes over its tables, if it has no room for all, is found there first.
+    crowd = [(f"client{i}", [(ASK, 0, LOOKUP, 0, draw.randint(1, 99))], draw.randint(5, 8), 0) for i in range(CROWD)]
+    owner = ("owner", [(WORK, 2), (ASK, 0, REGISTER, 0)], 9, 0)
+    yield served(draw, f"a name that {CROWD} clients wait for", [*crowd, owner], "names",
+                 server=server.replace("fffe", "fffffffe"))
 
 
 def queued(draw):
-    """Room, order and end; who waits longest is served first; a consumer that dies while it waits."""
-    items = draw.sample(range(1, 10_000), 14)
+    """Room, order and end; who waits longest is served first; a consumer and a producer that die while they wait; a crowd
+    that waits, and its successors after it."""
+    items = draw.sample(range(1, 1 << 32), 15)
     names = service("names", "good_names.out", all_but(0), "1", 2)
-    queue = service("queue", "queue.out", all_but(1), "1", 3)
+    queue = service("queue", "queue.out", "fffffffd", "1", 3)
 
-    def case(name, *actors):
-        lines = [called(it, "actor.out", level) for it, _, level in actors]
+    def case(name, *actors, restarts=0):
+        lines = [service(it, "actor.out", "3", "1", level, restarts) for it, _, level in actors]
         return {"name": name, "config": machine(1, names, queue, *lines), "models": [("queue", "queue")],
-                "facts": [requests(it, "queue", steps) for it, steps, _ in actors],
+                "facts": [requests(it, "queue", steps, 1 + restarts) for it, steps, _ in actors],
                 "set": {it: plan((WORK, 4), *steps) for it, steps, _ in actors}}
 
     filler = [(POKE, 1), (ASK, 1, TRY), (ASK, 1, draw.randint(5, 99)), *[(ASK, 1, PUT, it) for it in items[:9]], (ASK, 1, END)]
@@ -48,8 +56,12 @@ def queued(draw):
     yield case("three consumers wait, and one of them dies", ("hasty", [(TELL, 1, GET)], 4), ("first", [(ASK, 1, GET)] * 2, 5),
                ("second", [(ASK, 1, GET)] * 2, 6), ("putter", put, 8))
     full = [*[(ASK, 1, PUT, it) for it in items[:8]]]
-    yield case("two producers wait for room", ("filler", full, 4), ("first", [(ASK, 1, PUT, items[8])], 5),
-               ("second", [(ASK, 1, PUT, items[9])], 6), ("taker", [(ASK, 1, GET)] * 10 + [(ASK, 1, TRY)], 8))
+    yield case("three producers wait for room, and one of them dies", ("filler", full, 4),
+               ("first", [(ASK, 1, PUT, items[12])], 5), ("hasty", [(TELL, 1, PUT, items[13])], 6),
+               ("second", [(ASK, 1, PUT, items[14])], 7), ("taker", [(ASK, 1, GET)] * 11 + [(ASK, 1, TRY)], 8))
+    crowd = [(f"client{i}", [(ASK, 1, GET)], draw.randint(4, 7)) for i in range(CROWD)]
+    put = [(ASK, 1, PUT, draw.randint(1, 1000)) for _ in range(CROWD)]
+    yield case(f"{CROWD} consumers wait, each end and is replaced", *crowd, ("putter", put, 8), restarts=1)
 
 
 def asked(who, kinds):
@@ -57,7 +69,7 @@ def asked(who, kinds):
 
 
 def patient(draw):
-    """A queue that has nothing, and one that has something after a while."""
+    """A queue that has nothing, one that has something after a while, one that two producers fill, and one that dies."""
     names = service("names", "good_names.out", "fffe", "1", 3)
     waits, polls = (called(it, f"{it}.out", 7, "3", "7") for it in ("waits", "polls"))
     judge = service("judge", "judge.out", all_but(2), "11", 5)
@@ -66,27 +78,43 @@ def patient(draw):
            "want": {"console": "", "asks": asked("waits", [GET]) | asked("polls", [TRY] * 20 + [GET]),
                     "states": {"waits": "awaiting 1", "polls": "awaiting 1"}}}
     patience = draw.randint(5, 19)
-    yield {"name": f"a queue with an item after {patience} answers NOTHING, and then one for a GET",
-           "config": machine(1, names, service("queue", "slow_queue.out", all_but(1), "1", 4), judge, polls),
-           "set": {"queue": {"patience": [patience]}},
-           "want": {"asks": asked("polls", [TRY] * (patience + 1 + 20) + [GET, TRY]), "states": {"polls": "down exit"}}}
+    slow = machine(1, names, service("queue", "slow_queue.out", all_but(1), "1", 4), judge)
+    made = {"patience": [patience], "items": [draw.randint(1, LARGEST) for _ in range(2)]}
+    yield {"name": f"a queue with an item after {patience} answers NOTHING, and then one for a GET", "config": [*slow, polls],
+           "set": {"queue": made}, "facts": reports("polls"),
+           "want": {"asks": asked("polls", [TRY] * (patience + 1 + 20) + [GET, TRY]), "states": {"polls": "down exit"},
+                    "taken": ["queue", "judge"]}}
+    yield six(draw, 1, given=("names", "queue")) | {"name": "with a name server and a queue of the grader"}
+    for name, line, kind, answers in (("waits", waits, GET, draw.randint(0, 1)), ("polls", polls, TRY, draw.randint(1, 4))):
+        yield {"name": f"a queue that ends at a request, after {answers} answers", "config": [*slow, line],
+               "set": {"queue": made | {"answers": [answers]}}, "facts": [f"0 message {name} to judge .."],
+               "want": {"asks": asked(name, [kind] * (answers + 1)), "states": {name: "down exit"}}}
 
 
-def six(draw, cpus, slots=False, **want):
-    """Name server, queue, judge, two producers with items of their own, two consumers; `slots`: in other slots."""
-    items = [[draw.randint(1, 1000) for _ in range(ITEMS)] for _ in range(2)]
-    rows = [("queue", "queue.out", 4, "1"), ("judge", "judge.out", 5, "11"), ("ann", "maker.out", 7, "1"),
+def reports(who):
+    """A consumer has one report to make: after the queue said that it has ended."""
+    return [f"1 message {who} to judge ..", f"in order: message queue to {who} type 2 ..; message {who} to judge type 1 .."]
+
+
+def six(draw, cpus, slots=False, given=(), **want):
+    """Name server, queue, judge, two producers with items of their own, two consumers; `slots`: in other slots. The servers
+    that are `given` are the grader's; then the items are large."""
+    items = [[draw.randint(1, LARGEST if given else 1000) for _ in range(ITEMS)] for _ in range(2)]
+    names, queue = (f"good_{it}.out" if it in given else f"{it}.out" for it in ("names", "queue"))
+    rows = [("queue", queue, 4, "1"), ("judge", "judge.out", 5, "11"), ("ann", "maker.out", 7, "1"),
             ("ben", "maker.out", 7, "1"), ("waits", "waits.out", 7, "3"), ("polls", "polls.out", 7, "3")]
     if slots:
         rows = [(name, program, draw.choice([5, 7, 8]), calls) for name, program, _, calls in rows]
         draw.shuffle(rows)
     servers = [0, *[slot for slot, it in enumerate(rows, 1) if it[0] in ("queue", "judge")]]
     to_servers = f"{sum(1 << it for it in servers):x}"
-    config = machine(cpus, service("names", "names.out", all_but(0), "1", 3),
+    config = machine(cpus, service("names", names, all_but(0), "1", 3),
                      *[called(name, program, level, calls, all_but(slot) if slot in servers else to_servers)
                        for slot, (name, program, level, calls) in enumerate(rows, 1)])
     return {"config": config, "set": {it: {"items": items[i]} for i, it in enumerate(("ann", "ben"))},
-            "facts": ["1+ message waits to queue type 2 ..", "1+ message polls to queue type 3 .."],
+            "models": [("names", "names"), ("queue", "queue")],
+            "facts": ["1+ message waits to queue type 2 ..", "1+ message polls to queue type 3 ..", *reports("waits"),
+                      *reports("polls")],
             "want": {"starts": f"24 items, sum {sum(map(sum, items))}\n", "taken": ["queue", "judge"],
                      "states": {it: "down exit" for it in ("judge", "ann", "ben", "waits", "polls")}, **want}}
 
@@ -120,7 +148,7 @@ def added(draw, cpus):
     lines = [service(it, "adder.out", calls="21") for it in ADDERS]
     return {"name": f"on {cpus} processors", "set": {"board": {"count": [first]}},
             "config": machine(cpus, service("board", "counter.out", "e", "111", 4), *lines),
-            "want": {"console": str(first + 9), "states": {it: "down exit" for it in ("board", *ADDERS)}},
+            "want": {"console": str(first + 9), "counted": first, "states": {it: "down exit" for it in ("board", *ADDERS)}},
             "facts": [fact for it in ADDERS for fact in locked(it)]}
 
 

@@ -36,7 +36,8 @@ class Exchange:
 
 
 class Asker:
-    """Who asks the process of slot 0 asks the first one, or one that WHOIS told."""
+    """Who says something to the process of slot 0, or waits for it, does so with the first one, or with one that WHOIS told
+    before."""
 
     def __init__(self, name, who):
         self.name, self.who = name, who
@@ -47,11 +48,11 @@ class Asker:
             words = it.words
             if words[:6] == ["call", self.who, "WHOIS", "0", "answer", "0"]:
                 self.known.add((words[6:] + ["0"])[0])
-            elif words[:2] == ["try", self.who] and words[2] in SENDS and words[3] != "SYSTEM":
+            elif words[:2] == ["try", self.who] and words[3] != "SYSTEM":
                 self.compare(it)
 
     def compare(self, event):
         whom = event.who[1]
         if whom is not None and int(whom) % GENERATION == 0 and whom not in self.known:
-            wanted = f"a request to {' or '.join(sorted(self.known, key=int))}, which WHOIS told"
-            raise wrong(self.name, event, wanted, f"one to {whom}")
+            wanted = f"{event.words[2]} with {' or '.join(sorted(self.known, key=int))}, which WHOIS told"
+            raise wrong(self.name, event, wanted, f"{event.words[2]} with {whom}")
