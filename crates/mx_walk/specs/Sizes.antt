@@ -29,6 +29,10 @@ image_at w s = (process_at w.table s).image
 abbrev pub checkpoint_bytes : World → ℕ
 checkpoint_bytes w = 65536 + sum_by slot_bytes (map (image_at w) (range_with_len 0 (length w.table.slots)))
 
--- HOW MANY CHECKPOINTS there may be: as many as 256 MiB hold, and at most 63
+-- as many checkpoints of n bytes as 256 MiB hold, and at most 63
+abbrev pub most_of : ℕ → ℕ
+most_of n = min 63 (268435456 / n)
+
+-- HOW MANY CHECKPOINTS there may be
 abbrev pub most_checkpoints : World → ℕ
-most_checkpoints w = min 63 (268435456 / checkpoint_bytes w)
+most_checkpoints w = most_of (checkpoint_bytes w)

@@ -15,7 +15,7 @@ use Rattle.mx_walk.specs.Parts.{walk_between}
 use Rattle.mx_walk.specs.Positions.{IsAt, IsPosition, IsStuck, IsUpTo, next_event, events_before, first, is_up_to, world_at}
 
 -- A WALK: where the history begins, its records, where the walker is, the last position that it can come to, and
--- its marks: the positions, in order, from which it can go on without a walk from the first
+-- its marks: the positions of its checkpoints, in order, from which it can go on without a walk from the first
 pub record Walk : Type 0 where
   pub boot : World
   pub records : List Record
@@ -30,13 +30,13 @@ abbrev pub last_or : Position → List Position → Position
 last_or p [] = p
 last_or p (q ∷ qs) = last_or q qs
 
--- WHERE A WALK BACK BEGINS: at the last mark that isn't after where it goes; at the first position if none is
-abbrev pub mark_before : List Position → Position → Position
-mark_before marks to = last_or first (filter (λ m. is_up_to m to) marks)
+-- WHERE A WALK BACK BEGINS: at the last checkpoint that isn't after where it goes; at the first position if none is
+abbrev pub checkpoint_before : List Position → Position → Position
+checkpoint_before checkpoints to = last_or first (filter (λ p. is_up_to p to) checkpoints)
 
 -- WHERE A WALK BEGINS: where the walker is, if it goes on from there; else where a walk back begins
 abbrev pub start_to : Walk → Position → Position
-start_to k to = if is_up_to k.here to then k.here else mark_before k.marks to
+start_to k to = if is_up_to k.here to then k.here else checkpoint_before k.marks to
 
 -- ---- what is shown on the way
 

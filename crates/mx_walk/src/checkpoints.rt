@@ -8,14 +8,14 @@
 //! `MOST_BYTES`, so a step back takes a sixtieth of the whole walk at most, if that is long. One more is near where a
 //! session last went back: it makes a second step back at one place quick, however long the history is.
 
-ghost use Rattle.std.specs.Prelude.{◌≡◌, ◌+◌, ◌-◌, ◌/◌, ◌^◌, ◌<◌, ◌≤◌, [], IfOk, IfSome, MatchOption, None, length, min, slice_index_or};
+ghost use Rattle.std.specs.Prelude.{◌≡◌, ◌+◌, ◌-◌, ◌^◌, ◌<◌, ◌≤◌, [], IfOk, IfSome, MatchOption, None, length, slice_index_or};
 ghost use Rattle.mx_machine.specs.Machine.{world_of};
 ghost use Rattle.mx_machine.specs.World.{actors};
 ghost use Rattle.mx_walk.specs.Checkpoints.{AreStored, IsStored, positions_of};
-ghost use Rattle.mx_walk.specs.Sizes.{checkpoint_bytes, image_bytes, most_checkpoints, segment_bytes, text_bytes};
+ghost use Rattle.mx_walk.specs.Sizes.{checkpoint_bytes, image_bytes, most_checkpoints, most_of, segment_bytes, text_bytes};
 ghost use Rattle.mx_walk.specs.declared.checkpoints.Stored.{Stored};
 ghost use Rattle.mx_walk.specs.Positions.{IsAt, IsPosition, IsUpTo, first};
-ghost use Rattle.mx_walk.specs.Walks.{mark_before};
+ghost use Rattle.mx_walk.specs.Walks.{checkpoint_before};
 
 use crate::{FIRST, Position, is_up_to, steps_in};
 use mx_exec::{Code, Image};
@@ -103,7 +103,7 @@ fn checkpoint_bytes(machine: &Machine) -> u128
 /// How many checkpoints a walker has, if one takes this many bytes.
 fn most_of(bytes: u128) -> usize
     requires { 0 < bytes }
-    ensures { result ≡ min 63 (268435456 / bytes) }
+    ensures { result ≡ most_of bytes }
 {
     MOST_CHECKPOINTS.min(MOST_BYTES / bytes) as usize
 }
@@ -244,11 +244,11 @@ impl Checkpoints {
 
 /// The last checkpoint that isn't after a position.
 pub(crate) fn last_before(checkpoints: &[Stored], to: Position) -> Option<usize>
-    ensures { MatchOption result (mark_before (positions_of checkpoints.now) to ≡ first)
+    ensures { MatchOption result (checkpoint_before (positions_of checkpoints.now) to ≡ first)
         (λ index. (index < length checkpoints.now)
         × ((d : Stored) → IsUpTo (slice_index_or checkpoints.now index d).position to)
         × ((d : Stored) → (slice_index_or checkpoints.now index d).position
-        ≡ mark_before (positions_of checkpoints.now) to)) }
+        ≡ checkpoint_before (positions_of checkpoints.now) to)) }
 {
     let mut last = None;
     for index in 0..checkpoints.len() {

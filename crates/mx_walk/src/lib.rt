@@ -25,6 +25,7 @@ mod progress;
 mod quiet;
 mod records;
 mod resuming;
+mod searching_back;
 mod seeking;
 mod several;
 mod showing;
@@ -33,6 +34,7 @@ mod walker;
 mod walking_forward;
 mod watching;
 
+pub use booting::boot;
 pub use destinations::{PositionWord, back_from, forward_from, go_to_asked, steps_back, steps_on};
 pub use either::Either;
 pub use position_laws::{events_are_made, positions_alternate, positions_replay};
@@ -42,7 +44,7 @@ pub use positions::{
 };
 pub use progress::{Part, Progress};
 pub use records::{Halted, finish_record, make_event, make_steps};
-pub use seeking::{Mark, Sought, Way, seek, seek_last};
+pub use seeking::{Mark, Sought, Way, seek};
 pub use several::Several;
 pub use stopping::{CodePlace, Coming, Leaving};
 pub use walker::Walker;

@@ -7,7 +7,7 @@ ghost use Rattle.mx_machine.specs.World.{World, actors};
 ghost use Rattle.mx_walk.specs.Checkpoints.{IsStock, IsStored, positions_of};
 ghost use Rattle.mx_walk.specs.Parts.{walk_between};
 ghost use Rattle.mx_walk.specs.Positions.{HasHalted, IsAt, IsPosition, IsUpTo, first};
-ghost use Rattle.mx_walk.specs.Walks.{IsBootOf, mark_before};
+ghost use Rattle.mx_walk.specs.Walks.{IsBootOf, checkpoint_before};
 
 use crate::booting::boot_again;
 use crate::checkpoints::{Stock, Stored, last_before, machine_of, near_before, store};
@@ -43,9 +43,9 @@ fn near_between(stock: &Stock, from: Position, to: Position) -> Option<&Stored>
 /// The checkpoint with which a walk to a position begins that doesn't begin with the machine as it is: the last one
 /// along the history that isn't after it, or the near one, if that is between.
 fn stored_for(stock: &Stock, to: Position) -> Option<&Stored>
-    ensures { MatchOption result (mark_before (positions_of stock.now.along.items) to ≡ first)
+    ensures { MatchOption result (checkpoint_before (positions_of stock.now.along.items) to ≡ first)
         (λ stored. IsUpTo stored.now.position to
-        × IsUpTo (mark_before (positions_of stock.now.along.items) to) stored.now.position
+        × IsUpTo (checkpoint_before (positions_of stock.now.along.items) to) stored.now.position
         × ((boot : World) (records : List Noted) → IsStock boot records stock.now
         → IsStored boot records stored.now)) }
 {
@@ -75,7 +75,7 @@ pub(crate) fn machine_again(
         IsAt machine.kernel.boot origin.entry.records.now again.1 again.0) }
     ensures early { IfOk result (λ again. IsUpTo again.1 to) }
     ensures later { IfOk result (λ again.
-        IsUpTo (mark_before (positions_of origin.entry.stock.now.along.items) to) again.1) }
+        IsUpTo (checkpoint_before (positions_of origin.entry.stock.now.along.items) to) again.1) }
     ensures actors { IfOk result (λ again.
         actors (world_of again.0) ≡ actors machine.kernel.boot) }
 {
@@ -93,8 +93,8 @@ pub(crate) fn machine_again(
 
 /// Where a walk back to a position begins: at the last checkpoint along the history that isn't after it; at the first
 /// position if there is none.
-pub(crate) fn mark_before(stock: &Stock, to: Position) -> Position
-    ensures { result ≡ mark_before (positions_of stock.now.along.items) to }
+pub(crate) fn checkpoint_before(stock: &Stock, to: Position) -> Position
+    ensures { result ≡ checkpoint_before (positions_of stock.now.along.items) to }
 {
     let along = stock.along.as_slice();
     match last_before(along, to) {
@@ -105,12 +105,12 @@ pub(crate) fn mark_before(stock: &Stock, to: Position) -> Position
 
 /// Whether a checkpoint is on the way from one position to a later one, with more than one record from there on.
 fn is_on_the_way(stock: &Stock, here: Position, to: Position) -> bool
-    ensures { result ≡ true → IsUpTo here (mark_before (positions_of stock.now.along.items) to) }
+    ensures { result ≡ true → IsUpTo here (checkpoint_before (positions_of stock.now.along.items) to) }
 {
     if to.records.saturating_sub(here.records) < 2 {
         return false;
     }
-    here.records < mark_before(stock, to).records
+    here.records < checkpoint_before(stock, to).records
 }
 
 /// A machine between where it is and a later position: as it is, or made from a checkpoint on the way.

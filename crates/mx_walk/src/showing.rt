@@ -1,6 +1,6 @@
 //! What is shown of a walk.
 
-ghost use Rattle.std.specs.Prelude.{◌≡◌, ◌≤◌, ◌+◌, ◌++◌};
+ghost use Rattle.std.specs.Prelude.{◌≡◌, ◌≤◌, ◌+◌, ◌-◌, ◌++◌, length};
 ghost use Rattle.mx_walk.specs.Parts.{parts_between, walk_between};
 
 use crate::positions::Position;
@@ -36,4 +36,25 @@ pub(crate) fn show_parts<P: Progress>(all: usize, from: usize, to: usize, progre
             all,
         });
     }
+}
+
+/// Shows the record that is passed from a position to the next one that a search comes to, if one is: after so many
+/// parts, and one for each record from where the search began.
+pub(crate) fn show_counted<P: Progress>(
+    records: &[Record],
+    from: Position,
+    at: Position,
+    next: Position,
+    shown: usize,
+    progress: &mut P,
+)
+    requires up { from.records ≤ at.records }
+    requires later { at.records ≤ next.records }
+    requires few { shown + (next.records - from.records) ≤ length records.now }
+    ensures { P.shown progress.new ≡ P.shown progress.old ++ parts_between (length records.now)
+        (shown + (at.records - from.records)) (shown + (next.records - from.records)) }
+{
+    let before = shown + (at.records - from.records);
+    let after = shown + (next.records - from.records);
+    show_parts(records.len(), before, after, progress);
 }

@@ -1,6 +1,6 @@
 //! A walker: a machine at a position of a history.
 
-ghost use Rattle.std.specs.Prelude.{◌≡◌, ◌⊎◌, ◌<◌, ◌≤◌, ◌-◌, ◌++◌, ℕ, true, false, All, IfErr, IfOk, MatchOption, OnOk, length, if◌then◌else◌};
+ghost use Rattle.std.specs.Prelude.{◌≡◌, ◌⊎◌, ◌<◌, ◌≤◌, ◌-◌, ◌++◌, ℕ, true, false, All, IfErr, IfOk, OnOk, length, if◌then◌else◌};
 ghost use Rattle.mx_machine.specs.declared.events.Event.{Event as Made};
 ghost use Rattle.mx_machine.specs.declared.history.Record.{Record as Noted};
 ghost use Rattle.mx_machine.specs.Move.{event_refusal};
@@ -8,7 +8,7 @@ ghost use Rattle.mx_machine.specs.World.{actors};
 ghost use Rattle.mx_machine.specs.Machine.{world_of};
 ghost use Rattle.mx_walk.specs.declared.positions.Position.{Position as At};
 ghost use Rattle.mx_walk.specs.Positions.{IsBefore, IsPosition, IsUpTo, first, is_up_to, position_before};
-ghost use Rattle.mx_walk.specs.Seeking.{IsFirstMarked, IsLastMarked, IsPassed};
+ghost use Rattle.mx_walk.specs.Seeking.{HasSoughtBack, IsFirstMarked, IsLastMarked, IsPassed};
 ghost use Rattle.mx_walk.specs.Sizes.{most_checkpoints};
 ghost use Rattle.mx_walk.specs.Watching.{is_changed};
 ghost use Rattle.mx_walk.specs.Walks.{IsBootOf, IsLast, refusal_here, shown_to, world_here};
@@ -17,13 +17,14 @@ ghost use Rattle.mx_walk.specs.Parts.{walk_between, walk_shown};
 use crate::booting::boot_again;
 use crate::checkpoints::{Checkpoints, Stock};
 use crate::first_walk::walk_first;
-use crate::resuming::{Origin, go_on_near, machine_again, machine_on_the_way, mark_before};
+use crate::resuming::{Origin, checkpoint_before, go_on_near, machine_again, machine_on_the_way};
+use crate::searching_back::search_back;
 use crate::showing::show_parts;
 use crate::walking_forward::go_on;
 use crate::watching::{ByteChange, BytePlace};
 use crate::{
     FIRST, Mark, Position, Progress, Sought, Way, is_up_to, make_event, next_event,
-    position_before, seek, seek_last,
+    position_before, seek,
 };
 use mx_machine::{Config, Machine, Record, Refusal};
 use mx_word::NoMemory;
@@ -239,7 +240,7 @@ impl Walker {
             records: passed,
             stock: &stock,
         };
-        let start = mark_before(&stock, to);
+        let start = checkpoint_before(&stock, to);
         let (mut machine, from) = machine_again(alloc, machine, origin, to)?;
         show_parts(passed.len(), start.records, from.records, progress);
         let way = Way { from, to };
@@ -309,23 +310,21 @@ impl Walker {
         }
     }
 
-    /// Walks from the first position to here again, shows each record that it passes, and answers right before
-    /// which event it came last that is marked. Takes memory to boot the machine again, before it shows
-    /// anything.
+    /// Finds right before which event a walk from the first position to here came last that is marked, and shows each
+    /// record of that walk. Is then after that event. Takes memory for the machines that it searches with.
     fn look_back<M: Mark, P: Progress>(
         self,
         alloc: Global,
         mark: &mut M,
         progress: &mut P,
     ) -> Result<(Walker, Option<Position>), NoMemory>
-        ensures same { IfOk result (λ back. back.0 ≡ self) }
-        ensures marked { IfOk result (λ back. MatchOption back.1
-            (IsPassed (M.marks mark.old) self.boot self.records first self.here)
-            (λ p. IsPosition self.records p × IsBefore p self.here
-            × IsLastMarked (M.marks mark.old) self.boot self.records p self.here)) }
-        ensures shown { OnOk result (P.shown progress.new
-            ≡ P.shown progress.old ++ walk_shown self.records self.here) }
-        ensures unshown { IfErr result (λ _. P.shown progress.new ≡ P.shown progress.old) }
+        ensures same { IfOk result (λ back. back.0 ≡ record self { here = back.0.here }) }
+        ensures early { IfOk result (λ back. IsUpTo back.0.here self.here
+            × IsUpTo back.0.here self.last) }
+        ensures marked { IfOk result (λ back. HasSoughtBack (M.marks mark.old)
+            self.boot self.records self.here first back.0.here back.1) }
+        ensures shown { P.shown progress.new
+            ≡ P.shown progress.old ++ walk_shown self.records self.here }
     {
         let Walker {
             machine,
@@ -335,26 +334,26 @@ impl Walker {
             last,
             stock,
         } = self;
-        let mut machine = boot_again(alloc, machine, &config)?;
-        let way = Way {
-            from: FIRST,
-            to: here,
+        let origin = Origin {
+            config: &config,
+            records: records.as_slice(),
+            stock: &stock,
         };
-        let (_, found) = seek_last(&mut machine, records.as_slice(), way, mark, progress);
+        let back = search_back(alloc, machine, origin, here, mark, progress)?;
         let walker = Walker {
-            machine,
+            machine: back.machine,
             config,
             records,
-            here,
+            here: back.at,
             last,
             stock,
         };
-        Ok((walker, found))
+        Ok((walker, back.found))
     }
 
     /// Goes back to right before the last event that is marked; to the first position if there is none. Shows
     /// each record from the first position to here, and then those on its way there. Answers whether there is
-    /// one. Takes memory to boot the machine again.
+    /// one. Takes memory for the machines that it searches with.
     pub fn seek_back<M: Mark, P: Progress>(
         self,
         alloc: Global,
@@ -428,7 +427,7 @@ impl Walker {
 
     /// Goes back to right before the last event that changed a byte; to the first position if there is none. Shows
     /// each record from the first position to here, and then those on its way there. Answers whether there is
-    /// one. Takes memory to boot the machine again.
+    /// one. Takes memory for the machines that it searches with.
     pub fn go_to_last_change<P: Progress>(
         self,
         alloc: Global,

@@ -1,10 +1,10 @@
-use Rattle.std.proofs.Common.{◌≡◌, ◌≤◌, ◌<◌, ◌∙◌, ◌+◌, ◌++◌, List, length, refl, ap, subst, sym, inl, arith}
+use Rattle.std.proofs.Common.{◌≡◌, ◌≤◌, ◌∙◌, ◌+◌, ◌++◌, List, length, refl, ap, subst, sym, inl, arith}
 use Rattle.mx_machine.specs.World.{World, actors}
 use Rattle.mx_walk.specs.declared.positions.Position.{Position}
 use Rattle.mx_walk.specs.declared.progress.Part.{Part}
 use Rattle.mx_walk.specs.Parts.{parts_between, parts_shown, walk_between}
 use Rattle.mx_walk.specs.Positions.{HasHalted, IsAt, IsUpTo}
-use Rattle.mx_walk.proofs.Along.{any_record, at, is_next, itself, same_position, up_over}
+use Rattle.mx_walk.proofs.Along.{any_record, at, is_next, same_position, up_over}
 use Rattle.mx_walk.proofs.PartsShown.{after_place, all_between, none_between, then_between}
 use Rattle.mx_walk.proofs.Passing.{not_one}
 use Rattle.mx_walk.proofs.Walking.{halted_before, stored_by}

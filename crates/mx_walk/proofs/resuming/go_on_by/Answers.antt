@@ -3,7 +3,7 @@ use Rattle.std.specs.Prelude.{IfSome}
 use Rattle.mx_machine.specs.declared.history.Record.{Record}
 use Rattle.mx_machine.specs.World.{World, actors}
 use Rattle.mx_walk.specs.Checkpoints.{IsStored}
-use Rattle.mx_walk.specs.Positions.{HasHalted, IsAt, IsUpTo}
+use Rattle.mx_walk.specs.Positions.{HasHalted, IsAt}
 use Rattle.mx_walk.proofs.Along.{up_trans}
 use Rattle.mx_walk.proofs.Arriving.{halted_up}
 use Rattle.mx_walk.proofs.PartsShown.{then_between}

@@ -1,5 +1,4 @@
-use Rattle.std.proofs.Common.{◌≡◌, ◌≤◌, ◌<◌, ◌+◌, ◌-◌, length, arith}
-use Rattle.mx_walk.specs.Checkpoints.{count}
+use Rattle.std.proofs.Common.{◌<◌, arith}
 use Rattle.mx_walk.proofs.Next.{up_to_of}
 use Rattle.mx_walk.proofs.Walking.{at_most_one}
 use Rattle.mx_walk.proofs.resuming.go_on_near.Goals as goal

@@ -1,7 +1,3 @@
-use Rattle.std.proofs.Common.{sym, subst}
-use Rattle.mx_walk.specs.declared.positions.Position.{Position}
-use Rattle.mx_walk.specs.Positions.{IsUpTo, first}
-use Rattle.mx_walk.proofs.Along.{itself}
 use Rattle.mx_walk.proofs.Arriving.{at_first}
 use Rattle.mx_walk.proofs.resuming.machine_again.Goals as goal
 
