@@ -18,7 +18,7 @@ use Rattle.mx_machine.proofs.PartLemmas.{part_own}
 use Rattle.mx_machine.proofs.ReplayLemmas.{last_accepted}
 use Rattle.mx_loan.proofs.Fronts.{prefix_trans}
 use Rattle.mx_loan.specs.Seats.{DeskView, SeatView, LoanView, IsSeatOf, back_record, desk_after_back, desk_after_event, desk_after_take, new_loan, record_of, take_record, seat_after_back, seat_after_event, seat_after_take, seat_seeing}
-use Rattle.mx_cpus.specs.Calls.{Follows, IsAcceptedCall, IsLentAt, IsRefusedCall, IsRestCall, IsAcceptedHistory, desk_beside, event_of, outs_of, steps_of, world_after}
+use Rattle.mx_cpus.specs.Calls.{EndsDead, Follows, IsAcceptedCall, IsLentAt, IsRefusedCall, IsRestCall, IsAcceptedHistory, desk_beside, event_of, is_dead, outs_of, slot_of, steps_of, world_after}
 use Rattle.mx_cpus.proofs.WorldLemmas.{back_outs, moved_by}
 
 -- the seat after its own record, with the kernel as it was
@@ -108,6 +108,17 @@ accepted_by boot k n s t b e holding IsAnswered is front mine who made now all a
           (moved_by k b e accepted ∙ ap (λ u. let r : Result Answer Refusal × World = (Ok x, u) in r) (ap replay (sym made) ∙ ap (λ c. world_after c n.history) (ap (λ (m : BootAndHistory). m.boot) made) ∙ ap (world_after k.boot) same)));
       answered = subst (λ c. IsAnswered (world_after c k.history) x) is after;
     }
+
+-- whether the process that came back is dead
+pub dead_by : (boot : World) (k n : BootAndHistory) (s t : SeatView) (b c : ℕ) (died : Bool) → k.boot ≡ boot → b ≡ s.actor → n ≡ with_record k b (recorded.Back c) → t ≡ recorded_seat s k (recorded.Back c) None
+    → died ≡ is_dead (replay n) (slot_of (replay k) b) → EndsDead boot t died
+dead_by boot k n s t b c died is who made now dead =
+    subst (λ w. EndsDead w t died) is (subst (λ (u : SeatView). EndsDead k.boot u died) (sym now) (
+      k.history,
+      c,
+      refl,
+      dead ∙ ap (λ (m : BootAndHistory). is_dead (replay m) (slot_of (replay k) b)) made ∙ ap (λ i. is_dead (replay (with_record k i (recorded.Back c))) (slot_of (replay k) i)) who,
+    ))
 
 -- a call that recorded nothing: the seat was shown the history
 shown_follows : (k : BootAndHistory) (s : SeatView) → IsPrefix s.seen k.history → s.mine ≡ part_of k.history s.actor → Follows s (seat_seeing s k.history)

@@ -1,8 +1,11 @@
 -- What a call of the shared machine does to the caller's seat.
-use Rattle.std.specs.Prelude.{◌≡◌, ℕ, Bool, List, [], ◌∷◌, ◌++◌, map, Option, Some, None, Ok, replicate}
+use Rattle.std.specs.Prelude.{◌≡◌, ◌&&◌, ℕ, nat_lt, Bool, false, List, [], ◌∷◌, ◌++◌, length, map, Option, Some, None, Ok, replicate}
+use Rattle.std.specs.Option.{option_map}
 use mathlib.Core.List.{IsPrefix}
 use Rattle.atomic_table.specs.Seated.{TableId}
 use Rattle.mx_proc.specs.declared.windows.Rules.TheVariants.{Lenient}
+use Rattle.mx_proc.specs.States.{is_down}
+use Rattle.mx_proc.specs.TableState.{process_at}
 use Rattle.mx_machine.specs.declared.events.Answer.{Answer}
 use Rattle.mx_machine.specs.declared.events.Answer.TheVariants.{Returned}
 use Rattle.mx_machine.specs.declared.events.Event.{Event}
@@ -132,6 +135,21 @@ abbrev pub IsGiveCall : World → SeatView → SeatView → LoanView → Type 0
 IsGiveCall boot s t l =
     IsAcceptedCall boot s t (recorded.Back l.out.count) None
     (λ w answer. (answer ≡ Returned l.out.count) × (lent_to (outs_of w) s.actor ≡ Some l.lent))
+
+-- whether there is such a slot, and its process is dead
+abbrev pub is_dead : World → Option ℕ → Bool
+is_dead w None = false
+is_dead w (Some slot) = nat_lt slot (length w.table.slots) && is_down (process_at w.table slot).state
+
+-- the slot whose process a processor holds
+abbrev pub slot_of : World → ℕ → Option ℕ
+slot_of w a = option_map (λ (l : HeldProcess). l.slot) (held_by w a)
+
+-- THE END OF A TURN, whose return is the last that t has seen: whether the process that came back is dead then
+abbrev pub EndsDead : World → SeatView → Bool → Type 0
+EndsDead boot t has_died =
+    (before : List Record) × (n : ℕ) × (t.seen ≡ before ++ record_of t.actor (recorded.Back n) ∷ [])
+    × (has_died ≡ is_dead (world_after boot t.seen) (slot_of (world_after boot before) t.actor))
 
 -- the loan is what this seat holds
 abbrev pub IsLoanOf : SeatView → LoanView → Type 0

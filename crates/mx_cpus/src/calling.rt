@@ -1,10 +1,11 @@
 //! What the second other actor does: outside events, and waits between them.
 
-ghost use Rattle.std.specs.Prelude.{◌≡◌, true, false, IfNone, IfSome, length};
+ghost use Rattle.std.specs.Prelude.{◌≡◌, ℕ, true, false, IfNone, IfSome, length};
 ghost use Rattle.mx_machine.specs.KernelState.{is_for_all};
 ghost use Rattle.mx_cpus.specs.CallEnds.{IsCallTo, IsEventTo, IsWaitTo, goes_on_after};
 ghost use Rattle.mx_cpus.specs.Calls.{IsRestCall};
-ghost use Rattle.mx_cpus.specs.Gates.{asked_call, seen_call, unwatched};
+ghost use Rattle.mx_cpus.specs.Gates.{asked_call, due_call, seen_call, unwatched};
+ghost use Rattle.mx_cpus.specs.declared.outside.OutsideCall.TheVariants as outside_calls;
 ghost use Rattle.mx_cpus.specs.Outsiders.{HasMadeCalls, IsAskedToEnd, IsOutsiderRun, IsOutsiderRunTo};
 
 use crate::gate::{Gate, Unwatched, WatchingGate};
@@ -105,7 +106,7 @@ fn wait_for<M: Naming, G: WatchingGate, R: Wait>(
     unreachable!()
 }
 
-/// An outside event, or a wait.
+/// An outside event, or a wait. The gate is called after a kill.
 fn make_call<M: Naming, G: WatchingGate, R: Wait>(
     context: &LoopContext<'_, M, G, R>,
     seat: ActorSeat,
@@ -117,12 +118,19 @@ fn make_call<M: Naming, G: WatchingGate, R: Wait>(
     requires goes_on { side.goes_on ≡ true }
     ensures made { IsCallTo M.boot (G.was_called context.now.door.gate.now) call
         seat result.0 result.2 }
+    ensures killed { (endpoint : ℕ) → call ≡ outside_calls.Kill endpoint
+        → G.was_called context.now.door.gate.now (due_call seat.actor) }
     ensures actor { result.1.actor ≡ seat.actor }
     ensures goes_on { result.1.goes_on ≡ goes_on_after result.2 }
 {
     match call {
         OutsideCall::Line(line) => make_event(context, seat, side, Event::Line(line)),
-        OutsideCall::Kill(endpoint) => make_event(context, seat, side, Event::Kill(endpoint)),
+        OutsideCall::Kill(endpoint) => {
+            let (seat, side, end) = make_event(context, seat, side, Event::Kill(endpoint));
+            // Also if the kill was refused, or the process is out: the respawner then finds nothing to do.
+            side.report_kill(&context.door);
+            (seat, side, end)
+        }
         OutsideCall::Tick => make_event(context, seat, side, Event::Tick),
         OutsideCall::Wait(records) => wait_for(context, seat, side, records),
     }

@@ -30,7 +30,7 @@ pub trait Gate {
 
 /// A gate that the actors also show how far the machine is, and whether their own work is done.
 pub trait WatchingGate {
-    ghost use Rattle.mx_cpus.specs.Gates.{GateCall, held_call, given_call, asked_call, ended_call, seen_call};
+    ghost use Rattle.mx_cpus.specs.Gates.{GateCall, held_call, given_call, due_call, asked_call, ended_call, seen_call};
 
     /// Which calls were made. A call promises this of itself when it returns.
     ghost was_called: { Self → GateCall → Type 0 } = { λ _ _. Unit {0} };
@@ -42,6 +42,10 @@ pub trait WatchingGate {
     /// A processor has given its process back.
     fn given(&self, cpu: u8)
         ensures { was_called self.now (given_call cpu) };
+
+    /// A slot may have to be respawned: the process that a processor gave back is dead, or the outsider has killed one.
+    fn due(&self, actor: u8)
+        ensures { was_called self.now (due_call actor) };
 
     /// An actor has seen so many records, which was the whole history: after a turn, and before each question of
     /// it. No call of it is made under the lock, so the calls of several actors can come in another order.
@@ -77,6 +81,8 @@ impl<'g, G: Gate> WatchingGate for Unwatched<'g, G> {
     fn given(&self, cpu: u8) {
         self.gate.given(cpu);
     }
+
+    fn due(&self, _actor: u8) {}
 
     fn seen(&self, _actor: u8, _records: usize) {}
 

@@ -3,12 +3,14 @@
 ghost use Rattle.std.specs.Prelude.{◌≡◌, true, IfOk, IfErr, length};
 ghost use Rattle.mx_machine.specs.declared.events.Event.TheVariants as events;
 ghost use Rattle.mx_machine.specs.KernelState.{is_for_all};
-ghost use Rattle.mx_cpus.specs.Calls.{Follows, IsAnsweredCall, IsGiveCall, IsLoanOf, IsLocked};
-ghost use Rattle.mx_cpus.specs.Calls.{IsRefusedCall, IsRestCall, IsSameSeat, IsTakeCall, StandsIn};
+ghost use Rattle.mx_machine.specs.History.{replay};
+ghost use Rattle.mx_cpus.specs.Calls.{EndsDead, Follows, IsAnsweredCall, IsGiveCall, IsLoanOf, IsLocked};
+ghost use Rattle.mx_cpus.specs.Calls.{IsRefusedCall, IsRestCall, IsSameSeat, IsTakeCall, StandsIn, is_dead};
 
 use crate::naming::Naming;
 use mx_loan::{ActorSeat, Desk, Loan};
 use mx_machine::{Answer, Event, Kernel, Refusal, recorded_as};
+use mx_proc::Slot;
 use std::marker::{Model, PhantomData};
 
 /// What lies under the lock: the kernel, in the state to which its history leads, and its desk,
@@ -26,6 +28,28 @@ pub struct HowFar {
     pub records: usize,
     /// Whether nothing is ready, nothing is out, and no slot that is down can be respawned.
     pub at_rest: bool,
+}
+
+/// What a processor sees when it has given a process back.
+#[derive(Clone, Copy)]
+pub struct Given {
+    /// How many records the history has.
+    pub records: usize,
+    /// Whether the process that came back is dead.
+    pub has_died: bool,
+}
+
+/// Whether there is such a slot, and its process is dead.
+fn is_dead(kernel: &Kernel, slot: Option<Slot>) -> bool
+    ensures { result ≡ is_dead (replay kernel.now) slot }
+{
+    match slot {
+        None => false,
+        Some(slot) => {
+            let table = kernel.table();
+            slot < table.slot_count() && table.process(slot).state.is_down()
+        }
+    }
 }
 
 impl<M: Naming> Model for Locked<M> {
@@ -122,19 +146,23 @@ impl<M: Naming> Locked<M> {
     }
 
     /// A processor brings back its loan to the locked kernel. Answers how many records the history has then, all of
-    /// which the seat sees.
-    pub fn give(&mut self, seat: ActorSeat, loan: Loan) -> (ActorSeat, usize)
+    /// which the seat sees, and whether the process is dead.
+    pub fn give(&mut self, seat: ActorSeat, loan: Loan) -> (ActorSeat, Given)
         requires table { seat.table ≡ M.table }
         requires loan { IsLoanOf seat loan }
         ensures given { IsGiveCall M.boot seat result.0 loan }
-        ensures records { result.1 ≡ length result.0.seen }
+        ensures records { result.1.records ≡ length result.0.seen }
+        ensures died { EndsDead M.boot result.0 result.1.has_died }
     {
         let actor = seat.actor();
+        let slot = self.kernel.slot_on(actor);
         // By the desk's contract this is what was lent, after the steps that it counts.
         let (seat, out) = self.desk.redeem(seat, loan);
         self.kernel.back(actor, out);
         self.kernel.facts();
-        (seat, self.kernel.history().len())
+        let records = self.kernel.history().len();
+        let has_died = is_dead(&self.kernel, slot);
+        (seat, Given { records, has_died })
     }
 
     /// An actor raises a line, lets the clock tick, kills a process or respawns a slot.

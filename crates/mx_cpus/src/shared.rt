@@ -3,10 +3,10 @@
 ghost use Rattle.std.specs.Prelude.{◌≡◌, true, IfOk, IfErr, All, length};
 ghost use Rattle.mx_machine.specs.declared.events.Event.TheVariants as events;
 ghost use Rattle.mx_machine.specs.KernelState.{is_for_all};
-ghost use Rattle.mx_cpus.specs.Calls.{IsAnsweredCall, IsGiveCall, IsLoanOf, IsRefusedCall};
+ghost use Rattle.mx_cpus.specs.Calls.{EndsDead, IsAnsweredCall, IsGiveCall, IsLoanOf, IsRefusedCall};
 ghost use Rattle.mx_cpus.specs.Calls.{IsRestCall, IsTakeCall, IsAcceptedHistory, StandsIn};
 
-use crate::{ActorSeat, HowFar, Kernel, Loan, Locked, Naming};
+use crate::{ActorSeat, Given, HowFar, Kernel, Loan, Locked, Naming};
 use mx_machine::{Answer, Event, Refusal};
 use std::sync::{Mutex, Wait};
 
@@ -74,22 +74,23 @@ impl<M: Naming> Shared<M> {
         requires loan { IsLoanOf seat loan }
         ensures { IsGiveCall M.boot seat result loan }
     {
-        let (seat, _records) = self.lock.lock(rt).give(seat, loan);
+        let (seat, _given) = self.lock.lock(rt).give(seat, loan);
         seat
     }
 
     /// A processor gives back the loan, under the lock. Answers how many records the history has then, all of which the
-    /// seat sees.
+    /// seat sees, and whether the process is dead.
     pub(crate) fn give_counted(
         &self,
         rt: &impl Wait,
         seat: ActorSeat,
         loan: Loan,
-    ) -> (ActorSeat, usize)
+    ) -> (ActorSeat, Given)
         requires table { seat.table ≡ M.table }
         requires loan { IsLoanOf seat loan }
         ensures given { IsGiveCall M.boot seat result.0 loan }
-        ensures records { result.1 ≡ length result.0.seen }
+        ensures records { result.1.records ≡ length result.0.seen }
+        ensures died { EndsDead M.boot result.0 result.1.has_died }
     {
         self.lock.lock(rt).give(seat, loan)
     }

@@ -2,10 +2,10 @@
 
 ghost use Rattle.std.specs.Prelude.{◌≡◌, ◌+◌, ◌-◌, ◌^◌, true, None, length, min};
 ghost use Rattle.mx_cpus.specs.Courses.{IsAsked};
-ghost use Rattle.mx_cpus.specs.Gates.{held_call, given_call, asked_call, ended_call, seen_call};
+ghost use Rattle.mx_cpus.specs.Gates.{held_call, given_call, due_call, asked_call, ended_call, seen_call};
 
 use crate::gate::WatchingGate;
-use crate::{ActorSeat, HowFar, Loan, Naming, Shared};
+use crate::{ActorSeat, Given, HowFar, Loan, Naming, Shared};
 use std::sync::Wait;
 
 /// The gate as a loop has it: only an actor's side calls it.
@@ -136,6 +136,13 @@ impl FreeSide {
         }
     }
 
+    /// Reports to the gate that the actor has killed a process.
+    pub(crate) fn report_kill<G: WatchingGate>(&self, door: &Door<'_, G>)
+        ensures { G.was_called door.now.gate.now (due_call self.now.actor) }
+    {
+        door.gate.due(self.actor);
+    }
+
     /// The gate's last answer.
     pub(crate) fn goes_on(&self) -> bool
         ensures { result ≡ self.now.goes_on }
@@ -166,19 +173,20 @@ impl FreeSide {
 }
 
 impl HoldingSide {
-    /// Reports to the gate that the loan was given back, and shows it how many records the seat has seen that came
-    /// back for it.
+    /// Reports to the gate that the loan was given back, and whether a slot is due, since the process is dead, and shows
+    /// it how many records the seat has seen that came back for it.
     pub(crate) fn report_return<G: WatchingGate>(
         self,
         door: &Door<'_, G>,
         seat: &ActorSeat,
-        records: usize,
+        given: Given,
     ) -> FreeSide
         requires actor { seat.now.actor ≡ self.actor }
         requires back { seat.now.held ≡ None }
-        requires records { records ≡ length seat.now.seen }
+        requires records { given.records ≡ length seat.now.seen }
         ensures called { G.was_called door.now.gate.now (given_call self.actor) }
-        ensures seen { G.was_called door.now.gate.now (seen_call self.actor records) }
+        ensures due { given.has_died ≡ true → G.was_called door.now.gate.now (due_call self.actor) }
+        ensures seen { G.was_called door.now.gate.now (seen_call self.actor given.records) }
         ensures actor { result.actor ≡ self.actor }
         ensures turn { result.turn ≡ min (self.turn + 1) (2 ^ 64 - 1) }
         ensures goes_on { result.goes_on ≡ true }
@@ -186,7 +194,10 @@ impl HoldingSide {
         let _seat = seat;
         let HoldingSide { actor, turn } = self;
         door.gate.given(actor);
-        door.gate.seen(actor, records);
+        if given.has_died {
+            door.gate.due(actor);
+        }
+        door.gate.seen(actor, given.records);
         FreeSide {
             actor,
             turn: turn.saturating_add(1),

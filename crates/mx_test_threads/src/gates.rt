@@ -5,7 +5,7 @@ use std::array;
 use std::sync::atomic::{AtomicU32, AtomicU64, Ordering};
 
 /// How many calls a gate notes.
-const NOTED: usize = 64;
+const NOTED: usize = 80;
 
 /// A call of a gate. A number above 99 is noted as 99.
 #[derive(Clone, Copy)]
@@ -14,6 +14,8 @@ pub enum GateCall {
     Given(u8),
     Again { actor: u8, at_rest: bool },
     Ended(u8),
+    /// A slot may have to be respawned.
+    Due(u8),
     Seen { actor: u8, records: usize },
     /// A question with whether the actor's own work is done.
     Asked { actor: u8, is_done: bool },
@@ -27,6 +29,7 @@ fn number_of(call: GateCall) -> u64 {
         GateCall::Again { actor, at_rest } => (3, actor, u64::from(at_rest)),
         GateCall::Ended(actor) => (4, actor, 0),
         GateCall::Seen { actor, records } => (5, actor, records.min(99) as u64),
+        GateCall::Due(actor) => (7, actor, 0),
         GateCall::Asked { actor, is_done } => (6, actor, u64::from(is_done)),
     };
     kind.min(9) * 100_000 + number.min(99) * 1000 + u64::from(actor)
@@ -109,6 +112,10 @@ impl WatchingGate for NotingGate {
 
     fn given(&self, cpu: u8) {
         self.note(GateCall::Given(cpu));
+    }
+
+    fn due(&self, actor: u8) {
+        self.note(GateCall::Due(actor));
     }
 
     fn seen(&self, actor: u8, records: usize) {

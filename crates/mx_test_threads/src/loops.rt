@@ -455,6 +455,7 @@ fn drive_to_end<M: Naming + Send + Sync, R: Threads + Wait + Sync>(
 static CALLS: &[OutsideCall] = &[
     OutsideCall::Tick,
     OutsideCall::Line(9),
+    OutsideCall::Kill(77),
     OutsideCall::Wait(0),
     OutsideCall::Tick,
 ];
@@ -491,8 +492,18 @@ fn has_ends(gate: &NotingGate, is_called: bool) -> bool {
     true
 }
 
+/// Whether each death was reported by the processor that gave its process back, and the outsider's kill by the
+/// outsider.
+fn has_deaths(gate: &NotingGate, services: u32, is_called: bool) -> bool {
+    let by_processors = gate
+        .count(GateCall::Due(0))
+        .saturating_add(gate.count(GateCall::Due(1)));
+    by_processors == services && gate.count(GateCall::Due(3)) == u32::from(is_called)
+}
+
 /// The end of each loop is reported once, and that of no actor that has no loop. The second other actor has one if
-/// there are calls for it to make, and then it makes them.
+/// there are calls for it to make, and then it makes them. Each service faults in its second turn, and that is reported
+/// too.
 #[test]
 fn ends_are_told(rt: HostRuntime) -> Result<(), Fail> {
     for (others, calls) in [(1, CALLS), (2, &[]), (2, CALLS), (4, &[]), (4, CALLS)] {
@@ -512,6 +523,7 @@ fn ends_are_told(rt: HostRuntime) -> Result<(), Fail> {
             "{others} others"
         );
         assert!(rt; has_ends(&gate, is_called), "{others} others");
+        assert!(rt; has_deaths(&gate, 2, is_called), "{others} others");
     }
     Ok(())
 }

@@ -1,7 +1,10 @@
-//! The gate of a run, asked from one thread: when it ends a loop.
+//! The gate of a run, asked from one thread: when it ends a loop, and what it shows.
 
 use mx_app_run::{NoProgress, RunGate, RunPlan};
+use mx_app_start::SharedProgress;
 use mx_cpus::{HowFar, Outside, OutsideCall, WatchingGate};
+use mx_walk::Part;
+use std::sync::atomic::{AtomicUsize, Ordering};
 use std::test::Fail;
 
 /// How many records the history may have.
@@ -202,4 +205,44 @@ fn questions_of_a_run(rt: HostRuntime) -> Result<(), Fail> {
         assert!(rt; fault.is_none(), "{name}: call {call}");
     }
     Ok(())
+}
+
+/// Sums up what it is shown.
+#[derive(Drop)]
+struct Sums {
+    parts: AtomicUsize,
+    done: AtomicUsize,
+    all: AtomicUsize,
+}
+
+impl SharedProgress for Sums {
+    fn show_shared(&self, part: Part) {
+        let _earlier = self.parts.fetch_add(1, Ordering::SeqCst);
+        let _earlier = self.done.fetch_add(part.done, Ordering::SeqCst);
+        let _earlier = self.all.fetch_add(part.all, Ordering::SeqCst);
+    }
+}
+
+/// The gate shows how many records an actor has seen, once, and nothing else.
+#[test]
+fn parts_of_a_run(rt: HostRuntime) {
+    let outside = Outside {
+        ticks: 0,
+        calls: &[],
+    };
+    let plan = RunPlan::new(2, outside, LOG);
+    let progress = Sums {
+        parts: AtomicUsize::new(0),
+        done: AtomicUsize::new(0),
+        all: AtomicUsize::new(0),
+    };
+    let gate = RunGate::new(&rt, &progress, plan);
+    gate.seen(0, 5);
+    gate.held(0, 0);
+    gate.given(0);
+    gate.seen(1, 7);
+    gate.ended(0);
+    assert!(rt; progress.parts.load(Ordering::SeqCst) == 2);
+    assert!(rt; progress.done.load(Ordering::SeqCst) == 12);
+    assert!(rt; progress.all.load(Ordering::SeqCst) == 2 * LOG);
 }

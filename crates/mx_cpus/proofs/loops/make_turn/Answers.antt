@@ -5,7 +5,7 @@ use Rattle.mx_machine.specs.declared.events.Refusal.{Refusal}
 use Rattle.mx_cpus.specs.Seats.{LoanView}
 use Rattle.mx_cpus.specs.Calls.{IsRefusedCall, IsTakeCall}
 use Rattle.mx_cpus.specs.Courses.{turn_number}
-use Rattle.mx_cpus.specs.Gates.{given_call, held_call}
+use Rattle.mx_cpus.specs.Gates.{due_call, given_call, held_call}
 use Rattle.mx_cpus.proofs.LoopLemmas.{seen_by}
 use Rattle.mx_cpus.proofs.loops.make_turn.Goals as goal
 
@@ -24,7 +24,7 @@ returns-in-Ok-clause-turn g c = λ n number.
       runs = ap (λ r. r.1) (sym c.run-stop.ensures.ran);
       gives = c.give_counted-back.ensures.given;
       given = subst (λ i. called (given_call i)) who c.report_return-side.ensures.called;
-      seen = seen_by called back.0 c.report_loan-holding.result.actor c.args.seat.actor back.1 who c.give_counted-back.ensures.records c.report_return-side.ensures.seen;
+      seen = seen_by called back.0 c.report_loan-holding.result.actor c.args.seat.actor back.1.records who c.give_counted-back.ensures.records c.report_return-side.ensures.seen;
     }
 
 pub returns-in-Ok-clause-counted : goal.returns-in-Ok-clause-counted
@@ -33,6 +33,15 @@ returns-in-Ok-clause-counted g c = (
   c.report_return-side.ensures.turn ∙ ap (λ k. turn_number (k + 1)) c.report_loan-holding.ensures.side.1,
   c.report_return-side.ensures.goes_on,
 )
+
+pub returns-in-Ok-clause-died : goal.returns-in-Ok-clause-died
+returns-in-Ok-clause-died g c =
+    let called = g.G.WatchingGate.was_called c.args.context.now.door.gate.now in
+    let who : c.report_loan-holding.result.actor ≡ c.args.seat.actor = c.report_loan-holding.ensures.side.0 ∙ c.requires.actor in (
+      c.give_counted-back.result.1.has_died,
+      c.give_counted-back.ensures.died,
+      λ dead. subst (λ i. called (due_call i)) who (c.report_return-side.ensures.due dead),
+    )
 
 pub returns-in-Err-clause-refused : goal.returns-in-Err-clause-refused
 returns-in-Err-clause-refused g c =

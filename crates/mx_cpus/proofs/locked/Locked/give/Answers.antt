@@ -7,9 +7,9 @@ use Rattle.mx_machine.specs.declared.holding.Out.{Out}
 use Rattle.mx_machine.specs.declared.history.Recorded.TheVariants as recorded
 use Rattle.mx_loan.specs.Rule.{lent_to}
 use Rattle.mx_loan.specs.Seats.{DeskView}
-use Rattle.mx_cpus.specs.Calls.{outs_of}
+use Rattle.mx_cpus.specs.Calls.{is_dead, outs_of}
 use Rattle.mx_cpus.proofs.WorldLemmas.{back_answered, back_there, lent_there}
-use Rattle.mx_cpus.proofs.SeatLemmas.{accepted_by, desk_after_give, known_by, seat_of_back}
+use Rattle.mx_cpus.proofs.SeatLemmas.{accepted_by, dead_by, desk_after_give, known_by, seat_of_back}
 use Rattle.mx_cpus.proofs.locked.Locked.give.Goals as goal
 
 pub back-requires : goal.back-requires
@@ -53,3 +53,16 @@ returns-clause-given g c =
     (c.back.ensures.recorded ∙ ap (λ i. with_record k c.actor-actor.result (recorded.Back i)) count)
     (seat_of_back z k d c.redeem-seat.new.self s c.redeem-seat.result.0 n c.self.invariant.2 c.redeem-seat.ensures.desk c.redeem-seat.ensures.seat)
     c.facts.ensures.accepted (back_answered w c.actor-actor.result n h.0 (ap (held_by w) who ∙ h.1) none, lent)
+
+pub returns-clause-died : goal.returns-clause-died
+returns-clause-died g c =
+    let z = g.M.Naming.table in
+    let k = c.self.inside.kernel in
+    let s = c.args.seat in
+    let n = c.args.loan.out.count in
+    let b = c.actor-actor.result in
+    let count = ap (λ (o : Out). o.count) c.redeem-seat.ensures.out in
+    dead_by g.M.Naming.boot k c.back.new.self s c.redeem-seat.result.0 b n c.is_dead-has_died.result c.self.invariant.0 c.actor-actor.ensures
+    (c.back.ensures.recorded ∙ ap (λ i. with_record k b (recorded.Back i)) count)
+    (seat_of_back z k c.self.inside.desk c.redeem-seat.new.self s c.redeem-seat.result.0 n c.self.invariant.2 c.redeem-seat.ensures.desk c.redeem-seat.ensures.seat)
+    (c.is_dead-has_died.ensures ∙ ap (λ i. is_dead (replay c.back.new.self) i) c.slot_on-slot.ensures)
