@@ -117,15 +117,15 @@ by_rules c vs k run = ap (λ (r : Rules). saved_text r k.history) (ap (λ (w : W
 
 -- a run whose kernel is reported
 pub run_reported : (WasShown : Part → Type 0) (c : Config) (vs : List Service) (ticks : ℕ) (xs : List OutsideCall) (whole : Bool) (k : BootAndHistory) → IsRun WasShown c vs ticks xs whole k → (log : List ℕ) (ws : List Written) (Prints : List ℕ → Type 0) (ending : RunEnding) (r : Result RunEnding Kind)
-    → ending ≡ run_ending c.log ticks xs whole k → ReportsRun log (text_kept k) ws (Prints (report_text (replay k).table (replay k).services)) ending r → ComesTo WasShown c vs xs log ticks ws Prints r
+    → ending ≡ run_ending c.log ticks xs whole k → ReportsRun log (text_kept k) (report_text (replay k).table (replay k).services) ws Prints ending r → ComesTo WasShown c vs xs log ticks ws Prints r
 run_reported WasShown c vs ticks xs whole k run log ws Prints ending r is h =
-    let Printed = Prints (report_text (replay k).table (replay k).services) in
+    let report = report_text (replay k).table (replay k).services in
     inr (
       k,
       whole,
       run,
-      subst (λ e. ReportsRun log (saved_text c.rules k.history) ws Printed e r) is
-          (subst (λ t. ReportsRun log t ws Printed ending r) (by_rules c vs k run.history) h),
+      subst (λ e. ReportsRun log (saved_text c.rules k.history) report ws Prints e r) is
+          (subst (λ t. ReportsRun log t report ws Prints ending r) (by_rules c vs k run.history) h),
     )
 
 -- ---- its replay

@@ -23,11 +23,10 @@ use Rattle.mx_app_run.specs.declared.run_by_threads.RunEnding.{RunEnding}
 use Rattle.mx_app_run.specs.declared.run_by_threads.RunEnding.TheVariants.{Full, Rest, Stopped}
 use Rattle.mx_app_failure.specs.declared.failure.Failure.{Failure as Kind}
 use Rattle.mx_app_failure.specs.declared.failure.Failure.TheVariants.{NoMemory}
-use Rattle.mx_app_failure.specs.Failure.{IsWanting}
 use Rattle.mx_app_step.specs.Asked.{Asked}
 use Rattle.mx_app_run.specs.Calls.{AreCallsGiven, IsCallsFault, ticks_of}
 use Rattle.mx_app_step.specs.Course.{IsSaved}
-use Rattle.mx_app_step.specs.Kept.{IsUnwritten}
+use Rattle.mx_app_step.specs.Kept.{IsUnreported}
 use Rattle.mx_app_step.specs.Programs.{SparesProgram, names_program}
 use Rattle.mx_app_step.specs.Setup.{IsSetup, IsSetupFault}
 use Rattle.mx_app_step.specs.Written.{Written, kept}
@@ -93,20 +92,22 @@ IsNotCalled config (Some name) qs f =
     × IsSetup config before c vs
     × IsCallsFault name q c.others f)
 
--- WHAT REPORTING A RUN DOES: it writes the history's text, whole, prints the report, and answers how the run ended; or
--- it answers why not all of this was done
-abbrev pub ReportsRun : List ℕ → List ℕ → List Written → Type 0 → RunEnding → Result RunEnding Kind → Type 0
-ReportsRun log text ws Printed ending (Ok answered) = (ws ≡ kept log text ∷ []) × Printed × (answered ≡ ending)
-ReportsRun log text ws Printed ending (Err f) = IsUnwritten log text ws f ⊎ ((ws ≡ kept log text ∷ []) × IsWanting f)
+-- WHAT REPORTING A RUN DOES: it writes the history's text, whole, then prints the report, and answers how the run ended;
+-- or it answers why not all of this was done
+abbrev pub ReportsRun : List ℕ → List ℕ → List ℕ → List Written → (List ℕ → Type 0) → RunEnding
+    → Result RunEnding Kind → Type 0
+ReportsRun log text report ws Prints ending (Ok answered) =
+    (ws ≡ kept log text ∷ []) × Prints report × (answered ≡ ending)
+ReportsRun log text report ws Prints ending (Err f) = IsUnreported log text ws Prints f
 
--- WHAT A RUN OF WHAT WAS READ COMES TO: it answers that there is no memory for it; or the run is reported, with the
--- report on the replay of its history
+-- WHAT A RUN OF WHAT WAS READ COMES TO: it answers that there is no memory for it, and prints nothing; or the run is
+-- reported, with the report on the replay of its history
 abbrev pub ComesTo : (Part → Type 0) → Config → List Service → List OutsideCall → List ℕ → ℕ → List Written
     → (List ℕ → Type 0) → Result RunEnding Kind → Type 0
 ComesTo WasShown c vs xs log ticks ws Prints r =
-    ((ws ≡ []) × IsErrAnd r (λ f. f ≡ NoMemory))
+    ((ws ≡ []) × Prints [] × IsErrAnd r (λ f. f ≡ NoMemory))
     ⊎ ((k : BootAndHistory) × (whole : Bool) × IsRun WasShown c vs ticks xs whole k
-    × ReportsRun log (saved_text c.rules k.history) ws (Prints (report_text (replay k).table (replay k).services))
+    × ReportsRun log (saved_text c.rules k.history) (report_text (replay k).table (replay k).services) ws Prints
     (run_ending c.log ticks xs whole k) r)
 
 -- WHAT `mx run` DOES: it answers why no run is begun, and prints nothing; or, after its files were read, it spares a

@@ -3,8 +3,8 @@
 //! # How a loop waits
 //!
 //! A processor that finds nothing ready yields, and from the seventeenth time in a row on it sleeps
-//! a millisecond too. The respawner sleeps a millisecond after each round. So an idle loop costs
-//! little.
+//! a millisecond too. The respawner sleeps a millisecond after each round, unless a death wakes it. So an idle loop
+//! costs little.
 //!
 //! # When a loop ends
 //!
@@ -15,9 +15,11 @@
 ghost use Rattle.std.specs.Prelude.{◌≡◌, ◌==◌, not, true, length};
 ghost use Rattle.mx_app_run.specs.Shows.{is_full_at, is_settled, may_end, nap_after};
 
+use crate::respawns::Respawns;
 use mx_app_start::SharedProgress;
 use mx_cpus::{HowFar, Outside, WatchingGate};
 use mx_walk::Part;
+use std::sync::Wait;
 use std::sync::atomic::{AtomicBool, AtomicU32, Ordering};
 use std::time::{Clock, Duration};
 use std::{array, thread};
@@ -28,8 +30,8 @@ const LOOPS: usize = 10;
 /// How often a processor that finds nothing ready only yields, before it sleeps too.
 const YIELDS: u32 = 16;
 
-/// How many milliseconds a loop sleeps at a time. No loop is woken by another, so none depends on
-/// another.
+/// How many milliseconds a loop sleeps at a time. Only the respawner is woken by others, and it comes without that too:
+/// no loop depends on another.
 const NAP: u64 = 1;
 
 /// How many records a turn needs: a take, and its return.
@@ -120,6 +122,7 @@ pub struct RunGate<'a, R, P: SharedProgress> {
     plan: RunPlan,
     are_ticks_made: AtomicBool,
     are_calls_made: AtomicBool,
+    respawns: Respawns,
     loops: [LoopState; LOOPS],
 }
 
@@ -135,6 +138,7 @@ impl<'a, R, P: SharedProgress> RunGate<'a, R, P> {
             plan,
             are_ticks_made: AtomicBool::new(false),
             are_calls_made: AtomicBool::new(!plan.has_calls),
+            respawns: Respawns::new(),
             loops: array::from_fn(|_| LoopState {
                 is_past_all: AtomicBool::new(false),
                 has_seen_full: AtomicBool::new(false),
@@ -189,19 +193,22 @@ impl<'a, R, P: SharedProgress> RunGate<'a, R, P> {
     }
 }
 
-impl<'a, R: Clock, P: SharedProgress> RunGate<'a, R, P> {
+impl<'a, R: Clock + Wait, P: SharedProgress> RunGate<'a, R, P> {
     /// Lets others run, and sleeps if the loop is idle for long.
     fn wait(&self, actor: u8) {
-        let questions = self.count_question(actor);
+        let is_respawner = actor == self.plan.respawner;
+        let nap = nap_after(self.count_question(actor), is_respawner);
         thread::yield_now();
-        let nap = nap_after(questions, actor == self.plan.respawner);
-        if nap > 0 {
+        if is_respawner {
+            self.respawns
+                .begin_round(self.clock, Duration::from_millis(nap));
+        } else if nap > 0 {
             thread::sleep(self.clock, Duration::from_millis(nap));
         }
     }
 }
 
-impl<'a, R: Clock, P: SharedProgress> WatchingGate for RunGate<'a, R, P> {
+impl<'a, R: Clock + Wait, P: SharedProgress> WatchingGate for RunGate<'a, R, P> {
     ghost use Rattle.mx_app_run.specs.Shows.{shows};
 
     ghost was_called = { λ gate call. shows (P.was_shown gate.progress.now) gate.plan.log call };
@@ -214,14 +221,24 @@ impl<'a, R: Clock, P: SharedProgress> WatchingGate for RunGate<'a, R, P> {
 
     fn given(&self, _cpu: u8) {}
 
-    fn seen(&self, _actor: u8, records: usize) {
+    fn due(&self, _actor: u8) {
+        self.respawns.report();
+    }
+
+    fn seen(&self, actor: u8, records: usize) {
         self.progress.show_shared(Part {
             done: records,
             all: self.plan.log,
         });
+        if actor < self.plan.respawner {
+            self.respawns.wait_for_round();
+        }
     }
 
     fn goes_on(&self, actor: u8, far: HowFar, is_done: bool) -> bool {
+        if actor == self.plan.respawner {
+            self.respawns.end_round();
+        }
         if is_done {
             self.note_done(actor);
         }
@@ -233,5 +250,9 @@ impl<'a, R: Clock, P: SharedProgress> WatchingGate for RunGate<'a, R, P> {
         true
     }
 
-    fn ended(&self, _actor: u8) {}
+    fn ended(&self, actor: u8) {
+        if actor == self.plan.respawner {
+            self.respawns.end();
+        }
+    }
 }

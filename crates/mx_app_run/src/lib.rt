@@ -11,6 +11,7 @@
 mod gate;
 mod outside_files;
 mod report_laws;
+mod respawns;
 mod run_by_threads;
 
 pub use gate::{RunGate, RunPlan};

@@ -236,9 +236,9 @@ fn report_run<R: Drop, F: FileWriter + Drop, W: Write + Drop>(
     ensures reader { channels.new.reader ≡ channels.old.reader }
     ensures reported { (ws : List Written)
         × (F.written channels.new.files ≡ F.written channels.old.files ++ ws)
-        × ReportsRun log.now (text_kept kernel.now) ws (Appends (W.contents channels.old.out)
-        (W.contents channels.new.out) (report_text (replay kernel.now).table
-        (replay kernel.now).services)) ending result }
+        × ReportsRun log.now (text_kept kernel.now) (report_text (replay kernel.now).table
+        (replay kernel.now).services) ws (λ text. Appends (W.contents channels.old.out)
+        (W.contents channels.new.out) text) ending result }
 {
     write_history(alloc, kernel, &mut channels.files, log)?;
     print_kernel_report(alloc, kernel, &mut channels.out)?;

@@ -1,12 +1,13 @@
 use Rattle.std.proofs.Common.{ℕ, List, [], inl, refl, sym}
 use Rattle.std.specs.Io.KnownBytes.{Appends}
 use Rattle.std.proofs.lemmas.List.{append-nil}
+use Rattle.mx_app_start.proofs.Appended.{appends_nothing}
 use Rattle.mx_app_run.proofs.RunLemmas.{run_reported}
 use Rattle.mx_app_run.proofs.run_by_threads.run_begun.Goals as goal
 
 pub returns-in_err-kernel-clause-reported : goal.returns-in_err-kernel-clause-reported
 returns-in_err-kernel-clause-reported g c =
-    ([], sym (append-nil _), inl (refl, c.from_residual.ensures.1))
+    ([], sym (append-nil _), inl (refl, appends_nothing _, c.from_residual.ensures.1))
 
 pub returns-clause-reported : goal.returns-clause-reported
 returns-clause-reported g c =
