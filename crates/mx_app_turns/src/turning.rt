@@ -21,7 +21,7 @@ use mx_app_start::{Channels, FileWriter, Reader, setup_of, spare_programs, start
 use mx_app_step::{print_kernel_report, write_history};
 use mx_machine::{Config, Event, Kernel, Machine};
 use mx_turns::{Ending, Outside, make_turns};
-use mx_walk::Progress;
+use mx_walk::{Progress, boot};
 use std::alloc::Global;
 use std::io::Write;
 
@@ -63,11 +63,11 @@ fn begin_alone<R: Reader>(alloc: Global, reader: &mut R, name: &str) -> Result<B
     ensures fault { IfErr result (λ f. (qs : List Asked)
         × (R.asked reader.new ≡ R.asked reader.old ++ qs) × IsNotBegun name.now None qs f) }
 {
-    let (config, mut services) = setup_of(alloc, reader, name)?;
-    let kernel = Kernel::new(alloc, &config, &mut services)?;
+    let (config, services) = setup_of(alloc, reader, name)?;
+    let machine = boot(alloc, &config, services)?;
     Ok(Begun {
         config,
-        machine: Machine::new(kernel),
+        machine,
         events: Vec::new(alloc),
     })
 }

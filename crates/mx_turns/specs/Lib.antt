@@ -1,4 +1,5 @@
 pub mod Turns
+pub mod Endings
 pub mod Made
 pub mod Shown
 pub mod Faults

@@ -20,7 +20,7 @@ use Rattle.mx_print_report.specs.declared.doing.Naming.TheVariants.{Endpoints, S
 use Rattle.mx_print_report.specs.Report.{process_words}
 use Rattle.mx_text.specs.Lines.{lines}
 use Rattle.mx_turns.specs.declared.turns.Ending.{Ending}
-use Rattle.mx_turns.specs.declared.turns.Ending.TheVariants.{Rest, Turns, Full}
+use Rattle.mx_turns.specs.Endings.{ending_word}
 use Rattle.mx_turns.specs.Turns.{turns}
 use Rattle.mx_turns.specs.declared.faults.FaultLine.{FaultLine}
 use Rattle.mx_turns.specs.Faults.{faults_kept, faults_made}
@@ -94,11 +94,6 @@ said_text said = flat_map (λ s. indented (said_line s)) said
 abbrev pub process_lines : Naming → TableState → ℕ → List Service → List ℕ
 process_lines by t s [] = []
 process_lines by t s (v ∷ vs) = indented (process_words by t s v.name.bytes) ++ process_lines by t (s + 1) vs
-
-abbrev pub ending_word : Ending → List ℕ
-ending_word Rest = codes "rest"
-ending_word Turns = codes "turns"
-ending_word Full = codes "full"
 
 -- states, ending, and how many bytes were written to the console
 abbrev pub end_text : Naming → World → Ending → List ℕ

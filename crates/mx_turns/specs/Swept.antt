@@ -9,7 +9,10 @@ use Rattle.mx_machine.specs.World.{World, actors}
 use Rattle.mx_turns.specs.declared.pairs.Pair.{Pair}
 use Rattle.mx_turns.specs.declared.faulted_run.Course.{Course}
 use Rattle.mx_turns.specs.declared.faulted_run.Sweep.{Sweep}
-use Rattle.mx_turns.specs.Sweep.{Run}
+use Rattle.mx_turns.specs.declared.faults.FaultLine.{FaultLine}
+use Rattle.mx_turns.specs.declared.trials.Trial.{Trial}
+use Rattle.mx_turns.specs.Findings.{findings_of}
+use Rattle.mx_turns.specs.Sweep.{Run, run_of, trial_text}
 
 -- A sweep is of a machine that boots as this world: each record of the history is by an actor of the machine, and is
 -- accepted; and the machine has an actor that is no processor.
@@ -43,3 +46,18 @@ pub record IsPair (records : List Record) (p : Pair) : Type 0 where
   pub along : IsAlong records p.position p.along
   pub within : p.position ≤ length records
   pub boot : p.copy.kernel.boot ≡ p.along.kernel.boot
+
+-- the run with this fault at position k of a sweep of a machine that boots as this world
+abbrev pub run_in : Sweep → World → List FaultLine → ℕ → Run
+run_in s w fault k = run_of w s.other s.records.now s.bound fault k
+
+-- THE TRIAL of position k in a sweep of a machine that boots as this world: the pair is there, and its copy is after the
+-- run with the fault; the text is the run's, and the findings are those of the runs with the fault and without it.
+pub record IsTrial (s : Sweep) (w : World) (k : ℕ) (t : Trial) : Type 0 where
+  pub pair : IsPair s.records.now t.pair
+  pub there : t.pair.position ≡ k
+  pub boot : t.pair.along.kernel.boot ≡ w
+  pub kernel : t.pair.copy.kernel ≡ (run_in s w s.fault.now k).kernel
+  pub world : world_of t.pair.copy ≡ (run_in s w s.fault.now k).world
+  pub text : t.text.items ≡ trial_text (run_in s w s.fault.now k)
+  pub findings : t.findings ≡ findings_of (run_in s w s.fault.now k) (run_in s w [] k)

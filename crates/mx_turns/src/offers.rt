@@ -105,7 +105,8 @@ pub(crate) fn offer_runs(machine: &mut Machine, cpus: u8)
 /// Whether the process of a slot is down.
 #[tactic(auto, unfolding(mx_machine::specs::Machine::world_of))]
 fn is_down(machine: &Machine, slot: u32) -> bool
-    ensures { result ≡ false → is_down (process_at (world_of machine.now).table slot).state ≡ false }
+    ensures { result ≡ false
+        → is_down (process_at (world_of machine.now).table slot).state ≡ false }
 {
     let table = machine.kernel().table();
     if slot >= u32::from(table.slot_count()) {

@@ -8,23 +8,10 @@ ghost use Rattle.mx_turns.specs.Swept.{IsAlong, IsSwept};
 use crate::faulted_run::Sweep;
 use crate::services::copy_services;
 use mx_app_step::perform_records;
-use mx_machine::{Config, Kernel, Machine, Service};
+use mx_machine::{Config, Machine, Service};
+use mx_walk::boot;
 use mx_word::NoMemory;
 use std::alloc::Global;
-
-/// The machine of a configuration and its services, before its first event.
-fn boot(alloc: Global, config: &Config, services: Vec<Service>) -> Result<Machine, NoMemory>
-    requires some { 0 < length services.items }
-    requires few { length services.items ≤ 32 }
-    ensures world { IfOk result (λ machine. world_of machine
-        ≡ world_at_boot config.now services.items) }
-    ensures kernel { IfOk result (λ machine. machine.kernel
-        ≡ record { boot = world_of machine; history = [] }) }
-{
-    let mut services = services;
-    let kernel = Kernel::new(alloc, config, &mut services)?;
-    Ok(Machine::new(kernel))
-}
 
 /// Two machines of one boot: one goes along a history; the other made a run, and lends its services to the next copy.
 #[derive(Drop)]

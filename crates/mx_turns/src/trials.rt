@@ -5,9 +5,9 @@ ghost use Rattle.std.specs.Str.{bytes_eq};
 ghost use Rattle.mx_app_step.specs.Machine.{world_of};
 ghost use Rattle.mx_machine.specs.History.{replay};
 ghost use Rattle.mx_print_report.specs.declared.doing.Naming.TheVariants as by;
-ghost use Rattle.mx_turns.specs.Sweep.{end_text, ending_word, kept_text, trial_text, process_lines, run_of, said_text, seen_text, shown};
-ghost use Rattle.mx_turns.specs.Findings.{findings_of, is_full, is_refused, refusal_of};
-ghost use Rattle.mx_turns.specs.Swept.{HasRun, IsAlong, IsPair, IsSwept};
+ghost use Rattle.mx_turns.specs.Sweep.{end_text, kept_text, process_lines, run_of, said_text, seen_text, shown};
+ghost use Rattle.mx_turns.specs.Findings.{is_full, is_refused, refusal_of};
+ghost use Rattle.mx_turns.specs.Swept.{HasRun, IsAlong, IsPair, IsSwept, IsTrial};
 
 use crate::Ending;
 use crate::faulted_run::{Course, Sweep, run_at};
@@ -112,17 +112,6 @@ fn push_processes(
     Ok(())
 }
 
-/// The word for how turns ended.
-fn ending_word(ending: Ending) -> &'static [u8]
-    ensures { result.now ≡ ending_word ending }
-{
-    match ending {
-        Ending::Rest => b"rest",
-        Ending::Turns => b"turns",
-        Ending::Full => b"full",
-    }
-}
-
 /// Appends states, ending, and how many bytes were written to the console.
 fn push_end(
     text: &mut Vec<u8>,
@@ -136,7 +125,7 @@ fn push_end(
     kernel.facts();
     push_processes(text, naming, kernel.table(), kernel.services())?;
     text.extend_from_slice(b"  ")?;
-    text.extend_from_slice(ending_word(ending))?;
+    text.extend_from_slice(ending.word().as_bytes())?;
     text.push(b'\n')?;
     push_count(
         text,
@@ -248,21 +237,7 @@ fn trial_here(
     requires along { IsAlong sweep.records.now position along }
     requires services { services.items ≡ along.kernel.boot.services }
     requires position { position ≤ length sweep.records.now }
-    ensures pair { IfOk result (λ done. IsPair sweep.entry.records.now done.pair) }
-    ensures there { IfOk result (λ done. done.pair.position ≡ position) }
-    ensures boot { IfOk result (λ done. done.pair.along.kernel.boot ≡ along.kernel.boot) }
-    ensures kernel { IfOk result (λ done. done.pair.copy.kernel ≡ (run_of along.kernel.boot
-        sweep.entry.other sweep.entry.records.now sweep.entry.bound sweep.entry.fault.now
-        position).kernel) }
-    ensures world { IfOk result (λ done. world_of done.pair.copy ≡ (run_of along.kernel.boot
-        sweep.entry.other sweep.entry.records.now sweep.entry.bound sweep.entry.fault.now
-        position).world) }
-    ensures text { IfOk result (λ done. done.text.items ≡ trial_text (run_of along.kernel.boot
-        sweep.entry.other sweep.entry.records.now sweep.entry.bound sweep.entry.fault.now
-        position)) }
-    ensures findings { IfOk result (λ done. let run = run_of along.kernel.boot sweep.entry.other
-        sweep.entry.records.now sweep.entry.bound in
-        done.findings ≡ findings_of (run sweep.entry.fault.now position) (run [] position)) }
+    ensures { IfOk result (λ done. IsTrial sweep.entry along.kernel.boot position done) }
 {
     let checkpoint = Checkpoint::new(alloc, &along)?;
     let unharmed = Sweep {
@@ -303,21 +278,7 @@ pub fn trial_at(
     requires pair { IsPair sweep.records.now pair }
     requires later { pair.position ≤ position }
     requires position { position ≤ length sweep.records.now }
-    ensures pair { IfOk result (λ done. IsPair sweep.entry.records.now done.pair) }
-    ensures there { IfOk result (λ done. done.pair.position ≡ position) }
-    ensures boot { IfOk result (λ done. done.pair.along.kernel.boot ≡ pair.along.kernel.boot) }
-    ensures kernel { IfOk result (λ done. done.pair.copy.kernel ≡ (run_of pair.along.kernel.boot
-        sweep.entry.other sweep.entry.records.now sweep.entry.bound sweep.entry.fault.now
-        position).kernel) }
-    ensures world { IfOk result (λ done. world_of done.pair.copy ≡ (run_of
-        pair.along.kernel.boot sweep.entry.other sweep.entry.records.now sweep.entry.bound
-        sweep.entry.fault.now position).world) }
-    ensures text { IfOk result (λ done. done.text.items ≡ trial_text
-        (run_of pair.along.kernel.boot sweep.entry.other sweep.entry.records.now sweep.entry.bound
-        sweep.entry.fault.now position)) }
-    ensures findings { IfOk result (λ done. let run = run_of pair.along.kernel.boot
-        sweep.entry.other sweep.entry.records.now sweep.entry.bound in
-        done.findings ≡ findings_of (run sweep.entry.fault.now position) (run [] position)) }
+    ensures { IfOk result (λ done. IsTrial sweep.entry pair.along.kernel.boot position done) }
 {
     let Pair {
         mut along,

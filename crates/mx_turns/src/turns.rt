@@ -4,6 +4,7 @@ ghost use Rattle.std.specs.Prelude.{◌≡◌, ◌&&◌, ◌<◌, ◌++◌, is_n
 ghost use Rattle.mx_machine.specs.Machine.{world_of};
 ghost use Rattle.mx_machine.specs.Rest.{at_rest};
 ghost use Rattle.mx_machine.specs.World.{actors};
+ghost use Rattle.mx_turns.specs.Endings.{ending_word};
 ghost use Rattle.mx_turns.specs.Made.{HasMade, HasOffered, outside_events};
 ghost use Rattle.mx_turns.specs.Shown.{part_of, turns_shown};
 ghost use Rattle.mx_turns.specs.Turns.{turn, turns};
@@ -22,6 +23,19 @@ pub enum Ending {
     Turns,
     /// The history is too full for an event that was to be made.
     Full,
+}
+
+impl Ending {
+    /// The word that says it.
+    pub fn word(self) -> &'static str
+        ensures { result.now ≡ ending_word self }
+    {
+        match self {
+            Ending::Rest => "rest",
+            Ending::Turns => "turns",
+            Ending::Full => "full",
+        }
+    }
 }
 
 /// Whether nothing is left to do: no outside event is to come, and the machine is at rest.

@@ -1,9 +1,9 @@
-use Rattle.std.proofs.Common.{◌∙◌, List, [], ap, ap₂}
+use Rattle.std.proofs.Common.{◌∙◌, List, [], ap, ap₂, refl}
 use Rattle.std.specs.Str.{bytes_eq}
 use Rattle.mx_turns.specs.Findings.{is_full, refusal_of}
 use Rattle.mx_turns.specs.declared.faults.FaultLine.{FaultLine}
 use Rattle.mx_turns.specs.Sweep.{run_of}
-use Rattle.mx_turns.proofs.LineLemmas.{findings_are}
+use Rattle.mx_turns.proofs.LineLemmas.{findings_are, trial_is}
 use Rattle.mx_turns.proofs.trials.trial_here.Goals as goal
 
 -- without its fault a sweep is of the same machine and history
@@ -12,11 +12,19 @@ compared_at-requires-clause-swept c =
     let s = c.requires.swept in
     record { booted = s.booted; some = s.some; few = s.few; by_actors = s.by_actors; accepted = s.accepted; other = s.other; alone = s.alone }
 
-pub returns-clause-findings : goal.returns-clause-findings
-returns-clause-findings c =
+pub returns : goal.returns
+returns c =
     let s = c.args.sweep in
     let run = λ (fault : List FaultLine). run_of c.args.along.kernel.boot s.other s.records.now s.bound fault c.args.position in
     let with = c.in_ok-copy-2.ensures.run in
     let without = c.in_ok-copy.ensures.run in
-    findings_are (run s.fault.now) (run []) _ _ _ (c.are_same.ensures ∙ ap₂ bytes_eq (c.as_slice.ensures.value ∙ with.1) (c.as_slice-2.ensures.value ∙ without.1))
-    (c.refusal_of.ensures ∙ ap refusal_of (c.as_slice-3.ensures.value ∙ with.0.said)) (c.is_full.ensures ∙ ap is_full with.0.ending)
+    record {
+      pair = record { along = c.requires.along; within = c.requires.position; boot = c.in_ok-copy-2.ensures.boot };
+      there = refl;
+      boot = refl;
+      kernel = with.0.kernel;
+      world = with.0.world;
+      text = trial_is (run s.fault.now) _ _ with.0 _ _ c.new-text.ensures.items c.in_ok-push_trial.ensures;
+      findings = findings_are (run s.fault.now) (run []) _ _ _ (c.are_same.ensures ∙ ap₂ bytes_eq (c.as_slice.ensures.value ∙ with.1) (c.as_slice-2.ensures.value ∙ without.1))
+          (c.refusal_of.ensures ∙ ap refusal_of (c.as_slice-3.ensures.value ∙ with.0.said)) (c.is_full.ensures ∙ ap is_full with.0.ending);
+    }
