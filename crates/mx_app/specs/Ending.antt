@@ -1,12 +1,15 @@
 -- What a reader at a terminal gets in addition to a command's text (our own).
-use Rattle.std.specs.Prelude.{◌==◌, ◌&&◌, ◌||◌, ◌-◌, ℕ, Bool, true, false, not, if◌then◌else◌, List, [], codes, Option, Some, None, slice_get}
+use Rattle.std.specs.Prelude.{◌==◌, ◌&&◌, ◌||◌, ◌-◌, ℕ, Bool, true, false, not, if◌then◌else◌, List, [], ◌++◌, codes, Option, Some, None, slice_get}
 use Rattle.mx_app.specs.declared.ending.Terminals.{Terminals}
 use Rattle.mx_app.specs.declared.ending.PrintedText.{PrintedText}
 use Rattle.mx_app.specs.declared.ending.PrintedText.TheVariants.{Symbols, Report, Other}
 use Rattle.mx_app.specs.declared.ending.DrivenEnding.{DrivenEnding}
 use Rattle.mx_app.specs.declared.ending.DrivenEnding.TheVariants.{Turns, Run}
+use Rattle.mx_app.specs.declared.ending.Note.{Note}
+use Rattle.mx_app.specs.declared.ending.Note.TheVariants.{Nothing, NoSymbols, Ended}
 use Rattle.mx_app_run.specs.declared.run_by_threads.RunEnding.TheVariants as runs
 use Rattle.mx_turns.specs.declared.turns.Ending.TheVariants as turns
+use Rattle.mx_turns.specs.Endings.{ending_word}
 
 -- the last byte that was taken, after this many of these bytes
 abbrev pub last_taken : Option ℕ → List ℕ → ℕ → Option ℕ
@@ -17,14 +20,12 @@ abbrev pub text_end : Terminals → Option ℕ → List ℕ
 text_end terminals None = []
 text_end terminals (Some byte) = if terminals.out && not (byte == 10) then codes "\n" else []
 
--- the line that says how turns or a run ended
-abbrev pub ending_text : DrivenEnding → List ℕ
-ending_text (Turns turns.Rest) = codes "mx: rest\n"
-ending_text (Turns turns.Turns) = codes "mx: turns\n"
-ending_text (Turns turns.Full) = codes "mx: full\n"
-ending_text (Run runs.Rest) = codes "mx: rest\n"
-ending_text (Run runs.Full) = codes "mx: full\n"
-ending_text (Run runs.Stopped) = codes "mx: stopped\n"
+-- the word for how turns or a run ended
+abbrev pub driven_word : DrivenEnding → List ℕ
+driven_word (Turns ending) = ending_word ending
+driven_word (Run runs.Rest) = ending_word turns.Rest
+driven_word (Run runs.Full) = ending_word turns.Full
+driven_word (Run runs.Stopped) = codes "stopped"
 
 -- the report of a run that was stopped
 abbrev pub is_stopped : PrintedText → Bool
@@ -33,12 +34,18 @@ is_stopped printed = false
 
 -- what a reader is helped with, by what was printed, and by the last byte that standard output got: that there are no
 -- symbols, or how turns or a run ended
-abbrev pub note_text : PrintedText → Option ℕ → List ℕ
-note_text Symbols None = codes "mx: no symbols\n"
-note_text Symbols (Some byte) = []
-note_text (Report ending) last = ending_text ending
-note_text Other last = []
+abbrev pub help : PrintedText → Option ℕ → Note
+help Symbols None = NoSymbols
+help Symbols (Some byte) = Nothing
+help (Report ending) last = Ended ending
+help Other last = Nothing
 
 -- standard error, if it is a terminal; if it isn't, only that a run was stopped
-abbrev pub note : Terminals → PrintedText → Option ℕ → List ℕ
-note terminals printed last = if terminals.err || is_stopped printed then note_text printed last else []
+abbrev pub note : Terminals → PrintedText → Option ℕ → Note
+note terminals printed last = if terminals.err || is_stopped printed then help printed last else Nothing
+
+-- THE LINE of a note
+abbrev pub note_text : Note → List ℕ
+note_text Nothing = []
+note_text NoSymbols = codes "mx: no symbols\n"
+note_text (Ended ending) = codes "mx: " ++ driven_word ending ++ codes "\n"

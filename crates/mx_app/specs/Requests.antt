@@ -3,7 +3,7 @@ use Rattle.std.specs.Prelude.{◌≡◌, ◌⊎◌, ℕ, Bool, true, false, if�
 use Rattle.mx_app_command.specs.Files.{writes_over}
 use Rattle.mx_app_command.specs.declared.command_line.CommandRequest.{CommandRequest}
 use Rattle.mx_app_command.specs.declared.command_line.RecordRange.{RecordRange}
-use Rattle.mx_app_command.specs.declared.command_line.CommandRequest.TheVariants.{One, As, Dis, Nm, Explain, Step, Run, Turns, Sweep, Replay, Trace, Draw, Look, Db}
+use Rattle.mx_app_command.specs.declared.command_line.CommandRequest.TheVariants.{One, As, Show, Explain, Step, Run, Turns, Sweep, Replay, Trace, Draw, Look, Db}
 use Rattle.mx_app_db.specs.ScriptLine.{ScriptLine}
 use Rattle.mx_app_db.specs.declared.script.DebugLine.{DebugLine}
 use Rattle.mx_app_failure.specs.declared.failure.Failure.{Failure as Kind}
@@ -11,7 +11,7 @@ use Rattle.mx_app_failure.specs.declared.failure.About.TheVariants.{Written as F
 use Rattle.mx_app_failure.specs.declared.failure.FileProblem.TheVariants.{OverRead}
 use Rattle.mx_app_failure.specs.Failure.{failure_if}
 use Rattle.mx_app_program.specs.One.{IsPrinted}
-use Rattle.mx_app_program.specs.Shown.{HasListing, HasNames, IsShown}
+use Rattle.mx_app_program.specs.Shown.{IsListingOf, IsShown}
 use Rattle.mx_machine.specs.Boot.{world_at_boot}
 use Rattle.mx_machine.specs.declared.history.Record.{Record}
 use Rattle.mx_app_db.specs.Asked.{Asked}
@@ -183,8 +183,8 @@ PerformsUntyped (One file steps) qs ws Prints r =
     Shows (λ bytes text. IsPrinted bytes steps text) file.now qs ws Prints r
 PerformsUntyped (As text file) qs ws Prints r =
     (d : Result (Unit {0}) Kind) × Assembles text.now file.now qs ws d × Prints [] × (r ≡ done_after_work d)
-PerformsUntyped (Dis file) qs ws Prints r = Shows (λ bytes text. IsShown HasListing bytes text) file.now qs ws Prints r
-PerformsUntyped (Nm file) qs ws Prints r = Shows (λ bytes text. IsShown HasNames bytes text) file.now qs ws Prints r
+PerformsUntyped (Show file listing) qs ws Prints r =
+    Shows (λ bytes text. IsShown (IsListingOf listing) bytes text) file.now qs ws Prints r
 PerformsUntyped (Explain config) qs ws Prints r = Explains config.now qs ws Prints r
 PerformsUntyped (Step config script None numbered) qs ws Prints r =
     (d : Result (Unit {0}) Kind) × (ws ≡ []) × Steps config.now script.now numbered qs Prints d

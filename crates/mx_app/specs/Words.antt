@@ -63,20 +63,21 @@ IsHelp r =
     MatchResult r (λ done. done ≡ with_status 0)
     (λ complaint. (f : Kind) × IsWanting f × (complaint ≡ Failed (Request f)))
 
--- what comes of an error, by its kind: lack of memory, help that was asked for, or a mistake
-abbrev pub ExplainsKind : WordsErrorKind → Error → Result Done Complaint → Type 0
-ExplainsKind words.OutOfMemory e r = r ≡ Err (Failed (Request NoMemory))
-ExplainsKind words.DisplayHelp e r = IsHelp r
-ExplainsKind words.DisplayVersion e r = IsHelp r
-ExplainsKind k e r = r ≡ Err (Mistaken e)
+-- what comes of an error, by its kind: help that was asked for is printed, and nothing of a lack of memory or a mistake
+abbrev pub ExplainsKind : WordsErrorKind → Error → (List ℕ → Type 0) → Result Done Complaint → Type 0
+ExplainsKind words.OutOfMemory e Prints r = Prints [] × (r ≡ Err (Failed (Request NoMemory)))
+ExplainsKind words.DisplayHelp e Prints r = IsHelp r
+ExplainsKind words.DisplayVersion e Prints r = IsHelp r
+ExplainsKind k e Prints r = Prints [] × (r ≡ Err (Mistaken e))
 
-abbrev pub Explains : Error → Result Done Complaint → Type 0
-Explains e r = ExplainsKind (kind_of e) e r
+abbrev pub Explains : Error → (List ℕ → Type 0) → Result Done Complaint → Type 0
+Explains e Prints r = ExplainsKind (kind_of e) e Prints r
 
--- what comes of a mistake: what its error says; or the complaint that only one of ticks and outside events may be given
-abbrev pub AnswersMistake : Mistake → Result Done Complaint → Type 0
-AnswersMistake (mistakes.Grammar e) r = Explains e r
-AnswersMistake mistakes.TicksAndEvents r = r ≡ Err TicksAndEvents
+-- what comes of a mistake: what its error says; or the complaint that only one of ticks and outside events may be given,
+-- and nothing is printed
+abbrev pub AnswersMistake : Mistake → (List ℕ → Type 0) → Result Done Complaint → Type 0
+AnswersMistake (mistakes.Grammar e) Prints r = Explains e Prints r
+AnswersMistake mistakes.TicksAndEvents Prints r = Prints [] × (r ≡ Err TicksAndEvents)
 
 -- ---- all words
 
@@ -121,4 +122,4 @@ IsPerformed WasShown texts asks shows did Prints r =
     × (both_given (subcommand_of mx_grammar texts) ≡ false)
     × PerformsLine WasShown line asks did Prints d × IsAnswered line shows d r)
     ⊎ ((m : Mistake) × IsMistake texts m × (did.asked ≡ []) × (did.written ≡ []) × (did.typed ≡ []) × (did.shown ≡ [])
-    × AnswersMistake m r)
+    × AnswersMistake m Prints r)

@@ -1,6 +1,7 @@
 //! From the words of the command line to a status.
 
 ghost use Rattle.std.specs.Prelude.{◌≡◌, IfErr, IfOk, map, string_bytes};
+ghost use Rattle.std.specs.Io.KnownBytes.{Appends};
 ghost use Rattle.mx_app_failure.specs.Failure.{IsWanting};
 ghost use Rattle.mx_app.specs.Deeds.{Does};
 ghost use Rattle.mx_app.specs.Words.{AnswersMistake, Explains, explained_line, explains, IsAnswered, IsComplaintOf, IsPerformed};
@@ -31,8 +32,10 @@ fn print_help<W: Write>(alloc: Global, error: &Error, out: &mut W) -> Result<(),
 }
 
 /// Prints help if it was asked for; what is wrong with the words is a complaint.
+#[tactic(auto, using(mx_app_start::proofs::Appended::appends_nothing))]
 fn explain<W: Write>(alloc: Global, error: Error, out: &mut W) -> Result<Done, Complaint>
-    ensures { Explains error result }
+    ensures { Explains error (λ text. Appends (W.contents out.old) (W.contents out.new) text)
+        result }
 {
     if error.kind() == ErrorKind::OutOfMemory {
         return Err(Complaint::from(Failure::NoMemory));
@@ -46,8 +49,10 @@ fn explain<W: Write>(alloc: Global, error: Error, out: &mut W) -> Result<Done, C
 
 /// What comes of words that ask for nothing: their error's, or that `--ticks` and `--events` exclude each
 /// other.
+#[tactic(auto, using(mx_app_start::proofs::Appended::appends_nothing))]
 fn complain<W: Write>(alloc: Global, mistake: Mistake, out: &mut W) -> Result<Done, Complaint>
-    ensures { AnswersMistake mistake result }
+    ensures { AnswersMistake mistake
+        (λ text. Appends (W.contents out.old) (W.contents out.new) text) result }
 {
     match mistake {
         Mistake::Grammar(error) => explain(alloc, error, out),

@@ -3,12 +3,12 @@
 ghost use Rattle.std.specs.Prelude.{◌≡◌, IfErr, IfOk, None};
 ghost use Rattle.std.specs.Io.{WritesAtMost};
 ghost use Rattle.std.specs.Io.KnownBytes.{WriteAppends};
-ghost use Rattle.mx_app.specs.Ending.{ending_text, is_stopped, last_taken, note, text_end};
+ghost use Rattle.mx_app.specs.Ending.{driven_word, is_stopped, last_taken, note, text_end};
 
 use mx_app_run::RunEnding;
 use mx_turns::Ending;
-use std::io;
 use std::io::Write;
+use std::{fmt, io};
 
 /// How turns or a run ended.
 #[derive(Clone, Copy, Debug, PartialEq, Eq)]
@@ -18,17 +18,15 @@ pub enum DrivenEnding {
 }
 
 impl DrivenEnding {
-    /// The line that says it.
-    fn text(self) -> &'static str
-        ensures { result.now ≡ ending_text self }
+    /// The word that says it. A run's is that of turns that end so.
+    fn word(self) -> &'static str
+        ensures { result.now ≡ driven_word self }
     {
         match self {
-            DrivenEnding::Turns(Ending::Rest) => "mx: rest\n",
-            DrivenEnding::Turns(Ending::Turns) => "mx: turns\n",
-            DrivenEnding::Turns(Ending::Full) => "mx: full\n",
-            DrivenEnding::Run(RunEnding::Rest) => "mx: rest\n",
-            DrivenEnding::Run(RunEnding::Full) => "mx: full\n",
-            DrivenEnding::Run(RunEnding::Stopped) => "mx: stopped\n",
+            DrivenEnding::Turns(ending) => ending.word(),
+            DrivenEnding::Run(RunEnding::Rest) => Ending::Rest.word(),
+            DrivenEnding::Run(RunEnding::Full) => Ending::Full.word(),
+            DrivenEnding::Run(RunEnding::Stopped) => "stopped",
         }
     }
 }
@@ -56,6 +54,35 @@ impl PrintedText {
     }
 }
 
+/// What standard error gets after a command that is done.
+#[derive(Clone, Copy)]
+pub enum Note {
+    Nothing,
+    /// That a program has no symbols.
+    NoSymbols,
+    /// How turns or a run ended.
+    Ended(DrivenEnding),
+}
+
+/// The line, with its end.
+impl fmt::Display for Note {
+    ghost use Rattle.std.specs.Prelude.{Some};
+    ghost use Rattle.mx_app.specs.Ending.{note_text};
+
+    ghost output = { λ note. Some (note_text note) };
+
+    fn fmt<W: fmt::Write>(&self, f: &mut fmt::Formatter<W>) -> fmt::Result {
+        match *self {
+            Note::Nothing => Ok(()),
+            Note::NoSymbols => write!(f, "mx: no symbols\n"),
+            Note::Ended(ending) => {
+                let word = ending.word();
+                write!(f, "mx: {word}\n")
+            }
+        }
+    }
+}
+
 /// Which of the streams are terminals.
 #[derive(Clone, Copy)]
 pub struct Terminals {
@@ -79,20 +106,20 @@ impl Terminals {
     /// What standard error gets after a command that is done: that a program has no symbols, if they
     /// were asked for and nothing was printed; how turns or a run ended, if there were any. Only that a run was
     /// stopped is said where standard error is no terminal too, since its status isn't 0.
-    pub fn note(self, printed: PrintedText, last: Option<u8>) -> &'static str
-        ensures { result.now ≡ note self printed last }
+    pub fn note(self, printed: PrintedText, last: Option<u8>) -> Note
+        ensures { result ≡ note self printed last }
     {
         if !self.err && !printed.is_stopped() {
-            return "";
+            return Note::Nothing;
         }
         match printed {
             PrintedText::Symbols => if last.is_none() {
-                "mx: no symbols\n"
+                Note::NoSymbols
             } else {
-                ""
+                Note::Nothing
             },
-            PrintedText::Report(ending) => ending.text(),
-            PrintedText::Other => "",
+            PrintedText::Report(ending) => Note::Ended(ending),
+            PrintedText::Other => Note::Nothing,
         }
     }
 }

@@ -7,11 +7,12 @@ ghost use Rattle.mx_app_db.specs.Asked.{Asked, file_given, file_missed};
 ghost use Rattle.mx_app_db.specs.Written.{Written};
 ghost use Rattle.mx_app_failure.specs.Failure.{failure_if, problem_of_reading};
 ghost use Rattle.mx_app_program.specs.One.{IsPrinted};
-ghost use Rattle.mx_app_program.specs.Shown.{HasListing, HasNames, IsShown};
+ghost use Rattle.mx_app_program.specs.Shown.{IsListingOf, IsShown};
 ghost use Rattle.mx_app.specs.Named.{Assembles, ShowsFile};
 
+use mx_app_command::Listing;
 use mx_app_failure::{About, Failure};
-use mx_app_program::{assemble_file, print_listing, print_names, print_one};
+use mx_app_program::{assemble_file, print_listing, print_one};
 use mx_app_start::{FileWriter, Reader};
 use std::alloc::Global;
 use std::io::Write;
@@ -71,32 +72,18 @@ pub fn as_named<R: Reader, F: FileWriter>(
     }
 }
 
-/// Reads a file, and prints its program's instructions, one a line.
-pub fn dis_named<R: Reader, W: Write>(
+/// Reads a file, and prints a listing of its program.
+pub fn listing_named<R: Reader, W: Write>(
     alloc: Global,
     reader: &mut R,
     file: &str,
+    listing: Listing,
     out: &mut W,
 ) -> Result<(), Failure>
     ensures { (q : Asked) × (R.asked reader.new ≡ R.asked reader.old ++ q ∷ [])
-        × ShowsFile (λ bytes text. IsShown HasListing bytes text) file.now q
+        × ShowsFile (λ bytes text. IsShown (IsListingOf listing) bytes text) file.now q
         (λ text. Appends (W.contents out.old) (W.contents out.new) text) result }
 {
     let bytes = program_of(alloc, reader, file)?;
-    print_listing(alloc, bytes.as_slice(), out)
-}
-
-/// Reads a file, and prints its program's symbols, one a line.
-pub fn nm_named<R: Reader, W: Write>(
-    alloc: Global,
-    reader: &mut R,
-    file: &str,
-    out: &mut W,
-) -> Result<(), Failure>
-    ensures { (q : Asked) × (R.asked reader.new ≡ R.asked reader.old ++ q ∷ [])
-        × ShowsFile (λ bytes text. IsShown HasNames bytes text) file.now q
-        (λ text. Appends (W.contents out.old) (W.contents out.new) text) result }
-{
-    let bytes = program_of(alloc, reader, file)?;
-    print_names(alloc, bytes.as_slice(), out)
+    print_listing(alloc, bytes.as_slice(), listing, out)
 }

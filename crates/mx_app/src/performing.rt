@@ -7,7 +7,7 @@ ghost use Rattle.mx_app.specs.Requests.{Performs, PerformsApart, done_after_repl
 use crate::command_io::CommandIo;
 use crate::ending::DrivenEnding;
 use crate::explain::explain_named;
-use crate::named::{as_named, dis_named, nm_named, one_named};
+use crate::named::{as_named, listing_named, one_named};
 use mx_app_command::{CommandRequest, RecordRange};
 use mx_app_db::{HistoryPart, NamedScript, Replayed, db, replay, step, step_saved, trace};
 use mx_app_draw::draw;
@@ -154,15 +154,10 @@ fn perform_apart<
             let files = &mut channels.files;
             done_after_work(as_named(alloc, reader, files, text, file))
         }
-        CommandRequest::Dis { file } => {
+        CommandRequest::Show { file, listing } => {
             let reader = &mut channels.reader;
             let out = &mut channels.out;
-            done_after_work(dis_named(alloc, reader, file, out))
-        }
-        CommandRequest::Nm { file } => {
-            let reader = &mut channels.reader;
-            let out = &mut channels.out;
-            done_after_work(nm_named(alloc, reader, file, out))
+            done_after_work(listing_named(alloc, reader, file, listing, out))
         }
         CommandRequest::Explain { config } => {
             let reader = &mut channels.reader;

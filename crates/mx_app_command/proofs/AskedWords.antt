@@ -1,12 +1,12 @@
 -- What the words of a subcommand have, where the grammar finds no fault with them.
 use Rattle.std.proofs.Common.{◌≡◌, ◌∙◌, ◌<◌, ◌==◌, ℕ, Bool, true, false, cond, is_some, IfSome, refl, sym, ap, subst, arith, inl, inr, codes, drop, List, [], ◌∷◌, Option, Some, None, true≢false}
 use Rattle.std.specs.Prelude.{Ok, find, option_map, pos, unwrap_or}
-use Rattle.std.specs.List.{AllByRecursion}
+use Rattle.std.specs.List.{AllByRecursion, list_any}
 use Rattle.std.specs.Str.{bytes_eq}
 use Rattle.std.specs.Option.{option_map_or}
 use Rattle.std.specs.declared.num.ParseIntError.{ParseIntError}
 use Rattle.std.specs.Str.Parse.{IsNumeral, ParsesUnsigned, digits_value, starts_with_minus, without_leading_plus}
-use Rattle.std.proofs.lemmas.Bool.{ne_eqb}
+use Rattle.std.proofs.lemmas.Bool.{ne_eqb, or_parts}
 use Rattle.std.proofs.lemmas.Int.{ints}
 use Rattle.std.proofs.lemmas.Str.Parse.{digit_from_value}
 use Rattle.clap.specs.Words.{App, IsSignedIn, Row, Rule, Shape, Text, built, fault_of, subcommand_of, without_minus}
@@ -71,17 +71,27 @@ number_of t passed =
 required_sets : (id : Text) (n : ℕ) → SetsValue (with_index n (filled (required_text id)))
 required_sets id n = record { set = refl; least = omega arith; defaults = refl }
 
+-- where no argument has this one's name, none is said to be this one
+no_other : (a : Rule) (rest : List Rule) → list_any (λ (b : Rule). bytes_eq b.id a.id) rest ≡ false → IsOnly a rest
+no_other a [] none = tt
+no_other a (b ∷ rest) none =
+    let here = or_parts (bytes_eq b.id a.id) (list_any (λ (c : Rule). bytes_eq c.id a.id) rest) none in
+    ((λ e. absurd (true≢false (sym e ∙ here.0))), no_other a rest here.1)
+
 -- a text's name is none that the three flags have
 abbrev IsOwn : Text → Type 0
 IsOwn id = (bytes_eq (codes "explain") id ≡ false) × (bytes_eq (codes "no-explain") id ≡ false) × (bytes_eq (codes "help") id ≡ false)
 
-one_text_given : (name first : Text) → IsOwn first → (words : List Text)
-    → level_fault (whole_of (of_one name first)) [] nothing_held words false [] ≡ []
-    → IsGiven first (rows_after (whole_of (of_one name first)).rules [] words)
-one_text_given name first own words fine =
-    let only : IsOnly (with_index 1 (filled (required_text first))) (whole_of (of_one name first)).rules =
-    ((λ e. refl), ((λ e. absurd (true≢false (sym e ∙ own.0))), ((λ e. absurd (true≢false (sym e ∙ own.1))), ((λ e. absurd (true≢false (sym e ∙ own.2))), tt)))) in
-    ap is_some (value_given (with_index 1 (filled (required_text first))) (required_sets first 1) (whole_of (of_one name first)) only words refl (inl refl) refl fine).1
+-- the one text of a subcommand, if no option has its name
+one_text_given : (name first : Text) (options : List Rule)
+    → list_any (λ (b : Rule). bytes_eq b.id first) (drop 1 (whole_of (of_one name first options)).rules) ≡ false
+    → (words : List Text) → level_fault (whole_of (of_one name first options)) [] nothing_held words false [] ≡ []
+    → IsGiven first (rows_after (whole_of (of_one name first options)).rules [] words)
+one_text_given name first options own words fine =
+    let s = whole_of (of_one name first options) in
+    let a = with_index 1 (filled (required_text first)) in
+    let only : IsOnly a s.rules = ((λ e. refl), no_other a (drop 1 s.rules) own) in
+    ap is_some (value_given a (required_sets first 1) s only words refl (inl refl) refl fine).1
 
 two_texts_given : (name first second : Text) → IsOwn first → IsOwn second → bytes_eq second first ≡ false → bytes_eq first second ≡ false
     → (words : List Text) → level_fault (whole_of (of_two name first second)) [] nothing_held words false [] ≡ []
@@ -139,12 +149,12 @@ as_fits : Fits (whole_of (of_two (codes "as") (codes "TEXT") (codes "FILE")))
 as_fits words fine = let given = two_texts_given (codes "as") (codes "TEXT") (codes "FILE") (refl, refl, refl) (refl, refl, refl) refl refl words fine in
     ((λ e. absurd (true≢false (sym e))), (λ e. (given.1, inr (inl (refl, given.0)))))
 
-dis_fits : Fits (whole_of (of_one (codes "dis") (codes "FILE")))
-dis_fits words fine = let given = one_text_given (codes "dis") (codes "FILE") (refl, refl, refl) words fine in
+dis_fits : Fits (whole_of (of_one (codes "dis") (codes "FILE") []))
+dis_fits words fine = let given = one_text_given (codes "dis") (codes "FILE") [] refl words fine in
     ((λ e. absurd (true≢false (sym e))), (λ e. (given, inr (inr (inl refl)))))
 
-nm_fits : Fits (whole_of (of_one (codes "nm") (codes "FILE")))
-nm_fits words fine = let given = one_text_given (codes "nm") (codes "FILE") (refl, refl, refl) words fine in
+nm_fits : Fits (whole_of (of_one (codes "nm") (codes "FILE") []))
+nm_fits words fine = let given = one_text_given (codes "nm") (codes "FILE") [] refl words fine in
     ((λ e. absurd (true≢false (sym e))), (λ e. (given, inr (inr (inr refl)))))
 
 abbrev step_whole : Shape
@@ -339,8 +349,8 @@ db_fits : Fits (whole_of (of_two (codes "db") (codes "CONFIG") (codes "SCRIPT"))
 db_fits words fine = let given = two_texts_given (codes "db") (codes "CONFIG") (codes "SCRIPT") (refl, refl, refl) (refl, refl, refl) refl refl words fine in
     ((λ e. (given.0, inr (inl (given.1, inr refl)))), (λ e. absurd (true≢false e)))
 
-explain_fits : Fits (whole_of (of_one (codes "explain") (codes "CONFIG")))
-explain_fits words fine = let given = one_text_given (codes "explain") (codes "CONFIG") (refl, refl, refl) words fine in
+explain_fits : Fits (whole_of (of_one (codes "explain") (codes "CONFIG") []))
+explain_fits words fine = let given = one_text_given (codes "explain") (codes "CONFIG") [] refl words fine in
     ((λ e. (given, inl refl)), (λ e. absurd (true≢false e)))
 
 all_fit : AllByRecursion Fits whole.subs

@@ -4,7 +4,7 @@ use Rattle.std.specs.Str.{bytes_eq}
 use Rattle.mx_app_command.specs.declared.files.NamedWord.{NamedWord}
 use Rattle.mx_app_command.specs.declared.files.ReadWords.{ReadWords}
 use Rattle.mx_app_command.specs.declared.command_line.CommandRequest.{CommandRequest}
-use Rattle.mx_app_command.specs.declared.command_line.CommandRequest.TheVariants.{One, As, Dis, Nm, Explain, Step, Run, Turns, Sweep, Replay, Trace, Draw, Look, Db}
+use Rattle.mx_app_command.specs.declared.command_line.CommandRequest.TheVariants.{One, As, Show, Explain, Step, Run, Turns, Sweep, Replay, Trace, Draw, Look, Db}
 
 -- A word of the command line that names a file: the word as help has it, and the name.
 pub record FileWord : Type 0 where
@@ -37,8 +37,7 @@ with_events config (Some events) = with_course config (codes "EVENTS") events
 abbrev pub files_read : CommandRequest → FilesRead
 files_read (One file steps) = one_file (codes "FILE") file.now
 files_read (As text file) = one_file (codes "TEXT") text.now
-files_read (Dis file) = one_file (codes "FILE") file.now
-files_read (Nm file) = one_file (codes "FILE") file.now
+files_read (Show file listing) = one_file (codes "FILE") file.now
 files_read (Explain config) = one_file (codes "CONFIG") config.now
 files_read (Step config script save numbered) = with_course config.now (codes "SCRIPT") script.now
 files_read (Run config log ticks events) = with_events config.now (option_map (λ s. s.now) events)

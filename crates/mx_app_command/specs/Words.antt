@@ -10,8 +10,10 @@ use Rattle.clap.specs.declared.builder.command.Command.{Command}
 use Rattle.clap.specs.declared.builder.command.Command.TheViews.{out-Command}
 use Rattle.clap.specs.declared.builder.value_parser.ValueParser.TheVariants.{Signed}
 use Rattle.mx_app_command.specs.declared.command_line.CommandRequest.{CommandRequest}
+use Rattle.mx_app_command.specs.declared.command_line.Listing.{Listing}
+use Rattle.mx_app_command.specs.declared.command_line.Listing.TheVariants.{Instructions, Symbols}
 use Rattle.mx_app_command.specs.declared.command_line.RecordRange.{RecordRange}
-use Rattle.mx_app_command.specs.declared.command_line.CommandRequest.TheVariants.{One, As, Dis, Nm, Explain, Step, Run, Turns, Sweep, Replay, Trace, Draw, Look, Db}
+use Rattle.mx_app_command.specs.declared.command_line.CommandRequest.TheVariants.{One, As, Show, Explain, Step, Run, Turns, Sweep, Replay, Trace, Draw, Look, Db}
 
 -- ---- the grammar
 
@@ -40,10 +42,11 @@ abbrev pub subcommand : Text → List Rule → Shape
 subcommand name arguments =
     record (new_shape name) { rules = arguments ++ flag (codes "explain") ∷ flag (codes "no-explain") ∷ [] }
 
--- a subcommand of one text, and of two, by its name and theirs
-abbrev pub of_one : Text → Text → Shape
-of_one name first = subcommand name (required_text first ∷ [])
+-- a subcommand of one text, with these options, by its name and the text's
+abbrev pub of_one : Text → Text → List Rule → Shape
+of_one name first options = subcommand name (required_text first ∷ options)
 
+-- a subcommand of two texts, by its name and theirs
 abbrev pub of_two : Text → Text → Text → Shape
 of_two name first second = subcommand name (required_text first ∷ required_text second ∷ [])
 
@@ -116,8 +119,8 @@ top_app = record {
 abbrev pub program_shapes : List Shape
 program_shapes = one_shape
     ∷ of_two (codes "as") (codes "TEXT") (codes "FILE")
-    ∷ of_one (codes "dis") (codes "FILE")
-    ∷ of_one (codes "nm") (codes "FILE")
+    ∷ of_one (codes "dis") (codes "FILE") []
+    ∷ of_one (codes "nm") (codes "FILE") []
     ∷ []
 
 abbrev pub program_app : App
@@ -125,7 +128,7 @@ program_app = record { top = record top_app.top { is_leaf = false }; subs = prog
 
 -- those that start a machine
 abbrev pub machine_shapes : List Shape
-machine_shapes = of_one (codes "explain") (codes "CONFIG")
+machine_shapes = of_one (codes "explain") (codes "CONFIG") []
     ∷ step_shape
     ∷ run_shape
     ∷ []
@@ -186,14 +189,18 @@ IsFlag id rows given =
     × ((one_of id rows ≡ Some (codes "false") → given ≡ false)
     × (one_of id rows ≡ None → given ≡ false))
 
+-- the listing is the one that the subcommand of this name and its options ask for
+abbrev pub AsksForListing : Listing → Text → List Row → Type 0
+AsksForListing Instructions name rows = name ≡ codes "dis"
+AsksForListing Symbols name rows = name ≡ codes "nm"
+
 -- the request is what the subcommand of this name and its values ask for
 abbrev pub AsksBy : CommandRequest → Text → List Row → Type 0
 AsksBy (One file steps) name rows =
     (name ≡ codes "one") × HasText (codes "FILE") rows file.now × HasNumber (codes "N") rows steps
 AsksBy (As text file) name rows =
     (name ≡ codes "as") × HasText (codes "TEXT") rows text.now × HasText (codes "FILE") rows file.now
-AsksBy (Dis file) name rows = (name ≡ codes "dis") × HasText (codes "FILE") rows file.now
-AsksBy (Nm file) name rows = (name ≡ codes "nm") × HasText (codes "FILE") rows file.now
+AsksBy (Show file listing) name rows = AsksForListing listing name rows × HasText (codes "FILE") rows file.now
 AsksBy (Explain config) name rows = (name ≡ codes "explain") × HasText (codes "CONFIG") rows config.now
 AsksBy (Step config script save numbered) name rows =
     (name ≡ codes "step") × HasText (codes "CONFIG") rows config.now × HasText (codes "SCRIPT") rows script.now

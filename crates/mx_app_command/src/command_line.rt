@@ -23,6 +23,15 @@ pub struct RecordRange {
 /// The most turns after each position, if none are given.
 const TURNS_AFTER: u32 = 1000;
 
+/// What is listed of a program, one a line.
+#[derive(Clone, Copy)]
+pub enum Listing {
+    /// Its instructions: `dis`.
+    Instructions,
+    /// Its symbols: `nm`.
+    Symbols,
+}
+
 /// What the words of a command line ask for.
 #[derive(Clone, Copy)]
 pub enum CommandRequest<'a> {
@@ -36,13 +45,10 @@ pub enum CommandRequest<'a> {
         text: &'a str,
         file: &'a str,
     },
-    /// `dis FILE`.
-    Dis {
+    /// The name of a listing, as `dis`, with `FILE` and its options.
+    Show {
         file: &'a str,
-    },
-    /// `nm FILE`.
-    Nm {
-        file: &'a str,
+        listing: Listing,
     },
     /// `explain CONFIG`.
     Explain {
@@ -209,9 +215,11 @@ fn program_request<'a>(name: &str, matches: &ArgMatches<'a>) -> CommandRequest<'
         let text = value_asked(matches, "TEXT");
         CommandRequest::As { text, file }
     } else if name == "dis" {
-        CommandRequest::Dis { file }
+        let listing = Listing::Instructions;
+        CommandRequest::Show { file, listing }
     } else {
-        CommandRequest::Nm { file }
+        let listing = Listing::Symbols;
+        CommandRequest::Show { file, listing }
     }
 }
 

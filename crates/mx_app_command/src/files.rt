@@ -90,8 +90,7 @@ impl<'a> CommandRequest<'a> {
         match self {
             CommandRequest::One { file, .. } => one_file("FILE", file),
             CommandRequest::As { text, .. } => one_file("TEXT", text),
-            CommandRequest::Dis { file } => one_file("FILE", file),
-            CommandRequest::Nm { file } => one_file("FILE", file),
+            CommandRequest::Show { file, .. } => one_file("FILE", file),
             CommandRequest::Explain { config } => one_file("CONFIG", config),
             CommandRequest::Step { config, script, .. } => with_course(config, "SCRIPT", script),
             CommandRequest::Db { config, script } => with_course(config, "SCRIPT", script),

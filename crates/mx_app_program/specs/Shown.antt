@@ -4,15 +4,15 @@ use Rattle.mx_aout.specs.declared.program.Program.{Program}
 use Rattle.mx_aout.specs.declared.program.FileError.{FileError}
 use Rattle.mx_aout.specs.declared.program.FileError.TheVariants.{NoMemory}
 use Rattle.mx_aout.specs.File.{FileIs}
+use Rattle.mx_app_command.specs.declared.command_line.Listing.{Listing}
+use Rattle.mx_app_command.specs.declared.command_line.Listing.TheVariants.{Instructions, Symbols}
 use Rattle.mx_dis.specs.Listing.{IsListing}
 use Rattle.mx_dis.specs.Names.{name_lines}
 
--- the text is the program's listing, or the lines of its symbols
-abbrev pub HasListing : Program → List ℕ → Type 0
-HasListing p text = IsListing 0 p.text text
-
-abbrev pub HasNames : Program → List ℕ → Type 0
-HasNames p text = text ≡ name_lines p.symbols
+-- the text is this listing of the program
+abbrev pub IsListingOf : Listing → Program → List ℕ → Type 0
+IsListingOf Instructions p text = IsListing 0 p.text text
+IsListingOf Symbols p text = text ≡ name_lines p.symbols
 
 -- the text is had by a program that the bytes are a file of
 abbrev pub IsShown : (Program → List ℕ → Type 0) → List ℕ → List ℕ → Type 0

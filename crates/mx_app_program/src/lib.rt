@@ -19,7 +19,7 @@ mod round_trip_laws;
 pub use assembly::assemble_file;
 pub use error::AroundError;
 pub use first_steps::one;
-pub use listing::{print_listing, print_names};
+pub use listing::print_listing;
 pub use report::print_one;
 pub use round_trip::{Journey, around};
 pub use round_trip_laws::{code_keeps, listing_keeps};

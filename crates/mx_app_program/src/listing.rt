@@ -1,53 +1,50 @@
-//! `mx dis` and `mx nm`: the listing of a program's file, and of its symbols.
+//! The listings of a program's file: its instructions, as `mx dis` prints them, and its symbols, as `mx nm` does.
 
-ghost use Rattle.std.specs.Prelude.{ℕ, List, OnOk, string_bytes};
+ghost use Rattle.std.specs.Prelude.{ℕ, IfOk, List, OnOk, string_bytes};
 ghost use Rattle.std.specs.Io.KnownBytes.{Appends};
 ghost use Rattle.mx_aout.specs.File.{refusal_of};
 ghost use Rattle.mx_app_failure.specs.Failure.{Tells};
-ghost use Rattle.mx_app_program.specs.Shown.{HasListing, HasNames, IsShown, Shows};
+ghost use Rattle.mx_app_program.specs.Shown.{IsListingOf, IsShown, Shows};
 
-use mx_aout::{FileError, read};
+use mx_aout::{FileError, Program, read};
+use mx_app_command::Listing;
 use mx_app_failure::{About, Failure, print_text};
 use mx_dis::{list, names};
+use mx_word::NoMemory;
 use std::alloc::Global;
 use std::io::Write;
 
-/// The listing of a file's program.
-fn listing_of(alloc: Global, bytes: &[u8]) -> Result<String, FileError>
-    ensures { Shows (λ text. string_bytes text) HasListing (refusal_of bytes.now) bytes.now result }
+/// A listing of a program.
+fn text_of(alloc: Global, program: &Program, listing: Listing) -> Result<String, NoMemory>
+    ensures { IfOk result (λ text. IsListingOf listing program.now (string_bytes text)) }
+{
+    match listing {
+        Listing::Instructions => list(alloc, program),
+        Listing::Symbols => names(alloc, program),
+    }
+}
+
+/// A listing of a file's program.
+fn listing_of(alloc: Global, bytes: &[u8], listing: Listing) -> Result<String, FileError>
+    ensures { Shows (λ text. string_bytes text)
+        (IsListingOf listing) (refusal_of bytes.now) bytes.now result }
 {
     let program = read(alloc, bytes)?;
-    Ok(list(alloc, &program)?)
+    Ok(text_of(alloc, &program, listing)?)
 }
 
-/// The symbols of a file's program.
-fn names_of(alloc: Global, bytes: &[u8]) -> Result<String, FileError>
-    ensures { Shows (λ text. string_bytes text) HasNames (refusal_of bytes.now) bytes.now result }
-{
-    let program = read(alloc, bytes)?;
-    Ok(names(alloc, &program)?)
-}
-
-/// Prints the instructions of a file's program, one a line.
-pub fn print_listing<W: Write>(alloc: Global, bytes: &[u8], out: &mut W) -> Result<(), Failure>
+/// Prints a listing of a file's program.
+pub fn print_listing<W: Write>(
+    alloc: Global,
+    bytes: &[u8],
+    listing: Listing,
+    out: &mut W,
+) -> Result<(), Failure>
     ensures tells { Tells (refusal_of bytes.now) result }
-    ensures shown { OnOk result ((text : List ℕ) × IsShown HasListing bytes.now text
+    ensures shown { OnOk result ((text : List ℕ) × IsShown (IsListingOf listing) bytes.now text
         × Appends (W.contents out.old) (W.contents out.new) text) }
 {
-    let text = match listing_of(alloc, bytes) {
-        Ok(text) => text,
-        Err(error) => return Err(Failure::refused(error, About::Program)),
-    };
-    print_text(text.as_bytes(), out)
-}
-
-/// Prints the symbols of a file's program, one a line.
-pub fn print_names<W: Write>(alloc: Global, bytes: &[u8], out: &mut W) -> Result<(), Failure>
-    ensures tells { Tells (refusal_of bytes.now) result }
-    ensures shown { OnOk result ((text : List ℕ) × IsShown HasNames bytes.now text
-        × Appends (W.contents out.old) (W.contents out.new) text) }
-{
-    let text = match names_of(alloc, bytes) {
+    let text = match listing_of(alloc, bytes, listing) {
         Ok(text) => text,
         Err(error) => return Err(Failure::refused(error, About::Program)),
     };

@@ -1,5 +1,6 @@
 use Rattle.std.proofs.Common.{inl, inr, refl}
 use Rattle.std.proofs.lemmas.Result.{err_from_is_err_and}
+use Rattle.mx_app_start.proofs.Appended.{appends_nothing}
 use Rattle.mx_app.proofs.Services.{services_printed}
 use Rattle.mx_app.proofs.explain.explain_named.Goals as goal
 
@@ -7,7 +8,7 @@ pub returns-in_err-config : goal.returns-in_err-config
 returns-in_err-config g c =
     let p = err_from_is_err_and c.from_residual.result c.from_residual.ensures.1 in
     let h = c.in_err-config.ensures.fault in
-    rw (p.1, p.2) (h.0, h.1, inl h.2)
+    rw (p.1, p.2) (h.0, h.1, inl (appends_nothing _, h.2))
 
 pub returns-in_err-text : goal.returns-in_err-text
 returns-in_err-text g c =

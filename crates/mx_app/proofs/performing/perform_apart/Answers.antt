@@ -2,7 +2,7 @@ use Rattle.std.proofs.Common.{◌∙◌, ap, Option}
 use Rattle.std.specs.Prelude.{option_map}
 use Rattle.mx_app_command.specs.declared.command_line.CommandRequest.TheVariants.{Step}
 use Rattle.mx_app_program.specs.One.{IsPrinted}
-use Rattle.mx_app_program.specs.Shown.{HasListing, HasNames, IsShown}
+use Rattle.mx_app_program.specs.Shown.{IsListingOf, IsShown}
 use Rattle.mx_app.proofs.Doing.{as_asked, as_known, as_typed, assembled, debugs, draws, explains, looks, replays, runs, saved, shows, steps, swept, traces, turned}
 use Rattle.mx_app.proofs.performing.perform_apart.Goals as goal
 
@@ -18,17 +18,11 @@ returns-in-As-clause-done g c =
     (as_known _ _ _ _ _ _ _ _ c.in-As.is
     (assembled _ _ _ _ _ c.in-As.text.now c.in-As.file.now c.as_named.result c.done_after_work-in-As.result c.as_named.ensures c.done_after_work-in-As.ensures))
 
-pub returns-in-Dis-clause-done : goal.returns-in-Dis-clause-done
-returns-in-Dis-clause-done g c =
+pub returns-in-Show-clause-done : goal.returns-in-Show-clause-done
+returns-in-Show-clause-done g c =
     as_asked (g.P.SharedProgress.was_shown c.args.io.now.progress) c.args.io.now.asks _ _ _ _ _ _ c.args.request
-    (as_known _ _ _ _ _ _ _ _ c.in-Dis.is
-    (shows _ _ _ (λ bytes text. IsShown HasListing bytes text) c.in-Dis.file.now _ c.dis_named.result c.done_after_work-in-Dis.result c.dis_named.ensures c.done_after_work-in-Dis.ensures))
-
-pub returns-in-Nm-clause-done : goal.returns-in-Nm-clause-done
-returns-in-Nm-clause-done g c =
-    as_asked (g.P.SharedProgress.was_shown c.args.io.now.progress) c.args.io.now.asks _ _ _ _ _ _ c.args.request
-    (as_known _ _ _ _ _ _ _ _ c.in-Nm.is
-    (shows _ _ _ (λ bytes text. IsShown HasNames bytes text) c.in-Nm.file.now _ c.nm_named.result c.done_after_work-in-Nm.result c.nm_named.ensures c.done_after_work-in-Nm.ensures))
+    (as_known _ _ _ _ _ _ _ _ c.in-Show.is
+    (shows _ _ _ (λ bytes text. IsShown (IsListingOf c.in-Show.listing) bytes text) c.in-Show.file.now _ c.listing_named.result c.done_after_work-in-Show.result c.listing_named.ensures c.done_after_work-in-Show.ensures))
 
 pub returns-in-Explain-clause-done : goal.returns-in-Explain-clause-done
 returns-in-Explain-clause-done g c =
