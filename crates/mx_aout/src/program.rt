@@ -106,13 +106,6 @@ impl Symbols {
         Symbols { symbols }
     }
 
-    /// A program's symbols, as a vector. Takes no memory.
-    pub fn into_vec(self) -> Vec<Symbol>
-        ensures { result.items ≡ self }
-    {
-        self.symbols
-    }
-
     /// A program's symbols, in the order of the file.
     pub fn as_slice(&self) -> &[Symbol]
         ensures { result.now ≡ self.now }

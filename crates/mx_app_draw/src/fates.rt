@@ -142,7 +142,8 @@ fn push_kill(
     slot: u32,
 ) -> Result<(), AllocError>
     requires { IsOnPaper origin }
-    ensures { OnOk result (out.new.items ≡ out.old.items ++ kill_values transition.now origin slot) }
+    ensures { OnOk result (out.new.items ≡ out.old.items
+        ++ kill_values transition.now origin slot) }
 {
     if !has_fallen(transition, slot) {
         return Ok(());
@@ -212,7 +213,8 @@ pub(crate) fn push_fate(
     slot: u32,
 ) -> Result<(), AllocError>
     requires { IsOnPaper origin }
-    ensures { OnOk result (out.new.items ≡ out.old.items ++ fate_values transition.now origin slot) }
+    ensures { OnOk result (out.new.items ≡ out.old.items
+        ++ fate_values transition.now origin slot) }
 {
     push_kill(out, transition, origin, slot)?;
     let (Some(before), Some(after)) = (
@@ -238,7 +240,8 @@ pub(crate) fn push_freed(
     slot: u32,
 ) -> Result<(), AllocError>
     requires { IsOnPaper origin }
-    ensures { OnOk result (out.new.items ≡ out.old.items ++ freed_values transition.now origin slot) }
+    ensures { OnOk result (out.new.items ≡ out.old.items
+        ++ freed_values transition.now origin slot) }
 {
     if is_acted(transition, slot) {
         return Ok(());

@@ -72,7 +72,8 @@ pub(crate) fn push_delivery(
 ) -> Result<(), AllocError>
     requires on_paper { IsOnPaper origin }
     requires slot { slot < 32 }
-    ensures { OnOk result (out.new.items ≡ out.old.items ++ delivery_values transition.now origin slot) }
+    ensures { OnOk result (out.new.items ≡ out.old.items
+        ++ delivery_values transition.now origin slot) }
 {
     let Some(delivery) = delivery_to(transition, slot) else {
         return Ok(());
@@ -106,7 +107,8 @@ fn push_kept_arrow(
     place: u32,
 ) -> Result<(), AllocError>
     requires { IsOnPaper origin }
-    ensures { OnOk result (out.new.items ≡ out.old.items ++ kept_arrow transition.now origin slot place) }
+    ensures { OnOk result (out.new.items ≡ out.old.items
+        ++ kept_arrow transition.now origin slot place) }
 {
     if is_kept(transition, slot, place) {
         let from = source_height(origin, place);
@@ -124,7 +126,8 @@ pub(crate) fn push_kept(
     slot: u32,
 ) -> Result<(), AllocError>
     requires { IsOnPaper origin }
-    ensures { OnOk result (out.new.items ≡ out.old.items ++ kept_values transition.now origin slot) }
+    ensures { OnOk result (out.new.items ≡ out.old.items
+        ++ kept_values transition.now origin slot) }
 {
     for place in 0..SOURCES {
         push_kept_arrow(out, transition, origin, slot, place)?;

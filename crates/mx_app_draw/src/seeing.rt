@@ -43,7 +43,8 @@ fn keep_transition(
     transition: &Transition,
     from: u32,
 ) -> Result<(), AllocError>
-    ensures { OnOk result (transitions.new.items ≡ transitions.old.items ++ drawn_of from transition.now) }
+    ensures { OnOk result (transitions.new.items ≡ transitions.old.items
+        ++ drawn_of from transition.now) }
 {
     if transition.number >= from {
         transitions.push(*transition)?;

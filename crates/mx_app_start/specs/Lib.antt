@@ -11,6 +11,5 @@ pub use Rattle.mx_boot.specs.Report
 pub use Rattle.mx_boot.specs.Config
 pub use Rattle.mx_machine.specs.Service
 pub use Rattle.mx_app_failure.specs.Failure
-pub use Rattle.mx_machine.specs.KernelState
 pub use Rattle.mx_boot.specs.ServiceLine
 pub use Rattle.mx_boot.specs.Text

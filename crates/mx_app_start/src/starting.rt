@@ -13,8 +13,8 @@ use crate::course::Course;
 use crate::reader::Reader;
 use crate::setup::{setup_of, text_of};
 use mx_app_failure::{About, Failure};
-use mx_machine::{Config, Kernel, Machine, Service};
-use mx_word::NoMemory;
+use mx_machine::{Config, Machine, Service};
+use mx_walk::boot;
 use std::alloc::Global;
 
 /// A machine before its first event, and what drives it.
@@ -27,20 +27,6 @@ pub struct Started<L: Drop> {
     pub other: u8,
     /// What the lines of the text that drives it say.
     pub lines: Vec<L>,
-}
-
-/// The machine of a configuration and its services.
-fn boot(alloc: Global, config: &Config, services: Vec<Service>) -> Result<Machine, NoMemory>
-    requires some { 0 < length services.items }
-    requires few { length services.items ≤ 32 }
-    ensures world { IfOk result (λ machine. world_of machine
-        ≡ world_at_boot config.now services.items) }
-    ensures kernel { IfOk result (λ machine. machine.kernel
-        ≡ record { boot = world_of machine; history = [] }) }
-{
-    let mut services = services;
-    let kernel = Kernel::new(alloc, config, &mut services)?;
-    Ok(Machine::new(kernel))
 }
 
 /// Reads a configuration, the programs of its services in the order of their lines, and the text that

@@ -18,7 +18,7 @@ ghost use Rattle.mx_app_step.specs.Numbered.{answers_text};
 ghost use Rattle.mx_app_start.specs.Telling.{IsTold};
 
 use crate::driving_lines::{Lines, Performs, print_lines};
-use crate::stepping::{make_event, make_own, make_steps};
+use crate::stepping::{make_event, make_steps};
 use mx_app_failure::Failure;
 use mx_app_start::{Reader, Script, start};
 use mx_boot::ScriptLine;
@@ -40,8 +40,8 @@ pub fn perform_line(machine: &mut Machine, other: u8, line: ScriptLine) -> Said
 {
     match line {
         ScriptLine::Step(cpu, steps) => make_steps(machine, cpu, steps),
-        ScriptLine::Take(cpu) => make_own(machine, cpu, Event::Take),
-        ScriptLine::Back(cpu) => make_own(machine, cpu, Event::Back),
+        ScriptLine::Take(cpu) => make_event(machine, cpu, Event::Take),
+        ScriptLine::Back(cpu) => make_event(machine, cpu, Event::Back),
         ScriptLine::Line(line) => make_event(machine, other, Event::Line(line)),
         ScriptLine::Tick => make_event(machine, other, Event::Tick),
         ScriptLine::Kill(endpoint) => make_event(machine, other, Event::Kill(endpoint)),

@@ -1,9 +1,9 @@
 //! Steps of a processor.
 
-ghost use Rattle.std.specs.Prelude.{◌≡◌, ◌<◌, Some, false};
+ghost use Rattle.std.specs.Prelude.{◌≡◌, ◌<◌, Some};
+ghost use Rattle.mx_machine.specs.Machine.{IsActor};
 ghost use Rattle.mx_machine.specs.Move.{move};
 ghost use Rattle.mx_machine.specs.World.{actors, held_by};
-ghost use Rattle.mx_app_start.specs.KernelState.{is_for_all};
 ghost use Rattle.mx_app_start.specs.Machine.{world_of};
 ghost use Rattle.mx_app_step.specs.Kept.{kept_by};
 ghost use Rattle.mx_app_step.specs.Lines.{event_made, run_made, steps_made};
@@ -69,21 +69,9 @@ pub fn make_steps(machine: &mut Machine, cpu: u8, steps: u32) -> Said
     work_steps(machine, cpu, steps)
 }
 
-/// A take or a return of an actor, and what is said of it.
-pub(crate) fn make_own(machine: &mut Machine, actor: u8, event: Event) -> Said
-    requires { is_for_all event ≡ false }
-    ensures made { event_made (move (world_of machine.old) actor event)
-        ≡ (result, world_of machine.new) }
-    ensures kept { machine.new.kernel
-        ≡ kept_by machine.old.kernel (world_of machine.old) (Some (actor, event)) }
-    ensures actors { actors (world_of machine.new) ≡ actors (world_of machine.old) }
-{
-    said_of(machine.apply(actor, event))
-}
-
 /// One event of an actor of the machine, and what is said of it.
 pub(crate) fn make_event(machine: &mut Machine, actor: u8, event: Event) -> Said
-    requires { actor < actors (world_of machine.old) }
+    requires { IsActor (world_of machine.old) actor event }
     ensures made { event_made (move (world_of machine.old) actor event)
         ≡ (result, world_of machine.new) }
     ensures kept { machine.new.kernel

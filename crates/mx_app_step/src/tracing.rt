@@ -53,7 +53,8 @@ pub fn look_record(
     ensures ok { OnOk result (AreAccepted (world_of machine.old) (events_of entry.actor entry.event)
         × (world_of machine.new
         ≡ world_after_events (world_of machine.old) (events_of entry.actor entry.event))) }
-    ensures transition { OnOk result (transition.new ≡ transition_of (world_of machine.old) number entry) }
+    ensures transition { OnOk result (transition.new
+        ≡ transition_of (world_of machine.old) number entry) }
     ensures err { IfErr result
         (IsFirstRefusal (world_of machine.old) (events_of entry.actor entry.event)) }
 {

@@ -1,5 +1,5 @@
 //! One step: what one instruction, by its operation and operands (a `Source` is read, a `Place` written too), does
-//! to an `Image`, which is a process's registers, flags, memory and segment, up to a `InsnEnd`, and the next EIP; and
+//! to an `Image`, which is a process's registers, flags, memory and segment, up to an `InsnEnd`, and the next EIP; and
 //! copies of images, each for a purpose (`CopyFor`).
 //!
 //! # An operand is a type

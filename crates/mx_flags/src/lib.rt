@@ -125,7 +125,7 @@ impl Model for Flags {
 impl Flags {
     /// The flags with these values.
     #[inline(always)]
-    pub fn from_values(values: FlagValues) -> Flags
+    fn from_values(values: FlagValues) -> Flags
         ensures { result ≡ values }
     {
         Flags {

@@ -90,7 +90,7 @@ fn push_reason(out: &mut String, fault: &FaultGlance) -> Result<(), AllocError>
 
 /// Appends the code that faulted, and why.
 #[tactic(auto, unfolding(crate::specs::FaultLines::fault_text))]
-pub fn push_fault(out: &mut String, fault: &FaultGlance) -> Result<(), AllocError>
+fn push_fault(out: &mut String, fault: &FaultGlance) -> Result<(), AllocError>
     ensures { OnOk result (string_bytes out.new ≡ string_bytes out.old ++ fault_text fault.now) }
 {
     push_code(out, fault.symbol.as_ref(), fault.part, fault.at)?;

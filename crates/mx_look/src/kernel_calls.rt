@@ -51,7 +51,7 @@ fn row_by_digits(rules: Rules, kind: u32) -> Option<&'static CallRow>
 
 /// Appends a type that no call has, and the call whose type it is if its digits are hexadecimal.
 #[tactic(auto, unfolding(crate::specs::KernelCalls::other_type))]
-pub fn push_other_type(out: &mut Vec<u8>, rules: Rules, kind: u32) -> Result<(), AllocError>
+fn push_other_type(out: &mut Vec<u8>, rules: Rules, kind: u32) -> Result<(), AllocError>
     ensures { OnOk result (out.new.items ≡ out.old.items ++ other_type rules kind) }
 {
     push_counted(out, b", type", kind)?;

@@ -71,7 +71,7 @@ fn push_misnamed(out: &mut Vec<u8>, glance: &Glance, party: u32) -> Result<(), A
 
 /// Appends why a trap that was held is answered so, if an error doesn't say it alone.
 #[tactic(auto, unfolding(crate::specs::Refusals::trap_reason))]
-pub fn push_trap_reason(
+fn push_trap_reason(
     out: &mut Vec<u8>,
     glance: &Glance,
     held: &CpuGlance,

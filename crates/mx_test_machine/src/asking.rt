@@ -1,7 +1,9 @@
 //! Help that is asked for by its own word, and what a reader at a terminal gets.
 
-use mx_app::{DrivenEnding, Ending, NotingOutput, PrintedText, RunEnding, Terminals, texts_asked};
-use std::alloc::Global;
+use mx_app::{
+    DrivenEnding, Ending, Note, NotingOutput, PrintedText, RunEnding, Terminals, texts_asked,
+};
+use std::alloc::{AllocError, Global};
 use std::io::Write;
 use std::test::Fail;
 
@@ -123,9 +125,14 @@ const NOTES: &[(PrintedText, Option<u8>, &str)] = &[
     (PrintedText::Other, None, ""),
 ];
 
+/// What standard error gets of a note.
+fn text_of(alloc: Global, note: Note) -> Result<String, AllocError> {
+    format!(in alloc; "{note}")
+}
+
 /// A reader at a terminal is helped on standard error, and nobody else is; but each is told of a run that was stopped.
 #[test]
-fn notes(rt: HostRuntime) {
+fn notes(rt: HostRuntime) -> Result<(), Fail> {
     let stopped = PrintedText::Report(DrivenEnding::Run(RunEnding::Stopped));
     for out in [false, true] {
         let shown = Terminals {
@@ -139,12 +146,17 @@ fn notes(rt: HostRuntime) {
             err: false,
         };
         for (printed, last, note) in NOTES {
-            assert!(rt; shown.note(*printed, *last) == *note);
-            assert!(rt; hidden.note(*printed, *last).is_empty());
+            let said = text_of(rt.alloc(), shown.note(*printed, *last))?;
+            assert!(rt; said.as_str() == *note);
+            let said = text_of(rt.alloc(), hidden.note(*printed, *last))?;
+            assert!(rt; said.is_empty());
         }
-        assert!(rt; shown.note(stopped, Some(b'\n')) == "mx: stopped\n");
-        assert!(rt; hidden.note(stopped, Some(b'\n')) == "mx: stopped\n");
+        let said = text_of(rt.alloc(), shown.note(stopped, Some(b'\n')))?;
+        assert!(rt; said.as_str() == "mx: stopped\n");
+        let said = text_of(rt.alloc(), hidden.note(stopped, Some(b'\n')))?;
+        assert!(rt; said.as_str() == "mx: stopped\n");
     }
+    Ok(())
 }
 
 /// The last byte of what was written is noted, also after a text of no bytes.

@@ -3,7 +3,7 @@
 use crate::files::reader;
 use crate::texts::Narrow;
 use mx_app::{CommandIo, Failure, NoProgress, OutputProblem, perform};
-use mx_app_command::{CommandRequest, RecordRange};
+use mx_app_command::{CommandRequest, Listing, RecordRange};
 use mx_app_db::{Channels, InputLines, MemoryWriter, Script, make_steps, start};
 use mx_boot::{Over, save};
 use mx_machine::{Event, Machine};
@@ -85,12 +85,18 @@ static PROGRAMS: &[Row] = &[
     },
     Row {
         name: "dis",
-        request: CommandRequest::Dis { file: "a.out" },
+        request: CommandRequest::Show {
+            file: "a.out",
+            listing: Listing::Instructions,
+        },
         printed: "00000000 mov eax, 0x5\n00000005 add eax, 0x7b\n00000008 int 0x21\n",
     },
     Row {
         name: "nm",
-        request: CommandRequest::Nm { file: "drv.out" },
+        request: CommandRequest::Show {
+            file: "drv.out",
+            listing: Listing::Symbols,
+        },
         printed: "00000000 D buf\n00000000 T top\n",
     },
 ];

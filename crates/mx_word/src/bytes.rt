@@ -39,13 +39,6 @@ impl Bytes {
         Bytes { bytes }
     }
 
-    /// The list of bytes as a vector. Takes no memory.
-    pub fn into_vec(self) -> Vec<u8>
-        ensures { result.items ≡ self }
-    {
-        self.bytes
-    }
-
     /// The list of bytes as a slice.
     pub fn as_slice(&self) -> &[u8]
         ensures { result.now ≡ self.now }
