@@ -1,4 +1,4 @@
-use Rattle.std.proofs.Common.{◌≡◌, ◌≢◌, ℕ, zero, suc, ◌+◌, ◌-◌, ◌<◌, ◌≤◌, ◌==◌, nat_lt, Bool, true, false, cond, inl, inr, List, [], ◌∷◌, ◌++◌, length, get_or, slice_set, slice_get, slice_index, replicate, Some, None, refl, sym, ap, ◌∙◌, arith, subst, length-set, length-append, get_or-set_same, get_or-set_other}
+use Rattle.std.proofs.Common.{◌≡◌, ◌≢◌, ℕ, zero, suc, ◌+◌, ◌-◌, ◌<◌, ◌≤◌, ◌==◌, nat_lt, Bool, true, false, cond, inl, inr, List, [], ◌∷◌, ◌++◌, length, map, get_or, slice_set, slice_get, slice_index, replicate, Some, None, refl, sym, ap, ◌∙◌, arith, subst, length-set, length-append, get_or-set_same, get_or-set_other}
 use Rattle.std.proofs.lemmas.Bool.{cases_eq, cases_lt, cases_Bool, eq-eqb, ne_eqb, lt-ltb, le-ltb}
 use Rattle.std.proofs.lemmas.List.{length-map, length-replicate}
 use Rattle.std.proofs.Math.ListN.{get_or-eq_default}
@@ -15,6 +15,11 @@ use Rattle.mx_proc.proofs.ListLemmas.{all_same, get_or-any, has_room, tally-same
 pub sends-pairs : (to : List ℕ) (s : ℕ) (slots : List ℕ) → sends_of s (pairs_of to slots) ≡ times s slots
 sends-pairs to s [] = refl
 sends-pairs to s (x ∷ xs) = ap (λ n. tally (x == s) + n) (sends-pairs to s xs)
+
+-- who sends, in order
+pub senders_of : (to slots : List ℕ) → map (λ (p : ℕ × ℕ). p.0) (pairs_of to slots) ≡ slots
+senders_of to [] = refl
+senders_of to (x ∷ xs) = ap (λ l. x ∷ l) (senders_of to xs)
 
 pub pairs-push : (to : List ℕ) (s : ℕ) (slots : List ℕ) → pairs_of to (slots ++ s ∷ []) ≡ pairs_of to slots ++ (s, slice_index to s) ∷ []
 pairs-push to s [] = refl

@@ -1,4 +1,4 @@
-use Rattle.std.proofs.Common.{◌≡◌, ◌≢◌, ℕ, zero, suc, ◌+◌, ◌<◌, ◌≤◌, ◌==◌, ◌⊎◌, inl, inr, List, [], ◌∷◌, ◌++◌, length, drop, get_or, slice_set, slice_index, refl, sym, ap, ◌∙◌, arith, subst, zero-add, append_assoc, append-nil, get_or-set_same, get_or-set_other}
+use Rattle.std.proofs.Common.{◌≡◌, ◌≢◌, ℕ, zero, suc, ◌+◌, ◌<◌, ◌≤◌, ◌==◌, ◌⊎◌, inl, inr, List, [], ◌∷◌, ◌++◌, length, drop, get_or, slice_set, slice_index, slice_get, Some, None, refl, sym, ap, ◌∙◌, arith, subst, zero-add, append_assoc, append-nil, get_or-set_same, get_or-set_other}
 use Rattle.std.proofs.lemmas.Bool.{cases_eq, eq-eqb, ne_eqb}
 use Rattle.mx_proc.specs.Queues.{tally, times, without, list_at, InNoList}
 use Rattle.mx_proc.specs.Chains.{IsChain, chain, turned}
@@ -127,6 +127,44 @@ more_at links at (x ∷ xs) h n = ap (λ y. y ∷ xs) (sym h.0)
 pub chain_after : (links : List ℕ) (s at : ℕ) (xs ys : List ℕ) → IsChain links at (xs ++ s ∷ ys) → IsChain links (slice_index links s) ys
 chain_after links s at [] ys h = h.2
 chain_after links s at (x ∷ xs) ys h = chain_after links s (slice_index links x) xs ys h.2
+
+-- ---- along the links
+
+-- the slot at a place
+pub placed : (links : List ℕ) (at j k : ℕ) (xs : List ℕ) → IsChain links at (drop j xs) → at ≢ 255 → j ≡ k → slice_get xs k ≡ Some at
+placed links at zero k [] h n e = absurd (n h)
+placed links at (suc j) k [] h n e = absurd (n h)
+placed links at zero zero (x ∷ xs) h n e = ap Some (sym h.0)
+placed links at zero (suc k) (x ∷ xs) h n e = absurd (omega (arith, e))
+placed links at (suc j) zero (x ∷ xs) h n e = absurd (omega (arith, e))
+placed links at (suc j) (suc k) (x ∷ xs) h n e = placed links at j k xs h n (omega (arith, e))
+
+-- there are more slots than come before one
+pub within : (links : List ℕ) (at k : ℕ) (xs : List ℕ) → IsChain links at (drop k xs) → at ≢ 255 → k < length xs
+within links at zero [] h n = absurd (n h)
+within links at zero (x ∷ xs) h n = omega arith
+within links at (suc k) [] h n = absurd (n h)
+within links at (suc k) (x ∷ xs) h n = omega (arith, within links at k xs h n)
+
+-- no slot from the end of a list on
+pub unplaced : (links : List ℕ) (at j k : ℕ) (xs : List ℕ) → IsChain links at (drop j xs) → at ≡ 255 → j ≤ k → slice_get xs k ≡ None
+unplaced links at j k [] h e b = refl
+unplaced links at zero k (x ∷ xs) h e b = absurd (omega (arith, h.0, h.1))
+unplaced links at (suc j) zero (x ∷ xs) h e b = absurd (omega arith)
+unplaced links at (suc j) (suc k) (x ∷ xs) h e b = unplaced links at j k xs h e (omega arith)
+
+-- one link on
+one_more : (links : List ℕ) (at k : ℕ) (xs : List ℕ) → IsChain links at (drop k xs) → at ≢ 255 → (at < 32) × IsChain links (slice_index links at) (drop (suc k) xs)
+one_more links at zero [] h n = absurd (n h)
+one_more links at zero (x ∷ xs) h n = (omega (arith, h.0, h.1), subst (λ y. IsChain links (slice_index links y) xs) (sym h.0) h.2)
+one_more links at (suc k) [] h n = absurd (n h)
+one_more links at (suc k) (x ∷ xs) h n = one_more links at k xs h n
+
+pub one_on : (links : List ℕ) (at k : ℕ) (xs : List ℕ) → IsChain links at (drop k xs) → at ≢ 255 → (at < 32) × IsChain links (slice_index links at) (drop (k + 1) xs)
+one_on links at k xs h n =
+    let more = one_more links at k xs h n in
+    let e : suc k ≡ k + 1 = omega arith in
+    (more.0, subst (λ j. IsChain links (slice_index links at) (drop j xs)) e more.1)
 
 pub turned-push : (xs : List ℕ) (p : ℕ) → turned (xs ++ p ∷ []) ≡ p ∷ turned xs
 turned-push [] p = refl

@@ -1,5 +1,5 @@
 -- What a cell is to a way's firsts and nexts, and what a change of one does to them.
-use Rattle.std.proofs.Common.{ℕ, ◌≡◌, ◌<◌, ◌≤◌, ◌+◌, List, slice_index, slice_set, replicate, ap, sym, arith, ◌∙◌, ◌==◌, Bool, true, false}
+use Rattle.std.proofs.Common.{ℕ, ◌≡◌, ◌<◌, ◌≤◌, ◌+◌, List, slice_index, slice_set, replicate, ap, sym, arith, ◌∙◌}
 use Rattle.std.proofs.lemmas.List.{get_or-take, get_or-drop, take-set-le, drop-set-lt, drop-set-add, take-replicate}
 use Rattle.std.proofs.lemmas.Bool.{ne_eqb}
 use Rattle.std.proofs.Math.Seq.{take-set-lt}

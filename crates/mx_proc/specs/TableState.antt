@@ -1,5 +1,5 @@
 -- A table as plain lists (proc.c), and the changes that it is made of.
-use Rattle.std.specs.Prelude.{ℕ, ◌<◌, ◌+◌, ◌-◌, ◌*◌, ◌^◌, ◌++◌, ◌∷◌, Bool, false, List, [], Option, Some, None}
+use Rattle.std.specs.Prelude.{ℕ, ◌<◌, ◌+◌, ◌-◌, ◌++◌, ◌∷◌, Bool, false, List, [], Option, Some, None}
 use Rattle.std.specs.Prelude.{slice_index_or, slice_set, length, replicate, take, drop}
 use Rattle.std.specs.Option.{option_map}
 use Rattle.circular_buffer.specs.Buffer.{keep_last}

@@ -8,7 +8,7 @@
 //! in one order and in the other. A contract sees `Links` as a list of lists of slots. The two directions are alike, so
 //! `push` and its like are written once, for both ends.
 
-ghost use Rattle.std.specs.Prelude.{◌≡◌, ◌≢◌, ◌<◌, ◌≤◌, [], ◌∷◌, ◌++◌, replicate, slice_get, slice_index, slice_set};
+ghost use Rattle.std.specs.Prelude.{◌≡◌, ◌≢◌, ◌<◌, ◌≤◌, [], ◌∷◌, ◌++◌, replicate, slice_get, slice_index, slice_set, IfSome};
 ghost use Rattle.mx_proc.specs.Chains.{firsts_with, nexts_with};
 ghost use Rattle.mx_proc.specs.Queues.{without, list_at, times, InNoList};
 
@@ -177,6 +177,23 @@ impl<const LISTS: usize> Links<LISTS> {
     {
         let first = self.forward.first(list);
         if first == NONE { None } else { Some(first) }
+    }
+
+    /// The slot at a place of a linked list: at place 0 the one at the front. `None` if the list is not so long.
+    /// The time grows with the place.
+    pub fn get(&self, list: usize, place: u8) -> Option<u8>
+        requires { list < LISTS }
+        ensures value { result ≡ slice_get (list_at self.now list) place }
+        ensures few { IfSome result (λ s. place < 32) }
+    {
+        let mut at = self.forward.first(list);
+        for _step in 0..place {
+            if at == NONE {
+                return None;
+            }
+            at = self.forward.next(at);
+        }
+        if at == NONE { None } else { Some(at) }
     }
 
     /// Puts a slot at the front of a list. It must be in no list before.

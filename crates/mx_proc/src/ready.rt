@@ -1,6 +1,6 @@
 //! The sixteen ready lists of the table, and which of them have a slot.
 
-ghost use Rattle.std.specs.Prelude.{◌≡◌, ◌<◌, ◌≤◌, [], ◌∷◌, ◌++◌, slice_set, replicate};
+ghost use Rattle.std.specs.Prelude.{◌≡◌, ◌<◌, ◌≤◌, [], ◌∷◌, ◌++◌, slice_get, slice_set, replicate, IfSome};
 ghost use Rattle.mx_proc.specs.Queues.{InNoList, without, list_at, first_ready, times};
 
 use crate::links::Links;
@@ -90,5 +90,14 @@ impl Ready {
             return None;
         }
         self.lists.first(filled.trailing_zeros() as usize)
+    }
+
+    /// The slot at a place of a list: at place 0 the one at the front. `None` if the list is not so long.
+    pub fn get(&self, level: u8, place: u8) -> Option<u8>
+        requires { level < 16 }
+        ensures value { result ≡ slice_get (list_at self.now level) place }
+        ensures few { IfSome result (λ s. place < 32) }
+    {
+        self.lists.get(level as usize, place)
     }
 }

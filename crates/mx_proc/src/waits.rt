@@ -1,6 +1,6 @@
 //! The blocked sends: who sends to whom, in order of blocking, with a caller queue for each slot.
 
-ghost use Rattle.std.specs.Prelude.{◌≡◌, ◌<◌, ◌≤◌, [], ◌∷◌, ◌++◌, length};
+ghost use Rattle.std.specs.Prelude.{ℕ, ◌≡◌, ◌<◌, ◌≤◌, [], ◌∷◌, ◌++◌, length, map, slice_get, IfSome};
 ghost use Rattle.mx_proc.specs.declared.process.Partner.TheVariants.{Any, Only};
 ghost use Rattle.mx_proc.specs.Waits.{sends_of, without_from, next_of, caller_of, walk};
 
@@ -83,6 +83,15 @@ impl Waits {
         self.callers.remove(to as usize, from);
         self.to[from as usize] = NOBODY;
         self.count -= 1;
+    }
+
+    /// The slot that sends at a place of the order of blocking: at place 0 the one that waits longest. `None` if
+    /// fewer wait.
+    pub fn get(&self, place: u8) -> Option<u8>
+        ensures value { result ≡ slice_get (map (λ (p : ℕ × ℕ). p.0) self.now) place }
+        ensures few { IfSome result (λ s. place < 32) }
+    {
+        self.order.get(0, place)
     }
 
     /// The slot that `from` sends to, or `None` if it has no blocked send.

@@ -1,7 +1,7 @@
 //! Moves between states and queues. Each leaves a sound table.
 
-ghost use Rattle.std.specs.Prelude.{◌≡◌, ◌≢◌, ℕ, false, true, ◌<◌, ◌≤◌, ◌↔◌, IsTrue, IfSome, length};
-ghost use Rattle.mx_proc.specs.Queues.{first_ready};
+ghost use Rattle.std.specs.Prelude.{◌≡◌, ◌≢◌, ℕ, false, true, ◌<◌, ◌≤◌, ◌↔◌, IsTrue, IfSome, length, map, slice_get};
+ghost use Rattle.mx_proc.specs.Queues.{first_ready, list_at};
 ghost use Rattle.mx_proc.specs.Frame.{frame};
 ghost use Rattle.mx_proc.specs.Sound.{HasBuffer};
 ghost use Rattle.mx_proc.specs.States.{IsAlone, is_ready, is_sending, is_blocked, is_out};
@@ -80,6 +80,25 @@ impl Table {
         ensures ready { IfSome result (λ s. is_ready (process_at self.now s).state ≡ true) }
     {
         self.ready.pick()
+    }
+
+    /// The slot at a place of the ready list of a level: at place 0 the one that is picked first of it. `None` if the
+    /// list is not so long.
+    pub fn ready_at(&self, level: u8, place: u8) -> Option<Slot>
+        requires level { level < 16 }
+        ensures value { result ≡ slice_get (list_at self.now.ready level) place }
+        ensures few { IfSome result (λ s. place < 32) }
+    {
+        self.ready.get(level, place)
+    }
+
+    /// The slot with a blocked send at a place of the order of blocking: at place 0 the one that waits longest. `None`
+    /// if fewer wait.
+    pub fn waiting_at(&self, place: u8) -> Option<Slot>
+        ensures value { result ≡ slice_get (map (λ (p : ℕ × ℕ). p.0) self.now.waits) place }
+        ensures few { IfSome result (λ s. place < 32) }
+    {
+        self.waits.get(place)
     }
 
     /// Blocks a send of `from` to `to`, after all that are blocked already. Blocked sends must not lead
