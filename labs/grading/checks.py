@@ -4,7 +4,6 @@ A row has a `name`, `points`, what to `do` (a function `do_..` of Check), and `d
 the file of `drawn` that `points.json` names. The rest are words of that `do`.
 """
 import importlib
-import itertools
 import json
 import os
 import re
@@ -17,6 +16,7 @@ from .image import Program
 from .making import LABS, MX
 
 PARTNERS = os.path.join(LABS, "partners")
+MOST_MEMORY = 1 << 15  # of a program whose memory is looked at
 
 
 def bytes_of(what):
@@ -318,21 +318,20 @@ class Check:
         self.compare_memory(case, [(it, row) for it in found for row in case.get("memory", []) if facts.fits(it, row["at"])])
 
     def compare_memory(self, case, looked_at):
-        """The bytes of a process at the address that is a message's second word, when that message was taken."""
-        if not looked_at:
-            return
-        wants = ["".join(row["arrays"].values()).encode() for _, row in looked_at]
-        came = self.bytes_at((event.record, row["slot"], models.numbers(event)[1], len(wanted))
-                             for (event, row), wanted in zip(looked_at, wants))
-        for (event, row), wanted in zip(looked_at, wants):
-            if came[:len(wanted)] != wanted:
-                arrays = [f"`{name}`, {in_words(it.encode())}" for name, it in row["arrays"].items()]
-                place = f"at the address of `{' '.join(event.words)}` {', and right behind it '.join(arrays)}"
-                lost = Lost(told(case), place, in_words(came[:len(wanted)]))
-                lost.record = event.record
-                raise lost
-            came = came[len(wanted):]
+        """The arrays of a student's program, in its memory when a message of it was taken."""
+        for size in {self.memory_of(row["program"]) for _, row in looked_at}:
+            if size > MOST_MEMORY:
+                raise Lost(told(case), f"a program with at most {MOST_MEMORY} bytes of memory", f"{size}")
+        came = self.bytes_at((event.record, row["slot"], 0, self.memory_of(row["program"])) for event, row in looked_at)
+        for event, row in looked_at:
+            size = self.memory_of(row["program"])
+            models.compare_arrays(told(case), event, came[:size], row["arrays"])
+            came = came[size:]
 
+    def memory_of(self, name):
+        """How many bytes of memory a student's program has."""
+        with open(self.make(name), "rb") as it:
+            return Program(it.read()).memory
 
     def compare_counted(self, name, first, found):
         """Each dword that is written to slot 0 is one more than the one before it; `first` is there at first."""
@@ -350,11 +349,6 @@ class Check:
         words = "".join("goto {}\nmem {} {} {}\n".format(*it) for it in places)
         printed = run([MX, "look", self.config, self.log], self.room, self.student.bounds, given=words)
         return memory_of(printed.splitlines())
-
-
-def in_words(data):
-    """Bytes as they are told: how many of each follow one another."""
-    return ", ".join(f"{len(list(those))} bytes {chr(it)!r}" for it, those in itertools.groupby(data)) or "no bytes"
 
 
 def memory_of(lines):

@@ -1,4 +1,5 @@
 """Commands of the grader's own: each is bounded, and what it prints can be shown to anybody."""
+import contextlib
 import os
 import resource
 import signal
@@ -12,31 +13,41 @@ MEMORY = 1 << 30  # of a compiler
 NOT_PASSED = ("CPATH", "C_INCLUDE_PATH", "COMPILER_PATH", "GCC_EXEC_PREFIX", "DEPENDENCIES_OUTPUT", "SUNPRO_DEPENDENCIES")
 
 
-RUNNING = []  # the command that this process waits for
-
-
 class Interrupts:
-    """An interrupt, which waits while something is made or told whole.
+    """An interrupt of this process: it is noted when it comes, stops what runs, and is raised only where `check` is called.
 
-    Where a process forks, Python calls hooks in which nothing can be raised: what was raised there would be lost."""
+    Raised where it comes it would be lost in a hook of a fork, leave half of what is being written, or leave a command that
+    has just begun. A process that this one forks has the same state and stops in the same way."""
 
-    is_held = has_come = False
+    def __init__(self):
+        self.has_come, self.stop = False, None
 
-    def __enter__(self):
-        self.is_held = True
-
-    def __exit__(self, *_):
-        self.is_held = False
-        if self.has_come:
-            raise KeyboardInterrupt
+    def take(self):
+        for it in (signal.SIGINT, signal.SIGTERM):
+            signal.signal(it, self.come)
 
     def come(self, *_):
         self.has_come = True
-        if not self.is_held:
+        if self.stop:
+            self.stop()
+
+    def check(self):
+        if self.has_come:
             raise KeyboardInterrupt
 
+    @contextlib.contextmanager
+    def stopping(self, stop):
+        """While something runs: what stops it. It is begun before this, so the interrupt may have come meanwhile."""
+        self.stop = stop
+        try:
+            if self.has_come:
+                stop()
+            yield
+        finally:
+            self.stop = None
 
-INTERRUPTS = Interrupts()  # of this process
+
+INTERRUPTS = Interrupts()
 
 
 class Lost(Exception):
@@ -82,11 +93,14 @@ def run(words, folder, bounds, status=(0,), given=None):
     with tempfile.TemporaryFile() as out, tempfile.TemporaryFile() as errors, tempfile.TemporaryFile() as text:
         text.write((given or "").encode())
         text.seek(0)
+        INTERRUPTS.check()
         try:
-            made = begun(words, bounds, cwd=folder, stdin=text, stdout=out, stderr=errors, env=surroundings())
+            made = subprocess.Popen(words, cwd=folder, stdin=text, stdout=out, stderr=errors, env=surroundings(),
+                                    preexec_fn=bounds.take, start_new_session=True)
         except OSError as it:
             raise Lost(f"{words[0]} can't be run: {it.strerror}") from None
         ended = wait(made, bounds)
+        INTERRUPTS.check()
         printed, said = (read_back(it) for it in (out, errors))
     if ended is None or -ended in (signal.SIGXCPU, signal.SIGKILL):
         raise Lost(f"it didn't end within {bounds.seconds} seconds")
@@ -95,36 +109,20 @@ def run(words, folder, bounds, status=(0,), given=None):
     return printed
 
 
-def begun(words, bounds, **rest):
-    """Begins a command. If an interrupt comes meanwhile, the command is stopped before that is raised."""
-    try:
-        with INTERRUPTS:
-            made = subprocess.Popen(words, preexec_fn=bounds.take, start_new_session=True, **rest)
-            RUNNING.append(made.pid)
-        return made
-    except KeyboardInterrupt:
-        stop_running()
-        raise
-
-
-def stop_running():
-    """Stops the command that runs just now, if one does, with all that it started."""
-    if RUNNING:
-        os.killpg(RUNNING[-1], signal.SIGKILL)
-
-
 def wait(made, bounds):
     """The status of a command; None if it has to be stopped, with all that it started."""
-    try:
-        # Others may have the processors: its own seconds are bounded by the system.
-        return made.wait(timeout=3 * bounds.seconds)
-    except subprocess.TimeoutExpired:
-        return None
-    finally:
-        if made.poll() is None:
-            stop_running()
+    def stop():
+        with contextlib.suppress(ProcessLookupError):
+            os.killpg(made.pid, signal.SIGKILL)
+
+    with INTERRUPTS.stopping(stop):
+        try:
+            # Others may have the processors: its own seconds are bounded by the system.
+            return made.wait(timeout=3 * bounds.seconds)
+        except subprocess.TimeoutExpired:
+            stop()
             made.wait()
-        RUNNING.clear()
+            return None
 
 
 def read_back(file):

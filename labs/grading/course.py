@@ -7,17 +7,16 @@ import os
 import re
 import secrets
 import shutil
-import signal
 import sys
 import tempfile
 
 from . import told
 from .alike import alike
 from .checks import Check, Lab
-from .commands import INTERRUPTS, Lost, printable, stop_running
+from .commands import INTERRUPTS, Lost, printable
 from .making import LABS, MOST_RUNS, MX, Kit, Student
 
-REFUSED, INTERRUPTED = 2, 130  # statuses: nothing was graded; not all was
+REFUSED = 2  # the status if nothing was graded
 SECONDS = 30  # of one command
 
 
@@ -104,15 +103,9 @@ def writers(words, lab):
         raise Refused(f"{it.filename} can't be written: {it.strerror}") from None
 
 
-def begin_worker():
-    """A process that grades leaves an interrupt to the first one, which ends it, with what it has started."""
-    signal.signal(signal.SIGINT, signal.SIG_IGN)
-    signal.signal(signal.SIGTERM, end_worker)
-
-
-def end_worker(*_):
-    stop_running()
-    os._exit(INTERRUPTED)
+def stop_workers():
+    for it in multiprocessing.active_children():
+        it.terminate()
 
 
 def graded_all(words, lab, keep, secret):
@@ -121,16 +114,14 @@ def graded_all(words, lab, keep, secret):
     if words.jobs == 1 or len(words.folders) == 1:
         yield from (grade(lab, it, *rest) for it in words.folders)
         return
-    with concurrent.futures.ProcessPoolExecutor(words.jobs, initializer=begin_worker) as pool:
+    # They note an interrupt as this process does, and give up each folder that is left.
+    with concurrent.futures.ProcessPoolExecutor(words.jobs, multiprocessing.get_context("fork")) as pool:
+        made = [pool.submit(grade, lab, it, *rest) for it in words.folders]
         try:
-            with INTERRUPTS:  # the first one begins the processes
-                made = [pool.submit(grade, lab, it, *rest) for it in words.folders]
-            yield from (it.result() for it in concurrent.futures.as_completed(made))
-        except (KeyboardInterrupt, GeneratorExit):
-            pool.shutdown(wait=False, cancel_futures=True)
-            for it in multiprocessing.active_children():
-                it.terminate()
-            raise
+            with INTERRUPTS.stopping(stop_workers):
+                yield from (it.result() for it in concurrent.futures.as_completed(made))
+        finally:
+            stop_workers()
 
 
 def grade_all(words, lab):
@@ -138,22 +129,21 @@ def grade_all(words, lab):
     if not shutil.which(MX):
         raise Refused(f"{MX} can't be run: the variable MX names the program")
     tell = told.print_json if words.json else told.print_line if words.all else told.print_results
+    INTERRUPTS.take()
     keep = made_keep(words.keep)
     secret, files = secret_of(words.secret, keep), writers(words, lab)
     complete = True
-    signal.signal(signal.SIGINT, INTERRUPTS.come)
     for it in graded_all(words, lab, keep, secret):
-        with INTERRUPTS:
-            tell(it)
-            for file in files:
-                file.add(it)
+        tell(it)
+        for file in files:
+            file.add(it)
         complete = complete and it["points"] == it["of"]
     return 0 if complete else 1
 
 
 def print_alike(lab, folders):
     for likeness, one, other in alike(lab, folders):
-        print(f"{likeness:.2f}  {printable(one)}  {printable(other)}")
+        print(f"{likeness:.2f}  {printable(one)}  {printable(other)}", flush=True)
     return 0
 
 
@@ -188,6 +178,3 @@ def main(doc, words):
     except Refused as it:
         print(f"grade: {printable(it)}", file=sys.stderr)
         return REFUSED
-    except KeyboardInterrupt:
-        print("grade: interrupted; what is told is complete", file=sys.stderr)
-        return INTERRUPTED

@@ -118,10 +118,11 @@ def missing_each(pattern, before, end, found):
 
 
 def require(name, facts, found):
-    """Loses the points if one of the facts isn't so. Gives nothing."""
-    for fact in facts:
+    """Loses the points if one of the facts isn't so. Gives nothing. A fact may stand with what it says in words."""
+    for it in facts:
+        fact, in_words = it if isinstance(it, tuple) else (it, f"in the history: {it}")
         what = missing(fact, found)
         if what:
-            lost = Lost(name, f"in the history: {fact}", what[0])
+            lost = Lost(name, in_words, what[0])
             lost.record = what[1]
             raise lost

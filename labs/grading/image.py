@@ -4,6 +4,7 @@ import struct
 from .commands import Lost
 
 DATA = 3  # the kind of a symbol in .data
+PAGE = 4096  # a process gets whole ones
 
 
 class Program:
@@ -13,7 +14,8 @@ class Program:
         self.data = bytearray(data)
         self.sep = bool(data[2] & 0x20)
         length = data[4]
-        self.text, self.init, _, _, _, symbols = struct.unpack_from("<6I", data, 8)
+        self.text, self.init, _, _, total, symbols = struct.unpack_from("<6I", data, 8)
+        self.memory = -(-total // PAGE) * PAGE
         self.start = length + self.text  # of the data in the file
         self.symbols = {}
         for at in range(length + self.text + self.init, length + self.text + self.init + symbols, 16):

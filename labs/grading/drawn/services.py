@@ -4,6 +4,7 @@ from .machines import ASK, POKE, TELL, WORK, machine, plan, requests, served, se
 REGISTER, LOOKUP = 1, 2
 PUT, GET, TRY, END = 1, 2, 3, 4
 ITEMS = 12
+FULL, EMPTY = (7, 8), (8, 7)  # levels of producers and consumers on one processor, and how the queue is most of the time
 LARGEST = 10_000_000  # of an item, so that no sum of a machine is below 0
 CROWD = 27  # clients: with the others of their machine nearly as many as there are slots
 
@@ -75,6 +76,7 @@ def patient(draw):
     judge = service("judge", "judge.out", all_but(2), "11", 5)
     yield {"name": "two consumers and no producer",
            "config": machine(1, names, service("queue", "good_queue.out", all_but(1), "1", 4), judge, waits, polls),
+           "facts": [looks_up(it, "queue", 1) for it in ("waits", "polls")],
            "want": {"console": "", "asks": asked("waits", [GET]) | asked("polls", [TRY] * 20 + [GET]),
                     "states": {"waits": "awaiting 1", "polls": "awaiting 1"}}}
     patience = draw.randint(5, 19)
@@ -87,25 +89,43 @@ def patient(draw):
     yield six(draw, 1, given=("names", "queue")) | {"name": "with a name server and a queue of the grader"}
     for name, line, kind, answers in (("waits", waits, GET, draw.randint(0, 1)), ("polls", polls, TRY, draw.randint(1, 4))):
         yield {"name": f"a queue that ends at a request, after {answers} answers", "config": [*slow, line],
-               "set": {"queue": made | {"answers": [answers]}}, "facts": [f"0 message {name} to judge .."],
+               "set": {"queue": made | {"answers": [answers]}}, "facts": [looks_up(name, "queue", 1), f"0 message {name} to judge .."],
                "want": {"asks": asked(name, [kind] * (answers + 1)), "states": {name: "down exit"}}}
 
 
+def looks_up(who, server, name):
+    """A consumer knows a server by its name alone."""
+    return (f"each message {who} to {server} ..: after message {who} to names type {LOOKUP} words {name} ..; no down {who} since",
+            f"{who} looks up name {name} before it says something to {server}")
+
+
 def reports(who):
-    """A consumer has one report to make: after the queue said that it has ended."""
-    return [f"1 message {who} to judge ..", f"in order: message queue to {who} type 2 ..; message {who} to judge type 1 .."]
+    """A consumer looks both names up, and has one report to make: after the queue said that it has ended."""
+    return [looks_up(who, "queue", 1), looks_up(who, "judge", 2), f"1 message {who} to judge ..",
+            f"in order: message queue to {who} type 2 ..; message {who} to judge type 1 .."]
 
 
-def six(draw, cpus, slots=False, given=(), **want):
-    """Name server, queue, judge, two producers with items of their own, two consumers; `slots`: in other slots. The servers
-    that are `given` are the grader's; then the items are large."""
+def in_any_slots(draw, rows):
+    """The services behind the name server, so that neither queue nor judge has the endpoint that is its name, nor that of
+    the machine that is handed out."""
+    rows = [*rows]
+    while rows[0][0] == "queue" or rows[1][0] == "judge":
+        draw.shuffle(rows)
+    return rows
+
+
+def six(draw, cpus, levels=(7, 7), given=(), **want):
+    """Name server, queue, judge, two producers with items of their own, two consumers, in slots that are drawn. The levels
+    are those of producers and consumers; without them all are drawn. The servers that are `given` are the grader's; then the
+    items are large."""
     items = [[draw.randint(1, LARGEST if given else 1000) for _ in range(ITEMS)] for _ in range(2)]
     names, queue = (f"good_{it}.out" if it in given else f"{it}.out" for it in ("names", "queue"))
-    rows = [("queue", queue, 4, "1"), ("judge", "judge.out", 5, "11"), ("ann", "maker.out", 7, "1"),
-            ("ben", "maker.out", 7, "1"), ("waits", "waits.out", 7, "3"), ("polls", "polls.out", 7, "3")]
-    if slots:
+    makes, takes = levels or (0, 0)
+    rows = [("queue", queue, 4, "1"), ("judge", "judge.out", 5, "11"), ("ann", "maker.out", makes, "1"),
+            ("ben", "maker.out", makes, "1"), ("waits", "waits.out", takes, "3"), ("polls", "polls.out", takes, "3")]
+    if not levels:
         rows = [(name, program, draw.choice([5, 7, 8]), calls) for name, program, _, calls in rows]
-        draw.shuffle(rows)
+    rows = in_any_slots(draw, rows)
     servers = [0, *[slot for slot, it in enumerate(rows, 1) if it[0] in ("queue", "judge")]]
     to_servers = f"{sum(1 << it for it in servers):x}"
     config = machine(cpus, service("names", names, all_but(0), "1", 3),
@@ -120,15 +140,21 @@ def six(draw, cpus, slots=False, given=(), **want):
 
 
 def by_turns(draw):
-    yield six(draw, 1) | {"name": "on one processor"}
+    yield six(draw, 1, FULL) | {"name": "on one processor, where producers come first"}
+    yield six(draw, 1, EMPTY) | {"name": "on one processor, where consumers come first"}
     yield six(draw, 4) | {"name": "on four processors"}
 
 
 def in_other_slots(draw):
-    yield six(draw, 2, True) | {"name": "on two processors"}
+    yield six(draw, 2, levels=None) | {"name": "on two processors"}
 
 
 def with_reports(draw):
+    yield six(draw, 1, FULL, steps="judge") | {"name": "on one processor"}
+    yield six(draw, 4, steps="judge") | {"name": "on four processors"}
+
+
+def by_threads(draw):
     yield six(draw, 4, steps="judge") | {"name": "on four processors"}
 
 
@@ -137,9 +163,10 @@ ADDERS = ("ann", "ben", "cleo")
 
 def locked(who):
     """An adder holds the lock over each read and write, and reads and writes three times."""
-    return [f"each call {who} VIRCOPY {way} answer 0 ..: after message board to {who} type 0 words 0 *; "
-            f"no message {who} to board type 2 .. since" for way in ("0 * * * *", "* * 0 * *")] + [
-            f"3 call {who} VIRCOPY * * 0 * 4 answer 0 ..", f"3 call {who} VIRCOPY 0 * * * 4 answer 0 .."]
+    holds = [(f"each call {who} VIRCOPY {way} answer 0 ..: after message board to {who} type 0 words 0 *; "
+              f"no message {who} to board type 2 .. since", f"{who} holds the lock at each {what} of the count")
+             for what, way in (("read", "0 * * * *"), ("write", "* * 0 * *"))]
+    return [*holds, f"3 call {who} VIRCOPY * * 0 * 4 answer 0 ..", f"3 call {who} VIRCOPY 0 * * * 4 answer 0 .."]
 
 
 def added(draw, cpus):

@@ -43,7 +43,7 @@ def ends(data):
 SAVED = ["in order: message saver to store type 1 words 3 * ..; call store VIRCOPY 1 * * * 64 answer 0 ..; "
          "message store to saver type 0 ..; message saver to store type 2 words 3 * ..; "
          "call store VIRCOPY * * 1 * 64 answer 0 ..; message store to saver type 0 ..; console saver *"]
-FILLED = [{"at": f"message saver to store type {it} words 3 * ..", "slot": 1,
+FILLED = [{"at": f"message saver to store type {it} words 3 * ..", "slot": 1, "program": "saver",
            "arrays": {"plain": letter * BYTES, "secret": "z" * BYTES}} for it, letter in ((PUT, "a"), (GET, "\0"))]
 
 

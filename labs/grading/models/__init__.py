@@ -2,6 +2,7 @@
 answer, letter, window or request is wanted next. A model is made with the name of its case and the name of the service."""
 from .common import GENERATION, numbers
 from .driver import Button
+from .memory import compare_arrays
 from .partners import Asker, Exchange
 from .reports import compare_steps, compare_taken
 from .servers import Names, Queue, Totals

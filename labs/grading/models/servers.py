@@ -22,6 +22,8 @@ class Served:
         for it in found:
             if it.words[0] == "down":
                 self.dead.add(it.who[0])
+            elif it.words[:3] == ["try", self.server, "RECEIVE"] and it.words[3] not in ("any", "names"):
+                raise wrong(self.name, it, f"{self.server} receives from any, since it serves whoever comes", said(it))
             elif it.words[0] == "message" and self.others(it) == {self.server}:
                 (self.take if it.words[3] == self.server else self.compare)(it)
         for who, (request, answer) in self.due.items():
@@ -44,7 +46,7 @@ class Served:
         """An answer has to be the one that is due to who gets it."""
         request, answer = self.due.pop(event.who[1], (None, None))
         if request is None:
-            raise wrong(self.name, event, f"no message of {self.server} to {event.words[3]} now", said(event))
+            raise wrong(self.name, event, f"no message of {self.server} to {event.words[3]}, which waits for no answer", said(event))
         kind, words = answer
         came = numbers(event)
         if int(event.words[5]) != kind or any(it != came[i] for i, it in enumerate(words)):

@@ -14,6 +14,7 @@ class Windows:
         self.next = self.PUT  # the request that comes next; None: the GET is answered
         self.open = {}  # of an endpoint: where its window begins
         self.unused = None  # the GRANT of a window that no request has used yet
+        self.plain = None  # the address of the PUT
 
     def follow(self, found):
         for it in found:
@@ -48,6 +49,10 @@ class Windows:
         self.unused = None
         if self.open.get(event.who[1]) != at:
             raise wrong(self.name, event, f"a window at {at}", f"a window at {self.places() or 'no address'}")
+        if self.next == self.PUT:
+            self.plain = at
+        elif at != self.plain:
+            raise wrong(self.name, event, f"the GET at {self.plain}, as the PUT before it", f"at {at}")
 
     def places(self):
         return ", ".join(map(str, self.open.values()))
