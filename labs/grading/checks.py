@@ -234,7 +234,7 @@ class Check:
         return run([MX, "trace", self.config, self.log], self.room, self.student.bounds)
 
     def do_threads(self):
-        """Runs by threads, of the cases by turns: each has what is wanted, and its history prints the same report again."""
+        """Runs by threads, of one case after the other: each has what is wanted, and its history prints it again."""
         cases = self.cases()
         for number in range(min(self.row["runs"], self.student.runs)):
             case = cases[number % len(cases)]
@@ -245,8 +245,8 @@ class Check:
                 raise Lost("the replay of the history prints another report")
 
     def run_by_threads(self, config):
-        """A run whose history gets full isn't counted, but made again: while the host stops a processor, who asks again and
-        again fills the history. What fills it each time is the program."""
+        """A run whose history gets full isn't counted, but made again: while the host stops a processor, who asks
+        again and again fills the history. What fills it each time is the program."""
         for _ in range(MOST_FULL):
             printed = self.mx("run", config, self.log, "--ticks", "0")
             if not self.is_full(self.trace()):

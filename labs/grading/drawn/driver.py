@@ -42,16 +42,17 @@ def sensor(draw):
 
 
 def press(draw, distance):
-    """A press with two bounces, one of them at a distance from a tick, and perhaps the sensor between. Then come three quiet
-    ticks, with the sensor just before the third."""
+    """A press with two bounces, one of them at a distance from a tick, and perhaps the sensor between. Then come three
+    quiet ticks, with the sensor just before the third."""
     first, between = draw.choice([("s 8", ""), ("", "s 8")])
     bounce, other = draw.sample([f"t 8 {between} t {distance} b 8", "t 8 t 8 b 8"], 2)
     return f"{first} b {distance} {bounce} {other} t 8 t 8 s 8 t 8"
 
 
 def bounces(draw):
-    """Two presses, each released before the next one, that bounce at different distances from a tick. After the first one
-    the sensor comes, so its `r` is between two `s`; after the last one nothing comes, so only an alarm brings its `r`."""
+    """Two presses, each released before the next one, that bounce at different distances from a tick. After the first
+    one the sensor comes, so its `r` is between two `s`. After the last one nothing comes: only an alarm brings its
+    `r`."""
     for distance in range(8):
         other = draw.choice([it for it in range(8) if it != distance])
         pause = " ".join(["s 8"] + ["t 9"] * draw.randint(0, 2))
@@ -70,8 +71,8 @@ def releases(draw):
 
 
 def both_lines(draw):
-    """Both interrupts come while another process runs, in any order, also twice, and again before the button is released;
-    then the same once more with the next press."""
+    """Both interrupts come while another process runs, in any order, also twice, and again before the button is
+    released; then once more with the next press."""
     for lines in ("b s", "s b s", "b b s", f"s {draw.randint(2, 4)} b s"):
         first = f"{draw.randint(12, 14)} t {lines} 40 t 22 s 22 b 40 t 22 t 22 s 22 t 22 s 22"
         second = f"{'t 22' if draw.randint(0, 1) else ''} t {draw.choice(['b s', 's b'])} 40 t 22 t 22 t 22"

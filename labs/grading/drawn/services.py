@@ -143,7 +143,8 @@ def six(draw, cpus, levels=(7, 7), given=(), **want):
 def by_turns(draw):
     """Here `polls` is followed too."""
     for name, cpus, levels in (("on one processor, where producers come first", 1, FULL),
-                               ("on one processor, where consumers come first", 1, EMPTY), ("on four processors", 4, (7, 7))):
+                               ("on one processor, where consumers come first", 1, EMPTY),
+                               ("on four processors", 4, (7, 7))):
         case = six(draw, cpus, levels)
         yield case | {"name": name, "models": [*case["models"], ("polls", "polls")]}
 
@@ -174,8 +175,8 @@ def copies(who):
 
 
 def added(draw, cpus):
-    """A board whose count doesn't begin with 0. The history has much room: while the host stops the board's processor, an
-    adder asks again and again for its copy."""
+    """A board whose count doesn't begin with 0. The history has much room: while the host stops the board's processor,
+    an adder asks again and again for its copy."""
     first = draw.randint(10, 9000)
     lines = [service(it, "adder.out", calls="21") for it in ADDERS]
     return {"name": f"on {cpus} processors", "set": {"board": {"count": [first]}},

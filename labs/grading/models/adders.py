@@ -4,8 +4,8 @@ from .common import said, wrong
 
 
 class Adder:
-    """An adder of lab 6 reads the count and writes it in one hold of the lock. The board gives the lock to one adder at a
-    time; so nobody else who asks for it reads between."""
+    """An adder of lab 6 reads the count and writes it in one hold of the lock. The board gives the lock to one adder at
+    a time, so nobody else reads between."""
 
     UNLOCK = 2
 
