@@ -16,6 +16,7 @@ from .image import Program
 from .making import LABS, MX
 
 PARTNERS = os.path.join(LABS, "partners")
+MOST_FULL = 3  # runs in a row whose histories get full
 MOST_MEMORY = 1 << 15  # of a program whose memory is looked at
 
 
@@ -233,14 +234,31 @@ class Check:
         return run([MX, "trace", self.config, self.log], self.room, self.student.bounds)
 
     def do_threads(self):
-        """Runs by threads: each has what is wanted, and its history prints the same report again."""
-        for case in self.cases():
+        """Runs by threads, of one case after the other: each has what is wanted, and its history prints it again."""
+        cases = self.cases()
+        for number in range(min(self.row["runs"], self.student.runs)):
+            case = cases[number % len(cases)]
             config = self.machine(case)
-            for number in range(min(self.row["runs"], self.student.runs)):
-                printed = self.mx("run", config, self.log, "--ticks", "0")
-                self.compare({**case, "name": f"run {number + 1}"}, printed)
-                if self.mx("replay", config, self.log) != printed:
-                    raise Lost("the replay of the history prints another report")
+            printed = self.run_by_threads(config)
+            self.compare({**case, "name": f"run {number + 1}, {case['name']}"}, printed)
+            if self.mx("replay", config, self.log) != printed:
+                raise Lost("the replay of the history prints another report")
+
+    def run_by_threads(self, config):
+        """A run whose history gets full isn't counted, but made again: while the host stops a processor, who asks
+        again and again fills the history. What fills it each time is the program."""
+        for _ in range(MOST_FULL):
+            printed = self.mx("run", config, self.log, "--ticks", "0")
+            if not self.is_full(self.trace()):
+                break
+        return printed
+
+    def is_full(self, trace):
+        """Whether a history has no room for the two records of a turn."""
+        last = trace.rstrip("\n").rpartition("\n")[2].split(maxsplit=1)
+        with open(os.path.join(self.room, self.config), encoding="ascii") as it:
+            room = int(re.search(r"(?m)^log (\d+)$", it.read())[1])
+        return bool(last) and int(last[0]) + 2 > room
 
     def do_answers(self):
         """Answers in a text: a line each, whose first word says to what. What is wanted isn't told."""
@@ -262,6 +280,7 @@ class Check:
         rows = [it.split() for it in lines[:at - 1]]
         states = {words[1]: " ".join(words[3:-2]) for words in rows}
         ending = ended({words[1] + after_ends(int(words[2])): states[words[1]] for words in rows})
+        ending = f"the history was full, {ending}" if self.is_full(trace) else ending
         self.compare_console(case, "\n".join(lines[at + 1:]), trace, ending)
         try:
             self.compare_history(case, trace)

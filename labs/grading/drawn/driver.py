@@ -41,13 +41,22 @@ def sensor(draw):
         yield button_case(f"the sensor {count} times", " ".join([str(draw.randint(8, 11))] + ["s 8"] * count))
 
 
+def press(draw, distance):
+    """A press with two bounces, one of them at a distance from a tick, and perhaps the sensor between. Then come three
+    quiet ticks, with the sensor just before the third."""
+    first, between = draw.choice([("s 8", ""), ("", "s 8")])
+    bounce, other = draw.sample([f"t 8 {between} t {distance} b 8", "t 8 t 8 b 8"], 2)
+    return f"{first} b {distance} {bounce} {other} t 8 t 8 s 8 t 8"
+
+
 def bounces(draw):
-    """Two bounces at each distance from a tick, then three quiet ticks and perhaps one more; news of the sensor before or
-    between them."""
+    """Two presses, each released before the next one, that bounce at different distances from a tick. After the first
+    one the sensor comes, so its `r` is between two `s`. After the last one nothing comes: only an alarm brings its
+    `r`."""
     for distance in range(8):
-        rest = " ".join(["t 9"] * (3 if distance < 2 else draw.randint(3, 4)))
-        first, between = draw.choice([("s 8", ""), ("", "s 8")])
-        yield button_case("bounces", f"{draw.randint(8, 11)} {first} b {distance} t 8 {between} t {distance} b 8 t 8 t 8 b 8 {rest}")
+        other = draw.choice([it for it in range(8) if it != distance])
+        pause = " ".join(["s 8"] + ["t 9"] * draw.randint(0, 2))
+        yield button_case("bounces", f"{draw.randint(8, 11)} {press(draw, distance)} {pause} {press(draw, other)}")
 
 
 def releases(draw):
@@ -62,10 +71,12 @@ def releases(draw):
 
 
 def both_lines(draw):
-    """Both interrupts come while another process runs, in any order, also twice, and again before the button is released."""
+    """Both interrupts come while another process runs, in any order, also twice, and again before the button is
+    released; then once more with the next press."""
     for lines in ("b s", "s b s", "b b s", f"s {draw.randint(2, 4)} b s"):
-        yield button_case("both lines while another process runs",
-                          f"{draw.randint(12, 14)} t {lines} 40 t 22 s 22 b 40 t 22 t 22 t 22", True)
+        first = f"{draw.randint(12, 14)} t {lines} 40 t 22 s 22 b 40 t 22 t 22 s 22 t 22 s 22"
+        second = f"{'t 22' if draw.randint(0, 1) else ''} t {draw.choice(['b s', 's b'])} 40 t 22 t 22 t 22"
+        yield button_case("both lines while another process runs", f"{first} {second}", True)
 
 
 def busy(draw):

@@ -15,8 +15,8 @@ def service(name, program, send="1", calls="11", level=7, restarts=0, traps="1e"
             f"restarts {restarts}")
 
 
-def machine(cpus, *services):
-    return [f"cpus {cpus}", "log 20000", *services]
+def machine(cpus, *services, log=20_000):
+    return [f"cpus {cpus}", f"log {log}", *services]
 
 
 def bystanders(draw, least=0):

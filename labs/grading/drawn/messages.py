@@ -17,8 +17,13 @@ def additions(draw, count, most=1000):
     return [(ASK, 0, ADD, draw.randint(1, most)) for _ in range(count)]
 
 
+def additions_and_total(draw, count):
+    """Additions, and then a question for the total, whose other words say nothing."""
+    return [*additions(draw, count), (ASK, 0, READ, draw.randint(1, 1000))]
+
+
 def one_adder(draw):
-    yield totals(draw, "one client adds", [("asker", additions(draw, draw.randint(4, 8)), 7, 0)])
+    yield totals(draw, "one client adds", [("asker", additions_and_total(draw, draw.randint(4, 8)), 7, 0)])
 
 
 def two_adders(draw, cpus=1):
@@ -54,7 +59,7 @@ def dead_clients(draw):
 
 
 def many_requests(draw):
-    yield totals(draw, "many requests", [("asker", additions(draw, draw.randint(105, 120)), 7, 0)])
+    yield totals(draw, "many requests", [("asker", additions_and_total(draw, draw.randint(105, 120)), 7, 0)])
 
 
 def pair_case(draw, name, cpus, levels, other=None, number=0):

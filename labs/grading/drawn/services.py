@@ -6,6 +6,7 @@ PUT, GET, TRY, END = 1, 2, 3, 4
 ITEMS = 12
 FULL, EMPTY = (7, 8), (8, 7)  # levels of producers and consumers on one processor, and how the queue is most of the time
 LARGEST = 10_000_000  # of an item, so that no sum of a machine is below 0
+MUCH = 40_000  # records of a history
 CROWD = 27  # clients: with the others of their machine nearly as many as there are slots
 
 
@@ -140,13 +141,18 @@ def six(draw, cpus, levels=(7, 7), given=(), **want):
 
 
 def by_turns(draw):
-    yield six(draw, 1, FULL) | {"name": "on one processor, where producers come first"}
-    yield six(draw, 1, EMPTY) | {"name": "on one processor, where consumers come first"}
-    yield six(draw, 4) | {"name": "on four processors"}
+    """Here `polls` is followed too."""
+    for name, cpus, levels in (("on one processor, where producers come first", 1, FULL),
+                               ("on one processor, where consumers come first", 1, EMPTY),
+                               ("on four processors", 4, (7, 7))):
+        case = six(draw, cpus, levels)
+        yield case | {"name": name, "models": [*case["models"], ("polls", "polls")]}
 
 
 def in_other_slots(draw):
+    """On one processor, where producers come first, the queue gets full."""
     yield six(draw, 2, levels=None) | {"name": "on two processors"}
+    yield six(draw, 1, FULL) | {"name": "on one processor, where producers come first"}
 
 
 def with_reports(draw):
@@ -155,28 +161,29 @@ def with_reports(draw):
 
 
 def by_threads(draw):
+    """The runs are of these machines by turns. On one processor, where producers come first, the queue gets full."""
     yield six(draw, 4, steps="judge") | {"name": "on four processors"}
+    yield six(draw, 1, FULL, steps="judge") | {"name": "on one processor"}
 
 
 ADDERS = ("ann", "ben", "cleo")
 
 
-def locked(who):
-    """An adder holds the lock over each read and write, and reads and writes three times."""
-    holds = [(f"each call {who} VIRCOPY {way} answer 0 ..: after message board to {who} type 0 words 0 *; "
-              f"no message {who} to board type 2 .. since", f"{who} holds the lock at each {what} of the count")
-             for what, way in (("read", "0 * * * *"), ("write", "* * 0 * *"))]
-    return [*holds, f"3 call {who} VIRCOPY * * 0 * 4 answer 0 ..", f"3 call {who} VIRCOPY 0 * * * 4 answer 0 .."]
+def copies(who):
+    """An adder reads and writes three times."""
+    return [f"3 call {who} VIRCOPY * * 0 * 4 answer 0 ..", f"3 call {who} VIRCOPY 0 * * * 4 answer 0 .."]
 
 
 def added(draw, cpus):
-    """A board whose count doesn't begin with 0."""
+    """A board whose count doesn't begin with 0. The history has much room: while the host stops the board's processor,
+    an adder asks again and again for its copy."""
     first = draw.randint(10, 9000)
     lines = [service(it, "adder.out", calls="21") for it in ADDERS]
     return {"name": f"on {cpus} processors", "set": {"board": {"count": [first]}},
-            "config": machine(cpus, service("board", "counter.out", "e", "111", 4), *lines),
+            "config": machine(cpus, service("board", "counter.out", "e", "111", 4), *lines, log=MUCH),
+            "models": [("adder", it) for it in ADDERS],
             "want": {"console": str(first + 9), "counted": first, "states": {it: "down exit" for it in ("board", *ADDERS)}},
-            "facts": [fact for it in ADDERS for fact in locked(it)]}
+            "facts": [fact for it in ADDERS for fact in copies(it)]}
 
 
 def added_by_turns(draw):

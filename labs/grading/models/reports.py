@@ -1,5 +1,30 @@
-"""What lab 6's consumers report: what they took, and the steps that TIMES answered."""
+"""What lab 6's consumers ask for, and what they report: what they took, and the steps that TIMES answered."""
 from .common import numbers, said, wrong
+
+
+class Polls:
+    """Lab 6's consumer that polls: it asks the queue by TRY, and after so many answers NOTHING in a row by GET once."""
+
+    GET, TRY, NOTHING, MOST = 2, 3, 1, 20
+
+    def __init__(self, name, consumer):
+        self.name, self.consumer = name, consumer
+        self.nothing = 0  # answers NOTHING in a row
+
+    def follow(self, found):
+        for it in found:
+            if it.words[:4] == ["message", self.consumer, "to", "queue"]:
+                self.ask(it, int(it.words[5]))
+            elif it.words[:4] == ["message", "queue", "to", self.consumer]:
+                self.nothing = self.nothing + 1 if int(it.words[5]) == self.NOTHING else 0
+
+    def ask(self, event, kind):
+        wanted = self.GET if self.nothing == self.MOST else self.TRY
+        if kind != wanted:
+            many = f"{self.consumer} asks by type {wanted} after {self.nothing} answers NOTHING in a row"
+            raise wrong(self.name, event, many, f"record {event.record}: {said(event)}")
+        if wanted == self.GET:
+            self.nothing = 0
 
 
 def compare_steps(name, to, found):

@@ -3,7 +3,7 @@ from .common import BAD_REQUEST, EINVAL, NOTIFICATION, numbers, said, wrong
 
 
 def told(event):
-    return f"to {' '.join(event.words[1:2] + event.words[4:])} (record {event.record})"
+    return f"to {event.words[1]}'s request of {' '.join(event.words[4:])} (record {event.record})"
 
 
 def shown(answer):
@@ -17,11 +17,16 @@ class Served:
         self.name, self.server = name, server
         self.due = {}  # of each endpoint that waits for an answer: its request, the answer's type and words
         self.dead = set()
+        self.notified = set()  # each endpoint whose notification was taken, and no request since then
 
     def follow(self, found):
         for it in found:
             if it.words[0] == "down":
                 self.dead.add(it.who[0])
+            elif it.words[0] == "notify" and it.words[3] == self.server:
+                self.notified.add(it.who[0])
+            elif it.words[:3] == ["try", self.server, "SEND"] and it.who[1] in self.notified:
+                raise wrong(self.name, it, f"no answer to the notification of {it.words[3]}", said(it))
             elif it.words[:3] == ["try", self.server, "RECEIVE"] and it.words[3] not in ("any", "names"):
                 raise wrong(self.name, it, f"{self.server} receives from any, since it serves whoever comes", said(it))
             elif it.words[0] == "message" and self.others(it) == {self.server}:
@@ -37,6 +42,7 @@ class Served:
     def take(self, event):
         kind = int(event.words[5])
         if kind != NOTIFICATION:
+            self.notified.discard(event.who[0])
             self.serve(event, event.who[0], kind, numbers(event))
 
     def answer(self, event, who, kind, *words):
@@ -101,7 +107,7 @@ class Names(Served):
         if who in self.turn:
             if self.turn[0] != who:
                 first = told(self.due[self.turn[0]][0])
-                raise wrong(self.name, event, f"{first} comes first, since it waits longer", said(event))
+                raise wrong(self.name, event, f"the answer {first} comes first, since it waits longer", said(event))
             self.turn.remove(who)
         super().compare(event)
 
