@@ -21,54 +21,6 @@ abbrev pub gone : Walk → Position → Walk
 gone k p = record k { here = p }
 
 module _ (k : Walk) (s : Points) where
-  -- before the step at a breakpoint
-  pub halts_above : (j : Walk) (p q : Position) (printed : List ℕ) → j ≡ gone k p → is_break j s j.here (next_event j.records j.here) ≡ true → printed ≡ [] → (j.here, printed) ≡ halt_by k s p q
-  halts_above j p q printed moved is none =
-      let same : is_break k s p (next_event k.records p) ≡ true = subst (λ (w : Walk). is_break w s w.here (next_event w.records w.here) ≡ true) moved is in
-      ap (λ t. (j.here, t)) none ∙ ap (λ (w : Walk). (w.here, [])) moved ∙ sym (ap (λ b. let h : Position × List ℕ = cond b (p, []) (q, changes_from k s p q) in h) same)
-
-  -- after it
-  pub halts_below : (j l : Walk) (p q : Position) (printed : List ℕ) → j ≡ gone k p → is_break j s j.here (next_event j.records j.here) ≡ false → l ≡ gone j q → printed ≡ changes_from j s j.here q → (l.here, printed) ≡ halt_by k s p q
-  halts_below j l p q printed moved isnt back e =
-      let same : is_break k s p (next_event k.records p) ≡ false = subst (λ (w : Walk). is_break w s w.here (next_event w.records w.here) ≡ false) moved isnt in
-      ap (λ t. (l.here, t)) e ∙ ap (λ (w : Walk). (w.here, changes_from j s j.here q)) back ∙ ap (λ (w : Walk). (q, changes_from w s w.here q)) moved
-      ∙ sym (ap (λ b. let h : Position × List ℕ = cond b (p, []) (q, changes_from k s p q) in h) same)
-
-  -- the first event that is looked for
-  pub halts_there : (j : Walk) (earlier : Position) (h : Position × List ℕ) → j ≡ gone k j.here → IsPosition j.records j.here → IsUpTo j.here j.last
-      → IsFirstMarked (is_looked_for s) k.boot k.records k.here j.here → earlier ≡ position_before j.records j.here → h ≡ halt_by j s earlier j.here → IsHalt k s k.here h
-  halts_there j earlier h moved position early found up e =
-      let q = j.here in
-      let records : j.records ≡ k.records = ap (λ (w : Walk). w.records) moved in
-      let printed : h ≡ halt_by k s (position_before k.records q) q =
-      e ∙ ap (λ (p : Position). halt_by j s p q) (up ∙ ap (λ (xs : List Record). position_before xs q) records) ∙ ap (λ (w : Walk). halt_by w s (position_before k.records q) q) moved in
-      inl (q, subst (λ (xs : List Record). IsPosition xs q) records position, subst (λ (l : Position). IsUpTo q l) (ap (λ (w : Walk). w.last) moved) early, found, printed)
-
-  -- none is looked for
-  pub halts_nowhere : (p : Position) (printed : List ℕ) → p ≡ k.last → IsPassed (is_looked_for s) k.boot k.records k.here k.last → printed ≡ not_met → IsHalt k s k.here (p, printed)
-  halts_nowhere p printed at passed e = inr (passed, ap (λ t. (p, t)) e ∙ ap (λ (r : Position). (r, not_met)) at)
-
-  -- the first event changes watched bytes, or doesn't
-  pub halts_after_one : (j : Walk) (x : ℕ × Event) (next : Position) (printed : List ℕ) → IsPosition k.records k.here → next_event k.records k.here ≡ Some x → next ≡ next_position k.records k.here
-      → j ≡ gone k next → changes_watched s (world_here k) x (world_here j) ≡ true → printed ≡ changes_from k s k.here next
-      → IsHaltAfter k s next (is_marked (changes_watched s) (world_here k) x) (j.here, printed)
-  halts_after_one j x next printed h e there moved met text =
-      let world : world_here j ≡ world_after_event (world_here k) x.0 x.1 =
-      ap (λ (w : Walk). world_here w) moved ∙ ap (λ (p : Position). world_at k.boot k.records p) there ∙ world_next k.records k.here x h e k.boot in
-      let marked : is_marked (changes_watched s) (world_here k) x ≡ true = ap (λ (u : World). changes_watched s (world_here k) x u) (sym world) ∙ met in
-      let at : (j.here, printed) ≡ (next, changes_from k s k.here next) = ap (λ t. (j.here, t)) text ∙ ap (λ (w : Walk). (w.here, changes_from k s k.here next)) moved in
-      subst (λ b. IsHaltAfter k s next b (j.here, printed)) (sym marked) at
-
-  pub halts_after_more : (j : Walk) (x : ℕ × Event) (next : Position) (h : Position × List ℕ) → IsPosition k.records k.here → next_event k.records k.here ≡ Some x → next ≡ next_position k.records k.here
-      → j ≡ gone k next → changes_watched s (world_here k) x (world_here j) ≡ false → IsHalt j s j.here h
-      → IsHaltAfter k s next (is_marked (changes_watched s) (world_here k) x) h
-  halts_after_more j x next h l e there moved met halts =
-      let world : world_here j ≡ world_after_event (world_here k) x.0 x.1 =
-      ap (λ (w : Walk). world_here w) moved ∙ ap (λ (p : Position). world_at k.boot k.records p) there ∙ world_next k.records k.here x l e k.boot in
-      let unmarked : is_marked (changes_watched s) (world_here k) x ≡ false = ap (λ (u : World). changes_watched s (world_here k) x u) (sym world) ∙ met in
-      let from : IsHalt k s next h = subst (λ (w : Walk). IsHalt w s w.here h) moved halts in
-      subst (λ b. IsHaltAfter k s next b h) (sym unmarked) from
-
   -- where the search on begins
   pub next_halt : (x : ℕ × Event) (next : Position) (h : Position × List ℕ) → is_up_to k.last k.here ≡ false → next_event k.records k.here ≡ Some x → next ≡ next_position k.records k.here
       → IsHaltAfter k s next (is_marked (changes_watched s) (world_here k) x) h → IsNextHalt k s h

@@ -15,3 +15,4 @@ mod Meeting
 mod Texts
 mod ShownMore
 mod Making
+mod Since

@@ -3,10 +3,14 @@ use Rattle.std.proofs.Common.{◌≡◌, ◌∙◌, ℕ, Bool, ◌||◌, List, m
 use Rattle.std.specs.List.{flat_map}
 use Rattle.mx_machine.specs.declared.events.Event.{Event}
 use Rattle.mx_machine.specs.World.{World}
+use Rattle.mx_walk.specs.declared.either.Either.{Either}
+use Rattle.mx_walk.specs.declared.several.Several.{Several}
+use Rattle.mx_walk.specs.declared.stopping.CodePlace.{CodePlace}
+use Rattle.mx_walk.specs.declared.stopping.Coming.{Coming}
 use Rattle.mx_walk.specs.declared.stopping.Leaving.{Leaving}
 use Rattle.mx_walk.specs.declared.watching.ByteChange.{ByteChange}
 use Rattle.mx_walk.specs.Several.{any_marks}
-use Rattle.mx_walk.specs.Stopping.{leaves}
+use Rattle.mx_walk.specs.Stopping.{comes_any, leaves}
 use Rattle.mx_walk.specs.Watching.{is_changed}
 use Rattle.mx_app_look.specs.declared.points.Points.{Points}
 use Rattle.mx_app_look.specs.Marks.{changes, changes_watched, code_place, is_looked_for, leaves_breakpoint, leaving}
@@ -27,6 +31,16 @@ pub bytes_are : (s : Points) (ms : List ByteChange) → map (λ (m : ByteChange)
     → (λ w x u. any_marks (map by_change ms) w x u) ≡ changes_watched s
 bytes_are s ms e =
     ap (λ (fs : List Marks). λ w x u. any_marks fs w x u) (map_both (λ (m : ByteChange). m.place) changes by_change ms (λ m. refl) ∙ ap (map changes) e)
+
+-- what a search on is told of
+abbrev pub told_by : Either (Several ByteChange) Coming → Marks
+told_by m w x u = any_marks (map by_change m.one.marks.items) w x u || comes_any m.other.places.items w x u
+
+pub told_is : (s : Points) (m : Either (Several ByteChange) Coming) → map (λ (m : ByteChange). m.place) m.one.marks.items ≡ flat_map places_of s.watches → m.other.places.items ≡ map code_place s.breakpoints
+    → told_by m ≡ (λ w x u. changes_watched s w x u || comes_any (map code_place s.breakpoints) w x u)
+told_is s m e f =
+    ap (λ (g : Marks). λ w x u. g w x u || comes_any m.other.places.items w x u) (bytes_are s m.one.marks.items e)
+    ∙ ap (λ (ps : List CodePlace). λ w x u. changes_watched s w x u || comes_any ps w x u) f
 
 pub breaks_are : (s : Points) (ms : List Leaving) → map (λ (m : Leaving). m.place) ms ≡ map code_place s.breakpoints
     → (λ w x u. any_marks (map by_leaving ms) w x u) ≡ leaves_breakpoint s

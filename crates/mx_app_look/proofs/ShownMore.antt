@@ -1,5 +1,5 @@
 -- What requests show.
-use Rattle.std.proofs.Common.{◌≡◌, ◌∙◌, ◌⊎◌, ◌≤◌, ◌<◌, ℕ, suc, ◌+◌, ◌-◌, cond, Bool, true, false, List, [], ◌++◌, append_assoc, Option, Some, None, Result, Ok, Err, IfErr, OnOk, drop, find, get_or, length, slice_get, refl, ap, sym, subst, inl, inr, arith}
+use Rattle.std.proofs.Common.{◌≡◌, ◌∙◌, ◌⊎◌, ◌≤◌, ◌<◌, ℕ, suc, ◌+◌, ◌-◌, cond, Bool, true, false, List, [], ◌++◌, append_assoc, Option, Some, None, Result, Ok, Err, IfErr, IfOk, OnOk, drop, find, get_or, length, slice_get, refl, ap, sym, subst, inl, inr, arith}
 use Rattle.std.specs.List.{range_with_len}
 use Rattle.std.proofs.lemmas.Bool.{cases_lt}
 use Rattle.std.proofs.lemmas.List.{append-nil}
@@ -14,15 +14,15 @@ use Rattle.mx_walk.specs.Walks.{Walk, shown_to, shown_way, world_here}
 use Rattle.mx_walk.specs.Positions.{IsPosition, IsUpTo, next_event, first, first_steps, is_up_to, next_position, position_before, steps_in, world_at}
 use Rattle.mx_walk.specs.Seeking.{IsFirstMarked, IsLastMarked, IsPassed, is_marked}
 use Rattle.mx_walk.proofs.Next.{world_next}
-use Rattle.mx_walk.proofs.PartsShown.{joined}
+use Rattle.mx_walk.proofs.PartsShown.{joined, none_between}
 use Rattle.mx_app_look.specs.declared.points.Points.{Points}
 use Rattle.mx_app_look.specs.declared.request.Request.{Request}
 use Rattle.mx_app_look.specs.declared.request.Request.TheVariants.{Nothing, Quit, Why}
 use Rattle.mx_app_look.specs.declared.sight.Sight.{Sight}
 use Rattle.mx_app_look.specs.Before.{record_before}
-use Rattle.mx_app_look.specs.Marks.{changes_watched, is_looked_for}
-use Rattle.mx_app_look.specs.Searches.{is_break, next_made}
-use Rattle.mx_app_look.specs.Shows.{IsLastShown, IsNextShown, IsRequestShown, IsSearchShown, IsShownAfter, IsShownFrom, halt_shown, record_shown, return_shown, steps_made, why_shown, why_shown_by}
+use Rattle.mx_app_look.specs.Marks.{is_looked_for}
+use Rattle.mx_app_look.specs.Searches.{IsNextHalt, not_met}
+use Rattle.mx_app_look.specs.Shows.{IsLastShown, IsNextShown, IsRequestShown, record_shown, return_shown, steps_made, why_shown, why_shown_by}
 use Rattle.mx_app_look.specs.declared.happening.Happening.{Happening}
 use Rattle.mx_app_look.specs.Until.{past, halt_after, has, met, until_halt}
 use Rattle.mx_walk.proofs.Along.{up_trans}
@@ -198,79 +198,15 @@ shown_until_last k w p n before now after moved on over at a b =
 
 -- ---- searches
 
--- halted before the step at a breakpoint, or after it again
-pub halt_is_shown : (k : Walk) (s : Points) (j : Walk) (p : Position) (before after : List Part) → j ≡ gone k p → is_break j s j.here (next_event j.records j.here) ≡ true
-    → after ≡ before ++ shown_to k p → after ≡ before ++ halt_shown k s p k.here
-halt_is_shown k s j p before after moved is a =
-    let same : is_break k s p (next_event k.records p) ≡ true = subst (λ (w : Walk). is_break w s w.here (next_event w.records w.here) ≡ true) moved is in
-    a ∙ ap (λ (ps : List Part). before ++ ps) (sym (append-nil (shown_to k p))) ∙ ap (λ b. before ++ (shown_to k p ++ cond b [] (shown_way k p k.here))) (sym same)
-
-pub halt_below_shown : (k : Walk) (s : Points) (j : Walk) (p : Position) (before now after : List Part) → j ≡ gone k p → is_break j s j.here (next_event j.records j.here) ≡ false
-    → now ≡ before ++ shown_to k p → after ≡ now ++ shown_to j k.here → after ≡ before ++ halt_shown k s p k.here
-halt_below_shown k s j p before now after moved isnt a b =
-    let same : is_break k s p (next_event k.records p) ≡ false = subst (λ (w : Walk). is_break w s w.here (next_event w.records w.here) ≡ false) moved isnt in
-    both_shown before now after (shown_to k p) (shown_to j k.here) a b ∙ ap (λ (w : Walk). before ++ (shown_to k p ++ shown_to w k.here)) moved
-    ∙ ap (λ c. before ++ (shown_to k p ++ cond c [] (shown_way k p k.here))) (sym same)
-
 module _ (k : Walk) (s : Points) where
-  pub search_met : (j : Walk) (earlier : Position) (before now after : List Part) → j ≡ gone k j.here → IsPosition j.records j.here → IsUpTo j.here j.last
-      → IsFirstMarked (is_looked_for s) k.boot k.records k.here j.here → earlier ≡ position_before j.records j.here
-      → now ≡ before ++ walk_between k.records k.here j.here → after ≡ now ++ halt_shown j s earlier j.here → Shows before after (λ ps. IsSearchShown k s k.here ps)
-  search_met j earlier before now after moved position early found up a b =
-      let q = j.here in
-      let records : j.records ≡ k.records = ap (λ (w : Walk). w.records) moved in
-      let walked = walk_between k.records k.here q in
-      let halt : halt_shown j s earlier q ≡ halt_shown k s (position_before k.records q) q =
-      ap (λ (p : Position). halt_shown j s p q) (up ∙ ap (λ (xs : List Record). position_before xs q) records) ∙ ap (λ (w : Walk). halt_shown w s (position_before k.records q) q) moved in (
-        walked ++ halt_shown j s earlier q,
-        both_shown before now after walked (halt_shown j s earlier q) a b,
-        inl (
-          q,
-          subst (λ (xs : List Record). IsPosition xs q) records position,
-          subst (λ (l : Position). IsUpTo q l) (ap (λ (w : Walk). w.last) moved) early,
-          found,
-          ap (λ (ps : List Part). walked ++ ps) halt,
-        ),
-      )
+  -- each record on the way to the halt
+  pub next_shown : {A E : Type 0} (r : Result A E) (halt : A → Position × List ℕ) (before after : List Part) → IfOk r (λ (a : A). IsNextHalt k s (halt a))
+      → IfOk r (λ (a : A). after ≡ before ++ walk_between k.records k.here (halt a).0) → OnOk r (Shows before after (λ ps. IsNextShown k s ps))
+  next_shown (Ok a) halt before after h shown = (walk_between k.records k.here (halt a).0, shown, (halt a, h, refl))
+  next_shown (Err e) halt before after h shown = tt
 
-  pub search_passed : (p : Position) (before after : List Part) → p ≡ k.last → IsPassed (is_looked_for s) k.boot k.records k.here k.last
-      → after ≡ before ++ walk_between k.records k.here p → Shows before after (λ ps. IsSearchShown k s k.here ps)
-  search_passed p before after at passed a = (walk_between k.records k.here p, a, inr (passed, ap (λ (q : Position). walk_between k.records k.here q) at))
-
-  pub is_marked_there : (j : Walk) (x : ℕ × Event) (next : Position) → IsPosition k.records k.here → next_event k.records k.here ≡ Some x → next ≡ next_position k.records k.here → j ≡ gone k next
-      → is_marked (changes_watched s) (world_here k) x ≡ changes_watched s (world_here k) x (world_here j)
-  is_marked_there j x next h e there moved =
-      let world : world_here j ≡ world_after_event (world_here k) x.0 x.1 =
-      ap (λ (w : Walk). world_here w) moved ∙ ap (λ (p : Position). world_at k.boot k.records p) there ∙ world_next k.records k.here x h e k.boot in
-      ap (λ (u : World). changes_watched s (world_here k) x u) (sym world)
-
-  -- past the first event
-  pub shown_one : (next : Position) (before after : List Part) (b : Bool) → b ≡ true → after ≡ before ++ shown_to k next → Shows before after (λ ps. IsShownAfter k s next b ps)
-  shown_one next before after b met a = (shown_to k next, a, subst (λ c. IsShownAfter k s next c (shown_to k next)) (sym met) refl)
-
-  pub shown_further : (j : Walk) (next : Position) (before now after : List Part) (b : Bool) → b ≡ false → j ≡ gone k next → now ≡ before ++ shown_to k next
-      → Shows now after (λ ps. IsSearchShown j s j.here ps) → Shows before after (λ ps. IsShownAfter k s next b ps)
-  shown_further j next before now after b unmet moved a h =
-      let ps = shown_to k next ++ h.0 in
-      let on : IsSearchShown k s next h.0 = subst (λ (w : Walk). IsSearchShown w s w.here h.0) moved h.2 in
-      (ps, both_shown before now after (shown_to k next) h.0 a h.1, subst (λ c. IsShownAfter k s next c ps) (sym unmet) (h.0, refl, on))
-
-  pub next_shown : (x : ℕ × Event) (next : Position) (before after : List Part) → is_up_to k.last k.here ≡ false → next_event k.records k.here ≡ Some x → next ≡ next_position k.records k.here
-      → Shows before after (λ ps. IsShownAfter k s next (is_marked (changes_watched s) (world_here k) x) ps) → Shows before after (λ ps. IsNextShown k s ps)
-  next_shown x next before after isnt e there h =
-      let made : next_made k ≡ Some x = ap (λ b. let o : Option (ℕ × Event) = cond b None (next_event k.records k.here) in o) isnt ∙ e in
-      let on : IsShownAfter k s (next_position k.records k.here) (is_marked (changes_watched s) (world_here k) x) h.0 =
-      subst (λ (p : Position). IsShownAfter k s p (is_marked (changes_watched s) (world_here k) x) h.0) there h.2 in
-      (h.0, h.1, subst (λ (o : Option (ℕ × Event)). IsShownFrom k s o h.0) (sym made) on)
-
-  no_shown : (before : List Part) → next_made k ≡ None → Shows before before (λ ps. IsNextShown k s ps)
-  no_shown before none = ([], sym (append-nil before), subst (λ (o : Option (ℕ × Event)). IsShownFrom k s o []) (sym none) refl)
-
-  pub last_is_shown : (before : List Part) → is_up_to k.last k.here ≡ true → Shows before before (λ ps. IsNextShown k s ps)
-  last_is_shown before is = no_shown before (ap (λ b. let o : Option (ℕ × Event) = cond b None (next_event k.records k.here) in o) is)
-
-  pub end_is_shown : (before : List Part) → is_up_to k.last k.here ≡ false → next_event k.records k.here ≡ None → Shows before before (λ ps. IsNextShown k s ps)
-  end_is_shown before isnt none = no_shown before (ap (λ b. let o : Option (ℕ × Event) = cond b None (next_event k.records k.here) in o) isnt ∙ none)
+  pub here_shown : (before : List Part) → IsNextHalt k s (k.here, not_met) → Shows before before (λ ps. IsNextShown k s ps)
+  here_shown before h = (walk_between k.records k.here k.here, none_between (length k.records) k.here.records before, ((k.here, not_met), h, refl))
 
   -- back
   abbrev back : Position → List Part

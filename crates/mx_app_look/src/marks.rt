@@ -8,7 +8,7 @@ ghost use Rattle.mx_app_look.specs.Watches.{places_of};
 use crate::points::Points;
 use crate::watches::{Watch, places_of};
 use mx_debug::Breakpoint;
-use mx_walk::{ByteChange, BytePlace, CodePlace, Either, Leaving, Several};
+use mx_walk::{ByteChange, BytePlace, CodePlace, Coming, Either, Leaving, Several};
 use std::alloc::{AllocError, Global};
 
 /// Appends what marks the changes of each of these bytes.
@@ -63,6 +63,35 @@ pub(crate) fn breaks_mark(alloc: Global, points: &Points) -> Result<Several<Leav
         ≡ map code_place points.now.breakpoints) }
 {
     Ok(Several::new(each_leaving(alloc, points.breakpoints.as_slice())?))
+}
+
+/// The places of the breakpoints.
+pub(crate) fn break_places(alloc: Global, points: &Points) -> Result<Vec<CodePlace>, AllocError>
+    ensures { IfOk result (λ places. places.items ≡ map code_place points.now.breakpoints) }
+{
+    let mut places = Vec::new(alloc);
+    for point in points.breakpoints.as_slice() {
+        places.push(CodePlace {
+            slot: point.slot,
+            address: point.address,
+        })?;
+    }
+    Ok(places)
+}
+
+/// What marks the changes of the bytes that are watched, and what comes to a breakpoint.
+pub(crate) fn halts_mark(
+    alloc: Global,
+    points: &Points,
+) -> Result<Either<Several<ByteChange>, Coming>, AllocError>
+    ensures bytes { IfOk result (λ both. map (λ m. m.place) both.one.marks.items
+        ≡ flat_map places_of points.now.watches) }
+    ensures places { IfOk result (λ both. both.other.places.items
+        ≡ map code_place points.now.breakpoints) }
+{
+    let bytes = bytes_mark(alloc, points)?;
+    let coming = Coming::new(break_places(alloc, points)?);
+    Ok(Either::new(bytes, coming))
 }
 
 /// What marks both.

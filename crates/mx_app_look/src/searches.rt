@@ -2,19 +2,19 @@
 
 ghost use Rattle.std.specs.Prelude.{◌≡◌, ◌++◌, IfErr, IfOk, List, OnOk, Some, false, string_bytes, true};
 ghost use Rattle.mx_machine.specs.World.{World};
-ghost use Rattle.mx_walk.specs.Positions.{IsBefore, IsPosition, IsUpTo, next_event, first, next_position, position_before};
+ghost use Rattle.mx_walk.specs.Positions.{IsBefore, IsPosition, IsUpTo, next_event, first, next_position};
 ghost use Rattle.mx_walk.specs.declared.progress.Part.{Part as Parts};
-ghost use Rattle.mx_walk.specs.Parts.{HasGrown, walk_shown};
+ghost use Rattle.mx_walk.specs.Parts.{HasGrown, walk_between, walk_shown};
 ghost use Rattle.mx_walk.specs.Walks.{Walk, shown_to, world_here};
 ghost use Rattle.mx_walk.specs.Seeking.{IsLastMarked, IsPassed, is_marked};
 ghost use Rattle.mx_app_look.specs.Marks.{changes_watched, is_looked_for};
-ghost use Rattle.mx_app_look.specs.Searches.{IsHalt, IsHaltAfter, IsLastHalt, IsNextHalt, changes_from, halt_by, is_break, not_met};
-ghost use Rattle.mx_app_look.specs.Shows.{IsLastShown, IsNextShown, IsSearchShown, IsShownAfter, halt_shown, return_shown};
+ghost use Rattle.mx_app_look.specs.Searches.{IsHaltAfter, IsLastHalt, IsNextHalt, changes_from, not_met};
+ghost use Rattle.mx_app_look.specs.Shows.{IsLastShown, IsNextShown, return_shown};
 
 use crate::changes::{all_bytes, push_changes};
-use crate::marks::{breaks_mark, bytes_mark, points_mark};
+use crate::marks::{break_places, bytes_mark, halts_mark, points_mark};
 use crate::points::Points;
-use mx_walk::{Mark, NextEvent, Position, Progress, Walker, is_up_to, next_event, position_before};
+use mx_walk::{Halt, Mark, NextEvent, Position, Progress, Walker, is_up_to, next_event};
 use mx_word::NoMemory;
 use std::alloc::{AllocError, Global};
 
@@ -32,19 +32,6 @@ fn meet_nothing(alloc: Global, walker: Walker) -> Result<(Walker, String), NoMem
     ensures { IfOk result (λ r. (r.0 ≡ walker) × (string_bytes r.1 ≡ not_met)) }
 {
     Ok((walker, not_met(alloc)?))
-}
-
-/// Whether the next event is the step at a breakpoint.
-fn is_at_break(alloc: Global, walker: &Walker, points: &Points) -> Result<bool, AllocError>
-    ensures { IfOk result (λ is. is ≡ is_break walker.now points.now walker.now.here
-        (next_event walker.now.records walker.now.here)) }
-{
-    let Some(next) = next_event(walker.records(), walker.here()) else {
-        return Ok(false);
-    };
-    let mut mark = breaks_mark(alloc, points)?;
-    mark.look(walker.machine(), next.actor, next.event);
-    Ok(mark.is_met(walker.machine()))
 }
 
 /// Goes to a position, and answers how the watched bytes changed on the way.
@@ -71,59 +58,8 @@ fn go_and_compare<P: Progress>(
     Ok((walker, changes))
 }
 
-/// Goes back from right after an event that is looked for to right before it, and halts there if it is the
-/// step at a breakpoint; else after it again.
-fn halt_by<P: Progress>(
-    alloc: Global,
-    walker: Walker,
-    points: &Points,
-    earlier: Position,
-    progress: &mut P,
-) -> Result<(Walker, String), NoMemory>
-    requires position { IsPosition walker.records earlier }
-    requires early { IsUpTo earlier walker.last }
-    ensures walker { IfOk result (λ r. r.0 ≡ record walker { here = r.0.here }) }
-    ensures halt { IfOk result (λ r. (r.0.here, string_bytes r.1)
-        ≡ halt_by walker points.now earlier walker.here) }
-    ensures shown { OnOk result (P.shown progress.new
-        ≡ P.shown progress.old ++ halt_shown walker points.now earlier walker.here) }
-    ensures grown { IfErr result (λ _. HasGrown (P.shown progress.old) (P.shown progress.new)) }
-{
-    let later = walker.here();
-    let walker = walker.go_to(alloc, earlier, progress)?;
-    if is_at_break(alloc, &walker, points)? {
-        return Ok((walker, String::new(alloc)));
-    }
-    go_and_compare(alloc, walker, points, later, progress)
-}
-
-/// Goes on to the first event that is looked for, and halts there; at the last position if there is none.
-fn go_on_from<P: Progress>(
-    alloc: Global,
-    walker: Walker,
-    points: &Points,
-    progress: &mut P,
-) -> Result<(Walker, String), NoMemory>
-    ensures walker { IfOk result (λ r. r.0 ≡ record walker { here = r.0.here }) }
-    ensures halt { IfOk result (λ r. IsHalt walker points.now walker.here
-        (r.0.here, string_bytes r.1)) }
-    ensures shown { OnOk result ((ps : List Parts)
-        × (P.shown progress.new ≡ P.shown progress.old ++ ps)
-        × IsSearchShown walker points.now walker.here ps) }
-    ensures grown { IfErr result (λ _. HasGrown (P.shown progress.old) (P.shown progress.new)) }
-{
-    let mut walker = walker;
-    let mut mark = points_mark(alloc, points)?;
-    if !walker.seek(&mut mark, progress) {
-        return meet_nothing(alloc, walker);
-    }
-    match position_before(walker.records(), walker.here()) {
-        Some(earlier) => halt_by(alloc, walker, points, earlier, progress),
-        None => unreachable!(),
-    }
-}
-
-/// Makes the next event, of which the watched bytes count and no breakpoint; goes on if it changed none.
+/// Makes the next event, of which the watched bytes count and no breakpoint; and goes on, until watched bytes have
+/// changed or the next event is the step at a breakpoint.
 fn go_on_past<P: Progress>(
     alloc: Global,
     walker: Walker,
@@ -140,19 +76,30 @@ fn go_on_past<P: Progress>(
     ensures halt { IfOk result (λ r. IsHaltAfter walker points.now next.position
         (is_marked (changes_watched points.now) (world_here walker) (next.actor, next.event))
         (r.0.here, string_bytes r.1)) }
-    ensures shown { OnOk result ((ps : List Parts)
-        × (P.shown progress.new ≡ P.shown progress.old ++ ps)
-        × IsShownAfter walker points.now next.position
-        (is_marked (changes_watched points.now) (world_here walker) (next.actor, next.event)) ps) }
+    ensures shown { IfOk result (λ r. P.shown progress.new ≡ P.shown progress.old
+        ++ walk_between walker.records walker.here r.0.here) }
     ensures grown { IfErr result (λ _. HasGrown (P.shown progress.old) (P.shown progress.new)) }
 {
     let mut bytes = bytes_mark(alloc, points)?;
     bytes.look(walker.machine(), next.actor, next.event);
-    let (walker, changes) = go_and_compare(alloc, walker, points, next.position, progress)?;
-    if bytes.is_met(walker.machine()) {
-        return Ok((walker, changes));
+    let seen = all_bytes(alloc, walker.machine(), points.watches.as_slice())?;
+    let places = break_places(alloc, points)?;
+    let mut mark = halts_mark(alloc, points)?;
+    let mut walker = walker.go_to(alloc, next.position, progress)?;
+    // The watched bytes stay as they were seen up to the event that changes them.
+    while !bytes.is_met(walker.machine()) {
+        let halt = walker.seek_halt(places.as_slice(), &mut mark, progress);
+        // Where it is now is a position, and not past the last.
+        let _ = walker.here();
+        match halt {
+            Halt::Before => return Ok((walker, String::new(alloc))),
+            Halt::After => {}
+            Halt::Nowhere => return meet_nothing(alloc, walker),
+        }
     }
-    go_on_from(alloc, walker, points, progress)
+    let mut changes = String::new(alloc);
+    push_changes(alloc, &mut changes, walker.machine(), seen.as_slice())?;
+    Ok((walker, changes))
 }
 
 /// Goes on to right after the next event that changes watched bytes, or to the next position whose event

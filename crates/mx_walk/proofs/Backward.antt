@@ -51,12 +51,12 @@ isnt_up p q (inl lt) =
 isnt_up p q (inr h) =
     ap (λ b. cond b (leb p.steps q.steps) (ltb p.records q.records)) (eq-eqb p.records q.records (sym h.0)) ∙ lt-leb p.steps q.steps h.1
 
-back_shown : (k : Walk) (to : Position) → IsBefore to k.here → shown_to k to ≡ walk_between k.records (checkpoint_before k.marks to) to
-back_shown k to lt = ap (λ b. walk_between k.records (let q : Position = cond b k.here (checkpoint_before k.marks to) in q) to) (isnt_up k.here to lt)
+back_shown : (k : Walk) (to : Position) → IsBefore to k.here → shown_to k to ≡ walk_between k.records (checkpoint_before k.checkpoints to) to
+back_shown k to lt = ap (λ b. walk_between k.records (let q : Position = cond b k.here (checkpoint_before k.checkpoints to) in q) to) (isnt_up k.here to lt)
 
 first_shown : (k : Walk) (to : Position) → to ≡ first → shown_to k to ≡ []
 first_shown k to e =
-    let m : ℕ = (let q : Position = cond (is_up_to k.here to) k.here (checkpoint_before k.marks to) in q).records in
+    let m : ℕ = (let q : Position = cond (is_up_to k.here to) k.here (checkpoint_before k.checkpoints to) in q).records in
     let none : to.records ≡ 0 = ap (λ (p : Position). p.records) e in
     let less : to.records - m ≡ 0 = omega (arith, none) in
     ap (λ i. map (part_after (length k.records)) (range_with_len m i)) less

@@ -20,6 +20,11 @@ pub shown_more : (records : List Record) (p q r : Position) (before now then : L
 shown_more records p q r before now then l a shown more =
     then_between (length records) p.records q.records r.records before now then (records_up p q l) (records_up q r (up_to_of q r a)) shown more
 
+pub shown_on : (records : List Record) (p q r : Position) (before now then : List Part) → IsUpTo p q → IsUpTo q r
+    → now ≡ before ++ walk_between records p q → then ≡ now ++ walk_between records q r → then ≡ before ++ walk_between records p r
+shown_on records p q r before now then l a shown more =
+    then_between (length records) p.records q.records r.records before now then (records_up p q l) (records_up q r a) shown more
+
 -- the same, counted after so many parts
 pub counted_more : (all shown : ℕ) (p q r : Position) (before now then : List Part) → IsUpTo p q → IsBefore q r
     → now ≡ before ++ parts_between all shown (shown + (q.records - p.records)) → then ≡ now ++ parts_between all (shown + (q.records - p.records)) (shown + (r.records - p.records))

@@ -17,7 +17,7 @@ is_up p q (inr h) =
     ap (λ b. cond b (leb p.steps q.steps) (ltb p.records q.records)) (eq-eqb p.records q.records h.0) ∙ le-leb p.steps q.steps h.1
 
 pub on_shown : (k : Walk) (p : Position) → IsUpTo k.here p → shown_to k p ≡ walk_between k.records k.here p
-on_shown k p up = ap (λ b. walk_between k.records (let q : Position = cond b k.here (checkpoint_before k.marks p) in q) p) (is_up k.here p up)
+on_shown k p up = ap (λ b. walk_between k.records (let q : Position = cond b k.here (checkpoint_before k.checkpoints p) in q) p) (is_up k.here p up)
 
 none_between : (all n : ℕ) → parts_between all n n ≡ []
 none_between all n = let none : n - n ≡ 0 = omega arith in ap (λ i. map (part_after all) (range_with_len n i)) none

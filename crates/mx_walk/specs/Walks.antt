@@ -15,13 +15,13 @@ use Rattle.mx_walk.specs.Parts.{walk_between}
 use Rattle.mx_walk.specs.Positions.{IsAt, IsPosition, IsStuck, IsUpTo, next_event, events_before, first, is_up_to, world_at}
 
 -- A WALK: where the history begins, its records, where the walker is, the last position that it can come to, and
--- its marks: the positions of its checkpoints, in order, from which it can go on without a walk from the first
+-- the positions of its checkpoints, in order, from which it can go on without a walk from the first
 pub record Walk : Type 0 where
   pub boot : World
   pub records : List Record
   pub here : Position
   pub last : Position
-  pub marks : List Position
+  pub checkpoints : List Position
 
 -- ---- where a walk begins
 
@@ -36,7 +36,7 @@ checkpoint_before checkpoints to = last_or first (filter (λ p. is_up_to p to) c
 
 -- WHERE A WALK BEGINS: where the walker is, if it goes on from there; else where a walk back begins
 abbrev pub start_to : Walk → Position → Position
-start_to k to = if is_up_to k.here to then k.here else checkpoint_before k.marks to
+start_to k to = if is_up_to k.here to then k.here else checkpoint_before k.checkpoints to
 
 -- ---- what is shown on the way
 

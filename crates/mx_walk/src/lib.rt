@@ -9,7 +9,8 @@
 //! the way back costs what the way from the checkpoint costs. A checkpoint is a copy of the whole machine: some are along
 //! the history, and one near where the walker last went back; they are bounded in number and in bytes.
 //!
-//! A search (`seek`) goes on until a `Mark` marks an event, or is told to stop, or the history ends. Where the requests
+//! A search (`seek`) goes on until a `Mark` marks an event, or the history ends; `seek_halt` halts before some steps
+//! too. Where the requests
 //! of a session lead a walker, by records, events or a `PositionWord`, is in `destinations`.
 #![tactic(auto)]
 
@@ -18,6 +19,7 @@ mod checkpoints;
 mod destinations;
 mod either;
 mod first_walk;
+mod halting;
 mod marked_steps;
 mod position_laws;
 mod positions;
@@ -37,6 +39,7 @@ mod watching;
 pub use booting::boot;
 pub use destinations::{PositionWord, back_from, forward_from, go_to_asked, steps_back, steps_on};
 pub use either::Either;
+pub use halting::Halt;
 pub use position_laws::{events_are_made, positions_alternate, positions_replay};
 pub use positions::{
     FIRST, NextEvent, Position, is_position, is_up_to, next_event, own_event, position_before,
@@ -44,7 +47,7 @@ pub use positions::{
 };
 pub use progress::{Part, Progress};
 pub use records::{Halted, finish_record, make_event, make_steps};
-pub use seeking::{Mark, Sought, Way, seek};
+pub use seeking::{Mark, Sought, Way};
 pub use several::Several;
 pub use stopping::{CodePlace, Coming, Leaving};
 pub use walker::Walker;

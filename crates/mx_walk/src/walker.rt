@@ -1,31 +1,29 @@
 //! A walker: a machine at a position of a history.
 
 ghost use Rattle.std.specs.Prelude.{◌≡◌, ◌⊎◌, ◌<◌, ◌≤◌, ◌-◌, ◌++◌, ℕ, true, false, All, IfErr, IfOk, OnOk, length, if◌then◌else◌};
-ghost use Rattle.mx_machine.specs.declared.events.Event.{Event as Made};
 ghost use Rattle.mx_machine.specs.declared.history.Record.{Record as Noted};
 ghost use Rattle.mx_machine.specs.Move.{event_refusal};
 ghost use Rattle.mx_machine.specs.World.{actors};
 ghost use Rattle.mx_machine.specs.Machine.{world_of};
 ghost use Rattle.mx_walk.specs.declared.positions.Position.{Position as At};
-ghost use Rattle.mx_walk.specs.Positions.{IsBefore, IsPosition, IsUpTo, first, is_up_to, position_before};
-ghost use Rattle.mx_walk.specs.Seeking.{HasSoughtBack, IsFirstMarked, IsLastMarked, IsPassed};
+ghost use Rattle.mx_walk.specs.Positions.{IsPosition, IsUpTo, first, is_up_to};
+ghost use Rattle.mx_walk.specs.Halting.{HaltsAt, MarksComing};
+ghost use Rattle.mx_walk.specs.declared.halting.Halt.TheVariants as halts;
+ghost use Rattle.mx_walk.specs.Seeking.{HasSoughtBack, IsLastMarked, IsPassed};
 ghost use Rattle.mx_walk.specs.Sizes.{most_checkpoints};
-ghost use Rattle.mx_walk.specs.Watching.{is_changed};
+ghost use Rattle.mx_walk.specs.Stopping.{leaves_any};
 ghost use Rattle.mx_walk.specs.Walks.{IsBootOf, IsLast, refusal_here, shown_to, world_here};
 ghost use Rattle.mx_walk.specs.Parts.{walk_between, walk_shown};
 
 use crate::booting::boot_again;
 use crate::checkpoints::{Checkpoints, Stock};
 use crate::first_walk::walk_first;
+use crate::halting::{Halt, seek_halt};
 use crate::resuming::{Origin, checkpoint_before, go_on_near, machine_again, machine_on_the_way};
 use crate::searching_back::search_back;
 use crate::showing::show_parts;
 use crate::walking_forward::go_on;
-use crate::watching::{ByteChange, BytePlace};
-use crate::{
-    FIRST, Mark, Position, Progress, Sought, Way, is_up_to, make_event, next_event,
-    position_before, seek,
-};
+use crate::{CodePlace, FIRST, Mark, Position, Progress, Way, is_up_to, make_event, next_event};
 use mx_machine::{Config, Machine, Record, Refusal};
 use mx_word::NoMemory;
 use std::alloc::Global;
@@ -65,7 +63,7 @@ impl Model for Walker {
       records = w.records.items;
       here = w.here;
       last = w.last;
-      marks = positions_of w.stock.along.items;
+      checkpoints = positions_of w.stock.along.items;
     } };
 
     ghost invariant = { λ w. IsWalk w.machine w.config (record {
@@ -73,7 +71,7 @@ impl Model for Walker {
       records = w.records.items;
       here = w.here;
       last = w.last;
-      marks = positions_of w.stock.along.items;
+      checkpoints = positions_of w.stock.along.items;
     }) × IsStock w.machine.kernel.boot w.records.items w.stock };
 }
 
@@ -94,7 +92,7 @@ impl Walker {
         ensures made { IfOk result (λ w. (w.boot ≡ machine.kernel.boot)
             × (w.records ≡ records.items) × (w.here ≡ first)) }
         ensures last { IfOk result (λ w. IsLast w.boot w.records w.last) }
-        ensures few { IfOk result (λ w. length w.marks ≤ most_checkpoints w.boot - 1) }
+        ensures few { IfOk result (λ w. length w.checkpoints ≤ most_checkpoints w.boot - 1) }
         ensures shown { IfOk result (λ w. P.shown progress.new
             ≡ P.shown progress.old ++ walk_shown w.records w.last) }
         ensures walked { IfErr result (λ _. (last : At)
@@ -276,15 +274,22 @@ impl Walker {
         self.go_back(alloc, to, progress)
     }
 
-    /// Goes on up to right after the first event that is marked; to the last position if there is none. Shows
-    /// each record that it passes. Answers whether there is one. Takes no memory.
-    pub fn seek<M: Mark, P: Progress>(&mut self, mark: &mut M, progress: &mut P) -> bool
+    /// Goes on up to right before the first step that leaves one of some places, or right after the first event before
+    /// it that is marked; to the last position if there is none. Shows each record that it passes. Takes no memory.
+    pub fn seek_halt<M: Mark, P: Progress>(
+        &mut self,
+        places: &[CodePlace],
+        mark: &mut M,
+        progress: &mut P,
+    ) -> Halt
+        requires coming { MarksComing (M.marks mark.old) places.now }
         ensures same { self.new ≡ record self.old { here = self.new.here } }
-        ensures found { result ≡ true → IsFirstMarked (M.marks mark.old)
+        ensures halted { HaltsAt (M.marks mark.old) places.now
+            self.old.boot self.old.records self.old.here self.old.last self.new.here result }
+        ensures nowhere { result ≡ halts.Nowhere → self.new.here ≡ self.old.last }
+        ensures unleft { IsPassed (leaves_any places.now)
             self.old.boot self.old.records self.old.here self.new.here }
-        ensures nowhere { result ≡ false → (self.new.here ≡ self.old.last)
-            × IsPassed (M.marks mark.old)
-            self.old.boot self.old.records self.old.here self.old.last }
+        ensures mark { M.marks mark.new ≡ M.marks mark.old }
         ensures shown { P.shown progress.new ≡ P.shown progress.old
             ++ walk_between self.old.records self.old.here self.new.here }
     {
@@ -292,22 +297,10 @@ impl Walker {
             from: self.here,
             to: self.last,
         };
-        match seek(
-            &mut self.machine,
-            self.records.as_slice(),
-            way,
-            mark,
-            progress,
-        ) {
-            Sought::Found(here) => {
-                self.here = here;
-                true
-            }
-            Sought::Nowhere(here) => {
-                self.here = here;
-                false
-            }
-        }
+        let records = self.records.as_slice();
+        let (here, halt) = seek_halt(&mut self.machine, records, way, places, mark, progress);
+        self.here = here;
+        halt
     }
 
     /// Finds right before which event a walk from the first position to here came last that is marked, and shows each
@@ -373,79 +366,5 @@ impl Walker {
         let (walker, found) = self.look_back(alloc, mark, progress)?;
         let walker = walker.go_to(alloc, found.unwrap_or(FIRST), progress)?;
         Ok((walker, found.is_some()))
-    }
-
-    /// Goes on up to right before the first event that is marked; to the last position if there is none. Shows each
-    /// record that it passes, and those on its way back before the event. Answers whether there is one. Takes
-    /// memory to boot the machine again.
-    pub fn seek_before<M: Mark, P: Progress>(
-        self,
-        alloc: Global,
-        mark: &mut M,
-        progress: &mut P,
-    ) -> Result<(Walker, bool), NoMemory>
-        ensures same { IfOk result (λ on. on.0 ≡ record self { here = on.0.here }) }
-        ensures found { IfOk result (λ on. on.1 ≡ true → (q : At) × IsPosition self.records q
-            × IsFirstMarked (M.marks mark.old) self.boot self.records self.here q
-            × (on.0.here ≡ position_before self.records q)
-            × (P.shown progress.new ≡ P.shown progress.old ++ (walk_between self.records self.here q
-            ++ shown_to (record self { here = q }) on.0.here))) }
-        ensures nowhere { IfOk result (λ on. on.1 ≡ false → (on.0.here ≡ self.last)
-            × IsPassed (M.marks mark.old) self.boot self.records self.here self.last
-            × (P.shown progress.new
-            ≡ P.shown progress.old ++ walk_between self.records self.here self.last)) }
-        ensures unshown { IfErr result (λ _. (q : At)
-            × IsFirstMarked (M.marks mark.old) self.boot self.records self.here q
-            × (P.shown progress.new
-            ≡ P.shown progress.old ++ walk_between self.records self.here q)) }
-    {
-        let mut walker = self;
-        if !walker.seek(mark, progress) {
-            return Ok((walker, false));
-        }
-        match position_before(walker.records(), walker.here()) {
-            Some(earlier) => Ok((walker.go_to(alloc, earlier, progress)?, true)),
-            None => unreachable!(),
-        }
-    }
-
-    /// Goes on to right after the next event that changes a byte; to the last position if there is none. Shows each
-    /// record that it passes. Answers whether there is one. Takes no memory.
-    pub fn go_to_next_change<P: Progress>(&mut self, place: BytePlace, progress: &mut P) -> bool
-        ensures same { self.new ≡ record self.old { here = self.new.here } }
-        ensures found { result ≡ true → IsFirstMarked (λ w _ u. is_changed place w u)
-            self.old.boot self.old.records self.old.here self.new.here }
-        ensures nowhere { result ≡ false → (self.new.here ≡ self.old.last)
-            × IsPassed (λ w _ u. is_changed place w u)
-            self.old.boot self.old.records self.old.here self.old.last }
-        ensures shown { P.shown progress.new ≡ P.shown progress.old
-            ++ walk_between self.old.records self.old.here self.new.here }
-    {
-        let mut mark = ByteChange::new(place);
-        self.seek(&mut mark, progress)
-    }
-
-    /// Goes back to right before the last event that changed a byte; to the first position if there is none. Shows
-    /// each record from the first position to here, and then those on its way there. Answers whether there is
-    /// one. Takes memory for the machines that it searches with.
-    pub fn go_to_last_change<P: Progress>(
-        self,
-        alloc: Global,
-        place: BytePlace,
-        progress: &mut P,
-    ) -> Result<(Walker, bool), NoMemory>
-        ensures same { IfOk result (λ back. back.0 ≡ record self { here = back.0.here }) }
-        ensures found { IfOk result (λ back. back.1 ≡ true
-            → IsLastMarked (λ w _ u. is_changed place w u)
-            self.boot self.records back.0.here self.here) }
-        ensures nowhere { IfOk result (λ back. back.1 ≡ false → (back.0.here ≡ first)
-            × IsPassed (λ w _ u. is_changed place w u) self.boot self.records first self.here) }
-        ensures shown { IfOk result (λ back. P.shown progress.new ≡ P.shown progress.old
-            ++ (walk_shown self.records self.here ++ shown_to self back.0.here)) }
-        ensures unshown { IfErr result (λ _. (P.shown progress.new ≡ P.shown progress.old)
-            ⊎ (P.shown progress.new ≡ P.shown progress.old ++ walk_shown self.records self.here)) }
-    {
-        let mut mark = ByteChange::new(place);
-        self.seek_back(alloc, &mut mark, progress)
     }
 }
