@@ -1,5 +1,5 @@
 -- Why a machine wasn't driven, or its history not saved (our own).
-use Rattle.std.specs.Prelude.{◌≡◌, ◌⊎◌, ℕ, List, [], ◌∷◌}
+use Rattle.std.specs.Prelude.{◌≡◌, ◌⊎◌, ℕ, List, [], ◌∷◌, ◌++◌}
 use Rattle.std.specs.declared.io.ErrorKind.{ErrorKind}
 use Rattle.mx_text.specs.declared.error.BootError.{BootError}
 use Rattle.mx_boot.specs.Config.{Config}
@@ -17,6 +17,14 @@ IsTold {L} Says Tells config name qs f =
     IsNotStarted Says Tells config name qs f
     ⊎ ((c : Config) × (services : List Service) × (said : List L) × IsStart Says config name qs c services said
     × IsWanting f)
+
+-- what is printed before a command fails: nothing; or a machine was started, and this much
+abbrev pub PrintsBefore : {L : Type 0} → (List ℕ → Config → Config → List L → Type 0) → List ℕ → List ℕ → List Asked
+    → List Asked → (List ℕ → Type 0) → (Config → List Service → List L → Type 0) → Type 0
+PrintsBefore {L} Says config name before now Prints PrintsSome =
+    Prints []
+    ⊎ ((qs : List Asked) × (c : Config) × (services : List Service) × (said : List L) × (now ≡ before ++ qs)
+    × IsStart Says config name qs c services said × PrintsSome c services said)
 
 -- ---- a text that is saved before the report is printed
 

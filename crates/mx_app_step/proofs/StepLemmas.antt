@@ -31,13 +31,13 @@ lines_printed numbered x y z w v other lines a world b =
     Appends-trans x y z (answers_text numbered u.0) (report_text u.1.table u.1.services) a
     (subst (λ (x : World). Appends y z (report_text x.table x.services)) world b)
 
-pub script_printed : (numbered : Bool) (x z : Option (List ℕ)) (c : Config) (vs : List Service) (w : World) (other : ℕ) (said lines : List ScriptLine)
-    → w ≡ world_at_boot c vs → other ≡ c.cpus → lines ≡ said → (let u = lines_made w other lines in Appends x z (answers_text numbered u.0 ++ report_text u.1.table u.1.services))
-    → (let u = lines_made (world_at_boot c vs) c.cpus said in Appends x z (answers_text numbered u.0 ++ report_text u.1.table u.1.services))
-script_printed numbered x z c vs w other said lines booting o ls h =
+pub script_printed : (numbered : Bool) (Prints : List ℕ → Type 0) (c : Config) (vs : List Service) (w : World) (other : ℕ) (said lines : List ScriptLine)
+    → w ≡ world_at_boot c vs → other ≡ c.cpus → lines ≡ said → (let u = lines_made w other lines in Prints (answers_text numbered u.0 ++ report_text u.1.table u.1.services))
+    → (let u = lines_made (world_at_boot c vs) c.cpus said in Prints (answers_text numbered u.0 ++ report_text u.1.table u.1.services))
+script_printed numbered Prints c vs w other said lines booting o ls h =
     let same : lines_made w other lines ≡ lines_made (world_at_boot c vs) c.cpus said =
     ap (λ (v : World). lines_made v other lines) booting ∙ ap (λ n. lines_made (world_at_boot c vs) n lines) o ∙ ap (λ (v : List ScriptLine). lines_made (world_at_boot c vs) c.cpus v) ls in
-    subst (λ (u : List Said × World). Appends x z (answers_text numbered u.0 ++ report_text u.1.table u.1.services)) same h
+    subst (λ (u : List Said × World). Prints (answers_text numbered u.0 ++ report_text u.1.table u.1.services)) same h
 
 -- ---- a history that is saved
 

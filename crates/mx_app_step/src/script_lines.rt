@@ -2,6 +2,7 @@
 
 ghost use Rattle.std.specs.Prelude.{◌≡◌, ◌<◌, ◌++◌, List, IfErr, OnOk};
 ghost use Rattle.std.specs.Io.KnownBytes.{Appends};
+ghost use Rattle.mx_app_start.specs.Failure.{PrintsFront};
 ghost use Rattle.mx_app_start.specs.Machine.{world_of};
 ghost use Rattle.mx_app_start.specs.Report.{report_text};
 ghost use Rattle.mx_app_start.specs.Service.{Service};
@@ -15,7 +16,7 @@ ghost use Rattle.mx_machine.specs.World.{actors};
 ghost use Rattle.mx_app_step.specs.Kept.{event_of_line, kept_by};
 ghost use Rattle.mx_app_step.specs.Lines.{line_made, lines_made};
 ghost use Rattle.mx_app_step.specs.Numbered.{answers_text};
-ghost use Rattle.mx_app_start.specs.Telling.{IsTold};
+ghost use Rattle.mx_app_start.specs.Telling.{IsTold, PrintsBefore};
 
 use crate::driving_lines::{Lines, Performs, print_lines};
 use crate::stepping::{make_event, make_steps};
@@ -84,7 +85,8 @@ pub struct NamedScript<'a> {
 }
 
 /// Starts a script's machine, prints the answer to each line of the script, after the line's number if answers
-/// are numbered, and then the report. What is printed before a failure isn't promised.
+/// are numbered, and then the report. Before a failure a front of this text is printed; nothing, if no machine is
+/// started.
 pub fn step<R: Reader, W: io::Write>(
     alloc: Global,
     reader: &mut R,
@@ -101,6 +103,12 @@ pub fn step<R: Reader, W: io::Write>(
     ensures fault { IfErr result (λ f. (qs : List Asked)
         × (R.asked reader.new ≡ R.asked reader.old ++ qs)
         × IsTold IsScript TellsScript named.entry.config.now named.entry.script.now qs f) }
+    ensures begun { IfErr result (λ _. PrintsBefore IsScript named.entry.config.now
+        named.entry.script.now (R.asked reader.old) (R.asked reader.new)
+        (λ text. Appends (W.contents out.old) (W.contents out.new) text)
+        (λ c vs said. let m = lines_made (world_at_boot c vs) c.cpus said in
+        PrintsFront (λ text. Appends (W.contents out.old) (W.contents out.new) text)
+        (answers_text named.entry.numbered m.0 ++ report_text m.1.table m.1.services))) }
 {
     let mut started = start::<Script, R>(alloc, reader, named.config, named.script)?;
     let lines = Lines {

@@ -1,4 +1,5 @@
-use Rattle.std.proofs.Common.{[], ◌∷◌, ◌++◌, ap, inl, inr, refl, subst, List, ℕ, ◌∙◌, ◌≡◌}
+use Rattle.std.proofs.Common.{[], ◌∷◌, ◌++◌, ap, inl, inr, refl, subst, sym, List, ℕ, ◌∙◌, ◌≡◌}
+use Rattle.std.proofs.lemmas.List.{append-nil}
 use Rattle.std.proofs.lemmas.Result.{IfErr-weaker, err_from_is_err_and, on_ok_weaker}
 use Rattle.std.specs.Io.KnownBytes.{Appends}
 use Rattle.mx_app_failure.specs.declared.failure.Failure.{Failure}
@@ -33,7 +34,7 @@ returns-clause-saved g c =
       c.in_ok-write_history.ensures.written ∙ ap (λ (k : BootAndHistory). g.F.FileWriter.written c.args.channels.now.files ++ kept c.args.log.now (text_kept k) ∷ [])
           (c.kernel.ensures ∙ script_kept m u _ _ other lines done ∙ ap (lines_kept m.kernel w other) items),
       subst (λ (ls : List ScriptLine). (let m = lines_made w other ls in Appends x z (answers_text c.args.numbered m.0 ++ report_text m.1.table m.1.services))) items
-          (lines_printed c.args.numbered x y z w (world_of u) other lines (script_said c.args.numbered x y (driven m _) other lines c.in_ok-print_said.ensures.printed) (script_world m u _ _ other lines done) b),
+          (lines_printed c.args.numbered x y z w (world_of u) other lines (script_said c.args.numbered (λ t. Appends x y t) (driven m _) other lines c.in_ok-print_said.ensures.printed) (script_world m u _ _ other lines done) b),
     )) c.print_report.ensures.bytes
 
 -- what isn't written isn't saved
@@ -42,6 +43,11 @@ unsaved name text ws f h = elim h [
   | inl none ↦ inl (none.0, inr none.1)
   | inr file ↦ inr (inl file)
 ]
+
+pub returns-in_err-print_said-clause-unsaved : goal.returns-in_err-print_said-clause-unsaved
+returns-in_err-print_said-clause-unsaved g c =
+    let p = err_from_is_err_and c.from_residual.result c.from_residual.ensures.1 in
+    rw (p.1, p.2) ([], sym (append-nil _), inl (refl, c.in_err-print_said.ensures.err))
 
 pub returns-in_err-write_history-clause-unsaved : goal.returns-in_err-write_history-clause-unsaved
 returns-in_err-write_history-clause-unsaved g c =

@@ -1,6 +1,7 @@
 use Rattle.std.proofs.Common.{[], ◌∷◌, ◌++◌, inl, inr, subst, ap, sym, ◌∙◌, List, ℕ, refl}
 use Rattle.std.proofs.lemmas.List.{append-nil}
 use Rattle.std.proofs.lemmas.Result.{IfErr-weaker, err_from_is_err_and, on_ok_weaker}
+use Rattle.std.specs.Io.KnownBytes.{Appends}
 use Rattle.mx_app_start.specs.Config.{Config}
 use Rattle.mx_app_start.specs.Machine.{world_of}
 use Rattle.mx_app_start.specs.Programs.{names_program}
@@ -29,7 +30,7 @@ returns-clause-saved g c =
       s.4,
       config ∙ b.0,
       b.1 ∙ ap (λ (t : List ℕ). g.F.FileWriter.written c.args.channels.now.files ++ kept c.args.log.now t ∷ []) text,
-      script_printed c.args.named.numbered (g.W.Write.contents c.args.channels.now.out) (g.W.Write.contents c.step_started.new.channels.out) s.1 s.2 (world_of c.in_ok-started.started.machine) c.in_ok-started.started.other c.in_ok-started.started.lines.items c.in_ok-started.started.lines.items s.5 s.6 refl b.2,
+      script_printed c.args.named.numbered (λ t. Appends (g.W.Write.contents c.args.channels.now.out) (g.W.Write.contents c.step_started.new.channels.out) t) s.1 s.2 (world_of c.in_ok-started.started.machine) c.in_ok-started.started.other c.in_ok-started.started.lines.items c.in_ok-started.started.lines.items s.5 s.6 refl b.2,
     )) c.step_started.ensures.saved
 
 pub returns-clause-fault : goal.returns-clause-fault
