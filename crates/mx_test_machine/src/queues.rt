@@ -262,6 +262,27 @@ impl Plain {
         Some(found?.1)
     }
 
+    /// The slot at a place among the ready ones of a level.
+    fn ready_at(&self, level: u8, place: u8) -> Option<Slot> {
+        let mut left = place;
+        for entry in &self.ready {
+            if entry.0 == level {
+                if left == 0 {
+                    return Some(entry.1);
+                }
+                left -= 1;
+            }
+        }
+        None
+    }
+
+    fn waiting_at(&self, place: u8) -> Option<Slot> {
+        match self.waits.get(place as usize) {
+            Some(pair) => Some(pair.0),
+            None => None,
+        }
+    }
+
     fn next(&self, from: Slot) -> Option<Slot> {
         for pair in &self.waits {
             if pair.0 == from {
@@ -487,17 +508,21 @@ fn next_event(plain: &Plain, numbers: &mut Numbers) -> (Slot, Deed) {
 }
 
 /// Whether both have a slot alike: its state and level, as the report prints them, whom it sends
-/// to, its first caller, and the one that another slot is.
+/// to, its first caller, and the one that another slot is. And whether the same slots stand at the
+/// place of its number, among the ready ones of a level and among those that send.
 fn is_alike(rt: &impl Abort, table: &Table, plain: &Plain, slot: Slot, other: Slot) -> bool {
     assert!(rt; slot < table.slot_count());
     let process = table.process(slot);
     let only = Partner::Only(Source::Slot(other));
+    let level = other % 16;
     process.state == plain.state(slot)
         && process.schedule.level == plain.level(slot)
         && table.next(slot) == plain.next(slot)
         && table.caller(slot, Partner::Any) == plain.caller(slot, None)
         && table.caller(slot, only) == plain.caller(slot, Some(other))
         && table.reaches(slot, other) == plain.leads(slot, other)
+        && table.ready_at(level, slot) == plain.ready_at(level, slot)
+        && table.waiting_at(slot) == plain.waiting_at(slot)
 }
 
 fn are_alike(rt: &impl Abort, table: &Table, plain: &Plain, other: Slot) -> bool {
