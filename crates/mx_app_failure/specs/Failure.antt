@@ -141,6 +141,10 @@ failure_line NoMemory = codes "mx: 90 NoMemory"
 abbrev pub IsWanting : Kind → Type 0
 IsWanting f = ((p : OutputProblem) × (f ≡ Output p)) ⊎ (f ≡ NoMemory)
 
+-- a front of this text is printed, at most all of it
+abbrev pub PrintsFront : (List ℕ → Type 0) → List ℕ → Type 0
+PrintsFront Prints text = (front : List ℕ) × (rest : List ℕ) × (text ≡ front ++ rest) × Prints front
+
 -- no line can be typed: standard input gives nothing, or too little memory
 abbrev pub IsUntyped : Kind → Type 0
 IsUntyped f = (f ≡ Input) ⊎ (f ≡ NoMemory)

@@ -53,6 +53,10 @@ pub err_always : {A E : Type 0} (r : Result A E) (X : Type 0) → X → IfErr r 
 err_always (Ok a) X h = tt
 err_always (Err e) X h = h
 
+pub err_both : {A E : Type 0} (r : Result A E) (P Q : E → Type 0) → IfErr r P → IfErr r Q → IfErr r (λ e. P e × Q e)
+err_both (Ok a) P Q h g = tt
+err_both (Err e) P Q h g = (h, g)
+
 pub ok_always : {A E : Type 0} (r : Result A E) (X : Type 0) → X → OnOk r X
 ok_always (Ok a) X h = h
 ok_always (Err e) X h = tt

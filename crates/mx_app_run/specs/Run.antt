@@ -98,7 +98,7 @@ abbrev pub ReportsRun : List ℕ → List ℕ → List ℕ → List Written → 
     → Result RunEnding Kind → Type 0
 ReportsRun log text report ws Prints ending (Ok answered) =
     (ws ≡ kept log text ∷ []) × Prints report × (answered ≡ ending)
-ReportsRun log text report ws Prints ending (Err f) = IsUnreported log text ws Prints f
+ReportsRun log text report ws Prints ending (Err f) = IsUnreported log text report ws Prints f
 
 -- WHAT A RUN OF WHAT WAS READ COMES TO: it answers that there is no memory for it, and prints nothing; or the run is
 -- reported, with the report on the replay of its history

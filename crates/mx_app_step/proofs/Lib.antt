@@ -1,4 +1,5 @@
 pub mod PieceLemmas
+pub mod FrontLemmas
 pub mod DrivingLemmas
 pub mod ScriptLemmas
 pub mod StepLemmas

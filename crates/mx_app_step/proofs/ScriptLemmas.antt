@@ -46,15 +46,15 @@ script_world {P} m u p q o ls h = ap (λ (d : Driven P). d.world) (sym h) ∙ wo
 pub script_kept : {P : Type 0} (m u : MachineState) (p q : P) (o : ℕ) (ls : List ScriptLine) → lines_done (script_does o) (driven m p) ls ≡ driven u q → u.kernel ≡ lines_kept m.kernel (world_of m) o ls
 script_kept {P} m u p q o ls h = ap (λ (d : Driven P). d.kernel) (sym h) ∙ kernel_done o ls (driven m p)
 
-pub script_said : {P : Type 0} (numbered : Bool) (x y : Option (List ℕ)) (d : Driven P) (o : ℕ) (ls : List ScriptLine)
-    → Appends x y (lines_text (script_does o) (script_prints o) numbered 1 d ls) → Appends x y (answers_text numbered (lines_made d.world o ls).0)
-script_said numbered x y d o ls h = subst (λ (t : List ℕ). Appends x y t) (text_told numbered o ls d) h
+pub script_said : {P : Type 0} (numbered : Bool) (Prints : List ℕ → Type 0) (d : Driven P) (o : ℕ) (ls : List ScriptLine)
+    → Prints (lines_text (script_does o) (script_prints o) numbered 1 d ls) → Prints (answers_text numbered (lines_made d.world o ls).0)
+script_said numbered Prints d o ls h = subst Prints (text_told numbered o ls d) h
 
-pub script_reported : {P : Type 0} (numbered : Bool) (x y : Option (List ℕ)) (d : Driven P) (o : ℕ) (ls : List ScriptLine)
-    → (let e = lines_done (script_does o) d ls in Appends x y (lines_text (script_does o) (script_prints o) numbered 1 d ls ++ report_text e.world.table e.world.services))
-    → (let u = lines_made d.world o ls in Appends x y (answers_text numbered u.0 ++ report_text u.1.table u.1.services))
-script_reported numbered x y d o ls h =
+pub script_reported : {P : Type 0} (numbered : Bool) (Prints : List ℕ → Type 0) (d : Driven P) (o : ℕ) (ls : List ScriptLine)
+    → (let e = lines_done (script_does o) d ls in Prints (lines_text (script_does o) (script_prints o) numbered 1 d ls ++ report_text e.world.table e.world.services))
+    → (let u = lines_made d.world o ls in Prints (answers_text numbered u.0 ++ report_text u.1.table u.1.services))
+script_reported numbered Prints d o ls h =
     let report : World → List ℕ = λ w. report_text w.table w.services in
     let told : List ℕ = lines_text (script_does o) (script_prints o) numbered 1 d ls in
-    subst (λ (t : List ℕ). Appends x y t)
+    subst Prints
     (ap (λ (w : World). told ++ report w) (world_done o ls d) ∙ ap (λ (t : List ℕ). t ++ report (lines_made d.world o ls).1) (text_told numbered o ls d)) h

@@ -1,5 +1,5 @@
 -- What is printed of records, one more.
-use Rattle.std.proofs.Common.{◌≡◌, ◌∙◌, ◌<◌, ◌≤◌, ℕ, ◌+◌, ◌-◌, List, [], ◌∷◌, ◌++◌, length, take, get_or, append_assoc, Option, None, All, ap, sym, subst, arith}
+use Rattle.std.proofs.Common.{◌≡◌, ◌∙◌, ◌<◌, ◌≤◌, ℕ, zero, suc, ◌+◌, ◌-◌, List, [], ◌∷◌, ◌++◌, length, take, get_or, append_assoc, Option, None, All, ap, inr, refl, sym, subst, arith}
 use Rattle.std.proofs.KnownBytes.{Appends-trans}
 use Rattle.std.proofs.lemmas.List.{append-nil, take_more, take_all, length-take-le}
 use Rattle.std.proofs.lemmas.List.Elements.{All-take}
@@ -15,11 +15,14 @@ use Rattle.mx_look.specs.declared.glance.Glance.{Glance}
 use Rattle.mx_look.specs.Glances.{glance_of}
 use Rattle.mx_look.specs.declared.transition.Transition.{Transition}
 use Rattle.mx_app_start.specs.Config.{Config}
+use Rattle.mx_app_start.specs.Failure.{PrintsFront}
+use Rattle.mx_app_start.specs.Log.{lines_above}
 use Rattle.mx_app_start.specs.Service.{Service}
 use Rattle.mx_machine.specs.Boot.{world_at_boot}
 use Rattle.mx_app_step.specs.declared.records.Replayed.{Replayed}
-use Rattle.mx_app_step.specs.Records.{IsRefusedAt}
-use Rattle.mx_app_step.specs.Traces.{steps_before, transition_of, told_of, trace_text, IsTracePrinted}
+use Rattle.mx_app_step.specs.Records.{IsRefusedAt, refused_record_line}
+use Rattle.mx_app_step.specs.Traces.{steps_before, transition_of, told_of, trace_text, IsTraceBegun, IsTracePrinted}
+use Rattle.mx_app_step.proofs.FrontLemmas.{front_after, front_more}
 use Rattle.mx_app_step.proofs.RecordLemmas.{after_both}
 use Rattle.mx_walk.specs.Positions.{HasMade, own_event, steps_in, steps_of}
 use Rattle.mx_walk.proofs.EventsIn.{parts_of}
@@ -39,16 +42,21 @@ trace_more from w n k (y ∷ ys) x e =
     ∙ sym (append_assoc (told_of from (transition_of w n y)) (trace_text from u (n + 1) ys) (told_of from (transition_of (world_after_events u (events_of_history ys)) k x)))
     ∙ ap (λ (v : World). (told_of from (transition_of w n y) ++ trace_text from u (n + 1) ys) ++ told_of from (transition_of v k x)) (sym (after_both w (events_of y.actor y.event) (events_of_history ys)))
 
+one_more_traced : (from : ℕ) (w v : World) (records : List Record) (i n : ℕ) (d : Record) (x : Transition) → i < length records
+    → n ≡ i + 1 → v ≡ world_after_events w (events_of_history (take i records)) → x ≡ transition_of v n (get_or records i d)
+    → trace_text from w 1 (take i records) ++ told_of from x ≡ trace_text from w 1 (take (i + 1) records)
+one_more_traced from w v records i n d x within e world is =
+    let at : n ≡ 1 + length (take i records) = omega (arith, e, length-take-le i records (omega arith)) in
+    ap (λ (s : Transition). trace_text from w 1 (take i records) ++ told_of from s) (is ∙ ap (λ (y : World). transition_of y n (get_or records i d)) world)
+    ∙ sym (ap (λ (rs : List Record). trace_text from w 1 rs) (take_more records i d within) ∙ trace_more from w 1 n (take i records) (get_or records i d) at)
+
 pub next_printed : (from : ℕ) (w v : World) (records : List Record) (i n : ℕ) (d : Record) (x : Transition) (a b c : Option (List ℕ)) → i < length records
     → n ≡ i + 1 → v ≡ world_after_events w (events_of_history (take i records)) → x ≡ transition_of v n (get_or records i d)
     → Appends a b (trace_text from w 1 (take i records)) → Appends b c (told_of from x)
     → Appends a c (trace_text from w 1 (take (i + 1) records))
 next_printed from w v records i n d x a b c within e world is so_far more =
-    let at : n ≡ 1 + length (take i records) = omega (arith, e, length-take-le i records (omega arith)) in
-    let same : trace_text from w 1 (take i records) ++ told_of from x ≡ trace_text from w 1 (take (i + 1) records) =
-    ap (λ (s : Transition). trace_text from w 1 (take i records) ++ told_of from s) (is ∙ ap (λ (y : World). transition_of y n (get_or records i d)) world)
-    ∙ sym (ap (λ (rs : List Record). trace_text from w 1 rs) (take_more records i d within) ∙ trace_more from w 1 n (take i records) (get_or records i d) at) in
-    subst (λ (t : List ℕ). Appends a c t) same (Appends-trans a b c (trace_text from w 1 (take i records)) (told_of from x) so_far more)
+    subst (λ (t : List ℕ). Appends a c t) (one_more_traced from w v records i n d x within e world is)
+    (Appends-trans a b c (trace_text from w 1 (take i records)) (told_of from x) so_far more)
 
 -- ---- what is looked at
 
@@ -89,6 +97,48 @@ pub trace_printed : (Prints : List ℕ → Type 0) (c : Config) (vs : List Servi
     → slice ≡ take to records → w ≡ world_at_boot c vs → IsTracePrinted w slice from replayed Prints → IsTracePrinted (world_at_boot c vs) (take to records) from replayed Prints
 trace_printed Prints c vs records slice w from to replayed same e h =
     subst (λ (v : World). IsTracePrinted v (take to records) from replayed Prints) e (subst (λ (rs : List Record). IsTracePrinted w rs from replayed Prints) same h)
+
+pub trace_begun : (Prints : List ℕ → Type 0) (c : Config) (vs : List Service) (records slice : List Record) (w : World) (from to : ℕ)
+    → slice ≡ take to records → w ≡ world_at_boot c vs → IsTraceBegun w slice from Prints → IsTraceBegun (world_at_boot c vs) (take to records) from Prints
+trace_begun Prints c vs records slice w from to same e h =
+    subst (λ (v : World). IsTraceBegun v (take to records) from Prints) e (subst (λ (rs : List Record). IsTraceBegun w rs from Prints) same h)
+
+-- ---- a front of it
+
+-- the trace of the first records is a front of that of all
+some_traced : (from : ℕ) (w : World) (n : ℕ) (xs : List Record) (i : ℕ) → (rest : List ℕ) × (trace_text from w n xs ≡ trace_text from w n (take i xs) ++ rest)
+some_traced from w n xs zero = (trace_text from w n xs, refl)
+some_traced from w n [] (suc i) = ([], refl)
+some_traced from w n (x ∷ xs) (suc i) =
+    let u = world_after_events w (events_of x.actor x.event) in
+    let first = told_of from (transition_of w n x) in
+    let h = some_traced from u (n + 1) xs i in
+    (h.0, ap (λ t. first ++ t) h.1 ∙ sym (append_assoc first (trace_text from u (n + 1) (take i xs)) h.0))
+
+-- and so is that of some, and of a front of one more
+pub front_traced : (from : ℕ) (w v : World) (records : List Record) (i n : ℕ) (d : Record) (x : Transition) (a b c : Option (List ℕ))
+    → i < length records → n ≡ i + 1 → v ≡ world_after_events w (events_of_history (take i records)) → x ≡ transition_of v n (get_or records i d)
+    → Appends a b (trace_text from w 1 (take i records)) → PrintsFront (λ t. Appends b c t) (told_of from x)
+    → PrintsFront (λ t. Appends a c t) (trace_text from w 1 records)
+front_traced from w v records i n d x a b c within e world is so_far more =
+    let some = some_traced from w 1 records (i + 1) in
+    subst (λ (t : List ℕ). PrintsFront (λ s. Appends a c s) t) (sym some.1)
+    (front_more _ (trace_text from w 1 (take (i + 1) records)) some.0
+    (subst (λ (t : List ℕ). PrintsFront (λ s. Appends a c s) t) (one_more_traced from w v records i n d x within e world is)
+    (front_after a b c (trace_text from w 1 (take i records)) (told_of from x) so_far more)))
+
+-- the refusal's line in part, after a trace
+pub line_begun : (w : World) (records : List Record) (from n : ℕ) (r : Refusal) (a b c : Option (List ℕ)) (line : ℕ) → line ≡ lines_above w.table.rules + n
+    → IsRefusedAt w records n r → Appends a b (trace_text from w 1 (take (n - 1) records)) → PrintsFront (λ t. Appends b c t) (refused_record_line line r)
+    → IsTraceBegun w records from (λ t. Appends a c t)
+line_begun w records from n r a b c line is refused traced begun =
+    inr (
+      n,
+      r,
+      refused,
+      front_after a b c (trace_text from w 1 (take (n - 1) records)) (refused_record_line (lines_above w.table.rules + n) r) traced
+          (subst (λ k. PrintsFront (λ t. Appends b c t) (refused_record_line k r)) is begun),
+    )
 
 pub front_by_actors : (P : Record → Type 0) (records slice : List Record) (to : ℕ) → slice ≡ take to records → All P records → All P slice
 front_by_actors P records slice to same h =

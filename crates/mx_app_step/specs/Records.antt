@@ -1,6 +1,7 @@
 -- How far a history replays (our own).
 use Rattle.std.specs.Prelude.{◌≡◌, ◌⊎◌, ℕ, ◌+◌, List, [], ◌∷◌, ◌++◌, length, codes, Some, None}
 use Rattle.std.specs.Fmt.{decimal}
+use Rattle.mx_app_start.specs.Failure.{PrintsFront}
 use Rattle.mx_app_start.specs.Log.{lines_above}
 use Rattle.mx_app_start.specs.Report.{report_text}
 use Rattle.mx_machine.specs.declared.events.Event.{Event}
@@ -39,3 +40,7 @@ IsReplayPrinted w records replayed.Whole Prints =
     × (let u = world_after_events w (events_of_history records) in Prints (report_text u.table u.services))
 IsReplayPrinted w records replayed.Refused Prints =
     (n : ℕ) × (r : Refusal) × IsRefusedAt w records n r × Prints (refused_record_line (lines_above w.table.rules + n) r)
+
+-- a front of it is printed
+abbrev pub IsReplayBegun : World → List Record → (List ℕ → Type 0) → Type 0
+IsReplayBegun w records Prints = (how : Replayed) × IsReplayPrinted w records how (PrintsFront Prints)

@@ -1,5 +1,6 @@
 -- What `mx trace` prints of a history, record by record (our own).
-use Rattle.std.specs.Prelude.{◌≡◌, ℕ, ◌+◌, ◌-◌, nat_lt, if◌then◌else◌, List, [], ◌∷◌, ◌++◌, take, Option, Some, None}
+use Rattle.std.specs.Prelude.{◌≡◌, ◌⊎◌, ℕ, ◌+◌, ◌-◌, nat_lt, if◌then◌else◌, List, [], ◌∷◌, ◌++◌, take, Option, Some, None}
+use Rattle.mx_app_start.specs.Failure.{PrintsFront}
 use Rattle.mx_app_start.specs.Log.{lines_above}
 use Rattle.mx_machine.specs.declared.events.Event.{Event}
 use Rattle.mx_machine.specs.declared.events.Refusal.{Refusal}
@@ -64,6 +65,11 @@ IsTracePrinted w records from replayed.Whole Prints =
 IsTracePrinted w records from replayed.Refused Prints =
     (n : ℕ) × (r : Refusal) × IsRefusedAt w records n r
     × Prints (trace_text from w 1 (take (n - 1) records) ++ refused_record_line (lines_above w.table.rules + n) r)
+
+-- a front of the trace of all records is printed, or of what is printed up to one that is refused
+abbrev pub IsTraceBegun : World → List Record → ℕ → (List ℕ → Type 0) → Type 0
+IsTraceBegun w records from Prints =
+    PrintsFront Prints (trace_text from w 1 records) ⊎ IsTracePrinted w records from replayed.Refused (PrintsFront Prints)
 
 -- TWO PARTS OF A TRACE JOIN: what is printed from a to b, and then from the record after b to c, is what is printed
 -- from a to c

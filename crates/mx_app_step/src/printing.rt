@@ -2,7 +2,7 @@
 
 ghost use Rattle.std.specs.Prelude.{IfErr, OnOk, string_bytes};
 ghost use Rattle.std.specs.Io.KnownBytes.{Appends};
-ghost use Rattle.mx_app_start.specs.Failure.{IsWanting};
+ghost use Rattle.mx_app_start.specs.Failure.{IsWanting, PrintsFront};
 ghost use Rattle.mx_app_start.specs.Machine.{world_of};
 ghost use Rattle.mx_app_start.specs.Report.{report_text};
 ghost use Rattle.mx_machine.specs.History.{replay};
@@ -21,6 +21,8 @@ const PIECE: usize = 1 << 16;
 /// at the end is still to be printed.
 pub(crate) fn print_piece<W: Write>(text: &mut String, out: &mut W) -> Result<(), Failure>
     ensures err { IfErr result IsWanting }
+    ensures front { IfErr result (λ _. PrintsFront
+        (λ front. Appends (W.contents out.old) (W.contents out.new) front) (string_bytes text.old)) }
     ensures printed { OnOk result (IsPrintedBut (W.contents out.old) (W.contents out.new)
         (string_bytes text.new) (string_bytes text.old)) }
 {
@@ -33,13 +35,16 @@ pub(crate) fn print_piece<W: Write>(text: &mut String, out: &mut W) -> Result<()
 }
 
 /// Prints the report on a kernel's processes, and flushes. After an error, which is memory or the output,
-/// a part of it may be printed.
+/// a front of it is printed.
 pub fn print_kernel_report<W: Write>(
     alloc: Global,
     kernel: &Kernel,
     out: &mut W,
 ) -> Result<(), Failure>
     ensures err { IfErr result IsWanting }
+    ensures front { IfErr result (λ _. PrintsFront
+        (λ front. Appends (W.contents out.old) (W.contents out.new) front)
+        (report_text (replay kernel.now).table (replay kernel.now).services)) }
     ensures bytes { OnOk result (Appends (W.contents out.old) (W.contents out.new)
         (report_text (replay kernel.now).table (replay kernel.now).services)) }
 {
@@ -54,6 +59,9 @@ pub(crate) fn print_report<W: Write>(
     out: &mut W,
 ) -> Result<(), Failure>
     ensures err { IfErr result IsWanting }
+    ensures front { IfErr result (λ _. PrintsFront
+        (λ front. Appends (W.contents out.old) (W.contents out.new) front)
+        (report_text (world_of machine.now).table (world_of machine.now).services)) }
     ensures bytes { OnOk result (Appends (W.contents out.old) (W.contents out.new)
         (report_text (world_of machine.now).table (world_of machine.now).services)) }
 {

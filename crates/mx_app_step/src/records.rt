@@ -2,7 +2,7 @@
 
 ghost use Rattle.std.specs.Prelude.{◌≡◌, ◌<◌, ◌≤◌, ◌++◌, List, All, length, IfOk, IfErr, OnOk, string_bytes};
 ghost use Rattle.std.specs.Io.KnownBytes.{Appends};
-ghost use Rattle.mx_app_start.specs.Failure.{IsWanting};
+ghost use Rattle.mx_app_start.specs.Failure.{IsWanting, PrintsFront};
 ghost use Rattle.mx_app_start.specs.Machine.{world_of};
 ghost use Rattle.mx_app_start.specs.Report.{report_text};
 ghost use Rattle.mx_app_start.specs.Service.{Service};
@@ -15,7 +15,7 @@ ghost use Rattle.mx_machine.specs.Boot.{world_at_boot};
 ghost use Rattle.mx_machine.specs.History.{AreAccepted, world_after_events, events_of_history};
 ghost use Rattle.mx_machine.specs.World.{actors};
 ghost use Rattle.mx_app_step.specs.Kept.{kept_of};
-ghost use Rattle.mx_app_step.specs.Records.{IsReplayPrinted, IsRefusedAt, refused_record_line};
+ghost use Rattle.mx_app_step.specs.Records.{IsReplayBegun, IsReplayPrinted, IsRefusedAt, refused_record_line};
 ghost use Rattle.mx_app_start.specs.Telling.{IsTold};
 
 use crate::printing::print_report;
@@ -76,6 +76,9 @@ pub fn print_refusal<W: Write>(
     out: &mut W,
 ) -> Result<(), Failure>
     ensures err { IfErr result IsWanting }
+    ensures front { IfErr result (λ _. PrintsFront
+        (λ front. Appends (W.contents out.old) (W.contents out.new) front)
+        (refused_record_line number refusal)) }
     ensures bytes { OnOk result (Appends (W.contents out.old) (W.contents out.new)
         (refused_record_line number refusal)) }
 {
@@ -93,6 +96,8 @@ fn print_records<W: Write>(
 ) -> Result<Replayed, Failure>
     requires { All (λ (x : Noted). x.actor < actors (world_of machine.old)) records.now }
     ensures err { IfErr result IsWanting }
+    ensures begun { IfErr result (λ _. IsReplayBegun (world_of machine.old) records.now (λ text.
+        Appends (W.contents out.old) (W.contents out.new) text)) }
     ensures printed { IfOk result (λ replayed.
         IsReplayPrinted (world_of machine.old) records.now replayed (λ text.
         Appends (W.contents out.old) (W.contents out.new) text)) }
@@ -112,7 +117,7 @@ fn print_records<W: Write>(
 
 /// Starts a machine by the names of its configuration and of a saved history, replays the history, and
 /// prints the report. At an event that is refused it prints the number of the record's line and the
-/// refusal instead.
+/// refusal instead. Before a failure a front of this is printed; nothing, if no machine is started.
 pub fn replay<R: Reader, W: Write>(
     alloc: Global,
     reader: &mut R,
@@ -128,7 +133,10 @@ pub fn replay<R: Reader, W: Write>(
         Appends (W.contents out.old) (W.contents out.new) text)) }
     ensures fault { IfErr result (λ f. (qs : List Asked)
         × (R.asked reader.new ≡ R.asked reader.old ++ qs)
-        × IsTold IsSaved TellsSaved config.now log.now qs f) }
+        × IsTold IsSaved TellsSaved config.now log.now qs
+        (λ text. Appends (W.contents out.old) (W.contents out.new) text)
+        (λ c vs records. IsReplayBegun (world_at_boot c vs) records
+        (λ text. Appends (W.contents out.old) (W.contents out.new) text)) f) }
 {
     let mut started = start::<History, R>(alloc, reader, config, log)?;
     let records = started.lines.as_slice();

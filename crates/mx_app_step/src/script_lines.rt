@@ -2,6 +2,7 @@
 
 ghost use Rattle.std.specs.Prelude.{◌≡◌, ◌<◌, ◌++◌, List, IfErr, OnOk};
 ghost use Rattle.std.specs.Io.KnownBytes.{Appends};
+ghost use Rattle.mx_app_start.specs.Failure.{PrintsFront};
 ghost use Rattle.mx_app_start.specs.Machine.{world_of};
 ghost use Rattle.mx_app_start.specs.Report.{report_text};
 ghost use Rattle.mx_app_start.specs.Service.{Service};
@@ -84,7 +85,8 @@ pub struct NamedScript<'a> {
 }
 
 /// Starts a script's machine, prints the answer to each line of the script, after the line's number if answers
-/// are numbered, and then the report. What is printed before a failure isn't promised.
+/// are numbered, and then the report. Before a failure a front of this text is printed; nothing, if no machine is
+/// started.
 pub fn step<R: Reader, W: io::Write>(
     alloc: Global,
     reader: &mut R,
@@ -100,7 +102,11 @@ pub fn step<R: Reader, W: io::Write>(
         ++ report_text m.1.table m.1.services))) }
     ensures fault { IfErr result (λ f. (qs : List Asked)
         × (R.asked reader.new ≡ R.asked reader.old ++ qs)
-        × IsTold IsScript TellsScript named.entry.config.now named.entry.script.now qs f) }
+        × IsTold IsScript TellsScript named.entry.config.now named.entry.script.now qs
+        (λ text. Appends (W.contents out.old) (W.contents out.new) text)
+        (λ c vs said. let m = lines_made (world_at_boot c vs) c.cpus said in
+        PrintsFront (λ text. Appends (W.contents out.old) (W.contents out.new) text)
+        (answers_text named.entry.numbered m.0 ++ report_text m.1.table m.1.services)) f) }
 {
     let mut started = start::<Script, R>(alloc, reader, named.config, named.script)?;
     let lines = Lines {

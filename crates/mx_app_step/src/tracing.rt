@@ -2,7 +2,7 @@
 
 ghost use Rattle.std.specs.Prelude.{◌≡◌, ◌<◌, ◌^◌, ◌++◌, ◌≤◌, List, All, IfOk, IfErr, IfSome, OnOk, length, take};
 ghost use Rattle.std.specs.Io.KnownBytes.{Appends};
-ghost use Rattle.mx_app_start.specs.Failure.{IsWanting};
+ghost use Rattle.mx_app_start.specs.Failure.{IsWanting, PrintsFront};
 ghost use Rattle.mx_app_start.specs.Machine.{world_of};
 ghost use Rattle.mx_app_start.specs.Service.{Service};
 ghost use Rattle.mx_app_start.specs.Config.{Config};
@@ -15,7 +15,7 @@ ghost use Rattle.mx_machine.specs.Boot.{world_at_boot};
 ghost use Rattle.mx_machine.specs.History.{AreAccepted, world_after_events, events_of};
 ghost use Rattle.mx_machine.specs.World.{actors};
 ghost use Rattle.mx_app_step.specs.Records.{IsFirstRefusal};
-ghost use Rattle.mx_app_step.specs.Traces.{IsTracePrinted, IsTraced, resting_transition, transition_of, told_of};
+ghost use Rattle.mx_app_step.specs.Traces.{IsTraceBegun, IsTracePrinted, IsTraced, resting_transition, trace_text, transition_of, told_of};
 
 use crate::records::{Replayed, print_refusal};
 use mx_app_failure::{Failure, print_text};
@@ -78,6 +78,9 @@ fn print_transition<W: Write>(
     out: &mut W,
 ) -> Result<(), Failure>
     ensures err { IfErr result IsWanting }
+    ensures front { IfErr result (λ _. PrintsFront
+        (λ front. Appends (W.contents out.old) (W.contents out.new) front)
+        (told_of from transition.now)) }
     ensures bytes { OnOk result (Appends (W.contents out.old) (W.contents out.new)
         (told_of from transition.now)) }
 {
@@ -100,6 +103,9 @@ fn print_transitions<W: Write>(
     requires few { length records.now < 2 ^ 32 }
     requires actors { All (λ (x : Noted). x.actor < actors (world_of machine.old)) records.now }
     ensures err { IfErr result IsWanting }
+    ensures front { IfErr result (λ _. PrintsFront
+        (λ front. Appends (W.contents out.old) (W.contents out.new) front)
+        (trace_text from (world_of machine.old) 1 records.now)) }
     ensures printed { IfOk result (λ refused.
         IsTraced (world_of machine.old) records.now from refused (λ text.
         Appends (W.contents out.old) (W.contents out.new) text)) }
@@ -129,6 +135,8 @@ fn print_trace<W: Write>(
     requires few { length records.now < 2 ^ 32 }
     requires actors { All (λ (x : Noted). x.actor < actors (world_of machine.old)) records.now }
     ensures err { IfErr result IsWanting }
+    ensures begun { IfErr result (λ _. IsTraceBegun (world_of machine.old) records.now from
+        (λ text. Appends (W.contents out.old) (W.contents out.new) text)) }
     ensures printed { IfOk result (λ replayed.
         IsTracePrinted (world_of machine.old) records.now from replayed (λ text.
         Appends (W.contents out.old) (W.contents out.new) text)) }
@@ -168,7 +176,7 @@ pub struct HistoryPart<'a> {
 
 /// Starts the machine of a saved history, makes its records up to `to`, and prints what each did, beginning
 /// with record `from`. At an event that is refused it prints the number of the record's line and the
-/// refusal.
+/// refusal. Before a failure a front of this is printed; nothing, if no machine is started.
 pub fn trace<R: Reader, W: Write>(
     alloc: Global,
     reader: &mut R,
@@ -184,7 +192,10 @@ pub fn trace<R: Reader, W: Write>(
         Appends (W.contents out.old) (W.contents out.new) text)) }
     ensures fault { IfErr result (λ f. (qs : List Asked)
         × (R.asked reader.new ≡ R.asked reader.old ++ qs)
-        × IsTold IsSaved TellsSaved chosen.entry.config.now chosen.entry.log.now qs f) }
+        × IsTold IsSaved TellsSaved chosen.entry.config.now chosen.entry.log.now qs
+        (λ text. Appends (W.contents out.old) (W.contents out.new) text)
+        (λ c vs records. IsTraceBegun (world_at_boot c vs) (take chosen.entry.to records)
+        chosen.entry.from (λ text. Appends (W.contents out.old) (W.contents out.new) text)) f) }
 {
     let mut started = start::<History, R>(alloc, reader, chosen.config, chosen.log)?;
     let records = first_records(started.lines.as_slice(), chosen.to);

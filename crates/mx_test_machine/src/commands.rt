@@ -17,16 +17,22 @@ use std::test::Fail;
 use std::thread::Threads;
 use std::time::Clock;
 
-/// Holds the bytes that it takes, of which those count that were flushed; or refuses each write.
+/// Holds the bytes that it takes, of which those count that were flushed; or refuses each write. A signal interrupts its
+/// first write.
 #[derive(Drop)]
 struct Sink {
     bytes: Vec<u8>,
     flushed: usize,
+    was_interrupted: bool,
     refusal: Option<io::ErrorKind>,
 }
 
 impl Write for Sink {
     fn write(&mut self, buf: &[u8]) -> io::Result<usize> {
+        if !self.was_interrupted {
+            self.was_interrupted = true;
+            return Err(io::Error::from(io::ErrorKind::Interrupted));
+        }
         match self.refusal {
             Some(kind) => Err(io::Error::from(kind)),
             None => self.bytes.write(buf),
@@ -60,6 +66,7 @@ fn memory_io(alloc: Global, refusal: Option<io::ErrorKind>) -> MemoryIo {
             out: Sink {
                 bytes: Vec::new(alloc),
                 flushed: 0,
+                was_interrupted: false,
                 refusal,
             },
         },

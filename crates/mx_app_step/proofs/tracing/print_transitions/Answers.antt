@@ -2,7 +2,8 @@ use Rattle.std.proofs.Common.{◌+◌, refl, take}
 use Rattle.mx_machine.specs.History.{events_of_history}
 use Rattle.mx_app_start.specs.Machine.{world_of}
 use Rattle.mx_app_step.proofs.RecordLemmas.{is_actor_still, next_accepted, next_world, refused_at}
-use Rattle.mx_app_step.proofs.TraceLemmas.{next_printed, refused_printed}
+use Rattle.mx_app_step.proofs.TraceLemmas.{front_traced, next_printed, refused_printed}
+use Rattle.mx_app_step.proofs.FrontLemmas.{err_always}
 use Rattle.mx_app_step.proofs.tracing.print_transitions.Goals as goal
 
 pub look_record-requires : goal.look_record-requires
@@ -32,3 +33,11 @@ loop-index-preserved g c =
       printed = next_printed c.args.from w v c.args.records.now i (i + 1) _ c.look_record.new.transition (g.W.Write.contents c.args.out.now) (g.W.Write.contents c.loop-index.out) (g.W.Write.contents c.print_transition.new.out)
           c.loop-index-test.true refl inv.world c.in-Ok.ensures.transition inv.printed c.in_ok-print_transition-in-Ok.ensures.bytes;
     }
+
+pub returns-in_err-print_transition-in-Ok-clause-front : goal.returns-in_err-print_transition-in-Ok-clause-front
+returns-in_err-print_transition-in-Ok-clause-front g c =
+    let inv = c.loop-index.invariant in
+    let i = c.loop-index.index in
+    err_always c.from_residual.result _
+    (front_traced c.args.from (world_of c.args.machine.now) (world_of c.loop-index.machine) c.args.records.now i (i + 1) _ c.look_record.new.transition (g.W.Write.contents c.args.out.now) (g.W.Write.contents c.loop-index.out) (g.W.Write.contents c.print_transition.new.out)
+    c.loop-index-test.true refl inv.world c.in-Ok.ensures.transition inv.printed c.in_err-print_transition-in-Ok.ensures.front)
