@@ -3,18 +3,17 @@ use Rattle.std.proofs.Common.{◌≡◌, ◌∙◌, ◌⊎◌, ◌<◌, ◌≤�
 use Rattle.std.proofs.lemmas.Bool.{cases_lt}
 use Rattle.mx_machine.specs.declared.events.Event.{Event}
 use Rattle.mx_machine.specs.declared.history.Record.{Record}
-use Rattle.mx_machine.specs.Move.{world_after_event}
 use Rattle.mx_machine.specs.World.{World}
 use Rattle.mx_walk.specs.declared.positions.Position.{Position}
-use Rattle.mx_walk.specs.Positions.{IsBefore, IsPosition, IsUpTo, next_event, events_before, first, is_up_to, next_position, position_before, world_at}
-use Rattle.mx_walk.specs.Seeking.{IsFirstMarked, IsLastMarked, IsPassed, is_marked}
+use Rattle.mx_walk.specs.Positions.{IsBefore, IsPosition, IsUpTo, next_event, events_before, first, is_up_to, next_position}
+use Rattle.mx_walk.specs.Seeking.{IsLastMarked, IsPassed, is_marked}
 use Rattle.mx_walk.specs.Walks.{Walk, world_here}
-use Rattle.mx_walk.proofs.Next.{has_event, next_up_to, not_itself, up_to_of, world_next}
+use Rattle.mx_walk.proofs.Next.{has_event, next_up_to, not_itself, up_to_of}
 use Rattle.mx_walk.proofs.Arriving.{begins}
 use Rattle.mx_app_look.proofs.Lists.{same_rest}
 use Rattle.mx_app_look.specs.declared.points.Points.{Points}
 use Rattle.mx_app_look.specs.Marks.{changes_watched, is_looked_for}
-use Rattle.mx_app_look.specs.Searches.{IsHalt, IsHaltAfter, IsHaltBy, IsLastHalt, IsNextHalt, changes_from, halt_by, is_break, next_made, not_met}
+use Rattle.mx_app_look.specs.Searches.{IsHaltAfter, IsHaltBy, IsLastHalt, IsNextHalt, changes_from, next_made, not_met}
 
 -- a walker that moved
 abbrev pub gone : Walk → Position → Walk

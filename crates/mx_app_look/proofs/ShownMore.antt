@@ -1,19 +1,15 @@
 -- What requests show.
-use Rattle.std.proofs.Common.{◌≡◌, ◌∙◌, ◌⊎◌, ◌≤◌, ◌<◌, ℕ, suc, ◌+◌, ◌-◌, cond, Bool, true, false, List, [], ◌++◌, append_assoc, Option, Some, None, Result, Ok, Err, IfErr, IfOk, OnOk, drop, find, get_or, length, slice_get, refl, ap, sym, subst, inl, inr, arith}
+use Rattle.std.proofs.Common.{◌≡◌, ◌∙◌, ◌⊎◌, ◌≤◌, ◌<◌, ℕ, suc, ◌+◌, ◌-◌, List, [], ◌++◌, append_assoc, Option, Some, None, Result, Ok, Err, IfErr, IfOk, OnOk, drop, find, get_or, length, slice_get, refl, ap, sym, subst, inl, inr, arith}
 use Rattle.std.specs.List.{range_with_len}
 use Rattle.std.proofs.lemmas.Bool.{cases_lt}
 use Rattle.std.proofs.lemmas.List.{append-nil}
-use Rattle.mx_machine.specs.declared.events.Event.{Event}
 use Rattle.mx_machine.specs.declared.history.Record.{Record}
-use Rattle.mx_machine.specs.Move.{world_after_event}
-use Rattle.mx_machine.specs.World.{World}
 use Rattle.mx_walk.specs.declared.positions.Position.{Position}
 use Rattle.mx_walk.specs.declared.progress.Part.{Part}
 use Rattle.mx_walk.specs.Parts.{HasGrown, parts_between, walk_between, walk_shown}
-use Rattle.mx_walk.specs.Walks.{Walk, shown_to, shown_way, world_here}
-use Rattle.mx_walk.specs.Positions.{IsPosition, IsUpTo, next_event, first, first_steps, is_up_to, next_position, position_before, steps_in, world_at}
-use Rattle.mx_walk.specs.Seeking.{IsFirstMarked, IsLastMarked, IsPassed, is_marked}
-use Rattle.mx_walk.proofs.Next.{world_next}
+use Rattle.mx_walk.specs.Walks.{Walk, shown_to, shown_way}
+use Rattle.mx_walk.specs.Positions.{IsPosition, IsUpTo, first, first_steps, next_position, steps_in}
+use Rattle.mx_walk.specs.Seeking.{IsLastMarked, IsPassed}
 use Rattle.mx_walk.proofs.PartsShown.{joined, none_between}
 use Rattle.mx_app_look.specs.declared.points.Points.{Points}
 use Rattle.mx_app_look.specs.declared.request.Request.{Request}

@@ -1,20 +1,18 @@
 -- Watched bytes stay as they were up to the event that changes them, so a search on can tell what that changed.
 use Rattle.std.proofs.Common.{◌≡◌, ◌∙◌, ◌⊎◌, ◌<◌, ◌+◌, ◌-◌, ℕ, Bool, true, false, cond, not, ◌||◌, ◌&&◌, nat_eq, List, [], ◌∷◌, ◌++◌, append_assoc, length, length-append, map, Option, Some, None, refl, ap, sym, subst, inl, inr, arith}
-use Rattle.std.specs.List.{flat_map, list_any}
+use Rattle.std.specs.List.{flat_map}
 use Rattle.std.proofs.lemmas.Bool.{eqb-true}
 use Rattle.mx_machine.specs.declared.events.Event.{Event}
 use Rattle.mx_machine.specs.declared.history.Record.{Record}
 use Rattle.mx_machine.specs.History.{world_after_events}
 use Rattle.mx_machine.specs.Move.{world_after_event}
-use Rattle.mx_machine.specs.World.{World, HeldProcess, held_by}
+use Rattle.mx_machine.specs.World.{World, held_by}
 use Rattle.mx_walk.specs.declared.halting.Halt.{Halt}
-use Rattle.mx_walk.specs.declared.halting.Halt.TheVariants as halts
 use Rattle.mx_walk.specs.declared.positions.Position.{Position}
 use Rattle.mx_walk.specs.declared.stopping.CodePlace.{CodePlace}
 use Rattle.mx_walk.specs.declared.watching.BytePlace.{BytePlace}
 use Rattle.mx_walk.specs.Halting.{HaltsAt, is_left_next}
-use Rattle.mx_walk.specs.Positions.{HasHalted, IsBefore, IsPosition, IsUpTo, events_before, next_event, next_position, position_before, world_at}
-use Rattle.mx_walk.specs.Running.{with_out}
+use Rattle.mx_walk.specs.Positions.{IsBefore, IsPosition, IsUpTo, events_before, next_event, next_position, position_before, world_at}
 use Rattle.mx_walk.specs.Seeking.{IsFirstMarked, IsPassed, NoneMarked, is_marked}
 use Rattle.mx_walk.specs.Several.{any_marks}
 use Rattle.mx_walk.specs.Stopping.{comes_any, is_step, leaves_any, stands_at, stands_at_any}

@@ -13,12 +13,12 @@ use Rattle.mx_walk.specs.Positions.{steps_in, steps_of}
 use Rattle.mx_walk.specs.Walks.{Walk}
 use Rattle.mx_walk.proofs.Made.{after_both}
 
--- a walk, but for its marks
+-- a walk, but for its checkpoints
 abbrev pub unmarked : Walk → Walk
-unmarked k = record k { marks = [] }
+unmarked k = record k { checkpoints = [] }
 
 abbrev made_of : World → List Record → Position → Position → Walk
-made_of boot records here last = record { boot = boot; records = records; here = here; last = last; marks = [] }
+made_of boot records here last = record { boot = boot; records = records; here = here; last = last; checkpoints = [] }
 
 pub same_walk : (j k : Walk) → j.boot ≡ k.boot → j.records ≡ k.records → j.here ≡ k.here → j.last ≡ k.last → unmarked j ≡ unmarked k
 same_walk j k boot records here last =
