@@ -4,7 +4,6 @@ from .machines import ASK, POKE, TAKE, TELL, WORK, bystanders, machine, plan, re
 ADD, READ = 1, 2
 SERVER = service("server", "server.out", send="fffe", calls="1", level=4)
 PAIR = {"left": 2, "right": 3}
-LEFT_FIRST, RIGHT_FIRST = (7, 7), (8, 7)  # levels of left and right: who comes first on one processor
 
 
 def totals(draw, name, actors, **more):
@@ -77,32 +76,31 @@ def pair_case(draw, name, cpus, levels, other=None, number=0):
             "want": {"states": {it: "down exit" for it in students}}}
 
 
-def with_strangers(draw, cpus, levels):
-    """A partner whose number is another one, in each place: so it is first, and second."""
+def with_strangers(draw, cpus):
+    """A partner whose number is another one, in each place. It is first or second."""
     for other, numbers in (("right", [1, 4, 5, 6, 7]), ("left", [1, 4, 5, 6])):
-        number = draw.choice(numbers)
-        yield pair_case(draw, f"a stranger with {number} in the place of {other}", cpus, levels, other, number)
+        for levels in ((7, 7), (8, 7)):
+            number = draw.choice(numbers)
+            yield pair_case(draw, f"a stranger with {number} in the place of {other}", cpus, levels, other, number)
 
 
-def left_first(draw, cpus=1):
-    yield pair_case(draw, "left first", cpus, LEFT_FIRST)
-    yield from with_strangers(draw, cpus, LEFT_FIRST)
+def left_first(draw):
+    yield pair_case(draw, "left first", 1, (7, 7))
+    yield from with_strangers(draw, 1)
 
 
-def right_first(draw, cpus=1):
-    yield pair_case(draw, "right first", cpus, RIGHT_FIRST)
-    yield from with_strangers(draw, cpus, RIGHT_FIRST)
+def right_first(draw):
+    yield pair_case(draw, "right first", 1, (8, 7))
+    yield from with_strangers(draw, 1)
 
 
 def pair_of_two(draw):
-    yield pair_case(draw, "two processors", 2, LEFT_FIRST)
-    yield from with_strangers(draw, 2, LEFT_FIRST)
+    yield pair_case(draw, "two processors", 2, (7, 7))
+    yield from with_strangers(draw, 2)
 
 
 def strangers(draw):
-    for cpus in (1, draw.randint(2, 4)):
-        for levels in (LEFT_FIRST, RIGHT_FIRST):
-            yield from with_strangers(draw, cpus, levels)
+    yield from with_strangers(draw, draw.randint(3, 4))
 
 
 def with_server(draw, case):
@@ -121,7 +119,8 @@ def with_server(draw, case):
 
 def together(draw, cpus):
     """All in one machine: the pair, or one of it with a stranger, and the server with its clients."""
-    for case in (*left_first(draw, cpus), *right_first(draw, cpus)):
+    first = (("left first", (7, 7)), ("right first", (8, 7)))
+    for case in (*[pair_case(draw, name, cpus, levels) for name, levels in first], *with_strangers(draw, cpus)):
         yield with_server(draw, case)
 
 
