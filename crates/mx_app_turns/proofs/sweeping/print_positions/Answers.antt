@@ -34,10 +34,10 @@ returns-clause-kernel g c =
     (subst (λ (w : World). IfOk c.print_more.result (λ (done : Done). done.machine.kernel ≡ (run_at (sweep_of c.args.sweep w) (end - 1)).kernel)) (c.in_ok-first.ensures.boot ∙ c.in_ok-ahead.ensures.boot) c.print_more.ensures.kernel)
 
 pub print_more-requires-clause-there : goal.print_more-requires-clause-there
-print_more-requires-clause-there g c = c.in_ok-first.ensures.next ∙ ap (λ n. n + 1) c.in_ok-ahead.ensures.first
+print_more-requires-clause-there g c κs within = c.in_ok-first.ensures.next ∙ ap (λ n. n + 1) c.in_ok-ahead.ensures.first
 
 pub print_more-requires-clause-first : goal.print_more-requires-clause-first
-print_more-requires-clause-first g c =
+print_more-requires-clause-first g c κs within =
     let told = c.in_ok-first.ensures.told in
     let t = c.in_ok-first.first in
     let from = c.args.sweep.range.from in
