@@ -1,0 +1,64 @@
+-- The rows of records, one more, and what is printed of them.
+use Rattle.std.proofs.Common.{◌≡◌, ◌∙◌, ◌<◌, ◌≤◌, ℕ, ◌+◌, ◌-◌, List, [], ◌∷◌, ◌++◌, length, take, get_or, append_assoc, Option, ap, sym, subst, arith}
+use Rattle.std.proofs.KnownBytes.{Appends-trans}
+use Rattle.std.proofs.lemmas.List.{append-nil, take_more, take_all, length-take-le}
+use Rattle.std.specs.Io.KnownBytes.{Appends}
+use Rattle.mx_machine.specs.declared.events.Refusal.{Refusal}
+use Rattle.mx_machine.specs.declared.history.Record.{Record}
+use Rattle.mx_machine.specs.History.{AreAccepted, world_after_events, events_of, events_of_history}
+use Rattle.mx_machine.specs.World.{World}
+use Rattle.mx_walk.proofs.Made.{after_both}
+use Rattle.mx_look.specs.declared.transition.Transition.{Transition}
+use Rattle.mx_app_step.specs.Records.{IsRefusedAt}
+use Rattle.mx_app_step.specs.Traces.{transition_of}
+use Rattle.mx_look_page.specs.Rows.{row_text}
+use Rattle.mx_look_page.specs.Shown.{ShownWorld}
+use Rattle.mx_app_page.specs.Pages.{shown_in, rows_text}
+
+-- the row of a record that is made in a world, and has this number
+abbrev row_in : World → ℕ → Record → List ℕ
+row_in v n x = row_text (transition_of v n x) (shown_in v) (shown_in (world_after_events v (events_of x.actor x.event)))
+
+rows_more : (w : World) (n k : ℕ) (xs : List Record) (x : Record) → k ≡ n + length xs
+    → rows_text w n (xs ++ x ∷ []) ≡ rows_text w n xs ++ row_in (world_after_events w (events_of_history xs)) k x
+rows_more w n k [] x e =
+    let here : n ≡ k = omega (arith, e) in
+    append-nil (row_in w n x) ∙ ap (λ (m : ℕ). row_in w m x) here
+rows_more w n k (y ∷ ys) x e =
+    let u = world_after_events w (events_of y.actor y.event) in
+    let next : k ≡ n + 1 + length ys = omega (arith, e) in
+    ap (λ (t : List ℕ). row_in w n y ++ t) (rows_more u (n + 1) k ys x next)
+    ∙ sym (append_assoc (row_in w n y) (rows_text u (n + 1) ys) (row_in (world_after_events u (events_of_history ys)) k x))
+    ∙ ap (λ (v : World). (row_in w n y ++ rows_text u (n + 1) ys) ++ row_in v k x) (sym (after_both w (events_of y.actor y.event) (events_of_history ys)))
+
+-- the row is that of its worlds
+row_is : (v u : World) (n : ℕ) (y : Record) (x : Transition) (p q : ShownWorld) → x ≡ transition_of v n y → p ≡ shown_in v → q ≡ shown_in u
+    → u ≡ world_after_events v (events_of y.actor y.event) → row_text x p q ≡ row_in v n y
+row_is v u n y x p q is before after made =
+    ap (λ (t : Transition). row_text t p q) is ∙ ap (λ (s : ShownWorld). row_text (transition_of v n y) s q) before
+    ∙ ap (λ (s : ShownWorld). row_text (transition_of v n y) (shown_in v) s) (after ∙ ap shown_in made)
+
+pub next_rows : (w v u : World) (records : List Record) (above i n : ℕ) (d : Record) (x : Transition) (p q : ShownWorld) (a b c : Option (List ℕ)) → i < length records
+    → n ≡ above + (i + 1) → v ≡ world_after_events w (events_of_history (take i records)) → x ≡ transition_of v n (get_or records i d)
+    → p ≡ shown_in v → q ≡ shown_in u → u ≡ world_after_events v (events_of (get_or records i d).actor (get_or records i d).event)
+    → Appends a b (rows_text w (above + 1) (take i records)) → Appends b c (row_text x p q)
+    → Appends a c (rows_text w (above + 1) (take (i + 1) records))
+next_rows w v u records above i n d x p q a b c within e world is before after made so_far more =
+    let at : n ≡ above + 1 + length (take i records) = omega (arith, e, length-take-le i records (omega arith)) in
+    let same : rows_text w (above + 1) (take i records) ++ row_text x p q ≡ rows_text w (above + 1) (take (i + 1) records) =
+    ap (λ (t : List ℕ). rows_text w (above + 1) (take i records) ++ t) (row_is v u n (get_or records i d) x p q is before after made ∙ ap (λ (y : World). row_in y n (get_or records i d)) world)
+    ∙ sym (ap (λ (rs : List Record). rows_text w (above + 1) rs) (take_more records i d within) ∙ rows_more w (above + 1) n (take i records) (get_or records i d) at) in
+    subst (λ (t : List ℕ). Appends a c t) same (Appends-trans a b c (rows_text w (above + 1) (take i records)) (row_text x p q) so_far more)
+
+pub all_rows : (w : World) (records : List Record) (above i : ℕ) (a b : Option (List ℕ)) → length records ≤ i
+    → AreAccepted w (events_of_history (take i records)) → Appends a b (rows_text w (above + 1) (take i records))
+    → AreAccepted w (events_of_history records) × Appends a b (rows_text w (above + 1) records)
+all_rows w records above i a b over accepted printed =
+    let all : take i records ≡ records = take_all i records over in
+    (subst (λ (rs : List Record). AreAccepted w (events_of_history rs)) all accepted, subst (λ (rs : List Record). Appends a b (rows_text w (above + 1) rs)) all printed)
+
+pub refused_rows : (w : World) (records : List Record) (above i n : ℕ) (r : Refusal) (a b : Option (List ℕ)) → n ≡ i + 1 → IsRefusedAt w records n r
+    → Appends a b (rows_text w (above + 1) (take i records)) → IsRefusedAt w records n r × Appends a b (rows_text w (above + 1) (take (n - 1) records))
+refused_rows w records above i n r a b e refused printed =
+    let one : i ≡ n - 1 = omega (arith, e) in
+    (refused, subst (λ k. Appends a b (rows_text w (above + 1) (take k records))) one printed)

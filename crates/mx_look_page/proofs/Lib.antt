@@ -1,0 +1,2 @@
+mod JsonLemmas
+mod Places
