@@ -1,1 +1,2 @@
 mod PageLemmas
+mod AboveLemmas

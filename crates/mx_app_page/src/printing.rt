@@ -2,21 +2,21 @@
 
 ghost use Rattle.std.specs.Prelude.{◌≡◌, ◌<◌, ◌≤◌, ◌+◌, ◌-◌, ◌^◌, ◌++◌, List, All, IfOk, IfErr, IfSome, OnOk, length, take, option_map, string_bytes};
 ghost use Rattle.std.specs.Io.KnownBytes.{Appends};
-ghost use Rattle.mx_app_step.specs.Failure.{IsWanting};
+ghost use Rattle.mx_app_step.specs.Failure.{IsWanting, PrintsFront};
 ghost use Rattle.mx_app_step.specs.Machine.{world_of};
 ghost use Rattle.mx_app_step.specs.Service.{Service};
 ghost use Rattle.mx_app_step.specs.Config.{Config as Configured};
 ghost use Rattle.mx_app_step.specs.Asked.{Asked};
 ghost use Rattle.mx_app_step.specs.Course.{IsSaved, TellsSaved};
 ghost use Rattle.mx_app_step.specs.Setup.{IsStart};
-ghost use Rattle.mx_app_step.specs.Telling.{IsTold};
+ghost use Rattle.mx_app_step.specs.Telling.{IsTold, PrintsBefore};
 ghost use Rattle.mx_machine.specs.declared.history.Record.{Record as Noted};
 ghost use Rattle.mx_machine.specs.Boot.{world_at_boot};
 ghost use Rattle.mx_machine.specs.World.{actors};
 ghost use Rattle.mx_look.specs.Glances.{glance_of};
 ghost use Rattle.mx_look_page.specs.Heads.{run_of};
 ghost use Rattle.mx_look_page.specs.Rows.{row_text};
-ghost use Rattle.mx_app_page.specs.Pages.{shown_in, rules_number, run_of_files, refused_line, front_text, back_text, AreRowsPrinted, IsMadePrinted, IsPagePrinted};
+ghost use Rattle.mx_app_page.specs.Pages.{shown_in, rules_number, run_of_files, refused_line, front_text, back_text, rows_text, AreRowsPrinted, IsMadeBegun, IsMadePrinted, IsPageBegun, IsPagePrinted};
 
 use crate::fixed::{BACK, FRONT};
 use mx_app_step::{
@@ -94,6 +94,9 @@ fn print_row<W: Write>(
     out: &mut W,
 ) -> Result<(), Failure>
     ensures err { IfErr result IsWanting }
+    ensures front { IfErr result (λ _. PrintsFront
+        (λ front. Appends (W.contents out.old) (W.contents out.new) front)
+        (row_text transition.now before.now after.now)) }
     ensures bytes { OnOk result (Appends (W.contents out.old) (W.contents out.new)
         (row_text transition.now before.now after.now)) }
 {
@@ -114,6 +117,9 @@ fn print_rows<W: Write>(
     requires few { above + length records.now < 2 ^ 32 }
     requires actors { All (λ (x : Noted). x.actor < actors (world_of machine.old)) records.now }
     ensures err { IfErr result IsWanting }
+    ensures front { IfErr result (λ _. PrintsFront
+        (λ front. Appends (W.contents out.old) (W.contents out.new) front)
+        (rows_text (world_of machine.old) (above + 1) records.now)) }
     ensures printed { IfOk result (λ refused.
         AreRowsPrinted (world_of machine.old) above records.now refused (λ text.
         Appends (W.contents out.old) (W.contents out.new) text)) }
@@ -144,6 +150,9 @@ fn print_back<W: Write>(
     out: &mut W,
 ) -> Result<(), Failure>
     ensures err { IfErr result IsWanting }
+    ensures front { IfErr result (λ _. PrintsFront
+        (λ front. Appends (W.contents out.old) (W.contents out.new) front)
+        (back_text rows (option_map (λ s. s.now) refused.entry))) }
     ensures bytes { OnOk result (Appends (W.contents out.old) (W.contents out.new)
         (back_text rows (option_map (λ s. s.now) refused.entry))) }
 {
@@ -164,6 +173,9 @@ fn print_refused<W: Write>(
 ) -> Result<(), Failure>
     requires { number < 2 ^ 32 }
     ensures err { IfErr result IsWanting }
+    ensures front { IfErr result (λ _. PrintsFront
+        (λ front. Appends (W.contents out.old) (W.contents out.new) front)
+        (back_text rows (Some (refused_line rules number refusal)))) }
     ensures bytes { OnOk result (Appends (W.contents out.old) (W.contents out.new)
         (back_text rows (Some (refused_line rules number refusal)))) }
 {
@@ -185,6 +197,9 @@ fn print_made<W: Write>(
     requires few { terms.first + length records.now < 2 ^ 32 }
     requires actors { All (λ (x : Noted). x.actor < actors (world_of machine.old)) records.now }
     ensures err { IfErr result IsWanting }
+    ensures begun { IfErr result (λ _. IsMadeBegun rules (run_of terms.entry)
+        (world_of machine.old) terms.entry.first records.now (λ text.
+        Appends (W.contents out.old) (W.contents out.new) text)) }
     ensures printed { IfOk result (λ replayed.
         IsMadePrinted rules (run_of terms.entry) (world_of machine.old) terms.entry.first records.now
         replayed (λ text. Appends (W.contents out.old) (W.contents out.new) text)) }
@@ -223,9 +238,13 @@ fn print_page<W: Write>(
     requires few { length records.now < 2 ^ 32 }
     requires actors { All (λ (x : Noted). x.actor < actors (world_of machine.old)) records.now }
     ensures err { IfErr result IsWanting }
+    ensures begun { IfErr result (λ _. IsPageBegun
+        (λ first. record (run_of terms.entry) { first = first }) (world_of machine.old)
+        records.now terms.entry.first (λ text.
+        Appends (W.contents out.old) (W.contents out.new) text)) }
     ensures printed { IfOk result (λ replayed.
         IsPagePrinted (λ first. record (run_of terms.entry) { first = first }) (world_of machine.old)
-        records.now (terms.entry.first + 1) replayed (λ text.
+        records.now terms.entry.first replayed (λ text.
         Appends (W.contents out.old) (W.contents out.new) text)) }
 {
     let rules = machine.rules();
@@ -253,7 +272,11 @@ fn print_page<W: Write>(
 }
 
 /// What the page says of a run, of which `first` records are to be above the first row.
-fn terms_of<'a>(chosen: HistoryPart<'a>, config: &Config) -> RunTerms<'a> {
+fn terms_of<'a>(chosen: HistoryPart<'a>, config: &Config) -> RunTerms<'a>
+    ensures first { result.first ≡ chosen.entry.from - 1 }
+    ensures run { (n : ℕ) → record (run_of result) { first = n }
+        ≡ run_of_files chosen.entry.config.now chosen.entry.log.now n config.now }
+{
     RunTerms {
         config: chosen.config.as_bytes(),
         history: chosen.log.as_bytes(),
@@ -267,7 +290,7 @@ fn terms_of<'a>(chosen: HistoryPart<'a>, config: &Config) -> RunTerms<'a> {
 
 /// Starts the machine of a saved history, makes its records up to `to`, and prints a document that shows those from
 /// record `from` on in a browser. If an event is refused, the document has the records before it, and the line and the
-/// refusal.
+/// refusal. Before a failure a front of this is printed; nothing, if no machine is started.
 pub fn page<R: Reader, W: Write>(
     alloc: Global,
     reader: &mut R,
@@ -279,11 +302,18 @@ pub fn page<R: Reader, W: Write>(
         × (R.asked reader.new ≡ R.asked reader.old ++ qs)
         × IsStart IsSaved chosen.entry.config.now chosen.entry.log.now qs c vs records
         × IsPagePrinted (λ first. run_of_files chosen.entry.config.now chosen.entry.log.now first c)
-        (world_at_boot c vs) (take chosen.entry.to records) chosen.entry.from replayed (λ text.
+        (world_at_boot c vs) (take chosen.entry.to records) (chosen.entry.from - 1) replayed (λ text.
         Appends (W.contents out.old) (W.contents out.new) text)) }
     ensures fault { IfErr result (λ f. (qs : List Asked)
         × (R.asked reader.new ≡ R.asked reader.old ++ qs)
         × IsTold IsSaved TellsSaved chosen.entry.config.now chosen.entry.log.now qs f) }
+    ensures begun { IfErr result (λ _. PrintsBefore IsSaved chosen.entry.config.now
+        chosen.entry.log.now (R.asked reader.old) (R.asked reader.new)
+        (λ text. Appends (W.contents out.old) (W.contents out.new) text)
+        (λ c vs records. IsPageBegun
+        (λ first. run_of_files chosen.entry.config.now chosen.entry.log.now first c)
+        (world_at_boot c vs) (take chosen.entry.to records) (chosen.entry.from - 1)
+        (λ text. Appends (W.contents out.old) (W.contents out.new) text))) }
 {
     let mut started = start::<History, R>(alloc, reader, chosen.config, chosen.log)?;
     let terms = terms_of(chosen, &started.config);

@@ -1,2 +1,3 @@
 mod JsonLemmas
+mod PlainLemmas
 mod Places

@@ -1,10 +1,9 @@
-use Rattle.std.proofs.Common.{◌+◌, refl, take, ap, sym, ◌∙◌}
+use Rattle.std.proofs.Common.{◌+◌, refl, take}
 use Rattle.mx_machine.specs.History.{events_of_history}
-use Rattle.mx_look.specs.declared.transition.Transition.{Transition}
-use Rattle.mx_look.specs.Glances.{glance_of}
 use Rattle.mx_app_step.specs.Machine.{world_of}
+use Rattle.mx_app_step.proofs.FrontLemmas.{err_always}
 use Rattle.mx_app_step.proofs.RecordLemmas.{is_actor_still, next_accepted, next_world, refused_at}
-use Rattle.mx_app_page.proofs.PageLemmas.{next_rows, refused_rows, all_rows}
+use Rattle.mx_app_page.proofs.PageLemmas.{front_rows, next_front, next_rows, refused_rows}
 use Rattle.mx_app_page.proofs.printing.print_rows.Goals as goal
 
 pub look_record-requires : goal.look_record-requires

@@ -1,0 +1,182 @@
+-- A page of which some records stand above the first row, from the page of the others.
+use Rattle.std.proofs.Common.{◌≡◌, ◌∙◌, ◌<◌, ◌≤◌, ℕ, zero, suc, ◌+◌, ◌-◌, nat_lt, Bool, true, false, cond, List, [], ◌∷◌, ◌++◌, length, take, drop, append_assoc, Option, Some, None, inl, inr, refl, ap, ap₂, sym, subst, arith}
+use Rattle.std.proofs.lemmas.Bool.{lt-ltb, ltb-true}
+use Rattle.std.proofs.lemmas.List.{take-append-drop, drop-take, length-append, length-take-le, take_all, drop_all}
+use Rattle.std.proofs.Math.Seq.{take-add, take-append_seam}
+use Rattle.mx_machine.specs.declared.events.Event.{Event}
+use Rattle.mx_machine.specs.declared.events.Refusal.{Refusal}
+use Rattle.mx_machine.specs.declared.history.Record.{Record}
+use Rattle.mx_machine.specs.History.{AreAccepted, world_after_events, events_of, events_of_history}
+use Rattle.mx_machine.specs.World.{World}
+use Rattle.mx_walk.proofs.Made.{accepted_both, after_both}
+use Rattle.mx_app_step.specs.Records.{IsFirstRefusal, IsRefusedAt}
+use Rattle.mx_proc.specs.declared.windows.Rules.{Rules}
+use Rattle.mx_look_page.specs.Heads.{Run}
+use Rattle.mx_app_step.specs.declared.records.Replayed.{Replayed}
+use Rattle.mx_app_step.specs.declared.records.Replayed.TheVariants as replayed
+use Rattle.mx_app_step.specs.Failure.{PrintsFront}
+use Rattle.mx_app_page.specs.Pages.{front_text, back_text, rows_text, page_text, page_from, refused_line, IsMadeBegun, IsMadePrinted, IsPageBegun, IsPagePrinted}
+
+events_both : (xs ys : List Record) → events_of_history (xs ++ ys) ≡ events_of_history xs ++ events_of_history ys
+events_both [] ys = refl
+events_both (x ∷ xs) ys =
+    ap (λ (es : List (ℕ × Event)). events_of x.actor x.event ++ es) (events_both xs ys)
+    ∙ sym (append_assoc (events_of x.actor x.event) (events_of_history xs) (events_of_history ys))
+
+-- what is after as many as the first records that are there
+drop_taken : (k : ℕ) (xs : List Record) → drop (length (take k xs)) xs ≡ drop k xs
+drop_taken zero xs = refl
+drop_taken (suc k) [] = refl
+drop_taken (suc k) (x ∷ xs) = drop_taken k xs
+
+-- a list with more than so many has so many first ones
+as_many : (k : ℕ) (xs : List Record) → k ≤ length xs → length (take k xs) ≡ k
+as_many k xs few = length-take-le k xs few
+
+module _ (run : ℕ → Run) (w v : World) (records : List Record) (first : ℕ) (accepted : AreAccepted w (events_of_history (take first records)))
+    (world : v ≡ world_after_events w (events_of_history (take first records))) where
+  abbrev above : List Record
+  above = take first records
+
+  abbrev others : List Record
+  others = drop (length above) records
+
+  parts : records ≡ above ++ others
+  parts = sym (take-append-drop first records) ∙ ap (λ (xs : List Record). above ++ xs) (sym (drop_taken first records))
+
+  -- the others are accepted: all are
+  all_accepted : AreAccepted v (events_of_history others) → AreAccepted w (events_of_history records)
+  all_accepted h =
+      subst (λ (es : List (ℕ × Event)). AreAccepted w es) (sym (ap events_of_history parts ∙ events_both above others))
+      (accepted_both w (events_of_history above) (events_of_history others) accepted (subst (λ (u : World). AreAccepted u (events_of_history others)) world h))
+
+  -- one of them is refused: it is that of all
+  refused_later : (n : ℕ) (r : Refusal) → IsRefusedAt v others n r → IsRefusedAt w records (length above + n) r
+  refused_later n r (earlier, later, x, is, before, why, at) =
+      let whole = above ++ earlier in
+      let there : length above + n ≡ length whole + 1 = omega (arith, at, length-append above earlier) in
+      let after : world_after_events v (events_of_history earlier) ≡ world_after_events w (events_of_history whole) =
+      ap (λ (u : World). world_after_events u (events_of_history earlier)) world
+      ∙ sym (ap (λ (es : List (ℕ × Event)). world_after_events w es) (events_both above earlier) ∙ after_both w (events_of_history above) (events_of_history earlier)) in
+      (
+        whole,
+        later,
+        x,
+        parts ∙ ap (λ (xs : List Record). above ++ xs) is ∙ sym (append_assoc above earlier (x ∷ later)),
+        subst (λ (es : List (ℕ × Event)). AreAccepted w es) (sym (events_both above earlier))
+        (accepted_both w (events_of_history above) (events_of_history earlier) accepted (subst (λ (u : World). AreAccepted u (events_of_history earlier)) world before)),
+        subst (λ (u : World). IsFirstRefusal u (events_of x.actor x.event) r) after why,
+        there,
+      )
+
+  -- the page of all, from its parts
+  page_is : front_text (run (length above)) v ++ rows_text v (length above + 1) others ++ back_text (length others) None ≡ page_from run first w records None
+  page_is =
+      ap (λ (u : World). front_text (run (length above)) u ++ rows_text u (length above + 1) others ++ back_text (length others) None) world
+      ∙ ap (λ (xs : List Record). page_text (run (length above)) w above xs None) (drop_taken first records)
+
+  -- and of those before one that is refused
+  module _ (n : ℕ) (r : Refusal) (refused : IsRefusedAt v others n r) where
+    abbrev line : Option (List ℕ)
+    line = Some (refused_line w.table.rules (length above + n) r)
+
+    abbrev earlier : List Record
+    earlier = refused.0
+
+    some_there : (n ≡ length earlier + 1) × (length others ≡ length earlier + suc (length refused.1))
+    some_there = (refused.6, ap length refused.3 ∙ length-append earlier (refused.2 ∷ refused.1))
+
+    whole_there : length above ≡ first
+    whole_there = by_there first records (λ none. omega (arith, some_there.1, ap length none))
+      where
+        by_there : (k : ℕ) (xs : List Record) → (drop (length (take k xs)) xs ≡ [] → length (take k xs) ≡ k) → length (take k xs) ≡ k
+        by_there zero xs h = refl
+        by_there (suc k) [] h = h refl
+        by_there (suc k) (x ∷ xs) h = ap (λ m. suc m) (by_there k xs (λ none. let e = h none in omega (arith, e)))
+
+    before : take (length above + n - 1) records ≡ above ++ earlier
+    before =
+        ap (λ (xs : List Record). take (length above + n - 1) xs) (parts ∙ ap (λ (xs : List Record). above ++ xs) refused.3 ∙ sym (append_assoc above earlier (refused.2 ∷ refused.1)))
+        ∙ ap (λ k. take k ((above ++ earlier) ++ refused.2 ∷ refused.1)) (let e : length above + n - 1 ≡ length (above ++ earlier) = omega (arith, some_there.0, length-append above earlier) in e)
+        ∙ take-append_seam (above ++ earlier) (refused.2 ∷ refused.1)
+
+    earlier_is : take (n - 1) others ≡ earlier
+    earlier_is =
+        ap (λ (xs : List Record). take (n - 1) xs) refused.3
+        ∙ ap (λ k. take k (earlier ++ refused.2 ∷ refused.1)) (let e : n - 1 ≡ length earlier = omega (arith, some_there.0) in e)
+        ∙ take-append_seam earlier (refused.2 ∷ refused.1)
+
+    seam : (xs ys : List Record) (k : ℕ) → length xs ≡ k → (take k (xs ++ ys) ≡ xs) × (drop k (xs ++ ys) ≡ ys)
+    seam [] ys zero e = (refl, refl)
+    seam [] ys (suc k) e = absurd (omega (arith, e))
+    seam (x ∷ xs) ys zero e = absurd (omega (arith, e))
+    seam (x ∷ xs) ys (suc k) e = let h = seam xs ys k (omega (arith, e)) in (ap (λ (zs : List Record). x ∷ zs) h.0, h.1)
+
+    not_below : nat_lt (length (above ++ earlier)) first ≡ false
+    not_below = by_bool (nat_lt (length (above ++ earlier)) first) refl
+      where
+        by_bool : (b : Bool) → nat_lt (length (above ++ earlier)) first ≡ b → b ≡ false
+        by_bool true e = absurd (omega (arith, ltb-true (length (above ++ earlier)) first e, length-append above earlier, whole_there))
+        by_bool false e = refl
+
+    refused_page_is : front_text (run (length above)) v ++ rows_text v (length above + 1) (take (n - 1) others) ++ back_text (n - 1) line ≡ page_from run first w (take (length above + n - 1) records) line
+    refused_page_is =
+        let s = seam above earlier first whole_there in
+        let many : n - 1 ≡ length earlier = omega (arith, some_there.0) in
+        ap (λ (u : World). front_text (run (length above)) u ++ rows_text u (length above + 1) (take (n - 1) others) ++ back_text (n - 1) line) world
+        ∙ ap (λ (xs : List Record). front_text (run (length above)) (world_after_events w (events_of_history above)) ++ rows_text (world_after_events w (events_of_history above)) (length above + 1) xs ++ back_text (n - 1) line) earlier_is
+        ∙ ap (λ k. front_text (run (length above)) (world_after_events w (events_of_history above)) ++ rows_text (world_after_events w (events_of_history above)) (length above + 1) earlier ++ back_text k line) many
+        ∙ ap (λ k. page_text (run k) w above earlier line) whole_there
+        ∙ ap₂ (λ (xs ys : List Record). page_text (run first) w xs ys line) (sym s.0) (sym s.1)
+        ∙ sym (ap (λ b. cond b (page_text (run 0) w [] [] line) (page_text (run first) w (take first (above ++ earlier)) (drop first (above ++ earlier)) line)) not_below)
+        ∙ ap (λ (xs : List Record). page_from run first w xs line) (sym before)
+
+  -- WHAT IS PRINTED of all, from what is printed of the others
+  pub above_printed : (rules : Rules) (Prints : List ℕ → Type 0) (how : Replayed) → rules ≡ w.table.rules
+      → IsMadePrinted rules (run (length above)) v (length above) others how Prints → IsPagePrinted run w records first how Prints
+  above_printed rules Prints replayed.Whole same (h, printed) = (all_accepted h, subst (λ (t : List ℕ). Prints t) page_is printed)
+  above_printed rules Prints replayed.Refused same (n, r, refused, printed) = (
+    length above + n,
+    r,
+    refused_later n r refused,
+    subst (λ (t : List ℕ). Prints t) (refused_page_is n r refused)
+    (subst (λ (x : Rules). Prints (front_text (run (length above)) v ++ rows_text v (length above + 1) (take (n - 1) others) ++ back_text (n - 1) (Some (refused_line x (length above + n) r)))) same printed),
+  )
+
+  pub above_begun : (rules : Rules) (Prints : List ℕ → Type 0) → rules ≡ w.table.rules
+      → IsMadeBegun rules (run (length above)) v (length above) others Prints → IsPageBegun run w records first Prints
+  above_begun rules Prints same (inl h) = inl (subst (λ (t : List ℕ). PrintsFront Prints t) page_is h)
+  above_begun rules Prints same (inr h) = inr (above_printed rules (PrintsFront Prints) replayed.Refused same h)
+
+-- ---- one of those above is refused
+
+module _ (run : ℕ → Run) (w : World) (records : List Record) (first n : ℕ) (r : Refusal) (few : n ≤ length (take first records)) (refused : IsRefusedAt w (take first records) n r) where
+  boot_refused : IsRefusedAt w records n r
+  boot_refused =
+      let whole = sym (take-append-drop first records) ∙ ap (λ (xs : List Record). xs ++ drop first records) refused.3 ∙ append_assoc refused.0 (refused.2 ∷ refused.1) (drop first records) in
+      (refused.0, refused.1 ++ drop first records, refused.2, whole, refused.4, refused.5, refused.6)
+
+  abbrev early : List Record
+  early = take (n - 1) records
+
+  short : (k m : ℕ) (xs : List Record) → m < length (take k xs) → length (take m xs) < k
+  short zero m xs b = absurd (omega (arith, b))
+  short (suc k) m [] b = absurd (omega (arith, b))
+  short (suc k) zero (x ∷ xs) b = omega arith
+  short (suc k) (suc m) (x ∷ xs) b = let h = short k m xs (omega (arith, b)) in omega (arith, h)
+
+  is_below : nat_lt (length early) first ≡ true
+  is_below = lt-ltb (length early) first (short first (n - 1) records (omega (arith, few, refused.6)))
+
+  -- the page shows the machine at boot, and has no row
+  pub boot_printed : (rules : Rules) (Prints : List ℕ → Type 0) → rules ≡ w.table.rules
+      → Prints (front_text (run 0) w ++ back_text 0 (Some (refused_line rules n r))) → IsPagePrinted run w records first replayed.Refused Prints
+  boot_printed rules Prints same printed =
+      let line = Some (refused_line w.table.rules n r) in
+      (
+        n,
+        r,
+        boot_refused,
+        subst (λ (t : List ℕ). Prints t) (sym (ap (λ b. cond b (page_text (run 0) w [] [] line) (page_text (run first) w (take first early) (drop first early) line)) is_below))
+        (subst (λ (x : Rules). Prints (front_text (run 0) w ++ back_text 0 (Some (refused_line x n r)))) same printed),
+      )
