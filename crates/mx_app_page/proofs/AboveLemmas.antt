@@ -1,8 +1,7 @@
 -- A page of which some records stand above the first row, from the page of the others.
-use Rattle.std.proofs.Common.{◌≡◌, ◌∙◌, ◌<◌, ◌≤◌, ℕ, zero, suc, ◌+◌, ◌-◌, nat_lt, Bool, true, false, cond, List, [], ◌∷◌, ◌++◌, length, take, drop, append_assoc, Option, Some, None, inl, inr, refl, ap, ap₂, sym, subst, arith}
+use Rattle.std.proofs.Common.{◌≡◌, ◌∙◌, ◌<◌, ◌≤◌, ℕ, zero, suc, ◌+◌, ◌-◌, nat_lt, Bool, true, false, cond, List, [], ◌∷◌, ◌++◌, length, take, drop, append_assoc, Option, Some, None, inl, inr, refl, ap, sym, subst, arith}
 use Rattle.std.proofs.lemmas.Bool.{lt-ltb, ltb-true}
-use Rattle.std.proofs.lemmas.List.{take-append-drop, drop-take, length-append, length-take-le, take_all, drop_all}
-use Rattle.std.proofs.Math.Seq.{take-add, take-append_seam}
+use Rattle.std.proofs.lemmas.List.{length-append, take-append-drop}
 use Rattle.mx_machine.specs.declared.events.Event.{Event}
 use Rattle.mx_machine.specs.declared.events.Refusal.{Refusal}
 use Rattle.mx_machine.specs.declared.history.Record.{Record}
@@ -29,9 +28,11 @@ drop_taken zero xs = refl
 drop_taken (suc k) [] = refl
 drop_taken (suc k) (x ∷ xs) = drop_taken k xs
 
--- a list with more than so many has so many first ones
-as_many : (k : ℕ) (xs : List Record) → k ≤ length xs → length (take k xs) ≡ k
-as_many k xs few = length-take-le k xs few
+-- if there are more, so many are there
+by_there : (k : ℕ) (xs : List Record) → (drop (length (take k xs)) xs ≡ [] → length (take k xs) ≡ k) → length (take k xs) ≡ k
+by_there zero xs h = refl
+by_there (suc k) [] h = h refl
+by_there (suc k) (x ∷ xs) h = ap (λ m. suc m) (by_there k xs (λ none. let e = h none in omega (arith, e)))
 
 module _ (run : ℕ → Run) (w v : World) (records : List Record) (first : ℕ) (accepted : AreAccepted w (events_of_history (take first records)))
     (world : v ≡ world_after_events w (events_of_history (take first records))) where
@@ -76,41 +77,37 @@ module _ (run : ℕ → Run) (w v : World) (records : List Record) (first : ℕ)
       ∙ ap (λ (xs : List Record). page_text (run (length above)) w above xs None) (drop_taken first records)
 
   -- and of those before one that is refused
-  module _ (n : ℕ) (r : Refusal) (refused : IsRefusedAt v others n r) where
-    abbrev line : Option (List ℕ)
-    line = Some (refused_line w.table.rules (length above + n) r)
-
+  module _ (n : ℕ) (r : Refusal) (refused : IsRefusedAt v others (n + 1) r) where
     abbrev earlier : List Record
     earlier = refused.0
 
-    some_there : (n ≡ length earlier + 1) × (length others ≡ length earlier + suc (length refused.1))
-    some_there = (refused.6, ap length refused.3 ∙ length-append earlier (refused.2 ∷ refused.1))
+    abbrev at_it : List Record
+    at_it = refused.2 ∷ refused.1
+
+    so_many : length earlier ≡ n
+    so_many = omega (arith, refused.6)
 
     whole_there : length above ≡ first
-    whole_there = by_there first records (λ none. omega (arith, some_there.1, ap length none))
+    whole_there = by_there first records (λ none. let e = sym refused.3 ∙ none in no_end earlier refused.2 refused.1 e)
       where
-        by_there : (k : ℕ) (xs : List Record) → (drop (length (take k xs)) xs ≡ [] → length (take k xs) ≡ k) → length (take k xs) ≡ k
-        by_there zero xs h = refl
-        by_there (suc k) [] h = h refl
-        by_there (suc k) (x ∷ xs) h = ap (λ m. suc m) (by_there k xs (λ none. let e = h none in omega (arith, e)))
-
-    before : take (length above + n - 1) records ≡ above ++ earlier
-    before =
-        ap (λ (xs : List Record). take (length above + n - 1) xs) (parts ∙ ap (λ (xs : List Record). above ++ xs) refused.3 ∙ sym (append_assoc above earlier (refused.2 ∷ refused.1)))
-        ∙ ap (λ k. take k ((above ++ earlier) ++ refused.2 ∷ refused.1)) (let e : length above + n - 1 ≡ length (above ++ earlier) = omega (arith, some_there.0, length-append above earlier) in e)
-        ∙ take-append_seam (above ++ earlier) (refused.2 ∷ refused.1)
-
-    earlier_is : take (n - 1) others ≡ earlier
-    earlier_is =
-        ap (λ (xs : List Record). take (n - 1) xs) refused.3
-        ∙ ap (λ k. take k (earlier ++ refused.2 ∷ refused.1)) (let e : n - 1 ≡ length earlier = omega (arith, some_there.0) in e)
-        ∙ take-append_seam earlier (refused.2 ∷ refused.1)
+        no_end : (xs : List Record) (y : Record) (ys : List Record) → xs ++ y ∷ ys ≡ [] → length above ≡ first
+        no_end [] y ys e = absurd cc
+        no_end (x ∷ xs) y ys e = absurd cc
 
     seam : (xs ys : List Record) (k : ℕ) → length xs ≡ k → (take k (xs ++ ys) ≡ xs) × (drop k (xs ++ ys) ≡ ys)
     seam [] ys zero e = (refl, refl)
     seam [] ys (suc k) e = absurd (omega (arith, e))
     seam (x ∷ xs) ys zero e = absurd (omega (arith, e))
     seam (x ∷ xs) ys (suc k) e = let h = seam xs ys k (omega (arith, e)) in (ap (λ (zs : List Record). x ∷ zs) h.0, h.1)
+
+    earlier_is : take n others ≡ earlier
+    earlier_is = ap (λ (xs : List Record). take n xs) refused.3 ∙ (seam earlier at_it n so_many).0
+
+    before : take (length above + n + 1 - 1) records ≡ above ++ earlier
+    before =
+        let many : length (above ++ earlier) ≡ length above + n + 1 - 1 = omega (arith, so_many, length-append above earlier) in
+        ap (λ (xs : List Record). take (length above + n + 1 - 1) xs) (parts ∙ ap (λ (xs : List Record). above ++ xs) refused.3 ∙ sym (append_assoc above earlier at_it))
+        ∙ (seam (above ++ earlier) at_it (length above + n + 1 - 1) many).0
 
     not_below : nat_lt (length (above ++ earlier)) first ≡ false
     not_below = by_bool (nat_lt (length (above ++ earlier)) first) refl
@@ -119,29 +116,36 @@ module _ (run : ℕ → Run) (w v : World) (records : List Record) (first : ℕ)
         by_bool true e = absurd (omega (arith, ltb-true (length (above ++ earlier)) first e, length-append above earlier, whole_there))
         by_bool false e = refl
 
-    refused_page_is : front_text (run (length above)) v ++ rows_text v (length above + 1) (take (n - 1) others) ++ back_text (n - 1) line ≡ page_from run first w (take (length above + n - 1) records) line
-    refused_page_is =
+    refused_page_is : (line : Option (List ℕ)) (text : List ℕ) → line ≡ Some text
+        → front_text (run (length above)) v ++ rows_text v (length above + 1) (take n others) ++ back_text n line ≡ page_from run first w (take (length above + n + 1 - 1) records) (Some text)
+    refused_page_is line text is =
         let s = seam above earlier first whole_there in
-        let many : n - 1 ≡ length earlier = omega (arith, some_there.0) in
-        ap (λ (u : World). front_text (run (length above)) u ++ rows_text u (length above + 1) (take (n - 1) others) ++ back_text (n - 1) line) world
-        ∙ ap (λ (xs : List Record). front_text (run (length above)) (world_after_events w (events_of_history above)) ++ rows_text (world_after_events w (events_of_history above)) (length above + 1) xs ++ back_text (n - 1) line) earlier_is
-        ∙ ap (λ k. front_text (run (length above)) (world_after_events w (events_of_history above)) ++ rows_text (world_after_events w (events_of_history above)) (length above + 1) earlier ++ back_text k line) many
-        ∙ ap (λ k. page_text (run k) w above earlier line) whole_there
-        ∙ ap₂ (λ (xs ys : List Record). page_text (run first) w xs ys line) (sym s.0) (sym s.1)
-        ∙ sym (ap (λ b. cond b (page_text (run 0) w [] [] line) (page_text (run first) w (take first (above ++ earlier)) (drop first (above ++ earlier)) line)) not_below)
-        ∙ ap (λ (xs : List Record). page_from run first w xs line) (sym before)
+        let u = world_after_events w (events_of_history above) in
+        ap (λ (o : Option (List ℕ)). front_text (run (length above)) v ++ rows_text v (length above + 1) (take n others) ++ back_text n o) is
+        ∙ ap (λ (z : World). front_text (run (length above)) z ++ rows_text z (length above + 1) (take n others) ++ back_text n (Some text)) world
+        ∙ ap (λ (xs : List Record). front_text (run (length above)) u ++ rows_text u (length above + 1) xs ++ back_text n (Some text)) earlier_is
+        ∙ ap (λ k. front_text (run (length above)) u ++ rows_text u (length above + 1) earlier ++ back_text k (Some text)) (sym so_many)
+        ∙ ap (λ k. page_text (run k) w above earlier (Some text)) whole_there
+        ∙ ap (λ (xs : List Record). page_text (run first) w xs earlier (Some text)) (sym s.0)
+        ∙ ap (λ (xs : List Record). page_text (run first) w (take first (above ++ earlier)) xs (Some text)) (sym s.1)
+        ∙ sym (ap (λ b. cond b (page_text (run 0) w [] [] (Some text)) (page_text (run first) w (take first (above ++ earlier)) (drop first (above ++ earlier)) (Some text))) not_below)
+        ∙ ap (λ (xs : List Record). page_from run first w xs (Some text)) (sym before)
 
   -- WHAT IS PRINTED of all, from what is printed of the others
   pub above_printed : (rules : Rules) (Prints : List ℕ → Type 0) (how : Replayed) → rules ≡ w.table.rules
       → IsMadePrinted rules (run (length above)) v (length above) others how Prints → IsPagePrinted run w records first how Prints
   above_printed rules Prints replayed.Whole same (h, printed) = (all_accepted h, subst (λ (t : List ℕ). Prints t) page_is printed)
-  above_printed rules Prints replayed.Refused same (n, r, refused, printed) = (
-    length above + n,
-    r,
-    refused_later n r refused,
-    subst (λ (t : List ℕ). Prints t) (refused_page_is n r refused)
-    (subst (λ (x : Rules). Prints (front_text (run (length above)) v ++ rows_text v (length above + 1) (take (n - 1) others) ++ back_text (n - 1) (Some (refused_line x (length above + n) r)))) same printed),
-  )
+  above_printed rules Prints replayed.Refused same (n, r, refused, printed) =
+      let number : length above + (n + 1) ≡ length above + n + 1 = omega arith in
+      let line = refused_line w.table.rules (length above + n + 1) r in
+      (
+        length above + n + 1,
+        r,
+        subst (λ k. IsRefusedAt w records k r) number (refused_later (n + 1) r refused),
+        subst (λ (t : List ℕ). Prints t)
+        (refused_page_is n r refused (Some (refused_line rules (length above + n + 1) r)) line (ap (λ (x : Rules). Some (refused_line x (length above + n + 1) r)) same))
+        printed,
+      )
 
   pub above_begun : (rules : Rules) (Prints : List ℕ → Type 0) → rules ≡ w.table.rules
       → IsMadeBegun rules (run (length above)) v (length above) others Prints → IsPageBegun run w records first Prints

@@ -1,15 +1,13 @@
 -- The rows of records, one more, and what is printed of them.
-use Rattle.std.proofs.Common.{◌≡◌, ◌∙◌, ◌<◌, ◌≤◌, ℕ, zero, suc, ◌+◌, ◌-◌, List, [], ◌∷◌, ◌++◌, length, take, get_or, append_assoc, Option, refl, ap, sym, subst, arith}
+use Rattle.std.proofs.Common.{◌≡◌, ◌∙◌, ◌<◌, ◌≤◌, ℕ, zero, suc, ◌+◌, List, [], ◌∷◌, ◌++◌, length, take, get_or, append_assoc, Option, refl, ap, sym, subst, arith}
 use Rattle.std.proofs.KnownBytes.{Appends-trans}
 use Rattle.std.proofs.lemmas.List.{append-nil, take_more, take_all, length-take-le}
 use Rattle.std.specs.Io.KnownBytes.{Appends}
-use Rattle.mx_machine.specs.declared.events.Refusal.{Refusal}
 use Rattle.mx_machine.specs.declared.history.Record.{Record}
 use Rattle.mx_machine.specs.History.{AreAccepted, world_after_events, events_of, events_of_history}
 use Rattle.mx_machine.specs.World.{World}
 use Rattle.mx_look.specs.declared.transition.Transition.{Transition}
 use Rattle.mx_app_step.specs.Failure.{PrintsFront}
-use Rattle.mx_app_step.specs.Records.{IsRefusedAt}
 use Rattle.mx_app_step.specs.Traces.{transition_of}
 use Rattle.mx_app_step.proofs.FrontLemmas.{front_after, front_more}
 use Rattle.mx_app_step.proofs.RecordLemmas.{after_both}
@@ -57,7 +55,7 @@ front_rows w records above i a b printed =
 
 -- ---- one row more
 
-module _ (w v u : World) (records : List Record) (above i n : ℕ) (d : Record) (x : Transition) (p q : ShownWorld) (within : i < length records) (number : n ≡ above + (i + 1))
+module _ (w v u : World) (records : List Record) (above i n : ℕ) (d : Record) (x : Transition) (p q : ShownWorld) (within : i < length records) (number : n ≡ above + i + 1)
     (world : v ≡ world_after_events w (events_of_history (take i records))) (is : x ≡ transition_of v n (get_or records i d)) (before : p ≡ shown_in v) (after : q ≡ shown_in u)
     (made : u ≡ world_after_events v (events_of (get_or records i d).actor (get_or records i d).event)) where
   so_many : List ℕ
@@ -89,9 +87,3 @@ pub all_rows : (w : World) (records : List Record) (above i : ℕ) (a b : Option
 all_rows w records above i a b over accepted printed =
     let all : take i records ≡ records = take_all i records over in
     (subst (λ (rs : List Record). AreAccepted w (events_of_history rs)) all accepted, subst (λ (rs : List Record). Appends a b (rows_text w (above + 1) rs)) all printed)
-
-pub refused_rows : (w : World) (records : List Record) (above i n : ℕ) (r : Refusal) (a b : Option (List ℕ)) → n ≡ i + 1 → IsRefusedAt w records n r
-    → Appends a b (rows_text w (above + 1) (take i records)) → IsRefusedAt w records n r × Appends a b (rows_text w (above + 1) (take (n - 1) records))
-refused_rows w records above i n r a b e refused printed =
-    let one : i ≡ n - 1 = omega (arith, e) in
-    (refused, subst (λ k. Appends a b (rows_text w (above + 1) (take k records))) one printed)

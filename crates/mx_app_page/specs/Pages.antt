@@ -89,12 +89,12 @@ IsPageBegun run w records first Prints =
 
 -- ---- parts of it
 
--- the rows of records, or of those before the first that is refused. `above` records come before the first.
+-- the rows of records, or of so many before the first that is refused. `above` records come before the first.
 abbrev pub AreRowsPrinted : World → ℕ → List Record → Option (ℕ × Refusal) → (List ℕ → Type 0) → Type 0
 AreRowsPrinted w above records None Prints =
     AreAccepted w (events_of_history records) × Prints (rows_text w (above + 1) records)
 AreRowsPrinted w above records (Some p) Prints =
-    IsRefusedAt w records p.0 p.1 × Prints (rows_text w (above + 1) (take (p.0 - 1) records))
+    IsRefusedAt w records (p.0 + 1) p.1 × Prints (rows_text w (above + 1) (take p.0 records))
 
 -- the page from a world on, above whose records stand this many; or that of those before the first that is refused
 abbrev pub IsMadePrinted : Rules → Run → World → ℕ → List Record → Replayed → (List ℕ → Type 0) → Type 0
@@ -102,9 +102,9 @@ IsMadePrinted rules r w above records replayed.Whole Prints =
     AreAccepted w (events_of_history records)
     × Prints (front_text r w ++ rows_text w (above + 1) records ++ back_text (length records) None)
 IsMadePrinted rules r w above records replayed.Refused Prints =
-    (n : ℕ) × (q : Refusal) × IsRefusedAt w records n q
-    × Prints (front_text r w ++ rows_text w (above + 1) (take (n - 1) records)
-    ++ back_text (n - 1) (Some (refused_line rules (above + n) q)))
+    (n : ℕ) × (q : Refusal) × IsRefusedAt w records (n + 1) q
+    × Prints (front_text r w ++ rows_text w (above + 1) (take n records)
+    ++ back_text n (Some (refused_line rules (above + n + 1) q)))
 
 -- a front of it
 abbrev pub IsMadeBegun : Rules → Run → World → ℕ → List Record → (List ℕ → Type 0) → Type 0

@@ -105,8 +105,8 @@ fn print_row<W: Write>(
     print_text(text.as_slice(), out)
 }
 
-/// Prints the rows of records, up to the first that is refused. `above` records come before them. Answers the number of
-/// the refused one, the first of these having the number 1, and why.
+/// Prints the rows of records, up to the first that is refused. `above` records come before them. Answers how many rows
+/// stand above the refused one, and why it is refused.
 fn print_rows<W: Write>(
     alloc: Global,
     machine: &mut Machine,
@@ -123,7 +123,7 @@ fn print_rows<W: Write>(
     ensures printed { IfOk result (λ refused.
         AreRowsPrinted (world_of machine.old) above records.now refused (λ text.
         Appends (W.contents out.old) (W.contents out.new) text)) }
-    ensures few { IfOk result (λ refused. IfSome refused (λ p. p.0 ≤ length records.now)) }
+    ensures few { IfOk result (λ refused. IfSome refused (λ p. p.0 < length records.now)) }
 {
     let mut text = Vec::new(alloc);
     let mut scratch = Vec::new(alloc);
@@ -131,9 +131,9 @@ fn print_rows<W: Write>(
     let mut before = shown_in(alloc, machine)?;
     let mut after = Shown::nothing(alloc);
     for (index, entry) in records.iter().enumerate() {
-        let number = index as u32 + 1;
-        if let Err(refusal) = look_record(machine, above + number, *entry, &mut transition) {
-            return Ok(Some((number as usize, refusal)));
+        let number = above + index as u32 + 1;
+        if let Err(refusal) = look_record(machine, number, *entry, &mut transition) {
+            return Ok(Some((index, refusal)));
         }
         show(&mut after, machine, &transition.after)?;
         print_row(&mut text, &mut scratch, &transition, &before, &after, out)?;
@@ -211,16 +211,9 @@ fn print_made<W: Write>(
             print_back(alloc, records.len() as u32, None, out)?;
             Ok(Replayed::Whole)
         }
-        Some((number, refusal)) => {
-            let rows = number as u32 - 1;
-            print_refused(
-                alloc,
-                rules,
-                rows,
-                terms.first as usize + number,
-                refusal,
-                out,
-            )?;
+        Some((rows, refusal)) => {
+            let number = terms.first as usize + rows + 1;
+            print_refused(alloc, rules, rows as u32, number, refusal, out)?;
             Ok(Replayed::Refused)
         }
     }

@@ -3,7 +3,7 @@ use Rattle.mx_machine.specs.History.{events_of_history}
 use Rattle.mx_app_step.specs.Machine.{world_of}
 use Rattle.mx_app_step.proofs.FrontLemmas.{err_always}
 use Rattle.mx_app_step.proofs.RecordLemmas.{is_actor_still, next_accepted, next_world, refused_at}
-use Rattle.mx_app_page.proofs.PageLemmas.{front_rows, next_front, next_rows, refused_rows}
+use Rattle.mx_app_page.proofs.PageLemmas.{front_rows, next_front, next_rows}
 use Rattle.mx_app_page.proofs.printing.print_rows.Goals as goal
 
 pub look_record-requires : goal.look_record-requires
@@ -16,6 +16,7 @@ returns-in-Err-clause-printed g c =
     let inv = c.loop-index.invariant in
     let w = world_of c.args.machine.now in
     let i = c.loop-index.index in
-    refused_rows w c.args.records.now c.args.above i (i + 1) c.in-Err.refusal (g.W.Write.contents c.args.out.now) (g.W.Write.contents c.loop-index.out) refl
-    (refused_at w (world_of c.loop-index.machine) c.args.records.now i _ c.loop-index-test.true inv.accepted inv.world (i + 1) c.in-Err.refusal refl c.in-Err.ensures.err)
-    inv.printed
+    (
+      refused_at w (world_of c.loop-index.machine) c.args.records.now i _ c.loop-index-test.true inv.accepted inv.world (i + 1) c.in-Err.refusal refl c.in-Err.ensures.err,
+      inv.printed,
+    )
