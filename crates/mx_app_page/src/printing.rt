@@ -1,6 +1,6 @@
 //! The page of a history, from files' names to its text.
 
-ghost use Rattle.std.specs.Prelude.{◌≡◌, ◌<◌, ◌≤◌, ◌+◌, ◌-◌, ◌^◌, ◌++◌, List, All, IfOk, IfErr, IfSome, OnOk, length, take, option_map, string_bytes};
+ghost use Rattle.std.specs.Prelude.{◌≡◌, ◌<◌, ◌≤◌, ◌+◌, ◌-◌, ◌^◌, ◌++◌, List, All, IfOk, IfErr, IfSome, OnOk, length, take, drop, option_map};
 ghost use Rattle.std.specs.Io.KnownBytes.{Appends};
 ghost use Rattle.mx_app_step.specs.Failure.{IsWanting, PrintsFront};
 ghost use Rattle.mx_app_step.specs.Machine.{world_of};
@@ -219,6 +219,14 @@ fn print_made<W: Write>(
     }
 }
 
+/// The records that stand in rows, if so many are to be above the first row.
+fn records_in_rows(records: &[Record], first: u32) -> &[Record]
+    ensures { result.now ≡ drop (length (take first records.entry.now)) records.entry.now }
+{
+    let above = first_records(records, first);
+    &records[above.len()..]
+}
+
 /// Prints the page of a history's part. `records` are those up to the last row, and `terms.first` of them are to be
 /// above the first one. If one of those is refused, the page shows the machine as it is at boot.
 fn print_page<W: Write>(
@@ -242,19 +250,12 @@ fn print_page<W: Write>(
 {
     let rules = machine.rules();
     let at_boot = front_text(alloc, machine, RunTerms { first: 0, ..terms })?;
-    let skipped = first_records(records, terms.first);
-    let above = skipped.len();
-    match perform_records(machine, skipped) {
+    let above = first_records(records, terms.first);
+    match perform_records(machine, above) {
         Ok(()) => {
-            let first = above as u32;
-            print_made(
-                alloc,
-                machine,
-                RunTerms { first, ..terms },
-                rules,
-                &records[above..],
-                out,
-            )
+            let first = above.len() as u32;
+            let rows = records_in_rows(records, terms.first);
+            print_made(alloc, machine, RunTerms { first, ..terms }, rules, rows, out)
         }
         Err((number, refusal)) => {
             print_text(at_boot.as_slice(), out)?;
@@ -267,8 +268,8 @@ fn print_page<W: Write>(
 /// What the page says of a run, of which `first` records are to be above the first row.
 fn terms_of<'a>(chosen: HistoryPart<'a>, config: &Config) -> RunTerms<'a>
     ensures first { result.first ≡ chosen.entry.from - 1 }
-    ensures run { (n : ℕ) → record (run_of result) { first = n }
-        ≡ run_of_files chosen.entry.config.now chosen.entry.log.now n config.now }
+    ensures run { run_of result ≡ run_of_files chosen.entry.config.now chosen.entry.log.now
+        (chosen.entry.from - 1) config.now }
 {
     RunTerms {
         config: chosen.config.as_bytes(),

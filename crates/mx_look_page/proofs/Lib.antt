@@ -1,3 +1,4 @@
 mod JsonLemmas
 mod PlainLemmas
+mod PlainRows
 mod Places
