@@ -184,3 +184,35 @@ module _ (run : ℕ → Run) (w : World) (records : List Record) (first n : ℕ)
         subst (λ (t : List ℕ). Prints t) (sym (ap (λ b. cond b (page_text (run 0) w [] [] line) (page_text (run first) w (take first early) (drop first early) line)) is_below))
         (subst (λ (x : Rules). Prints (front_text (run 0) w ++ back_text 0 (Some (refused_line x n r)))) same printed),
       )
+
+-- ---- by what a body has
+
+module _ (run : ℕ → Run) (w v : World) (records skipped rows : List Record) (first k : ℕ) (rules : Rules) (same : skipped ≡ take first records) (many : k ≡ length skipped)
+    (others_are : rows ≡ drop (length (take first records)) records) (accepted : AreAccepted w (events_of_history skipped)) (world : v ≡ world_after_events w (events_of_history skipped))
+    (own : rules ≡ w.table.rules) where
+  skipped_accepted : AreAccepted w (events_of_history (take first records))
+  skipped_accepted = subst (λ (rs : List Record). AreAccepted w (events_of_history rs)) same accepted
+
+  skipped_world : v ≡ world_after_events w (events_of_history (take first records))
+  skipped_world = world ∙ ap (λ (rs : List Record). world_after_events w (events_of_history rs)) same
+
+  so_many_above : k ≡ length (take first records)
+  so_many_above = many ∙ ap length same
+
+  pub page_of_rows : (Prints : List ℕ → Type 0) (how : Replayed) → IsMadePrinted rules (run k) v k rows how Prints → IsPagePrinted run w records first how Prints
+  page_of_rows Prints how h =
+      above_printed run w v records first skipped_accepted skipped_world rules Prints how own
+      (subst (λ m. IsMadePrinted rules (run m) v m (drop (length (take first records)) records) how Prints) so_many_above
+      (subst (λ (rs : List Record). IsMadePrinted rules (run k) v k rs how Prints) others_are h))
+
+  pub front_of_rows : (Prints : List ℕ → Type 0) → IsMadeBegun rules (run k) v k rows Prints → IsPageBegun run w records first Prints
+  front_of_rows Prints h =
+      above_begun run w v records first skipped_accepted skipped_world rules Prints own
+      (subst (λ m. IsMadeBegun rules (run m) v m (drop (length (take first records)) records) Prints) so_many_above
+      (subst (λ (rs : List Record). IsMadeBegun rules (run k) v k rs Prints) others_are h))
+
+module _ (run : ℕ → Run) (w : World) (records skipped : List Record) (first n : ℕ) (r : Refusal) (rules : Rules) (same : skipped ≡ take first records) (few : n ≤ length skipped)
+    (refused : IsRefusedAt w skipped n r) (own : rules ≡ w.table.rules) where
+  pub page_at_boot : (Prints : List ℕ → Type 0) → Prints (front_text (run 0) w ++ back_text 0 (Some (refused_line rules n r))) → IsPagePrinted run w records first replayed.Refused Prints
+  page_at_boot Prints h =
+      boot_printed run w records first n r (subst (λ (rs : List Record). n ≤ length rs) same few) (subst (λ (rs : List Record). IsRefusedAt w rs n r) same refused) rules Prints own h
