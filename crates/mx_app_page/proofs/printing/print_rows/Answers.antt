@@ -1,5 +1,7 @@
-use Rattle.std.proofs.Common.{◌+◌, refl, take}
+use Rattle.std.proofs.Common.{◌∙◌, ◌+◌, ap, refl, sym, take}
 use Rattle.mx_machine.specs.History.{events_of_history}
+use Rattle.mx_look.specs.Glances.{glance_of}
+use Rattle.mx_look.specs.declared.transition.Transition.{Transition}
 use Rattle.mx_app_step.specs.Machine.{world_of}
 use Rattle.mx_app_step.proofs.FrontLemmas.{err_always}
 use Rattle.mx_app_step.proofs.RecordLemmas.{is_actor_still, next_accepted, next_world, refused_at}
@@ -52,3 +54,6 @@ returns-in_err-print_row-clause-front g c =
     err_always c.from_residual-in_err-print_row.result _
     (next_front w v u c.args.records.now c.args.above i (c.args.above + i + 1) _ c.look_record.new.transition c.loop-index.before c.show.new.shown c.loop-index-test.true refl inv.world c.in_default.ensures.transition inv.shown (search rules) c.in_default.ensures.ok.1
     (g.W.Write.contents c.args.out.now) (g.W.Write.contents c.loop-index.out) (g.W.Write.contents c.print_row.new.out) inv.printed c.in_err-print_row.ensures.front)
+
+pub show-requires : goal.show-requires
+show-requires g c = ap (λ (x : Transition). x.after) c.in_default.ensures.transition ∙ ap glance_of (sym c.in_default.ensures.ok.1)
