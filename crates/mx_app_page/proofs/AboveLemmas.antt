@@ -1,7 +1,7 @@
 -- A page of which some records stand above the first row, from the page of the others.
 use Rattle.std.proofs.Common.{◌≡◌, ◌∙◌, ◌<◌, ◌≤◌, ℕ, zero, suc, ◌+◌, ◌-◌, nat_lt, Bool, true, false, cond, List, [], ◌∷◌, ◌++◌, length, take, drop, append_assoc, Option, Some, None, inl, inr, refl, ap, sym, subst, arith}
 use Rattle.std.proofs.lemmas.Bool.{lt-ltb, ltb-true}
-use Rattle.std.proofs.lemmas.List.{length-append, take-append-drop}
+use Rattle.std.proofs.lemmas.List.{append-nil, length-append, take-append-drop}
 use Rattle.mx_machine.specs.declared.events.Event.{Event}
 use Rattle.mx_machine.specs.declared.events.Refusal.{Refusal}
 use Rattle.mx_machine.specs.declared.history.Record.{Record}
@@ -181,7 +181,9 @@ module _ (run : ℕ → Run) (w : World) (records : List Record) (first n : ℕ)
         n,
         r,
         boot_refused,
-        subst (λ (t : List ℕ). Prints t) (sym (ap (λ b. cond b (page_text (run 0) w [] [] line) (page_text (run first) w (take first early) (drop first early) line)) is_below))
+        subst (λ (t : List ℕ). Prints t)
+        (ap (λ (t : List ℕ). t ++ back_text 0 line) (sym (append-nil (front_text (run 0) w)))
+        ∙ sym (ap (λ b. cond b (page_text (run 0) w [] [] line) (page_text (run first) w (take first early) (drop first early) line)) is_below))
         (subst (λ (x : Rules). Prints (front_text (run 0) w ++ back_text 0 (Some (refused_line x n r)))) same printed),
       )
 

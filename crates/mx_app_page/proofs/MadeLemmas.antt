@@ -33,24 +33,24 @@ module _ (rules : Rules) (r : Run) (w : World) (above : ℕ) (records : List Rec
   none_begun = inl (front_none x (head ++ rows ++ back))
 
   pub head_begun : PrintsFront (λ t. Appends x y t) head → IsMadeBegun rules r w above records (λ t. Appends x y t)
-  head_begun h = inl (front_more (λ t. Appends x y t) head (rows ++ back) h)
+  head_begun h = inl (front_more (λ t. Appends x y t) (head ++ rows) back (front_more (λ t. Appends x y t) head rows h))
 
   module _ (z : Option (List ℕ)) (headed : Appends x y head) where
     pub rows_begun : PrintsFront (λ t. Appends y z t) rows → IsMadeBegun rules r w above records (λ t. Appends x z t)
-    rows_begun h = inl (front_after x y z head (rows ++ back) headed (front_more (λ t. Appends y z t) rows back h))
+    rows_begun h = inl (front_more (λ t. Appends x z t) (head ++ rows) back (front_after x y z head rows headed h))
 
     module _ (u : Option (List ℕ)) where
       pub back_begun : AreRowsPrinted w above records None (λ t. Appends y z t) → PrintsFront (λ t. Appends z u t) back → IsMadeBegun rules r w above records (λ t. Appends x u t)
-      back_begun p h = inl (front_after x y u head (rows ++ back) headed (front_after y z u rows back p.1 h))
+      back_begun p h = inl (front_after x z u (head ++ rows) back (Appends-trans x y z head rows headed p.1) h)
 
       pub refused_begun : (n : ℕ) (q : Refusal) → AreRowsPrinted w above records (Some (n, q)) (λ t. Appends y z t) → PrintsFront (λ t. Appends z u t) (back_at n q)
           → IsMadeBegun rules r w above records (λ t. Appends x u t)
-      refused_begun n q p h = inr (n, q, p.0, front_after x y u head (some n ++ back_at n q) headed (front_after y z u (some n) (back_at n q) p.1 h))
+      refused_begun n q p h = inr (n, q, p.0, front_after x z u (head ++ some n) (back_at n q) (Appends-trans x y z head (some n) headed p.1) h)
 
       -- all of it
       pub whole_printed : AreRowsPrinted w above records None (λ t. Appends y z t) → Appends z u back → IsMadePrinted rules r w above records replayed.Whole (λ t. Appends x u t)
-      whole_printed p h = (p.0, Appends-trans x y u head (rows ++ back) headed (Appends-trans y z u rows back p.1 h))
+      whole_printed p h = (p.0, Appends-trans x z u (head ++ rows) back (Appends-trans x y z head rows headed p.1) h)
 
       pub refused_printed : (n : ℕ) (q : Refusal) → AreRowsPrinted w above records (Some (n, q)) (λ t. Appends y z t) → Appends z u (back_at n q)
           → IsMadePrinted rules r w above records replayed.Refused (λ t. Appends x u t)
-      refused_printed n q p h = (n, q, p.0, Appends-trans x y u head (some n ++ back_at n q) headed (Appends-trans y z u (some n) (back_at n q) p.1 h))
+      refused_printed n q p h = (n, q, p.0, Appends-trans x z u (head ++ some n) (back_at n q) (Appends-trans x y z head (some n) headed p.1) h)

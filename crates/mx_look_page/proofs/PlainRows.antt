@@ -1,5 +1,5 @@
 -- The row of a record is one line, and none of it is markup.
-use Rattle.std.proofs.Common.{◌≡◌, ◌++◌, ◌==◌, ◌^◌, ℕ, cond, List, [], ◌∷◌, Option, Some, None, decimal, refl, ap, sym, append_assoc, ◌∙◌}
+use Rattle.std.proofs.Common.{◌++◌, ◌==◌, ◌^◌, ℕ, cond, List, [], ◌∷◌, Option, Some, None, decimal, refl}
 use Rattle.std.specs.Prelude.{codes, nat_lt}
 use Rattle.std.specs.Int.{w32, cast_signed}
 use Rattle.std.specs.Fmt.{signed_decimal}
@@ -19,25 +19,21 @@ use Rattle.mx_look_page.specs.declared.shown.SlotState.{SlotState}
 use Rattle.mx_look_page.specs.Json.{ArePlain, IsPlainLine, list_of, member, numbered, text}
 use Rattle.mx_look_page.specs.Rows.{all_arrows, arrow_items, arrow_items_by, but_last, byte_part, byte_part_by, changed_states, changes_part, delivery_item, event_detail, event_number, event_part, is_wrong, items_part, kept_between, kept_item, kind_items, order_items, order_part, party_items, result_part, row_text, source_at, state_items, state_part, state_text, subject_part, subject_part_by, told_state, trace_part, wrong_part}
 use Rattle.mx_look_page.specs.Shown.{ShownWorld, state_in}
-use Rattle.mx_look_page.proofs.PlainLemmas.{both, each, either, plain_list, plain_member, plain_number, plain_numbered, plain_signed}
+use Rattle.mx_look_page.proofs.PlainLemmas.{both, each, either, plain_line, plain_list, plain_member, plain_number, plain_numbered, plain_signed}
 
 -- ---- pieces in a row
 
 three : (a b c : List ℕ) → ArePlain a → ArePlain b → ArePlain c → ArePlain (a ++ b ++ c)
-three a b c p q r = both a (b ++ c) p (both b c q r)
+three a b c p q r = both (a ++ b) c (both a b p q) r
 
 four : (a b c d : List ℕ) → ArePlain a → ArePlain b → ArePlain c → ArePlain d → ArePlain (a ++ b ++ c ++ d)
-four a b c d p q r s = both a (b ++ c ++ d) p (three b c d q r s)
+four a b c d p q r s = both (a ++ b ++ c) d (three a b c p q r) s
 
 five : (a b c d e : List ℕ) → ArePlain a → ArePlain b → ArePlain c → ArePlain d → ArePlain e → ArePlain (a ++ b ++ c ++ d ++ e)
-five a b c d e p q r s t = both a (b ++ c ++ d ++ e) p (four b c d e q r s t)
+five a b c d e p q r s t = both (a ++ b ++ c ++ d) e (four a b c d p q r s) t
 
 counted : (name : List ℕ) (n : ℕ) → ArePlain name → ArePlain (member name ++ decimal n)
 counted name n h = both (member name) (decimal n) (plain_member name h) (plain_number n)
-
--- a line is longer by what is plain
-pub before : (s t : List ℕ) → ArePlain s → IsPlainLine t → IsPlainLine (s ++ t)
-before s t h (line, e, g) = (s ++ line, ap (λ u. s ++ u) e ∙ sym (append_assoc s line (codes "\n")), both s line h g)
 
 -- ---- the event
 
@@ -56,23 +52,22 @@ plain_wrong x = either (is_wrong x) (codes ",\"x\":1") [] refl refl
 plain_event : (x : Transition) → ArePlain (event_part x)
 unfolding event_part
 plain_event x =
-    let e = member (codes "e") ++ decimal (event_number x.event) ++ member (codes "n") ++ decimal (event_detail x) ++ subject_part x ++ wrong_part x in
-    both (codes "{\"a\":") (decimal x.actor ++ e) refl
-    (both (decimal x.actor) e (plain_number x.actor)
-    (both (member (codes "e")) (decimal (event_number x.event) ++ member (codes "n") ++ decimal (event_detail x) ++ subject_part x ++ wrong_part x) (plain_member (codes "e") refl)
-    (five (decimal (event_number x.event)) (member (codes "n")) (decimal (event_detail x)) (subject_part x) (wrong_part x)
-    (plain_number (event_number x.event)) (plain_member (codes "n") refl) (plain_number (event_detail x)) (plain_subject x) (plain_wrong x))))
+    let n = decimal (event_number x.event) in
+    let d = decimal (event_detail x) in
+    let begun = codes "{\"a\":" ++ decimal x.actor ++ member (codes "e") ++ n in
+    five begun (member (codes "n")) d (subject_part x) (wrong_part x)
+    (four (codes "{\"a\":") (decimal x.actor) (member (codes "e")) n refl (plain_number x.actor) (plain_member (codes "e") refl) (plain_number (event_number x.event)))
+    (plain_member (codes "n") refl) (plain_number (event_detail x)) (plain_subject x) (plain_wrong x)
 
 -- ---- states
 
 plain_state : (s : ℕ) (v : SlotState) → ArePlain (state_items s v)
 unfolding state_items
 plain_state s v =
-    both (codes ",[") (decimal s ++ numbered v.endpoint ++ numbered v.state ++ codes "," ++ signed_decimal (cast_signed w32 v.partner) ++ numbered v.level ++ numbered v.ticks) refl
-    (both (decimal s) (numbered v.endpoint ++ numbered v.state ++ codes "," ++ signed_decimal (cast_signed w32 v.partner) ++ numbered v.level ++ numbered v.ticks) (plain_number s)
-    (both (numbered v.endpoint) (numbered v.state ++ codes "," ++ signed_decimal (cast_signed w32 v.partner) ++ numbered v.level ++ numbered v.ticks) (plain_numbered v.endpoint)
-    (five (numbered v.state) (codes ",") (signed_decimal (cast_signed w32 v.partner)) (numbered v.level) (numbered v.ticks)
-    (plain_numbered v.state) refl (plain_signed (cast_signed w32 v.partner)) (plain_numbered v.level) (plain_numbered v.ticks))))
+    let partner = signed_decimal (cast_signed w32 v.partner) in
+    five (codes ",[" ++ decimal s ++ numbered v.endpoint ++ numbered v.state) (codes ",") partner (numbered v.level) (numbered v.ticks)
+    (four (codes ",[") (decimal s) (numbered v.endpoint) (numbered v.state) refl (plain_number s) (plain_numbered v.endpoint) (plain_numbered v.state))
+    refl (plain_signed (cast_signed w32 v.partner)) (plain_numbered v.level) (plain_numbered v.ticks)
 
 plain_result : (r : Option ℕ) → ArePlain (result_part r)
 unfolding result_part
@@ -169,14 +164,9 @@ plain_trace x h = both (member (codes "t")) (text (but_last (record_text x))) (p
 pub plain_row : (x : Transition) (p q : ShownWorld) → ArePlain (text (but_last (record_text x))) → IsPlainLine (row_text x p q)
 unfolding row_text
 plain_row x p q h =
-    let last : IsPlainLine (codes "}\n") = (codes "}", refl, refl) in
-    let b = byte_part x ++ codes "}\n" in
-    let w = order_part (codes "w") p.waiting q.waiting ++ b in
-    let r = order_part (codes "q") p.ready q.ready ++ w in
-    let c = changes_part x p q ++ r in
-    before (event_part x) (trace_part x ++ c) (plain_event x)
-    (before (trace_part x) c (plain_trace x h)
-    (before (changes_part x p q) r (plain_changes x p q)
-    (before (order_part (codes "q") p.ready q.ready) w (plain_order (codes "q") p.ready q.ready refl)
-    (before (order_part (codes "w") p.waiting q.waiting) b (plain_order (codes "w") p.waiting q.waiting refl)
-    (before (byte_part x) (codes "}\n") (plain_byte_part x) last)))))
+    let begun = event_part x ++ trace_part x ++ changes_part x p q ++ order_part (codes "q") p.ready q.ready ++ order_part (codes "w") p.waiting q.waiting in
+    plain_line (begun ++ byte_part x) (begun ++ byte_part x ++ codes "}\n")
+    (both begun (byte_part x)
+    (five (event_part x) (trace_part x) (changes_part x p q) (order_part (codes "q") p.ready q.ready) (order_part (codes "w") p.waiting q.waiting)
+    (plain_event x) (plain_trace x h) (plain_changes x p q) (plain_order (codes "q") p.ready q.ready refl) (plain_order (codes "w") p.waiting q.waiting refl))
+    (plain_byte_part x)) refl
