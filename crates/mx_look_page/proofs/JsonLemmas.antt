@@ -1,5 +1,5 @@
 -- A text that is printed is read as it was.
-use Rattle.std.proofs.Common.{◌≡◌, ◌∙◌, ◌++◌, suc, get_or, ◌<◌, ◌≤◌, ◌≢◌, ◌||◌, ◌==◌, ℕ, Bool, true, false, cond, List, [], ◌∷◌, inl, inr, refl, sym, ap, subst, arith}
+use Rattle.std.proofs.Common.{◌≡◌, ◌∙◌, ◌++◌, suc, get_or, ◌<◌, ◌≤◌, ◌≢◌, ◌||◌, ℕ, Bool, true, false, cond, List, [], ◌∷◌, inl, inr, refl, sym, ap, subst}
 use Rattle.std.specs.Prelude.{codes, nat_lt}
 use Rattle.std.specs.List.{flat_map}
 use Rattle.std.proofs.lemmas.Bool.{cases_eq, cases_lt, ne_eqb, lt-ltb}
