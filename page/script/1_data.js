@@ -99,9 +99,9 @@ const labels = new Uint16Array(total + 2), labelWords = new Words();  // of a re
 const arrows = new Rows(5);  // record, kind, slot of the sender or -1, slot of the receiver, type
 const bytes = new Rows(2);   // record, byte for the console
 const queueChanges = new Rows(1), waitChanges = new Rows(1);
-const lanes = head.start.map(([, ...state]) => {
+const lanes = head.start.map(state => {
   const lane = new Lane();
-  lane.push(base, ...state);
+  lane.push(base, ...state.slice(1, 6));
   return lane;
 });
 queueChanges.push(base);
@@ -122,7 +122,7 @@ function deedOf(line) {
 // Notes a service's change of state, and returns what it shows: a death, a new process.
 function noteChange(k, [slot, ...state]) {
   const lane = lanes[slot], before = lane.change(lane.length - 1);
-  lane.push(k, ...state);
+  lane.push(k, ...state.slice(0, 5));
   const after = lane.change(lane.length - 1);
   return (isDown(after.state) && !isDown(before.state) ? DEATH : 0) |
       (after.endpoint !== before.endpoint ? RESPAWN : 0);
