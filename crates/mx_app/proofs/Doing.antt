@@ -5,7 +5,7 @@ use Rattle.std.specs.Io.KnownBytes.{Appends}
 use Rattle.std.proofs.lemmas.List.{append-nil}
 use Rattle.mx_app_command.specs.Files.{writes_over}
 use Rattle.mx_app_command.specs.declared.command_line.CommandRequest.{CommandRequest}
-use Rattle.mx_app_command.specs.declared.command_line.CommandRequest.TheVariants.{Look, Run, Sweep, Turns}
+use Rattle.mx_app_command.specs.declared.command_line.CommandRequest.TheVariants.{Live, Look, Run, Sweep, Turns}
 use Rattle.mx_app_command.specs.declared.command_line.RecordRange.{RecordRange}
 use Rattle.mx_app_db.specs.ScriptLine.{ScriptLine}
 use Rattle.mx_app_db.specs.declared.script.DebugLine.{DebugLine}
@@ -38,6 +38,10 @@ use Rattle.mx_app_page.specs.Pages.{IsPagePrinted, run_of_files}
 use Rattle.mx_app_look.specs.Sessions.{HasFailed, IsBegun, IsSession, IsWhole, begun_text, sight_at}
 use Rattle.mx_app_run.specs.Run.{Runs}
 use Rattle.mx_app_turns.specs.Sweeping.{Sweeps}
+use Rattle.mx_app_live.specs.declared.outside.Heard.{Heard}
+use Rattle.mx_app_live.specs.declared.outside.Note.{Note}
+use Rattle.mx_app_live.specs.declared.session.SessionEnding.{SessionEnding}
+use Rattle.mx_app_live.specs.Living.{Lives}
 use Rattle.mx_app_turns.specs.declared.sweeping.Swept.{Swept}
 use Rattle.mx_app_turns.specs.Turned.{MakesTurns}
 use Rattle.mx_app_run.specs.declared.run_by_threads.RunEnding.{RunEnding}
@@ -48,7 +52,7 @@ use Rattle.mx_app.specs.Deeds.{Deeds, nothing_done}
 use Rattle.mx_app.specs.Explained.{ExplainsConfig}
 use Rattle.mx_app.specs.Named.{Assembles, ShowsFile}
 use Rattle.mx_app.specs.declared.performing.Done.{Done}
-use Rattle.mx_app.specs.Requests.{Debugs, Draws, Explains, Looks, Pages, Performs, PerformsApart, PerformsUntyped, Replays, SavesSteps, Shows, Steps, Traces, done_after_replay, done_after_run, done_after_sweep, done_after_turns, done_after_work, over_read}
+use Rattle.mx_app.specs.Requests.{Debugs, Draws, Explains, Looks, Pages, Performs, PerformsApart, PerformsUntyped, Replays, SavesSteps, Shows, Steps, Traces, done_after_live, done_after_replay, done_after_run, done_after_sweep, done_after_turns, done_after_work, over_read}
 
 -- what a request asked for and wrote, and what is done of it
 abbrev pub AsksAndWrites : List Asked → List Asked → List Written → List Written → (List Asked → List Written → Type 0) → Type 0
@@ -67,6 +71,7 @@ untyped : (WasShown : Part → Type 0) (request : CommandRequest) (asks : Bool) 
 untyped WasShown (Run config log ticks events) asks qs ws Prints r h = absurd h
 untyped WasShown (Look config log) asks qs ws Prints r h = absurd h
 untyped WasShown (Turns config log ticks events bound) asks qs ws Prints r h = absurd h
+untyped WasShown (Live config log raw hertz stop) asks qs ws Prints r h = absurd h
 untyped WasShown (Sweep config log fault bound from to jobs strict save) asks qs ws Prints r h = absurd h
 untyped WasShown request asks qs ws Prints r h = (refl, refl, h)
 
@@ -132,6 +137,16 @@ pub turned : {given : List (Option (List ℕ))} (asked now : List Asked) (files 
     → Grows asked now files written given given shown later (λ did. (did.typed ≡ []) × (e : Result Ending Kind) × MakesTurns config events log ticks bound did.asked did.written did.shown (λ text. Appends x y text) e × (r ≡ done_after_turns e))
 turned {given} asked now files written shown later config log events ticks bound x y d r p e =
     (record { asked = p.0; written = p.1; typed = []; shown = p.2 }, p.3, p.4, sym (append-nil given), p.5, (refl, d, p.6, e))
+
+-- a machine lived, or it didn't
+pub lived : (heard heard_now : List Heard) (told told_now : List Note) (asked now : List Asked) (files written : List Written) (given given_now : List (Option (List ℕ))) (shown later : List Part) (config log : List ℕ) (has_clock : Bool) (x y : Option (List ℕ)) (d : Result SessionEnding Kind) (r : Result Done Kind)
+    → (qs : List Asked) × (ws : List Written) × (hs : List Heard) × (notes : List Note) × (now ≡ asked ++ qs) × (written ≡ files ++ ws) × (heard_now ≡ heard ++ hs) × (told_now ≡ told ++ notes)
+    × Lives config log has_clock qs ws hs notes (λ text. Appends x y text) d
+    → given_now ≡ given → later ≡ shown → r ≡ done_after_live d
+    → Grows asked now files written given given_now shown later (λ did. (did.typed ≡ []) × (did.shown ≡ []) × (hs : List Heard) × (notes : List Note) × (e : Result SessionEnding Kind)
+    × Lives config log has_clock did.asked did.written hs notes (λ text. Appends x y text) e × (r ≡ done_after_live e))
+lived heard heard_now told told_now asked now files written given given_now shown later config log has_clock x y d r p lines same e =
+    (record nothing_done { asked = p.0; written = p.1 }, p.4, p.5, lines ∙ sym (append-nil given), same ∙ sym (append-nil shown), (refl, refl, p.2, p.3, d, p.8, e))
 
 -- a history was swept, or it wasn't
 pub swept : {given : List (Option (List ℕ))} (asked now : List Asked) (files written : List Written) (shown later : List Part) (config log fault : List ℕ) (save : Option (List ℕ)) (from to bound : ℕ) (strict : Bool) (x y : Option (List ℕ)) (d : Result Swept Kind) (r : Result Done Kind)

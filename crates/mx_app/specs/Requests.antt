@@ -1,9 +1,9 @@
 -- What is done of requests (our own).
-use Rattle.std.specs.Prelude.{◌≡◌, ◌⊎◌, ℕ, Bool, true, false, if◌then◌else◌, List, [], ◌∷◌, ◌++◌, Option, Some, None, Result, Ok, Err, option_map, take}
+use Rattle.std.specs.Prelude.{◌≡◌, ◌⊎◌, ℕ, Bool, true, false, if◌then◌else◌, List, [], ◌∷◌, ◌++◌, Option, Some, None, Result, Ok, Err, nat_lt, option_map, take}
 use Rattle.mx_app_command.specs.Files.{writes_over}
 use Rattle.mx_app_command.specs.declared.command_line.CommandRequest.{CommandRequest}
 use Rattle.mx_app_command.specs.declared.command_line.RecordRange.{RecordRange}
-use Rattle.mx_app_command.specs.declared.command_line.CommandRequest.TheVariants.{One, As, Show, Explain, Step, Run, Turns, Sweep, Replay, Trace, Draw, Page, Look, Db}
+use Rattle.mx_app_command.specs.declared.command_line.CommandRequest.TheVariants.{One, As, Show, Explain, Step, Run, Turns, Live, Sweep, Replay, Trace, Draw, Page, Look, Db}
 use Rattle.mx_app_db.specs.ScriptLine.{ScriptLine}
 use Rattle.mx_app_db.specs.declared.script.DebugLine.{DebugLine}
 use Rattle.mx_app_failure.specs.declared.failure.Failure.{Failure as Kind}
@@ -35,6 +35,11 @@ use Rattle.mx_app_db.specs.Replayed.{Replayed}
 use Rattle.mx_app_db.specs.Replayed.TheVariants as replayed
 use Rattle.mx_app_draw.specs.Scenes.{IsDrawingPrinted}
 use Rattle.mx_app_page.specs.Pages.{IsPagePrinted, run_of_files}
+use Rattle.mx_app_live.specs.declared.outside.Heard.{Heard}
+use Rattle.mx_app_live.specs.declared.outside.Note.{Note}
+use Rattle.mx_app_live.specs.declared.session.SessionEnding.{SessionEnding}
+use Rattle.mx_app_live.specs.declared.session.SessionEnding.TheVariants as session
+use Rattle.mx_app_live.specs.Living.{Lives}
 use Rattle.mx_app_look.specs.Sessions.{HasFailed, IsBegun, IsSession, IsWhole, begun_text, sight_at}
 use Rattle.mx_app_run.specs.Run.{Runs}
 use Rattle.mx_app_turns.specs.Sweeping.{Sweeps}
@@ -74,6 +79,15 @@ done_after_replay (Err f) = Err f
 abbrev pub done_after_turns : Result Ending Kind → Result Done Kind
 done_after_turns (Ok ending) = Ok (record { status = 0; ending = Some (driven.Turns ending); untested = None })
 done_after_turns (Err f) = Err f
+
+-- the status of a session is 130 if it was stopped
+abbrev pub live_status : SessionEnding → ℕ
+live_status session.Stopped = 130
+live_status e = 0
+
+abbrev pub done_after_live : Result SessionEnding Kind → Result Done Kind
+done_after_live (Ok ending) = Ok (with_status (live_status ending))
+done_after_live (Err f) = Err f
 
 -- the status of a run is 5 if it was stopped
 abbrev pub run_status : RunEnding → ℕ
@@ -203,6 +217,7 @@ PerformsUntyped (Step config script (Some log) numbered) qs ws Prints r =
     × (r ≡ done_after_work d)
 PerformsUntyped (Run config log ticks events) qs ws Prints r = ⊥
 PerformsUntyped (Turns config log ticks events bound) qs ws Prints r = ⊥
+PerformsUntyped (Live config log raw hertz stop) qs ws Prints r = ⊥
 PerformsUntyped (Sweep config log fault bound from to jobs strict save) qs ws Prints r = ⊥
 PerformsUntyped (Replay config log) qs ws Prints r =
     (d : Result Replayed Kind) × (ws ≡ []) × Replays config.now log.now qs Prints d × (r ≡ done_after_replay d)
@@ -233,6 +248,10 @@ PerformsApart WasShown (Turns config log ticks events bound) asks did Prints r =
     × MakesTurns config.now
     (option_map (λ s. s.now) events) log.now ticks bound did.asked did.written did.shown Prints d
     × (r ≡ done_after_turns d)
+PerformsApart WasShown (Live config log raw hertz stop) asks did Prints r =
+    (did.typed ≡ []) × (did.shown ≡ []) × (hs : List Heard) × (notes : List Note) × (d : Result SessionEnding Kind)
+    × Lives config.now log.now (nat_lt 0 hertz) did.asked did.written hs notes Prints d
+    × (r ≡ done_after_live d)
 PerformsApart WasShown (Sweep config log fault bound from to jobs strict save) asks did Prints r =
     (did.typed ≡ []) × (d : Result Swept Kind)
     × Sweeps config.now log.now fault.now

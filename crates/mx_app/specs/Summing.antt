@@ -4,7 +4,7 @@ use Rattle.std.specs.declared.io.ErrorKind.{ErrorKind}
 use Rattle.mx_app_command.specs.Files.{files_read, names_file}
 use Rattle.mx_app_command.specs.declared.command_line.CommandLine.{CommandLine}
 use Rattle.mx_app_command.specs.declared.command_line.CommandRequest.{CommandRequest}
-use Rattle.mx_app_command.specs.declared.command_line.CommandRequest.TheVariants.{Step, Run, Turns}
+use Rattle.mx_app_command.specs.declared.command_line.CommandRequest.TheVariants.{Step, Run, Turns, Live}
 use Rattle.mx_app_failure.specs.declared.failure.Failure.{Failure as Kind}
 use Rattle.mx_app_failure.specs.declared.failure.Failure.TheVariants as failures
 use Rattle.mx_app_failure.specs.Failure.{failure_line, status_of}
@@ -45,6 +45,7 @@ abbrev pub writes_sums : CommandRequest → Bool
 writes_sums (Step config script save numbered) = true
 writes_sums (Run config log ticks events) = true
 writes_sums (Turns config log ticks events bound) = true
+writes_sums (Live config log raw hertz stop) = true
 writes_sums r = false
 
 -- ---- the sums of the machine

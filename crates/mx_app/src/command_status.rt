@@ -15,6 +15,7 @@ use clap::error::ErrorKind;
 use mx_app_command::{CommandLine, Mistake, command};
 use mx_app_explain::{explain_failure, explain_sums};
 use mx_app_failure::{Failure, print_text};
+use mx_app_live::Outside;
 use mx_app_start::{FileWriter, LineReader, Reader, SharedProgress};
 use mx_walk::Progress;
 use std::alloc::{AllocError, Global};
@@ -57,6 +58,8 @@ fn complain<W: Write>(alloc: Global, mistake: Mistake, out: &mut W) -> Result<Do
     match mistake {
         Mistake::Grammar(error) => explain(alloc, error, out),
         Mistake::TicksAndEvents => Err(Complaint::TicksAndEvents),
+        Mistake::LiveWithCourse => Err(Complaint::LiveWithCourse),
+        Mistake::NotLive => Err(Complaint::NotLive),
     }
 }
 
@@ -128,7 +131,7 @@ pub fn perform_words<
     R: Reader + Drop,
     F: FileWriter + Drop,
     W: Write + Drop,
-    L: LineReader + Drop,
+    L: LineReader + Outside + Drop,
     P: Progress + SharedProgress + Sync + Drop,
 >(
     rt: &T,

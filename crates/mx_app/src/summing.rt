@@ -18,6 +18,7 @@ use mx_app_explain::{
     unwritten,
 };
 use mx_app_failure::Failure;
+use mx_app_live::Outside;
 use mx_app_start::{FileWriter, LineReader, Reader, SharedProgress, setup_of};
 use mx_walk::Progress;
 use std::alloc::Global;
@@ -97,9 +98,10 @@ fn writes_sums(request: CommandRequest<'_>) -> bool
     ensures { result ≡ writes_sums request.entry }
 {
     match request {
-        CommandRequest::Step { .. } | CommandRequest::Run { .. } | CommandRequest::Turns { .. } => {
-            true
-        }
+        CommandRequest::Step { .. }
+        | CommandRequest::Run { .. }
+        | CommandRequest::Turns { .. }
+        | CommandRequest::Live { .. } => true,
         _ => false,
     }
 }
@@ -198,7 +200,7 @@ fn perform_summed<
     R: Reader + Drop,
     F: FileWriter + Drop,
     W: Write + Drop,
-    L: LineReader + Drop,
+    L: LineReader + Outside + Drop,
     P: Progress + SharedProgress + Sync + Drop,
 >(
     rt: &T,
@@ -224,7 +226,7 @@ fn perform_compared<
     R: Reader + Drop,
     F: FileWriter + Drop,
     W: Write + Drop,
-    L: LineReader + Drop,
+    L: LineReader + Outside + Drop,
     P: Progress + SharedProgress + Sync + Drop,
 >(
     rt: &T,
@@ -250,7 +252,7 @@ fn perform_with_sums<
     R: Reader + Drop,
     F: FileWriter + Drop,
     W: Write + Drop,
-    L: LineReader + Drop,
+    L: LineReader + Outside + Drop,
     P: Progress + SharedProgress + Sync + Drop,
 >(
     rt: &T,
@@ -281,7 +283,7 @@ pub fn perform_line<
     R: Reader + Drop,
     F: FileWriter + Drop,
     W: Write + Drop,
-    L: LineReader + Drop,
+    L: LineReader + Outside + Drop,
     P: Progress + SharedProgress + Sync + Drop,
 >(
     rt: &T,

@@ -7,6 +7,7 @@ use mx_app::{
     perform_words,
 };
 use mx_app_db::{Channels, InputLines, KeptFile, MemoryWriter, NamedFiles};
+use mx_app_live::Nobody;
 use std::alloc::Global;
 use std::fmt::Write as _;
 use std::io;
@@ -49,7 +50,7 @@ type MemoryIo = CommandIo<
     NamedFiles<'static>,
     MemoryWriter,
     Sink,
-    InputLines<&'static [u8]>,
+    Nobody<InputLines<&'static [u8]>>,
     NoProgress,
 >;
 
@@ -70,7 +71,7 @@ fn memory_io(alloc: Global, refusal: Option<io::ErrorKind>) -> MemoryIo {
                 refusal,
             },
         },
-        lines: InputLines::new(b"".as_slice()),
+        lines: Nobody::new(InputLines::new(b"".as_slice())),
         progress: NoProgress::new(),
         asks: false,
     }

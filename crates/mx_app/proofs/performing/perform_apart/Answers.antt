@@ -1,9 +1,9 @@
-use Rattle.std.proofs.Common.{◌∙◌, ap, Option}
+use Rattle.std.proofs.Common.{◌∙◌, ap, nat_lt, Option, refl}
 use Rattle.std.specs.Prelude.{option_map}
 use Rattle.mx_app_command.specs.declared.command_line.CommandRequest.TheVariants.{Step}
 use Rattle.mx_app_program.specs.One.{IsPrinted}
 use Rattle.mx_app_program.specs.Shown.{IsListingOf, IsShown}
-use Rattle.mx_app.proofs.Doing.{as_asked, as_known, as_typed, assembled, debugs, draws, explains, looks, pages, replays, runs, saved, shows, steps, swept, traces, turned}
+use Rattle.mx_app.proofs.Doing.{as_asked, as_known, as_typed, assembled, debugs, draws, explains, lived, looks, pages, replays, runs, saved, shows, steps, swept, traces, turned}
 use Rattle.mx_app.proofs.performing.perform_apart.Goals as goal
 
 pub returns-in-One-clause-done : goal.returns-in-One-clause-done
@@ -57,6 +57,11 @@ pub returns-in-Turns-clause-done : goal.returns-in-Turns-clause-done
 returns-in-Turns-clause-done g c =
     as_typed (g.P.SharedProgress.was_shown c.args.io.now.progress) _ _ _ _ _ _ _ _ _ _ _ _ _ c.in-Turns.is
     (turned _ _ _ _ _ _ c.in-Turns.config.now c.in-Turns.log.now (option_map (λ s. s.now) c.in-Turns.events) c.in-Turns.ticks c.in-Turns.bound _ _ c.turns.result c.done_after_turns.result c.turns.ensures c.done_after_turns.ensures)
+
+pub returns-in-Live-clause-done : goal.returns-in-Live-clause-done
+returns-in-Live-clause-done g c =
+    as_typed (g.P.SharedProgress.was_shown c.args.io.now.progress) _ _ _ _ _ _ _ _ _ _ _ _ _ c.in-Live.is
+    (lived (g.L.Outside.heard c.args.io.now.lines) _ (g.L.Outside.told c.args.io.now.lines) _ _ _ _ _ _ _ _ _ c.in-Live.config.now c.in-Live.log.now (nat_lt 0 c.in-Live.hertz) _ _ c.live.result c.done_after_live.result c.live.ensures.lived c.live.ensures.lines refl c.done_after_live.ensures)
 
 pub returns-in-Sweep-clause-done : goal.returns-in-Sweep-clause-done
 returns-in-Sweep-clause-done g c =

@@ -1,0 +1,2 @@
+pub mod KeyboardLemmas
+pub mod SessionLemmas

@@ -1,0 +1,62 @@
+-- What a machine does that somebody sits at, and what is left of it (our own).
+use Rattle.std.specs.Prelude.{◌≡◌, ◌⊎◌, ◌++◌, ◌∷◌, [], ℕ, Bool, false, List, Result, Ok, Err}
+use Rattle.mx_machine.specs.Boot.{world_at_boot}
+use Rattle.mx_machine.specs.declared.config.Config.{Config}
+use Rattle.mx_machine.specs.History.{AreAccepted, BootAndHistory}
+use Rattle.mx_machine.specs.Machine.{kept_along}
+use Rattle.mx_machine.specs.Move.{moves}
+use Rattle.mx_machine.specs.Service.{Service}
+use Rattle.mx_app_failure.specs.declared.failure.Failure.{Failure as Kind}
+use Rattle.mx_app_failure.specs.declared.failure.Failure.TheVariants.{NoMemory}
+use Rattle.mx_app_failure.specs.Failure.{IsWanting}
+use Rattle.mx_app_step.specs.Asked.{Asked}
+use Rattle.mx_app_step.specs.Kept.{IsUnwritten, text_kept}
+use Rattle.mx_app_step.specs.Programs.{SparesProgram, names_program}
+use Rattle.mx_app_step.specs.Setup.{IsSetup, IsSetupFault}
+use Rattle.mx_app_step.specs.Written.{Written, kept}
+use Rattle.mx_app_live.specs.declared.outside.Heard.{Heard}
+use Rattle.mx_app_live.specs.declared.outside.Note.{Note}
+use Rattle.mx_app_live.specs.declared.outside.Note.TheVariants as note
+use Rattle.mx_app_live.specs.declared.session.SessionEnding.{SessionEnding}
+use Rattle.mx_app_live.specs.Session.{IsSession, IsUnshown, Part, first_seat, waiting}
+
+abbrev pub kernel_at_boot : Config → List Service → BootAndHistory
+kernel_at_boot c vs = record { boot = world_at_boot c vs; history = [] }
+
+-- the kernel has the records of the events of a session's part, and no others
+abbrev pub IsKernelOf : Config → List Service → Part → BootAndHistory → Type 0
+IsKernelOf c vs p k =
+    AreAccepted (world_at_boot c vs) p.made
+    × (k ≡ kept_along (kernel_at_boot c vs) p.made (moves (world_at_boot c vs) p.made).0)
+
+-- the texts of two histories are written: of the machine at boot, and of the machine at the end
+abbrev pub both_kept : List ℕ → Config → List Service → BootAndHistory → List Written
+both_kept log c vs k = kept log (text_kept (kernel_at_boot c vs)) ∷ kept log (text_kept k) ∷ []
+
+-- what is told after the session's own notes
+abbrev pub end_told : SessionEnding → Part → Note
+end_told e p = note.Ended e p.after.world.records (waiting p.after.typing)
+
+-- WHAT `mx turns --live` DOES, by the answers to its questions: LOG has the history without a record; a session is held;
+-- and LOG has the whole history. Or it fails, and this is why
+abbrev pub Lives : List ℕ → List ℕ → Bool → List Asked → List Written → List Heard → List Note
+    → (List ℕ → Type 0) → Result SessionEnding Kind → Type 0
+Lives config log has_clock qs ws hs notes Prints (Ok e) =
+    (c : Config) × (vs : List Service) × (p : Part) × (k : BootAndHistory)
+    × IsSetup config qs c vs × (names_program c log ≡ false)
+    × IsSession has_clock (first_seat (world_at_boot c vs)) hs p e × IsKernelOf c vs p k
+    × (ws ≡ both_kept log c vs k) × (notes ≡ p.told ++ end_told e p ∷ []) × Prints p.text
+Lives config log has_clock qs ws hs notes Prints (Err f) =
+    ((hs ≡ []) × (notes ≡ []) × Prints []
+    × (((ws ≡ []) × IsSetupFault config qs f)
+    ⊎ ((c : Config) × (vs : List Service) × IsSetup config qs c vs
+    × (SparesProgram c log ws Prints f ⊎ (((ws ≡ []) × (f ≡ NoMemory))
+    ⊎ IsUnwritten log (text_kept (kernel_at_boot c vs)) ws f)))))
+    ⊎ ((c : Config) × (vs : List Service) × (p : Part) × (k : BootAndHistory)
+    × IsSetup config qs c vs × (names_program c log ≡ false) × (notes ≡ p.told) × IsKernelOf c vs p k
+    × (((ws ≡ both_kept log c vs k) × IsWanting f
+    × IsUnshown has_clock (first_seat (world_at_boot c vs)) hs p)
+    ⊎ ((us : List Written) × (ws ≡ kept log (text_kept (kernel_at_boot c vs)) ∷ us)
+    × IsUnwritten log (text_kept k) us f
+    × (((e : SessionEnding) × IsSession has_clock (first_seat (world_at_boot c vs)) hs p e × Prints p.text)
+    ⊎ IsUnshown has_clock (first_seat (world_at_boot c vs)) hs p))))

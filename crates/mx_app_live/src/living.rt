@@ -1,0 +1,82 @@
+//! A machine that somebody sits at, from files' names to the history that is saved.
+
+ghost use Rattle.std.specs.Prelude.{◌≡◌, ◌<◌, ◌++◌, [], List, IfOk, false, nat_lt};
+ghost use Rattle.std.specs.Io.KnownBytes.{Appends};
+ghost use Rattle.mx_app_step.specs.Asked.{Asked};
+ghost use Rattle.mx_app_step.specs.Written.{Written};
+ghost use Rattle.mx_app_live.specs.declared.outside.Heard.{Heard as Heards};
+ghost use Rattle.mx_app_live.specs.declared.outside.Note.{Note as Notes};
+ghost use Rattle.mx_app_live.specs.Living.{Lives};
+ghost use Rattle.mx_typist.specs.Typing.{nothing_typed};
+
+use crate::outside::{Note, Outside, Sitting};
+use crate::session::{Session, SessionEnding, hold_session};
+use mx_app_failure::Failure;
+use mx_app_start::{Channels, FileWriter, Reader, setup_of, spare_programs};
+use mx_app_step::write_history;
+use mx_proc::KEPT_BYTES;
+use mx_typist::{Pending, Typist};
+use mx_walk::boot;
+use mx_word::NoMemory;
+use std::alloc::Global;
+use std::io::Write;
+
+/// The names of the files: that of the configuration, which is read, and that of the history, which is written.
+#[derive(Clone, Copy)]
+pub struct LiveNames<'a> {
+    pub config: &'a str,
+    pub log: &'a str,
+}
+
+/// A session that begins: nothing is typed or shown. Its machine's history may have so many records.
+fn first_session(alloc: Global, log: u32) -> Result<Session, NoMemory>
+    ensures { IfOk result (λ s. (s.typist ≡ nothing_typed) × (s.pending ≡ Pending.Nothing)
+        × (s.shown ≡ 0) × (s.is_deaf ≡ false)) }
+{
+    Ok(Session {
+        typist: Typist::new(alloc, log as usize)?,
+        pending: Pending::Nothing,
+        shown: 0,
+        is_deaf: false,
+        bytes: Vec::with_capacity(alloc, KEPT_BYTES)?,
+    })
+}
+
+/// Lets the machine of a configuration live while somebody sits at it. Its history is written to LOG, without a record
+/// before the machine begins, and whole however the session ends. If LOG has the name of a service's program, or can't
+/// be written, the machine doesn't begin.
+pub fn live<R: Reader + Drop, F: FileWriter + Drop, W: Write + Drop, O: Outside>(
+    alloc: Global,
+    channels: &mut Channels<R, F, W>,
+    names: LiveNames<'_>,
+    sitting: Sitting<'_>,
+    outside: &mut O,
+) -> Result<SessionEnding, Failure>
+    ensures lived { (qs : List Asked) × (ws : List Written) × (hs : List Heards) × (notes : List Notes)
+        × (R.asked channels.new.reader ≡ R.asked channels.old.reader ++ qs)
+        × (F.written channels.new.files ≡ F.written channels.old.files ++ ws)
+        × (O.heard outside.new ≡ O.heard outside.old ++ hs)
+        × (O.told outside.new ≡ O.told outside.old ++ notes)
+        × Lives names.entry.config.now names.entry.log.now (nat_lt 0 sitting.entry.hertz) qs ws hs notes
+        (λ text. Appends (W.contents channels.old.out) (W.contents channels.new.out) text) result }
+    ensures lines { O.given outside.new ≡ O.given outside.old }
+{
+    let (config, services) = setup_of(alloc, &mut channels.reader, names.config)?;
+    spare_programs(&config, names.log)?;
+    let mut session = first_session(alloc, config.log)?;
+    let mut machine = boot(alloc, &config, services)?;
+    write_history(alloc, machine.kernel(), &mut channels.files, names.log)?;
+    let held = hold_session(
+        &mut machine,
+        &mut session,
+        sitting.hertz > 0,
+        sitting,
+        outside,
+        &mut channels.out,
+    );
+    write_history(alloc, machine.kernel(), &mut channels.files, names.log)?;
+    let ending = held?;
+    let records = machine.kernel().history().len();
+    outside.tell(Note::Ended(ending, records, session.typist.waiting()));
+    Ok(ending)
+}
