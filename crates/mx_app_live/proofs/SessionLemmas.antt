@@ -1,11 +1,23 @@
 -- Parts of a session, one after another.
-use Rattle.std.proofs.Common.{◌≡◌, ◌∙◌, ◌++◌, ◌∷◌, [], ℕ, Bool, true, List, Option, None, refl, ap, sym, subst, append_assoc}
+use Rattle.std.proofs.Common.{◌≡◌, ◌∙◌, ◌+◌, ◌-◌, ◌^◌, ◌++◌, ◌∷◌, [], ℕ, Bool, true, false, List, Option, Some, None, Result, Ok, Err, MatchResult, inl, inr, length, refl, ap, sym, subst, append_assoc, arith}
 use Rattle.std.specs.Prelude.{is_none}
+use Rattle.std.specs.Io.KnownBytes.{Appends}
+use Rattle.std.proofs.KnownBytes.{Appends-nil, Appends-trans}
 use Rattle.mx_machine.specs.declared.events.Event.{Event}
+use Rattle.mx_machine.specs.Machine.{MachineState}
+use Rattle.mx_turns.specs.Made.{HasMade}
+use Rattle.mx_turns.proofs.MadeLemmas.{none_made, then_made}
+use Rattle.mx_typist.specs.Keys.{pending_after, wanted_of}
+use Rattle.mx_typist.specs.declared.keys.Wanted.{Wanted}
+use Rattle.mx_typist.specs.declared.keys.Wanted.TheVariants as wanted
+use Rattle.mx_app_failure.specs.declared.failure.Failure.{Failure}
+use Rattle.mx_app_failure.specs.Failure.{IsWanting}
 use Rattle.mx_app_live.specs.declared.outside.Heard.{Heard}
+use Rattle.mx_app_live.specs.declared.outside.Heard.TheVariants as heard
 use Rattle.mx_app_live.specs.declared.outside.Note.{Note}
 use Rattle.mx_app_live.specs.declared.session.SessionEnding.{SessionEnding}
-use Rattle.mx_app_live.specs.Session.{AreRounds, IsRound, Part, Seat, going_on, hearing, telling, then_part}
+use Rattle.mx_app_live.specs.declared.session.SessionEnding.TheVariants.{Stopped}
+use Rattle.mx_app_live.specs.Session.{AreRounds, IsRound, IsSession, IsUnshown, Part, Seat, doing, going_on, hearing, is_full, seat_after_turns, telling, then_part, turns_at}
 
 pub nil_after : {A : Type 0} (xs : List A) → xs ++ [] ≡ xs
 nil_after [] = refl
@@ -45,3 +57,178 @@ rounds_more k (g ∷ gs) x h a b rounds round none =
     let rest = rounds.1 in
     let at = round_at k a.after rest.after h b (ap (λ (p : Part). p.after) rounds.5) round in
     (first, then_part rest b, rounds.2, rounds.3, rounds_more k gs first.after h rest b rounds.4 at none, ap (λ p. then_part p b) rounds.5 ∙ parts_assoc first rest b)
+
+-- ---- what parts have no text, and tell nothing
+
+doing_text : (x : Seat) (w : Wanted) → (doing x w).text ≡ []
+doing_text x wanted.More = refl
+doing_text x (wanted.Key b) = refl
+doing_text x (wanted.Kill s) = refl
+doing_text x wanted.Tick = refl
+doing_text x wanted.Help = refl
+doing_text x wanted.End = refl
+doing_text x wanted.Unknown = refl
+
+hearing_text : (x : Seat) (h : Heard) → (hearing x h).text ≡ []
+hearing_text x heard.Nothing = refl
+hearing_text x (heard.Key k) = doing_text (let y : Seat = record x { pending = pending_after x.pending k } in y) (wanted_of x.pending k)
+hearing_text x heard.Tick = refl
+hearing_text x heard.NoMoreKeys = refl
+hearing_text x heard.Stop = refl
+
+going_told : (k : Bool) (x : Seat) (b : Bool) → is_full (turns_at x).ending ≡ b → (going_on k x).told ≡ []
+going_told k x true is = rw is refl
+going_told k x false is = rw is refl
+
+more_told : (before now after more : List Note) → after ≡ before ++ now → more ≡ [] → after ≡ before ++ (now ++ more)
+more_told before now after more e none = e ∙ ap (λ (l : List Note). before ++ l) (sym (nil_after now) ∙ ap (λ (l : List Note). now ++ l) (sym none))
+
+then_told : (before now after last more : List Note) → after ≡ before ++ now → last ≡ after ++ more → last ≡ before ++ (now ++ more)
+then_told before now after last more e f = f ∙ ap (λ (l : List Note). l ++ more) e ∙ append_assoc before now more
+
+-- ---- a session so far
+
+-- So many rounds are made, none of which ended the session.
+pub record SoFar (k : Bool) (first : Seat) (m n : MachineState) (x : Seat) (count : ℕ) (asked asks : List Heard) (told tells : List Note) (screen shows : Option (List ℕ)) : Type 0 where
+  pub hs : List Heard
+  pub part : Part
+  pub heard : asks ≡ asked ++ hs
+  pub told : tells ≡ told ++ part.told
+  pub made : HasMade m part.made n
+  pub rounds : AreRounds k first hs part
+  pub seat : x ≡ part.after
+  pub shown : Appends screen shows part.text
+  pub counted : length hs ≡ count
+
+-- what a session promises
+abbrev pub Held : Bool → Seat → MachineState → MachineState → Seat → List Heard → List Heard → List Note → List Note → Option (List ℕ) → Option (List ℕ) → Result SessionEnding Failure → Type 0
+Held k first m n x asked asks told tells screen shows r =
+    (hs : List Heard) × (p : Part) × (asks ≡ asked ++ hs) × (tells ≡ told ++ p.told) × HasMade m p.made n
+    × MatchResult r (λ e. IsSession k first hs p e × (x ≡ p.after) × Appends screen shows p.text) (λ f. IsWanting f × IsUnshown k first hs p)
+
+pub none_so_far : (k : Bool) (x : Seat) (m : MachineState) (asked : List Heard) (told : List Note) (screen : Option (List ℕ)) → SoFar k x m m x 0 asked asked told told screen screen
+none_so_far k x m asked told screen = record {
+  hs = [];
+  part = telling x [];
+  heard = sym (nil_after asked);
+  told = sym (nil_after told);
+  made = none_made m;
+  rounds = refl;
+  seat = refl;
+  shown = Appends-nil screen;
+  counted = refl;
+}
+
+one_longer : (hs : List Heard) (h : Heard) → length (hs ++ h ∷ []) ≡ length hs + 1
+one_longer [] h = refl
+one_longer (g ∷ gs) h = let e = one_longer gs h in omega (arith, e)
+
+module _ (k : Bool) (first : Seat) (m n : MachineState) (x : Seat) (count : ℕ) (asked asks : List Heard) (told tells : List Note) (screen shows : Option (List ℕ)) (so : SoFar k first m n x count asked asks told tells screen shows) where
+  -- it goes on
+  abbrev gone : Part
+  gone = going_on k so.part.after
+
+  made_on : (p : MachineState) → HasMade n (going_on k x).made p → HasMade m (so.part.made ++ gone.made) p
+  made_on p h = then_made m n p so.part.made gone.made so.made (subst (λ (z : Seat). HasMade n (going_on k z).made p) so.seat h)
+
+  told_on : tells ≡ told ++ (so.part.told ++ gone.told)
+  told_on = more_told told so.part.told tells gone.told so.told (going_told k so.part.after (is_full (turns_at so.part.after).ending) refl)
+
+  shown_on : (after : Option (List ℕ)) → Appends shows after (going_on k x).text → Appends screen after (so.part.text ++ gone.text)
+  shown_on after h = Appends-trans _ _ _ so.part.text gone.text so.shown (subst (λ (z : Seat). Appends shows after (going_on k z).text) so.seat h)
+
+  -- it ended the session
+  pub ended_going : (p : MachineState) (y : Seat) (o : Option SessionEnding) (e : SessionEnding) (after : Option (List ℕ)) → HasMade n (going_on k x).made p → y ≡ (going_on k x).after → o ≡ (going_on k x).ending
+      → Appends shows after (going_on k x).text → o ≡ Some e → Held k first m p y asked asks told tells screen after (Ok e)
+  ended_going p y o e after made seat ending shown is = (
+    so.hs,
+    then_part so.part gone,
+    so.heard,
+    told_on,
+    made_on p made,
+    (
+      inl (so.part, so.rounds, ap (λ (z : Seat). (going_on k z).ending) (sym so.seat) ∙ sym ending ∙ is, refl),
+      seat ∙ ap (λ (z : Seat). (going_on k z).after) so.seat,
+      shown_on after shown,
+    ),
+  )
+
+  -- the screen took no more
+  pub unshown_going : (p : MachineState) (y : Seat) (f : Failure) (after : Option (List ℕ)) → HasMade n (turns_at x).made p → IsWanting f → Held k first m p y asked asks told tells screen after (Err f)
+  unshown_going p y f after made wanting =
+      let last : Part = record { made = (turns_at so.part.after).made; text = []; told = []; after = seat_after_turns so.part.after; ending = None } in (
+        so.hs,
+        then_part so.part last,
+        so.heard,
+        more_told told so.part.told tells [] so.told refl,
+        then_made m n p so.part.made last.made so.made (subst (λ (z : Seat). HasMade n (turns_at z).made p) so.seat made),
+        (wanting, (so.part, so.rounds, refl)),
+      )
+
+  -- and what was heard is done: a round
+  abbrev round_of : Heard → Part
+  round_of h = then_part gone (hearing gone.after h)
+
+  is_round : (h : Heard) → (going_on k x).ending ≡ None → IsRound k so.part.after h (round_of h)
+  is_round h none = (ap is_none (ap (λ (z : Seat). (going_on k z).ending) (sym so.seat) ∙ none), refl)
+
+  made_round : (p q : MachineState) (y : Seat) (h : Heard) → HasMade n (going_on k x).made p → y ≡ (going_on k x).after → HasMade p (hearing y h).made q → HasMade m (so.part.made ++ (round_of h).made) q
+  made_round p q y h made seat done =
+      subst (λ (l : List (ℕ × Event)). HasMade m l q) (append_assoc so.part.made gone.made (hearing gone.after h).made)
+      (then_made m p q (so.part.made ++ gone.made) (hearing gone.after h).made (made_on p made) (subst (λ (z : Seat). HasMade p (hearing z h).made q) (seat ∙ ap (λ (z : Seat). (going_on k z).after) so.seat) done))
+
+  told_round : (y : Seat) (h : Heard) (now : List Note) → y ≡ (going_on k x).after → now ≡ tells ++ (hearing y h).told → now ≡ told ++ (so.part.told ++ (round_of h).told)
+  told_round y h now seat e =
+      then_told told (so.part.told ++ gone.told) tells now (hearing gone.after h).told told_on (e ∙ ap (λ (z : Seat). tells ++ (hearing z h).told) (seat ∙ ap (λ (z : Seat). (going_on k z).after) so.seat))
+      ∙ ap (λ (l : List Note). told ++ l) (append_assoc so.part.told gone.told (hearing gone.after h).told)
+
+  shown_round : (h : Heard) (after : Option (List ℕ)) → Appends shows after (going_on k x).text → Appends screen after (so.part.text ++ (round_of h).text)
+  shown_round h after shown =
+      subst (Appends screen after)
+      (sym (nil_after (so.part.text ++ gone.text)) ∙ ap (λ (l : List ℕ). (so.part.text ++ gone.text) ++ l) (sym (hearing_text gone.after h)) ∙ append_assoc so.part.text gone.text (hearing gone.after h).text)
+      (shown_on after shown)
+
+  seat_round : (y z : Seat) (h : Heard) → y ≡ (going_on k x).after → z ≡ (hearing y h).after → z ≡ (round_of h).after
+  seat_round y z h seat e = e ∙ ap (λ (u : Seat). (hearing u h).after) (seat ∙ ap (λ (u : Seat). (going_on k u).after) so.seat)
+
+  ending_round : (y : Seat) (h : Heard) (o : Option SessionEnding) → y ≡ (going_on k x).after → o ≡ (hearing y h).ending → (round_of h).ending ≡ o
+  ending_round y h o seat e = ap (λ (u : Seat). (hearing u h).ending) (sym (seat ∙ ap (λ (u : Seat). (going_on k u).after) so.seat)) ∙ sym e
+
+  -- it ended the session
+  pub ended_hearing : (p q : MachineState) (y z : Seat) (h : Heard) (o : Option SessionEnding) (e : SessionEnding) (after : Option (List ℕ)) (heard-now : List Heard) (told-now : List Note)
+      → HasMade n (going_on k x).made p → y ≡ (going_on k x).after → (going_on k x).ending ≡ None → Appends shows after (going_on k x).text → heard-now ≡ asks ++ h ∷ []
+      → HasMade p (hearing y h).made q → z ≡ (hearing y h).after → o ≡ (hearing y h).ending → told-now ≡ tells ++ (hearing y h).told → o ≡ Some e
+      → Held k first m q z asked heard-now told told-now screen after (Ok e)
+  ended_hearing p q y z h o e after heard-now told-now made seat none shown heard done leads ending tells-more is = (
+    so.hs ++ h ∷ [],
+    then_part so.part (round_of h),
+    heard ∙ ap (λ (l : List Heard). l ++ h ∷ []) so.heard ∙ append_assoc asked so.hs (h ∷ []),
+    told_round y h told-now seat tells-more,
+    made_round p q y h made seat done,
+    (
+      inr (inl (so.hs, h, so.part, round_of h, refl, so.rounds, is_round h none, ending_round y h o seat ending ∙ is, refl)),
+      seat_round y z h seat leads,
+      shown_round h after shown,
+    ),
+  )
+
+  -- it didn't
+  pub one_more : (p q : MachineState) (y z : Seat) (h : Heard) (o : Option SessionEnding) (after : Option (List ℕ)) (heard-now : List Heard) (told-now : List Note)
+      → HasMade n (going_on k x).made p → y ≡ (going_on k x).after → (going_on k x).ending ≡ None → Appends shows after (going_on k x).text → heard-now ≡ asks ++ h ∷ []
+      → HasMade p (hearing y h).made q → z ≡ (hearing y h).after → o ≡ (hearing y h).ending → told-now ≡ tells ++ (hearing y h).told → o ≡ None
+      → SoFar k first m q z (count + 1) asked heard-now told told-now screen after
+  one_more p q y z h o after heard-now told-now made seat none shown heard done leads ending tells-more is = record {
+    hs = so.hs ++ h ∷ [];
+    part = then_part so.part (round_of h);
+    heard = heard ∙ ap (λ (l : List Heard). l ++ h ∷ []) so.heard ∙ append_assoc asked so.hs (h ∷ []);
+    told = told_round y h told-now seat tells-more;
+    made = made_round p q y h made seat done;
+    rounds = rounds_more k so.hs first h so.part (round_of h) so.rounds (is_round h none) (ending_round y h o seat ending ∙ is);
+    seat = seat_round y z h seat leads;
+    shown = shown_round h after shown;
+    counted = one_longer so.hs h ∙ ap (λ (c : ℕ). c + 1) so.counted;
+  }
+
+  -- so many rounds are made that it stops
+  pub stopped : count ≡ 2 ^ 64 - 1 → Held k first m n x asked asks told tells screen shows (Ok Stopped)
+  stopped last = (so.hs, so.part, so.heard, so.told, so.made, (inr (inr (so.rounds, so.counted ∙ last, refl)), so.seat, so.shown))

@@ -1,5 +1,5 @@
 -- The keyboard of a machine: nine interrupt lines and a register (our own).
-use Rattle.std.specs.Prelude.{◌==◌, ◌+◌, ◌∷◌, [], ◌++◌, if◌then◌else◌, nat_lt, ℕ, Bool, false, List, Option, Some, None, drop, filter, is_ok, length, map, slice_index_or}
+use Rattle.std.specs.Prelude.{◌==◌, ◌+◌, ◌∷◌, [], ◌++◌, if◌then◌else◌, nat_lt, ℕ, Bool, false, List, Option, Some, None, drop, filter, is_ok, length, map, slice_get, slice_index_or}
 use Rattle.std.specs.List.{list_all, range_with_len}
 use Rattle.mx_machine.specs.declared.events.Event.{Event}
 use Rattle.mx_machine.specs.declared.events.Event.TheVariants.{Line}
@@ -16,10 +16,14 @@ abbrev pub is_owned_by : ℕ → Option ℕ → Bool
 is_owned_by s (Some t) = t == s
 is_owned_by s None = false
 
+-- the slot that owns the first of some lines, if it owns all
+abbrev pub owner_if : List (Option ℕ) → Option (Option ℕ) → Option ℕ
+owner_if os (Some (Some s)) = if list_all (is_owned_by s) os then Some s else None
+owner_if os _ = None
+
 -- the slot that owns all of some lines
 abbrev pub owner_of_all : List (Option ℕ) → Option ℕ
-owner_of_all (Some s ∷ os) = if list_all (is_owned_by s) os then Some s else None
-owner_of_all _ = None
+owner_of_all os = owner_if os (slice_get os 0)
 
 -- the endpoint of the process of a slot, if there is the slot
 abbrev pub endpoint_in : TableState → Option ℕ → Option ℕ

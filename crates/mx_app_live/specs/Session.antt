@@ -5,7 +5,6 @@ use Rattle.mx_machine.specs.declared.events.Event.TheVariants.{Tick, Kill}
 use Rattle.mx_machine.specs.History.{world_after_events}
 use Rattle.mx_machine.specs.Machine.{MachineState, world_of}
 use Rattle.mx_machine.specs.Rest.{at_rest}
-use Rattle.mx_machine.specs.Proc.TableState.{endpoint_of}
 use Rattle.mx_machine.specs.World.{World}
 use Rattle.mx_turns.specs.declared.turns.Ending.{Ending}
 use Rattle.mx_turns.specs.declared.turns.Ending.TheVariants as turned
@@ -15,7 +14,7 @@ use Rattle.mx_typist.specs.declared.keys.Pending.TheVariants.{Nothing as NoPart}
 use Rattle.mx_typist.specs.declared.keys.Wanted.{Wanted}
 use Rattle.mx_typist.specs.declared.keys.Wanted.TheVariants as wanted
 use Rattle.mx_typist.specs.Keys.{pending_after, wanted_of}
-use Rattle.mx_typist.specs.Typing.{Typing, nothing_typed, raise_of, typing_after_look, with_typed}
+use Rattle.mx_typist.specs.Typing.{Typing, has_room, nothing_typed, raise_of, typing_after_key, typing_after_look}
 use Rattle.mx_app_live.specs.declared.outside.Heard.{Heard}
 use Rattle.mx_app_live.specs.declared.outside.Heard.TheVariants as heard
 use Rattle.mx_app_live.specs.declared.outside.Note.{Note}
@@ -23,7 +22,7 @@ use Rattle.mx_app_live.specs.declared.outside.Note.TheVariants as note
 use Rattle.mx_app_live.specs.declared.session.Session.{Session as Held}
 use Rattle.mx_app_live.specs.declared.session.SessionEnding.{SessionEnding}
 use Rattle.mx_app_live.specs.declared.session.SessionEnding.TheVariants.{Rest, Full, Left, Stopped}
-use Rattle.mx_app_live.specs.Keyboard.{driver_of, raise_events, seen_of}
+use Rattle.mx_app_live.specs.Keyboard.{driver_of, endpoint_in, raise_events, seen_of}
 use Rattle.mx_app_live.specs.Screen.{grown}
 
 -- The machine's world, what is typed, what was typed of a command, how many bytes of the console are shown, and whether
@@ -47,11 +46,14 @@ pub record Part : Type 0 where
 -- ---- the machine goes on
 
 abbrev pub waiting : Typing → ℕ
-waiting t = length t.typed - t.taken
+waiting t = length t.waiting
 
 -- one turn if typed bytes wait, else sixteen; none if the machine is at rest
+abbrev pub round_length : ℕ → ℕ
+round_length n = if nat_lt 0 n then 1 else 16
+
 abbrev pub round_turns : ℕ → World → Course
-round_turns n w = turns (if nat_lt 0 n then 1 else 16) w []
+round_turns n w = turns (round_length n) w []
 
 abbrev pub turns_at : Seat → Course
 turns_at x = round_turns (waiting x.typing) x.world
@@ -134,11 +136,14 @@ offering x o notes =
       ending = ending_if o.full Full;
     }
 
+-- the process of an endpoint is killed, if there is one
+abbrev pub killed_at : World → Option ℕ → Offered
+killed_at w (Some e) = offered_outside w (Kill e)
+killed_at w None = record { made = []; full = false }
+
 -- the process of a slot is killed, if there is the slot
 abbrev pub kill_offered : World → ℕ → Offered
-kill_offered w s =
-    if nat_lt s (length w.table.slots) then offered_outside w (Kill (endpoint_of w.table s))
-    else record { made = []; full = false }
+kill_offered w s = killed_at w (endpoint_in w.table (Some s))
 
 -- a kill that is made has a record
 abbrev pub kill_told : ℕ → World → World → Note
@@ -149,31 +154,34 @@ abbrev pub killing : Seat → ℕ → Part
 killing x s =
     let o = kill_offered x.world s in offering x o (kill_told s x.world (world_after x.world o) ∷ [])
 
--- a byte is typed, if fewer than 16,384 wait. What else refuses it, is a lack of memory: `has_memory` says so
-abbrev pub typing_byte : Bool → Seat → ℕ → Part
-typing_byte has_memory x b =
-    if nat_lt (waiting x.typing) 16384 && has_memory
-    then telling (let y : Seat = record x { typing = with_typed b x.typing } in y) []
-    else telling x (note.Refused ∷ [])
+-- a key is refused
+abbrev pub refused_if : Bool → List Note
+refused_if b = if b then note.Refused ∷ [] else []
+
+-- a byte is typed, if there is room for it
+abbrev pub typing_byte : Seat → ℕ → Part
+typing_byte x b =
+    telling (let y : Seat = record x { typing = typing_after_key b x.typing } in y)
+    (refused_if (not (has_room x.typing)))
 
 -- what a key asks for is done
-abbrev pub doing : Bool → Seat → Wanted → Part
-doing has_memory x wanted.More = telling x []
-doing has_memory x (wanted.Key b) = typing_byte has_memory x b
-doing has_memory x (wanted.Kill s) = killing x s
-doing has_memory x wanted.Tick = offering x (offered_outside x.world Tick) []
-doing has_memory x wanted.Help = telling x (note.Help x.world.records ∷ [])
-doing has_memory x wanted.End = ends x Left
-doing has_memory x wanted.Unknown = telling x (note.Refused ∷ [])
+abbrev pub doing : Seat → Wanted → Part
+doing x wanted.More = telling x []
+doing x (wanted.Key b) = typing_byte x b
+doing x (wanted.Kill s) = killing x s
+doing x wanted.Tick = offering x (offered_outside x.world Tick) []
+doing x wanted.Help = telling x (note.Help x.world.records ∷ [])
+doing x wanted.End = ends x Left
+doing x wanted.Unknown = telling x (note.Refused ∷ [])
 
 -- WHAT IS HEARD is done
-abbrev pub hearing : Bool → Seat → Heard → Part
-hearing has_memory x heard.Nothing = telling x []
-hearing has_memory x (heard.Key k) =
-    doing has_memory (let y : Seat = record x { pending = pending_after x.pending k } in y) (wanted_of x.pending k)
-hearing has_memory x heard.Tick = offering x (offered_outside x.world Tick) []
-hearing has_memory x heard.NoMoreKeys = telling (let y : Seat = record x { deaf = true } in y) []
-hearing has_memory x heard.Stop = ends x Stopped
+abbrev pub hearing : Seat → Heard → Part
+hearing x heard.Nothing = telling x []
+hearing x (heard.Key k) =
+    doing (let y : Seat = record x { pending = pending_after x.pending k } in y) (wanted_of x.pending k)
+hearing x heard.Tick = offering x (offered_outside x.world Tick) []
+hearing x heard.NoMoreKeys = telling (let y : Seat = record x { deaf = true } in y) []
+hearing x heard.Stop = ends x Stopped
 
 -- ---- a session
 
@@ -191,8 +199,8 @@ then_part a b =
 -- A ROUND: the machine goes on, one question is asked, and its answer is done
 abbrev pub IsRound : Bool → Seat → Heard → Part → Type 0
 IsRound has_clock x h p =
-    (has_memory : Bool) × (is_none (going_on has_clock x).ending ≡ true)
-    × (p ≡ then_part (going_on has_clock x) (hearing has_memory (going_on has_clock x).after h))
+    (is_none (going_on has_clock x).ending ≡ true)
+    × (p ≡ then_part (going_on has_clock x) (hearing (going_on has_clock x).after h))
 
 -- ROUNDS, none of which ends the session, with these answers
 abbrev pub AreRounds : Bool → Seat → List Heard → Part → Type 0

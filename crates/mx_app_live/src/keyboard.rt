@@ -1,11 +1,12 @@
 //! The keyboard of a machine: what the outside sees of its driver, and how a byte comes to it.
 
-ghost use Rattle.std.specs.Prelude.{◌≡◌, ◌<◌, ◌∷◌, [], Some, drop, is_some, length, true};
+ghost use Rattle.std.specs.Prelude.{◌≡◌, ◌<◌, ◌∷◌, [], Some, is_some, length, true};
+ghost use Rattle.std.specs.List.{list_all};
 ghost use Rattle.mx_machine.specs.Machine.{world_of};
 ghost use Rattle.mx_machine.specs.World.{actors};
 ghost use Rattle.mx_turns.specs.Made.{HasOffered, is_full};
 ghost use Rattle.mx_turns.specs.Turns.{offered};
-ghost use Rattle.mx_app_live.specs.Keyboard.{driver_of, is_alive, is_owned_by, owner_of_all, raise_events, seen_of};
+ghost use Rattle.mx_app_live.specs.Keyboard.{driver_of, endpoint_in, is_alive, is_owned_by, owner_of_all, raise_events, seen_of};
 
 use mx_machine::{Answer, Event, Machine, Refusal};
 use mx_proc::Table;
@@ -22,28 +23,50 @@ fn is_owned_by(slot: u8, owner: Option<u8>) -> bool
     }
 }
 
-/// The slot that owns all lines of the keyboard: the strobe and the eight above it.
-fn owner_of_all(owners: &[Option<u8>; 16]) -> Option<u8>
-    ensures { result ≡ owner_of_all (drop 7 owners.now) }
+/// Whether all of some lines have this slot as their owner.
+fn are_owned_by(slot: u8, owners: &[Option<u8>]) -> bool
+    ensures { result ≡ list_all (is_owned_by slot) owners.now }
 {
-    let slot = owners[STROBE as usize]?;
-    let others = &owners[8..];
-    if others.iter().all(|owner| is_owned_by(slot, *owner)) {
+    owners.iter().all(|owner| is_owned_by(slot, *owner))
+}
+
+/// The slot that owns all of some lines.
+fn owner_of_all(owners: &[Option<u8>]) -> Option<u8>
+    ensures { result ≡ owner_of_all owners.now }
+{
+    let slot = (*owners.first()?)?;
+    if are_owned_by(slot, owners) {
         Some(slot)
     } else {
         None
     }
 }
 
-/// The endpoint of the process that owns all lines of the keyboard.
-fn driver_in(table: &Table) -> Option<u32>
-    ensures { result ≡ driver_of table.now }
+/// The endpoint of the process of a slot, if there is the slot.
+fn endpoint_in(table: &Table, slot: Option<u8>) -> Option<u32>
+    ensures { result ≡ endpoint_in table.now slot }
 {
-    let slot = owner_of_all(&table.devices().owners)?;
+    let slot = slot?;
     if slot >= table.slot_count() {
         return None;
     }
     Some(table.endpoint(slot))
+}
+
+/// The endpoint of the process that owns all lines of the keyboard: the strobe and the eight above it.
+fn driver_in(table: &Table) -> Option<u32>
+    ensures { result ≡ driver_of table.now }
+{
+    let owners = &table.devices().owners[STROBE as usize..];
+    endpoint_in(table, owner_of_all(owners))
+}
+
+/// The endpoint of the process of a machine's slot, if there is the slot.
+#[tactic(auto, unfolding(mx_machine::specs::Machine::world_of))]
+pub(crate) fn endpoint_at(machine: &Machine, slot: u8) -> Option<u32>
+    ensures { result ≡ endpoint_in (world_of machine.now).table (Some slot) }
+{
+    endpoint_in(machine.kernel().table(), Some(slot))
 }
 
 /// Whether the process that a byte was raised for is alive.

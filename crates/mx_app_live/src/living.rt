@@ -28,13 +28,13 @@ pub struct LiveNames<'a> {
     pub log: &'a str,
 }
 
-/// A session that begins: nothing is typed or shown. Its machine's history may have so many records.
-fn first_session(alloc: Global, log: u32) -> Result<Session, NoMemory>
+/// A session that begins: nothing is typed or shown.
+fn first_session(alloc: Global) -> Result<Session, NoMemory>
     ensures { IfOk result (λ s. (s.typist ≡ nothing_typed) × (s.pending ≡ Pending.Nothing)
         × (s.shown ≡ 0) × (s.is_deaf ≡ false)) }
 {
     Ok(Session {
-        typist: Typist::new(alloc, log as usize)?,
+        typist: Typist::new(alloc)?,
         pending: Pending::Nothing,
         shown: 0,
         is_deaf: false,
@@ -63,7 +63,7 @@ pub fn live<R: Reader + Drop, F: FileWriter + Drop, W: Write + Drop, O: Outside>
 {
     let (config, services) = setup_of(alloc, &mut channels.reader, names.config)?;
     spare_programs(&config, names.log)?;
-    let mut session = first_session(alloc, config.log)?;
+    let mut session = first_session(alloc)?;
     let mut machine = boot(alloc, &config, services)?;
     write_history(alloc, machine.kernel(), &mut channels.files, names.log)?;
     let held = hold_session(

@@ -16,11 +16,12 @@ use std::io::Write;
 fn end_from(console: &Console, from: usize) -> usize
     ensures { result ≡ from + (length console.now.kept - from) }
 {
-    let mut index = from;
-    while console.get(index).is_some() {
-        index += 1;
+    for index in from..usize::MAX {
+        if console.get(index).is_none() {
+            return index;
+        }
     }
-    index
+    usize::MAX
 }
 
 /// How many bytes a console has still.

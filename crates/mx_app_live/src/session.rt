@@ -1,6 +1,6 @@
 //! A session: somebody sits at a machine.
 
-ghost use Rattle.std.specs.Prelude.{◌≡◌, ◌<◌, ◌++◌, ◌∷◌, [], ℕ, Bool, List, IfErr, IfOk, OnOk, MatchResult, length, true};
+ghost use Rattle.std.specs.Prelude.{◌≡◌, ◌<◌, ◌++◌, ◌∷◌, [], List, IfErr, IfOk, OnOk, MatchResult, length, not, true};
 ghost use Rattle.std.specs.Io.KnownBytes.{Appends};
 ghost use Rattle.mx_app_failure.specs.Failure.{IsWanting};
 ghost use Rattle.mx_machine.specs.Machine.{world_of};
@@ -8,19 +8,19 @@ ghost use Rattle.mx_machine.specs.Rest.{at_rest};
 ghost use Rattle.mx_machine.specs.World.{actors};
 ghost use Rattle.mx_turns.specs.Made.{HasMade, HasOffered};
 ghost use Rattle.mx_turns.specs.Turns.{offered, world_after};
-ghost use Rattle.mx_typist.specs.Typing.{raise_of, typing_after_look};
+ghost use Rattle.mx_typist.specs.Typing.{has_room, raise_of, typing_after_key, typing_after_look};
 ghost use Rattle.mx_app_live.specs.declared.outside.Heard.{Heard as Heards};
 ghost use Rattle.mx_app_live.specs.Keyboard.{raise_events, seen_of};
-ghost use Rattle.mx_app_live.specs.Session.{IsSession, IsUnshown, Part, doing, ending_if, going_on, hearing, is_full, is_over, kill_offered, kill_told, round_turns, seat_of, turns_at};
+ghost use Rattle.mx_app_live.specs.Session.{IsSession, IsUnshown, Part, doing, ending_if, going_on, hearing, is_full, is_over, kill_offered, kill_told, refused_if, round_length, round_turns, seat_of, turns_at};
 
-use crate::keyboard::{is_driven, look_at, offer, raise};
+use crate::keyboard::{endpoint_at, is_driven, look_at, offer, raise};
 use crate::outside::{Asking, Heard, Note, Outside, Sitting};
 use crate::screen::show;
 use mx_app_failure::Failure;
 use mx_app_start::NoProgress;
 use mx_machine::{Event, Machine};
 use mx_turns::{Ending, Outside as Coming, make_turns};
-use mx_typist::{MOST_WAITING, Pending, Typist, Wanted};
+use mx_typist::{Pending, Typist, Wanted};
 use std::io::Write;
 
 /// How many turns are made in a round in which nothing typed waits. So a round is short, and the bytes that it writes
@@ -70,8 +70,24 @@ fn records_of(machine: &Machine) -> usize
     kernel.history().len()
 }
 
-/// The turns of a round: one if a typed byte waits, so that the next is raised soon. Answers whether the history is
-/// full.
+/// How many turns a round has: one if a typed byte waits, so that the next is raised soon.
+fn round_length(waiting: usize) -> u64
+    ensures { result ≡ round_length waiting }
+{
+    if waiting > 0 { 1 } else { TURNS }
+}
+
+/// Whether turns ended since the history is full.
+fn has_filled(ending: Ending) -> bool
+    ensures { result ≡ is_full ending }
+{
+    match ending {
+        Ending::Full => true,
+        _ => false,
+    }
+}
+
+/// The turns of a round. Answers whether the history is full.
 fn make_round(machine: &mut Machine, waiting: usize) -> bool
     requires other { length (world_of machine.old).cpus < actors (world_of machine.old) }
     ensures made { HasMade machine.old (round_turns waiting (world_of machine.old)).made
@@ -83,12 +99,9 @@ fn make_round(machine: &mut Machine, waiting: usize) -> bool
         events: &[],
         ticks: 0,
     };
-    let bound = if waiting > 0 { 1 } else { TURNS };
     let mut progress = NoProgress::new();
-    match make_turns(machine, coming, bound, 0, &mut progress) {
-        Ending::Full => true,
-        _ => false,
-    }
+    let ending = make_turns(machine, coming, round_length(waiting), 0, &mut progress);
+    has_filled(ending)
 }
 
 /// Whether nothing more can come to a machine at rest: all that was typed is taken or nobody can take it, and no more
@@ -172,12 +185,10 @@ fn kill(machine: &mut Machine, slot: u8) -> bool
         result machine.new }
     ensures other { length (world_of machine.new).cpus < actors (world_of machine.new) }
 {
-    let table = machine.kernel().table();
-    if slot >= table.slot_count() {
-        return false;
+    match endpoint_at(machine, slot) {
+        Some(endpoint) => offer(machine, Event::Kill(endpoint)),
+        None => false,
     }
-    let endpoint = table.endpoint(slot);
-    offer(machine, Event::Kill(endpoint))
 }
 
 /// Kills the process of a slot, and tells what became of it. Answers whether the history is too full for it.
@@ -203,6 +214,18 @@ fn kill_and_tell<O: Outside>(machine: &mut Machine, slot: u8, outside: &mut O) -
     is_full
 }
 
+/// A byte is typed, if there is room for it; else it is told that there is none.
+fn type_byte<O: Outside>(typist: &mut Typist, byte: u8, outside: &mut O)
+    ensures typed { typist.new ≡ typing_after_key byte typist.old }
+    ensures told { O.told outside.new ≡ O.told outside.old ++ refused_if (not (has_room typist.old)) }
+    ensures heard { O.heard outside.new ≡ O.heard outside.old }
+    ensures lines { O.given outside.new ≡ O.given outside.old }
+{
+    if !typist.push(byte) {
+        outside.tell(Note::Refused);
+    }
+}
+
 /// Does what a key asks for. Answers how the session ends, if it does.
 fn do_wanted<O: Outside>(
     machine: &mut Machine,
@@ -211,13 +234,13 @@ fn do_wanted<O: Outside>(
     outside: &mut O,
 ) -> Option<SessionEnding>
     requires other { length (world_of machine.old).cpus < actors (world_of machine.old) }
-    ensures done { (m : Bool) × HasMade machine.old
-        (doing m (seat_of (world_of machine.old) session.old) wanted).made machine.new
+    ensures done { HasMade machine.old
+        (doing (seat_of (world_of machine.old) session.old) wanted).made machine.new
         × (seat_of (world_of machine.new) session.new
-        ≡ (doing m (seat_of (world_of machine.old) session.old) wanted).after)
-        × (result ≡ (doing m (seat_of (world_of machine.old) session.old) wanted).ending)
+        ≡ (doing (seat_of (world_of machine.old) session.old) wanted).after)
+        × (result ≡ (doing (seat_of (world_of machine.old) session.old) wanted).ending)
         × (O.told outside.new ≡ O.told outside.old
-        ++ (doing m (seat_of (world_of machine.old) session.old) wanted).told) }
+        ++ (doing (seat_of (world_of machine.old) session.old) wanted).told) }
     ensures heard { O.heard outside.new ≡ O.heard outside.old }
     ensures other { length (world_of machine.new).cpus < actors (world_of machine.new) }
     ensures lines { O.given outside.new ≡ O.given outside.old }
@@ -225,9 +248,7 @@ fn do_wanted<O: Outside>(
     match wanted {
         Wanted::More => None,
         Wanted::Key(byte) => {
-            if !session.typist.push(byte) {
-                outside.tell(Note::Refused);
-            }
+            type_byte(&mut session.typist, byte, outside);
             None
         }
         Wanted::Kill(slot) => full_if(kill_and_tell(machine, slot, outside)),
@@ -252,13 +273,13 @@ fn do_heard<O: Outside>(
     outside: &mut O,
 ) -> Option<SessionEnding>
     requires other { length (world_of machine.old).cpus < actors (world_of machine.old) }
-    ensures done { (m : Bool) × HasMade machine.old
-        (hearing m (seat_of (world_of machine.old) session.old) heard).made machine.new
+    ensures done { HasMade machine.old
+        (hearing (seat_of (world_of machine.old) session.old) heard).made machine.new
         × (seat_of (world_of machine.new) session.new
-        ≡ (hearing m (seat_of (world_of machine.old) session.old) heard).after)
-        × (result ≡ (hearing m (seat_of (world_of machine.old) session.old) heard).ending)
+        ≡ (hearing (seat_of (world_of machine.old) session.old) heard).after)
+        × (result ≡ (hearing (seat_of (world_of machine.old) session.old) heard).ending)
         × (O.told outside.new ≡ O.told outside.old
-        ++ (hearing m (seat_of (world_of machine.old) session.old) heard).told) }
+        ++ (hearing (seat_of (world_of machine.old) session.old) heard).told) }
     ensures heard { O.heard outside.new ≡ O.heard outside.old }
     ensures other { length (world_of machine.new).cpus < actors (world_of machine.new) }
     ensures lines { O.given outside.new ≡ O.given outside.old }
@@ -290,13 +311,12 @@ fn listen<O: Outside>(
     ensures told { O.told outside.new ≡ O.told outside.old }
     ensures lines { O.given outside.new ≡ O.given outside.old }
 {
-    let waiting = typist.waiting();
     let at_rest = is_at_rest(machine);
     outside.hear(Asking {
         sitting,
-        is_idle: at_rest && waiting == 0,
+        is_idle: at_rest && typist.waiting() == 0,
         at_rest,
-        has_room: waiting < MOST_WAITING,
+        has_room: typist.has_room(),
     })
 }
 

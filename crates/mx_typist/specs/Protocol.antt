@@ -11,13 +11,15 @@ pub record Keyboard : Type 0 where
   pub hearing : Option ℕ
   pub dead : Bool
 
--- Who types, and the keyboard.
+-- All that was typed, who types, and the keyboard.
 pub record Seat : Type 0 where
+  pub typed : List ℕ
   pub typing : Typing
   pub keyboard : Keyboard
 
 abbrev pub first_seat : Seat
 first_seat = record {
+  typed = [];
   typing = nothing_typed;
   keyboard = record { stored = []; hearing = None; dead = false };
 }
@@ -45,12 +47,12 @@ abbrev pub shown_by : Keyboard → Option ℕ → Seen
 shown_by k driver = record { driver = driver; counted = length k.stored; is_alive = not k.dead }
 
 abbrev pub after : Seat → Happening → Seat
-after x (Types b) = record x { typing = with_typed b x.typing }
+after x (Types b) = record x { typed = x.typed ++ b ∷ []; typing = with_typed b x.typing }
 after x Stores = record x { keyboard = stores x.keyboard x.keyboard.hearing }
 after x Dies = record x { keyboard = (let k : Keyboard = record x.keyboard { hearing = None; dead = true } in k) }
 after x (Looks d) =
     let s = shown_by x.keyboard d in
-    record { typing = typing_after_look s x.typing; keyboard = hears x.keyboard (raise_of s x.typing) }
+    record x { typing = typing_after_look s x.typing; keyboard = hears x.keyboard (raise_of s x.typing) }
 
 abbrev pub after_all : Seat → List Happening → Seat
 after_all x [] = x
@@ -58,4 +60,4 @@ after_all x (h ∷ hs) = after_all (after x h) hs
 
 -- what is stored is the front of what was typed: each byte once, in order
 abbrev pub IsFrontStored : Seat → Type 0
-IsFrontStored x = x.keyboard.stored ≡ take (length x.keyboard.stored) x.typing.typed
+IsFrontStored x = x.keyboard.stored ≡ take (length x.keyboard.stored) x.typed

@@ -1,20 +1,31 @@
 -- What is typed at a machine, and what a look at the machine makes of it (our own).
-use Rattle.std.specs.Prelude.{◌≡◌, ◌==◌, ◌&&◌, ◌+◌, ◌++◌, ◌∷◌, [], if◌then◌else◌, ℕ, Bool, List, is_some, is_none, Option, Some, None, slice_get}
+use Rattle.std.specs.Prelude.{◌≡◌, ◌==◌, ◌&&◌, ◌+◌, ◌++◌, ◌∷◌, [], if◌then◌else◌, nat_lt, ℕ, Bool, List, is_some, is_none, Option, Some, None, drop, length, slice_get}
 use Rattle.mx_typist.specs.declared.typist.Raise.{Raise}
 use Rattle.mx_typist.specs.declared.typist.Seen.{Seen}
 
--- All bytes that were typed, how many of them are taken, and the driver that the next one was raised for.
+-- The typed bytes that aren't taken, how many are taken, and the driver that the first of those was raised for.
 pub record Typing : Type 0 where
-  pub typed : List ℕ
+  pub waiting : List ℕ
   pub taken : ℕ
   pub flight : Option ℕ
 
 abbrev pub nothing_typed : Typing
-nothing_typed = record { typed = []; taken = 0; flight = None }
+nothing_typed = record { waiting = []; taken = 0; flight = None }
+
+-- how many typed bytes may wait
+abbrev pub most_waiting : ℕ
+most_waiting = 16384
+
+abbrev pub has_room : Typing → Bool
+has_room t = nat_lt (length t.waiting) most_waiting
 
 -- one byte more is typed
 abbrev pub with_typed : ℕ → Typing → Typing
-with_typed b t = record t { typed = t.typed ++ b ∷ [] }
+with_typed b t = record t { waiting = t.waiting ++ b ∷ [] }
+
+-- A KEY IS TYPED, if there is room for it
+abbrev pub typing_after_key : ℕ → Typing → Typing
+typing_after_key b t = if has_room t then with_typed b t else t
 
 -- ---- a look
 
@@ -26,7 +37,7 @@ is_taken s t = is_some t.flight && (s.counted == t.taken + 1)
 -- be raised again
 abbrev pub noted_of : Seen → Typing → Typing
 noted_of s t =
-    if is_taken s t then record t { taken = t.taken + 1; flight = None }
+    if is_taken s t then record t { waiting = drop 1 t.waiting; taken = t.taken + 1; flight = None }
     else if s.is_alive then t
     else record t { flight = None }
 
@@ -35,11 +46,11 @@ abbrev pub raise_for : Option ℕ → Option ℕ → Option Raise
 raise_for (Some d) (Some b) = Some (record { driver = d; byte = b })
 raise_for _ _ = None
 
--- THE BYTE THAT IS RAISED, once it is known what became of the last one: the first that isn't taken, if it isn't raised,
+-- THE BYTE THAT IS RAISED, once it is known what became of the last one: the first that waits, if it isn't raised,
 -- if the driver has counted all before it, and if there is a driver
 abbrev pub next_raise : Seen → Typing → Option Raise
 next_raise s t =
-    if is_none t.flight && (s.counted == t.taken) then raise_for s.driver (slice_get t.typed t.taken) else None
+    if is_none t.flight && (s.counted == t.taken) then raise_for s.driver (slice_get t.waiting 0) else None
 
 abbrev pub raise_of : Seen → Typing → Option Raise
 raise_of s t = next_raise s (noted_of s t)

@@ -1,9 +1,10 @@
-//! All that was typed, and how much of it is taken.
+//! The typed bytes that wait for the driver, and how many it has taken.
 
 ghost use Rattle.std.specs.Prelude.{◌≡◌, ◌≤◌, ◌-◌, ◌++◌, ◌∷◌, [], IfOk, None, false, true, length};
-ghost use Rattle.mx_typist.specs.Typing.{noted_of, nothing_typed, raise_of, typing_after_look, with_typed};
+ghost use Rattle.mx_typist.specs.Typing.{has_room, noted_of, nothing_typed, raise_of, typing_after_key, typing_after_look};
 
 use crate::MOST_WAITING;
+use circular_buffer::HeapCircularBuffer;
 use std::alloc::{AllocError, Global};
 use std::marker::Model;
 
@@ -25,35 +26,34 @@ pub struct Raise {
     pub byte: u8,
 }
 
-/// All bytes that were typed, in order, how many of them are taken, and the endpoint of the driver that the next one was
-/// raised for, if it was.
+/// The typed bytes that aren't taken, in order, how many are taken, and the endpoint of the driver that the first of
+/// those that wait was raised for, if it was.
 #[derive(Drop)]
 pub struct Typist {
-    typed: Vec<u8>,
-    taken: usize,
+    waiting: HeapCircularBuffer<u8>,
+    taken: u32,
     flight: Option<u32>,
 }
 
 impl Model for Typist {
-    ghost use Rattle.std.specs.Prelude.{◌≡◌, ◌≤◌, ◌<◌, is_some, length, true};
-    ghost use Rattle.mx_typist.specs.Typing.{Typing};
+    ghost use Rattle.std.specs.Prelude.{◌≡◌};
+    ghost use Rattle.mx_typist.specs.Typing.{Typing, most_waiting};
 
     ghost Value = { Typing };
 
-    ghost view = { λ t. record { typed = t.typed.items; taken = t.taken; flight = t.flight } };
+    ghost view = { λ t. record { waiting = t.waiting.items; taken = t.taken; flight = t.flight } };
 
-    ghost invariant = { λ t. (t.taken ≤ length t.typed.items)
-        × (is_some t.flight ≡ true → t.taken < length t.typed.items) };
+    ghost invariant = { λ t. t.waiting.capacity ≡ most_waiting };
 }
 
 impl Typist {
-    /// Nothing is typed yet. There is memory for so many bytes and those that may wait.
-    pub fn new(alloc: Global, most: usize) -> Result<Typist, AllocError>
+    /// Nothing is typed yet. Takes memory for all that may wait, and none later.
+    pub fn new(alloc: Global) -> Result<Typist, AllocError>
         ensures { IfOk result (λ t. t ≡ nothing_typed) }
     {
-        let typed = Vec::with_capacity(alloc, most.saturating_add(MOST_WAITING))?;
+        let waiting = HeapCircularBuffer::with_capacity(alloc, MOST_WAITING)?;
         Ok(Typist {
-            typed,
+            waiting,
             taken: 0,
             flight: None,
         })
@@ -68,20 +68,24 @@ impl Typist {
 
     /// How many typed bytes aren't taken.
     pub fn waiting(&self) -> usize
-        ensures { result ≡ length self.now.typed - self.now.taken }
+        ensures { result ≡ length self.now.waiting }
     {
-        self.typed.len() - self.taken
+        self.waiting.len()
     }
 
-    /// A byte is typed. Answers false, and does nothing, if as many wait as may, or for lack of memory.
-    pub fn push(&mut self, byte: u8) -> bool
-        ensures typed { result ≡ true → self.new ≡ with_typed byte self.old }
-        ensures same { result ≡ false → self.new ≡ self.old }
+    /// Whether a byte more may wait.
+    pub fn has_room(&self) -> bool
+        ensures { result ≡ has_room self.now }
     {
-        if self.waiting() >= MOST_WAITING {
-            return false;
-        }
-        self.typed.push(byte).is_ok()
+        self.waiting.len() < MOST_WAITING
+    }
+
+    /// A byte is typed. Answers false, and does nothing, just if there is no room for it.
+    pub fn push(&mut self, byte: u8) -> bool
+        ensures typed { self.new ≡ typing_after_key byte self.old }
+        ensures room { result ≡ has_room self.old }
+    {
+        self.waiting.try_push_back(byte).is_ok()
     }
 
     /// Notes what became of the byte that was raised, as of a look: it is taken, or its driver died.
@@ -91,8 +95,9 @@ impl Typist {
         if self.flight.is_none() {
             return;
         }
-        if seen.counted as usize == self.taken + 1 {
-            self.taken += 1;
+        if seen.counted as usize == self.taken as usize + 1 {
+            self.waiting.pop_front();
+            self.taken = seen.counted;
             self.flight = None;
         } else if !seen.is_alive {
             self.flight = None;
@@ -105,11 +110,11 @@ impl Typist {
         ensures raise { result ≡ raise_of seen self.old }
     {
         self.note(seen);
-        if self.flight.is_some() || seen.counted as usize != self.taken {
+        if self.flight.is_some() || seen.counted != self.taken {
             return None;
         }
         let driver = seen.driver?;
-        let byte = *self.typed.get(self.taken)?;
+        let byte = *self.waiting.front()?;
         self.flight = Some(driver);
         Some(Raise { driver, byte })
     }
