@@ -3,7 +3,7 @@
 ghost use Rattle.std.specs.Prelude.{◌≡◌, ◌&&◌, ◌⊎◌, ℕ, Bool, IfErr, IfOk, MatchResult, None, [], codes, is_none, is_some, map, option_map, true};
 ghost use Rattle.clap.specs.Words.{FailsBy, HasMatchesOf, fault_of, first_of, found_of, kind_of, rows_of, subcommand_of, takes};
 ghost use Rattle.mx_app_command.specs.Words.{Asks, AsksBy, AsksForSilence, AsksForSums, AsksToExplain, HasNumber, HasNumberIf, HasNumberOr, HasRange, HasText, IsAsked, IsFlag, IsHistoryAsked, IsMachineAsked, IsOtherHistoryAsked, IsProgramAsked, IsScriptAsked, MayHaveNumber, MayHaveRange, MayHaveSweep, MayHaveText, MayHaveTurns, is_following, is_machine, is_on, mx_grammar};
-ghost use Rattle.mx_app_command.specs.Mistakes.{IsMistake, IsOutOfMemory, both_given, has_both, has_course, lacks_live, mistake_given, mistake_in};
+ghost use Rattle.mx_app_command.specs.Mistakes.{IsMistake, IsOutOfMemory, has_both, has_course, lacks_live, mistake_given, mistake_in};
 
 use crate::grammar::grammar;
 use clap::error::ErrorKind;

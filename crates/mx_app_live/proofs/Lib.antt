@@ -1,2 +1,3 @@
 pub mod KeyboardLemmas
+pub mod LivingLemmas
 pub mod SessionLemmas

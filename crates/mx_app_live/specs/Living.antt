@@ -1,5 +1,5 @@
 -- What a machine does that somebody sits at, and what is left of it (our own).
-use Rattle.std.specs.Prelude.{◌≡◌, ◌⊎◌, ◌++◌, ◌∷◌, [], ℕ, Bool, false, List, Result, Ok, Err}
+use Rattle.std.specs.Prelude.{◌≡◌, ◌⊎◌, ◌++◌, ◌∷◌, [], ℕ, Bool, true, false, List, Result, Ok, Err}
 use Rattle.mx_machine.specs.Boot.{world_at_boot}
 use Rattle.mx_machine.specs.declared.config.Config.{Config}
 use Rattle.mx_machine.specs.History.{AreAccepted, BootAndHistory}
@@ -11,7 +11,7 @@ use Rattle.mx_app_failure.specs.declared.failure.Failure.TheVariants.{NoMemory}
 use Rattle.mx_app_failure.specs.Failure.{IsWanting}
 use Rattle.mx_app_step.specs.Asked.{Asked}
 use Rattle.mx_app_step.specs.Kept.{IsUnwritten, text_kept}
-use Rattle.mx_app_step.specs.Programs.{SparesProgram, names_program}
+use Rattle.mx_app_step.specs.Programs.{names_program, over_program}
 use Rattle.mx_app_step.specs.Setup.{IsSetup, IsSetupFault}
 use Rattle.mx_app_step.specs.Written.{Written, kept}
 use Rattle.mx_app_live.specs.declared.outside.Heard.{Heard}
@@ -37,26 +37,39 @@ both_kept log c vs k = kept log (text_kept (kernel_at_boot c vs)) ∷ kept log (
 abbrev pub end_told : SessionEnding → Part → Note
 end_told e p = note.Ended e p.after.world.records (waiting p.after.typing)
 
+-- the configuration and its services were read, and none of their programs has LOG's name
+abbrev pub IsBooted : List ℕ → List ℕ → List Asked → Config → List Service → Type 0
+IsBooted config log qs c vs = IsSetup config qs c vs × (names_program c log ≡ false)
+
+-- why the machine doesn't boot: the first fault of these files; a service's program has LOG's name; or out of memory
+abbrev pub IsNotBooted : List ℕ → List ℕ → List Asked → Kind → Type 0
+IsNotBooted config log qs f =
+    IsSetupFault config qs f
+    ⊎ ((c : Config) × (vs : List Service) × IsSetup config qs c vs
+    × (((names_program c log ≡ true) × (f ≡ over_program)) ⊎ (f ≡ NoMemory)))
+
+-- why a session that was held fails: the screen takes no more, and the whole history is written; or that isn't
+abbrev pub IsCutOff : List ℕ → Bool → Config → List Service → List Written → List Heard → Part → BootAndHistory
+    → (List ℕ → Type 0) → Kind → Type 0
+IsCutOff log has_clock c vs ws hs p k Prints f =
+    ((ws ≡ both_kept log c vs k) × IsWanting f × IsUnshown has_clock (first_seat (world_at_boot c vs)) hs p)
+    ⊎ ((us : List Written) × (ws ≡ kept log (text_kept (kernel_at_boot c vs)) ∷ us)
+    × IsUnwritten log (text_kept k) us f
+    × (((e : SessionEnding) × IsSession has_clock (first_seat (world_at_boot c vs)) hs p e × Prints p.text)
+    ⊎ IsUnshown has_clock (first_seat (world_at_boot c vs)) hs p))
+
 -- WHAT `mx turns --live` DOES, by the answers to its questions: LOG has the history without a record; a session is held;
 -- and LOG has the whole history. Or it fails, and this is why
 abbrev pub Lives : List ℕ → List ℕ → Bool → List Asked → List Written → List Heard → List Note
     → (List ℕ → Type 0) → Result SessionEnding Kind → Type 0
 Lives config log has_clock qs ws hs notes Prints (Ok e) =
-    (c : Config) × (vs : List Service) × (p : Part) × (k : BootAndHistory)
-    × IsSetup config qs c vs × (names_program c log ≡ false)
+    (c : Config) × (vs : List Service) × (p : Part) × (k : BootAndHistory) × IsBooted config log qs c vs
     × IsSession has_clock (first_seat (world_at_boot c vs)) hs p e × IsKernelOf c vs p k
     × (ws ≡ both_kept log c vs k) × (notes ≡ p.told ++ end_told e p ∷ []) × Prints p.text
 Lives config log has_clock qs ws hs notes Prints (Err f) =
     ((hs ≡ []) × (notes ≡ []) × Prints []
-    × (((ws ≡ []) × IsSetupFault config qs f)
-    ⊎ ((c : Config) × (vs : List Service) × IsSetup config qs c vs
-    × (SparesProgram c log ws Prints f ⊎ (((ws ≡ []) × (f ≡ NoMemory))
-    ⊎ IsUnwritten log (text_kept (kernel_at_boot c vs)) ws f)))))
-    ⊎ ((c : Config) × (vs : List Service) × (p : Part) × (k : BootAndHistory)
-    × IsSetup config qs c vs × (names_program c log ≡ false) × (notes ≡ p.told) × IsKernelOf c vs p k
-    × (((ws ≡ both_kept log c vs k) × IsWanting f
-    × IsUnshown has_clock (first_seat (world_at_boot c vs)) hs p)
-    ⊎ ((us : List Written) × (ws ≡ kept log (text_kept (kernel_at_boot c vs)) ∷ us)
-    × IsUnwritten log (text_kept k) us f
-    × (((e : SessionEnding) × IsSession has_clock (first_seat (world_at_boot c vs)) hs p e × Prints p.text)
-    ⊎ IsUnshown has_clock (first_seat (world_at_boot c vs)) hs p))))
+    × (((ws ≡ []) × IsNotBooted config log qs f)
+    ⊎ ((c : Config) × (vs : List Service) × IsBooted config log qs c vs
+    × IsUnwritten log (text_kept (kernel_at_boot c vs)) ws f)))
+    ⊎ ((c : Config) × (vs : List Service) × (p : Part) × (k : BootAndHistory) × IsBooted config log qs c vs
+    × (notes ≡ p.told) × IsKernelOf c vs p k × IsCutOff log has_clock c vs ws hs p k Prints f)

@@ -1,19 +1,25 @@
 //! A machine that somebody sits at, from files' names to the history that is saved.
 
-ghost use Rattle.std.specs.Prelude.{◌≡◌, ◌<◌, ◌++◌, [], List, IfOk, false, nat_lt};
+ghost use Rattle.std.specs.Prelude.{◌≡◌, ◌<◌, ◌++◌, [], List, IfErr, IfOk, length, nat_lt};
 ghost use Rattle.std.specs.Io.KnownBytes.{Appends};
+ghost use Rattle.mx_machine.specs.Boot.{world_at_boot};
+ghost use Rattle.mx_machine.specs.declared.config.Config.{Config as Configured};
+ghost use Rattle.mx_machine.specs.Machine.{world_of};
+ghost use Rattle.mx_machine.specs.Service.{Service};
+ghost use Rattle.mx_machine.specs.World.{World, actors};
 ghost use Rattle.mx_app_step.specs.Asked.{Asked};
 ghost use Rattle.mx_app_step.specs.Written.{Written};
 ghost use Rattle.mx_app_live.specs.declared.outside.Heard.{Heard as Heards};
 ghost use Rattle.mx_app_live.specs.declared.outside.Note.{Note as Notes};
-ghost use Rattle.mx_app_live.specs.Living.{Lives};
-ghost use Rattle.mx_typist.specs.Typing.{nothing_typed};
+ghost use Rattle.mx_app_live.specs.Living.{IsBooted, IsNotBooted, Lives};
+ghost use Rattle.mx_app_live.specs.Session.{first_seat, seat_of};
 
 use crate::outside::{Note, Outside, Sitting};
-use crate::session::{Session, SessionEnding, hold_session};
+use crate::session::{Session, SessionEnding, hold_session, records_of};
 use mx_app_failure::Failure;
 use mx_app_start::{Channels, FileWriter, Reader, setup_of, spare_programs};
 use mx_app_step::write_history;
+use mx_machine::Machine;
 use mx_proc::KEPT_BYTES;
 use mx_typist::{Pending, Typist};
 use mx_walk::boot;
@@ -30,8 +36,7 @@ pub struct LiveNames<'a> {
 
 /// A session that begins: nothing is typed or shown.
 fn first_session(alloc: Global) -> Result<Session, NoMemory>
-    ensures { IfOk result (λ s. (s.typist ≡ nothing_typed) × (s.pending ≡ Pending.Nothing)
-        × (s.shown ≡ 0) × (s.is_deaf ≡ false)) }
+    ensures { IfOk result (λ s. (w : World) → seat_of w s ≡ first_seat w) }
 {
     Ok(Session {
         typist: Typist::new(alloc)?,
@@ -40,6 +45,24 @@ fn first_session(alloc: Global) -> Result<Session, NoMemory>
         is_deaf: false,
         bytes: Vec::with_capacity(alloc, KEPT_BYTES)?,
     })
+}
+
+/// The machine of a configuration at boot, if the history doesn't have the name of a service's program. It has an actor
+/// that is no processor.
+fn begin<R: Reader>(alloc: Global, reader: &mut R, names: LiveNames<'_>) -> Result<Machine, Failure>
+    ensures begun { IfOk result (λ m. (qs : List Asked) × (c : Configured) × (vs : List Service)
+        × (R.asked reader.new ≡ R.asked reader.old ++ qs)
+        × IsBooted names.entry.config.now names.entry.log.now qs c vs
+        × (world_of m ≡ world_at_boot c vs)) }
+    ensures kernel { IfOk result (λ m. m.kernel ≡ record { boot = world_of m; history = [] }) }
+    ensures other { IfOk result (λ m. length (world_of m).cpus < actors (world_of m)) }
+    ensures fault { IfErr result (λ f. (qs : List Asked)
+        × (R.asked reader.new ≡ R.asked reader.old ++ qs)
+        × IsNotBooted names.entry.config.now names.entry.log.now qs f) }
+{
+    let (config, services) = setup_of(alloc, reader, names.config)?;
+    spare_programs(&config, names.log)?;
+    Ok(boot(alloc, &config, services)?)
 }
 
 /// Lets the machine of a configuration live while somebody sits at it. Its history is written to LOG, without a record
@@ -61,10 +84,8 @@ pub fn live<R: Reader + Drop, F: FileWriter + Drop, W: Write + Drop, O: Outside>
         (λ text. Appends (W.contents channels.old.out) (W.contents channels.new.out) text) result }
     ensures lines { O.given outside.new ≡ O.given outside.old }
 {
-    let (config, services) = setup_of(alloc, &mut channels.reader, names.config)?;
-    spare_programs(&config, names.log)?;
+    let mut machine = begin(alloc, &mut channels.reader, names)?;
     let mut session = first_session(alloc)?;
-    let mut machine = boot(alloc, &config, services)?;
     write_history(alloc, machine.kernel(), &mut channels.files, names.log)?;
     let held = hold_session(
         &mut machine,
@@ -76,7 +97,7 @@ pub fn live<R: Reader + Drop, F: FileWriter + Drop, W: Write + Drop, O: Outside>
     );
     write_history(alloc, machine.kernel(), &mut channels.files, names.log)?;
     let ending = held?;
-    let records = machine.kernel().history().len();
+    let records = records_of(&machine);
     outside.tell(Note::Ended(ending, records, session.typist.waiting()));
     Ok(ending)
 }

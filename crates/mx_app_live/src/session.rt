@@ -62,7 +62,7 @@ fn is_at_rest(machine: &Machine) -> bool
 }
 
 /// How many records a machine's history has.
-fn records_of(machine: &Machine) -> usize
+pub(crate) fn records_of(machine: &Machine) -> usize
     ensures { result ≡ (world_of machine.now).records }
 {
     let kernel = machine.kernel();

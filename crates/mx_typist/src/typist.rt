@@ -77,7 +77,7 @@ impl Typist {
     pub fn has_room(&self) -> bool
         ensures { result ≡ has_room self.now }
     {
-        self.waiting.len() < MOST_WAITING
+        self.waiting() < MOST_WAITING
     }
 
     /// A byte is typed. Answers false, and does nothing, just if there is no room for it.
