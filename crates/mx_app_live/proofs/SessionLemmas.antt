@@ -92,8 +92,8 @@ then_told before now after last more e f = f ∙ ap (λ (l : List Note). l ++ mo
 pub record SoFar (k : Bool) (first : Seat) (m n : MachineState) (x : Seat) (count : ℕ) (asked asks : List Heard) (told tells : List Note) (screen shows : Option (List ℕ)) : Type 0 where
   pub hs : List Heard
   pub part : Part
-  pub heard : asks ≡ asked ++ hs
-  pub told : tells ≡ told ++ part.told
+  pub answers : asks ≡ asked ++ hs
+  pub notes : tells ≡ told ++ part.told
   pub made : HasMade m part.made n
   pub rounds : AreRounds k first hs part
   pub seat : x ≡ part.after
@@ -110,8 +110,8 @@ pub none_so_far : (k : Bool) (x : Seat) (m : MachineState) (asked : List Heard) 
 none_so_far k x m asked told screen = record {
   hs = [];
   part = telling x [];
-  heard = sym (nil_after asked);
-  told = sym (nil_after told);
+  answers = sym (nil_after asked);
+  notes = sym (nil_after told);
   made = none_made m;
   rounds = refl;
   seat = refl;
@@ -132,7 +132,7 @@ module _ (k : Bool) (first : Seat) (m n : MachineState) (x : Seat) (count : ℕ)
   made_on p h = then_made m n p so.part.made gone.made so.made (subst (λ (z : Seat). HasMade n (going_on k z).made p) so.seat h)
 
   told_on : tells ≡ told ++ (so.part.told ++ gone.told)
-  told_on = more_told told so.part.told tells gone.told so.told (going_told k so.part.after (is_full (turns_at so.part.after).ending) refl)
+  told_on = more_told told so.part.told tells gone.told so.notes (going_told k so.part.after (is_full (turns_at so.part.after).ending) refl)
 
   shown_on : (after : Option (List ℕ)) → Appends shows after (going_on k x).text → Appends screen after (so.part.text ++ gone.text)
   shown_on after h = Appends-trans _ _ _ so.part.text gone.text so.shown (subst (λ (z : Seat). Appends shows after (going_on k z).text) so.seat h)
@@ -143,7 +143,7 @@ module _ (k : Bool) (first : Seat) (m n : MachineState) (x : Seat) (count : ℕ)
   ended_going p y o e after made seat ending shown is = (
     so.hs,
     then_part so.part gone,
-    so.heard,
+    so.answers,
     told_on,
     made_on p made,
     (
@@ -159,8 +159,8 @@ module _ (k : Bool) (first : Seat) (m n : MachineState) (x : Seat) (count : ℕ)
       let last : Part = record { made = (turns_at so.part.after).made; text = []; told = []; after = seat_after_turns so.part.after; ending = None } in (
         so.hs,
         then_part so.part last,
-        so.heard,
-        more_told told so.part.told tells [] so.told refl,
+        so.answers,
+        more_told told so.part.told tells [] so.notes refl,
         then_made m n p so.part.made last.made so.made (subst (λ (z : Seat). HasMade n (turns_at z).made p) so.seat made),
         (wanting, (so.part, so.rounds, refl)),
       )
@@ -199,10 +199,10 @@ module _ (k : Bool) (first : Seat) (m n : MachineState) (x : Seat) (count : ℕ)
       → HasMade n (going_on k x).made p → y ≡ (going_on k x).after → (going_on k x).ending ≡ None → Appends shows after (going_on k x).text → heard-now ≡ asks ++ h ∷ []
       → HasMade p (hearing y h).made q → z ≡ (hearing y h).after → o ≡ (hearing y h).ending → told-now ≡ tells ++ (hearing y h).told → o ≡ Some e
       → Held k first m q z asked heard-now told told-now screen after (Ok e)
-  ended_hearing p q y z h o e after heard-now told-now made seat none shown heard done leads ending tells-more is = (
+  ended_hearing p q y z h o e after heard-now told-now made seat none shown answered done leads ending tells-more is = (
     so.hs ++ h ∷ [],
     then_part so.part (round_of h),
-    heard ∙ ap (λ (l : List Heard). l ++ h ∷ []) so.heard ∙ append_assoc asked so.hs (h ∷ []),
+    answered ∙ ap (λ (l : List Heard). l ++ h ∷ []) so.answers ∙ append_assoc asked so.hs (h ∷ []),
     told_round y h told-now seat tells-more,
     made_round p q y h made seat done,
     (
@@ -217,11 +217,11 @@ module _ (k : Bool) (first : Seat) (m n : MachineState) (x : Seat) (count : ℕ)
       → HasMade n (going_on k x).made p → y ≡ (going_on k x).after → (going_on k x).ending ≡ None → Appends shows after (going_on k x).text → heard-now ≡ asks ++ h ∷ []
       → HasMade p (hearing y h).made q → z ≡ (hearing y h).after → o ≡ (hearing y h).ending → told-now ≡ tells ++ (hearing y h).told → o ≡ None
       → SoFar k first m q z (count + 1) asked heard-now told told-now screen after
-  one_more p q y z h o after heard-now told-now made seat none shown heard done leads ending tells-more is = record {
+  one_more p q y z h o after heard-now told-now made seat none shown answered done leads ending tells-more is = record {
     hs = so.hs ++ h ∷ [];
     part = then_part so.part (round_of h);
-    heard = heard ∙ ap (λ (l : List Heard). l ++ h ∷ []) so.heard ∙ append_assoc asked so.hs (h ∷ []);
-    told = told_round y h told-now seat tells-more;
+    answers = answered ∙ ap (λ (l : List Heard). l ++ h ∷ []) so.answers ∙ append_assoc asked so.hs (h ∷ []);
+    notes = told_round y h told-now seat tells-more;
     made = made_round p q y h made seat done;
     rounds = rounds_more k so.hs first h so.part (round_of h) so.rounds (is_round h none) (ending_round y h o seat ending ∙ is);
     seat = seat_round y z h seat leads;
@@ -231,4 +231,4 @@ module _ (k : Bool) (first : Seat) (m n : MachineState) (x : Seat) (count : ℕ)
 
   -- so many rounds are made that it stops
   pub stopped : count ≡ 2 ^ 64 - 1 → Held k first m n x asked asks told tells screen shows (Ok Stopped)
-  stopped last = (so.hs, so.part, so.heard, so.told, so.made, (inr (inr (so.rounds, so.counted ∙ last, refl)), so.seat, so.shown))
+  stopped last = (so.hs, so.part, so.answers, so.notes, so.made, (inr (inr (so.rounds, so.counted ∙ last, refl)), so.seat, so.shown))

@@ -345,11 +345,13 @@ pub(crate) fn hold_session<O: Outside, W: Write>(
     ensures lines { O.given outside.new ≡ O.given outside.old }
 {
     for _ in 0..u64::MAX {
-        if let Some(ending) = go_on(machine, session, has_clock, screen)? {
+        let gone = go_on(machine, session, has_clock, screen)?;
+        if let Some(ending) = gone {
             return Ok(ending);
         }
         let heard = listen(machine, &session.typist, sitting, outside);
-        if let Some(ending) = do_heard(machine, session, heard, outside) {
+        let done = do_heard(machine, session, heard, outside);
+        if let Some(ending) = done {
             return Ok(ending);
         }
     }
