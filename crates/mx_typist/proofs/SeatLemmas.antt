@@ -174,9 +174,10 @@ looked_holds typed waiting taken None stored None false driver h = same_holds ty
 -- ---- all of it
 
 holds_after : (x : Seat) (a : Happening) → Holds x → Holds (after x a)
-holds_after x (Types b) h =
-    (fits_typed x.typing.flight x.keyboard.hearing x.keyboard.dead x.typed x.typing.taken x.keyboard.stored b h.0,
-    (front_typed x.typed x.keyboard.stored b h.1.0, waits_typed x.typed x.typing.taken x.typing.waiting b h.1.1))
+holds_after x (Types b) h = (
+  fits_typed x.typing.flight x.keyboard.hearing x.keyboard.dead x.typed x.typing.taken x.keyboard.stored b h.0,
+  (front_typed x.typed x.keyboard.stored b h.1.0, waits_typed x.typed x.typing.taken x.typing.waiting b h.1.1),
+)
 holds_after x Stores h = stored_holds x.typed x.typing.waiting x.typing.taken x.typing.flight x.keyboard.stored x.keyboard.hearing x.keyboard.dead h
 holds_after x Dies h = dead_holds x.typed x.typing.waiting x.typing.taken x.typing.flight x.keyboard.stored x.keyboard.hearing x.keyboard.dead h
 holds_after x (Looks d) h = looked_holds x.typed x.typing.waiting x.typing.taken x.typing.flight x.keyboard.stored x.keyboard.hearing x.keyboard.dead d h
