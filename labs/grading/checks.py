@@ -1,7 +1,8 @@
 """What a lab checks: each row of its `points.json` is made, run and compared with what is wanted.
 
 A row has a `name`, `points`, what to `do` (a function `do_..` of Check), and `draws`: the function that draws its cases, in
-the file of `drawn` that `points.json` names. The rest are words of that `do`.
+the file of `drawn` that `points.json` names. `needs` are the parts of the lab's main work without which no answer should
+have these points. The rest are words of that `do`.
 """
 import importlib
 import json

@@ -10,7 +10,8 @@ An event of a history is a line of words:
     line N WHO                                an interrupt of a line that somebody has taken
     tick N                                    the uptime
 
-A fact is one of these, where EVENT is such a line in which `*` stands for any word, and `..` at its end for any words:
+A fact is one of these, where EVENT is such a line in which `*` stands for any word, `A|B` for one of two, and `..` at
+its end for any words:
 
     N EVENT          there are N of these; N+ at least N
     in order: EVENT; EVENT ..                 each comes after the one before it
@@ -78,7 +79,12 @@ def fits(event, pattern):
     words = event.words
     if wanted[-1] == "..":
         wanted, words = wanted[:-1], words[:len(wanted) - 1]
-    return len(words) == len(wanted) and all(it in ("*", word) for it, word in zip(wanted, words))
+    return len(words) == len(wanted) and all(map(is_one, wanted, words))
+
+
+def is_one(pattern, word):
+    """Whether a word is one that a pattern's word stands for."""
+    return pattern in ("*", word) or ("|" in pattern and word in pattern.split("|"))
 
 
 def missing(fact, found):

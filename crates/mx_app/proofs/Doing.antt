@@ -1,5 +1,5 @@
 -- What is done of a request, from what its subcommand does.
-use Rattle.std.proofs.Common.{◌≡◌, ◌∙◌, ◌⊎◌, ◌++◌, ℕ, Bool, List, [], ◌∷◌, Option, Some, None, Result, Ok, Err, IfErr, OnOk, false, true, inl, inr, refl, subst, sym, take}
+use Rattle.std.proofs.Common.{◌≡◌, ◌∙◌, ◌⊎◌, ◌++◌, ◌-◌, ℕ, Bool, List, [], ◌∷◌, Option, Some, None, Result, Ok, Err, IfErr, OnOk, false, true, inl, inr, refl, subst, sym, take}
 use Rattle.std.specs.Prelude.{IfOk}
 use Rattle.std.specs.Io.KnownBytes.{Appends}
 use Rattle.std.proofs.lemmas.List.{append-nil}
@@ -242,7 +242,7 @@ module _ (asked now : List Asked) (files : List Written) where
   pub pages : (config log : List ℕ) (range : RecordRange) (x y : Option (List ℕ)) (d : Result Replayed Kind) (r : Result Done Kind)
       → IfOk d (λ how. (qs : List Asked) × (c : Config) × (vs : List Service) × (records : List Record)
       × (now ≡ asked ++ qs) × IsStart IsSaved config log qs c vs records
-      × IsPagePrinted (λ first. run_of_files config log first c) (world_at_boot c vs) (take range.to records) range.from how (λ text. Appends x y text))
+      × IsPagePrinted (λ first. run_of_files config log first c) (world_at_boot c vs) (take range.to records) (range.from - 1) how (λ text. Appends x y text))
       → IfErr d (λ f. (qs : List Asked) × (now ≡ asked ++ qs) × IsTold IsSaved TellsSaved config log qs f)
       → r ≡ done_after_replay d
       → WritesNone (λ qs ws. (e : Result Replayed Kind) × (ws ≡ []) × Pages config log range qs (λ text. Appends x y text) e × (r ≡ done_after_replay e))

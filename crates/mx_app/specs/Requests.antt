@@ -1,5 +1,5 @@
 -- What is done of requests (our own).
-use Rattle.std.specs.Prelude.{◌≡◌, ◌⊎◌, ℕ, Bool, true, false, if◌then◌else◌, List, [], ◌∷◌, ◌++◌, Option, Some, None, Result, Ok, Err, nat_lt, option_map, take}
+use Rattle.std.specs.Prelude.{◌≡◌, ◌⊎◌, ℕ, ◌-◌, Bool, true, false, if◌then◌else◌, List, [], ◌∷◌, ◌++◌, Option, Some, None, Result, Ok, Err, nat_lt, option_map, take}
 use Rattle.mx_app_command.specs.Files.{writes_over}
 use Rattle.mx_app_command.specs.declared.command_line.CommandRequest.{CommandRequest}
 use Rattle.mx_app_command.specs.declared.command_line.RecordRange.{RecordRange}
@@ -169,8 +169,8 @@ Draws config log range qs Prints (Err f) = IsTold IsSaved TellsSaved config log 
 abbrev pub Pages : List ℕ → List ℕ → RecordRange → List Asked → (List ℕ → Type 0) → Result Replayed Kind → Type 0
 Pages config log range qs Prints (Ok how) =
     (c : Config) × (vs : List Service) × (records : List Record) × IsStart IsSaved config log qs c vs records
-    × IsPagePrinted (λ first. run_of_files config log first c) (world_at_boot c vs) (take range.to records) range.from how
-    Prints
+    × IsPagePrinted (λ first. run_of_files config log first c) (world_at_boot c vs) (take range.to records)
+    (range.from - 1) how Prints
 Pages config log range qs Prints (Err f) = IsTold IsSaved TellsSaved config log qs f
 
 -- a session over a history: what it prints is determined by the lines that are typed, which it takes up to `quit` or to

@@ -1,1 +1,4 @@
 mod PageLemmas
+mod MadeLemmas
+mod AboveLemmas
+mod PageStart

@@ -1,16 +1,16 @@
 -- The rows of records, one more, and what is printed of them.
-use Rattle.std.proofs.Common.{◌≡◌, ◌∙◌, ◌<◌, ◌≤◌, ℕ, ◌+◌, ◌-◌, List, [], ◌∷◌, ◌++◌, length, take, get_or, append_assoc, Option, ap, sym, subst, arith}
+use Rattle.std.proofs.Common.{◌≡◌, ◌∙◌, ◌<◌, ◌≤◌, ℕ, zero, suc, ◌+◌, List, [], ◌∷◌, ◌++◌, length, take, get_or, append_assoc, Option, refl, ap, sym, subst, arith}
 use Rattle.std.proofs.KnownBytes.{Appends-trans}
 use Rattle.std.proofs.lemmas.List.{append-nil, take_more, take_all, length-take-le}
 use Rattle.std.specs.Io.KnownBytes.{Appends}
-use Rattle.mx_machine.specs.declared.events.Refusal.{Refusal}
 use Rattle.mx_machine.specs.declared.history.Record.{Record}
 use Rattle.mx_machine.specs.History.{AreAccepted, world_after_events, events_of, events_of_history}
 use Rattle.mx_machine.specs.World.{World}
-use Rattle.mx_walk.proofs.Made.{after_both}
 use Rattle.mx_look.specs.declared.transition.Transition.{Transition}
-use Rattle.mx_app_step.specs.Records.{IsRefusedAt}
+use Rattle.mx_app_step.specs.Failure.{PrintsFront}
 use Rattle.mx_app_step.specs.Traces.{transition_of}
+use Rattle.mx_app_step.proofs.FrontLemmas.{front_after, front_more}
+use Rattle.mx_app_step.proofs.RecordLemmas.{after_both}
 use Rattle.mx_look_page.specs.Rows.{row_text}
 use Rattle.mx_look_page.specs.Shown.{ShownWorld}
 use Rattle.mx_app_page.specs.Pages.{shown_in, rows_text}
@@ -38,17 +38,48 @@ row_is v u n y x p q is before after made =
     ap (λ (t : Transition). row_text t p q) is ∙ ap (λ (s : ShownWorld). row_text (transition_of v n y) s q) before
     ∙ ap (λ (s : ShownWorld). row_text (transition_of v n y) (shown_in v) s) (after ∙ ap shown_in made)
 
-pub next_rows : (w v u : World) (records : List Record) (above i n : ℕ) (d : Record) (x : Transition) (p q : ShownWorld) (a b c : Option (List ℕ)) → i < length records
-    → n ≡ above + (i + 1) → v ≡ world_after_events w (events_of_history (take i records)) → x ≡ transition_of v n (get_or records i d)
-    → p ≡ shown_in v → q ≡ shown_in u → u ≡ world_after_events v (events_of (get_or records i d).actor (get_or records i d).event)
-    → Appends a b (rows_text w (above + 1) (take i records)) → Appends b c (row_text x p q)
-    → Appends a c (rows_text w (above + 1) (take (i + 1) records))
-next_rows w v u records above i n d x p q a b c within e world is before after made so_far more =
-    let at : n ≡ above + 1 + length (take i records) = omega (arith, e, length-take-le i records (omega arith)) in
-    let same : rows_text w (above + 1) (take i records) ++ row_text x p q ≡ rows_text w (above + 1) (take (i + 1) records) =
-    ap (λ (t : List ℕ). rows_text w (above + 1) (take i records) ++ t) (row_is v u n (get_or records i d) x p q is before after made ∙ ap (λ (y : World). row_in y n (get_or records i d)) world)
-    ∙ sym (ap (λ (rs : List Record). rows_text w (above + 1) rs) (take_more records i d within) ∙ rows_more w (above + 1) n (take i records) (get_or records i d) at) in
-    subst (λ (t : List ℕ). Appends a c t) same (Appends-trans a b c (rows_text w (above + 1) (take i records)) (row_text x p q) so_far more)
+-- the rows of the first records are a front of those of all
+some_rows : (w : World) (n : ℕ) (xs : List Record) (i : ℕ) → (rest : List ℕ) × (rows_text w n xs ≡ rows_text w n (take i xs) ++ rest)
+some_rows w n xs zero = (rows_text w n xs, refl)
+some_rows w n [] (suc i) = ([], refl)
+some_rows w n (x ∷ xs) (suc i) =
+    let u = world_after_events w (events_of x.actor x.event) in
+    let h = some_rows u (n + 1) xs i in
+    (h.0, ap (λ (t : List ℕ). row_in w n x ++ t) h.1 ∙ sym (append_assoc (row_in w n x) (rows_text u (n + 1) (take i xs)) h.0))
+
+pub front_rows : (w : World) (records : List Record) (above i : ℕ) (a b : Option (List ℕ)) → Appends a b (rows_text w (above + 1) (take i records))
+    → PrintsFront (λ t. Appends a b t) (rows_text w (above + 1) records)
+front_rows w records above i a b printed =
+    let some = some_rows w (above + 1) records i in
+    (rows_text w (above + 1) (take i records), some.0, some.1, printed)
+
+-- ---- one row more
+
+module _ (w v u : World) (records : List Record) (above i n : ℕ) (d : Record) (x : Transition) (p q : ShownWorld) (within : i < length records) (number : n ≡ above + i + 1)
+    (world : v ≡ world_after_events w (events_of_history (take i records))) (is : x ≡ transition_of v n (get_or records i d)) (before : p ≡ shown_in v) (after : q ≡ shown_in u)
+    (made : u ≡ world_after_events v (events_of (get_or records i d).actor (get_or records i d).event)) where
+  so_many : List ℕ
+  so_many = rows_text w (above + 1) (take i records)
+
+  one_more : so_many ++ row_text x p q ≡ rows_text w (above + 1) (take (i + 1) records)
+  one_more =
+      let at : n ≡ above + 1 + length (take i records) = omega (arith, number, length-take-le i records (omega arith)) in
+      ap (λ (t : List ℕ). so_many ++ t) (row_is v u n (get_or records i d) x p q is before after made ∙ ap (λ (y : World). row_in y n (get_or records i d)) world)
+      ∙ sym (ap (λ (rs : List Record). rows_text w (above + 1) rs) (take_more records i d within) ∙ rows_more w (above + 1) n (take i records) (get_or records i d) at)
+
+  pub next_rows : (a b c : Option (List ℕ)) → Appends a b so_many → Appends b c (row_text x p q) → Appends a c (rows_text w (above + 1) (take (i + 1) records))
+  next_rows a b c so_far more = subst (λ (t : List ℕ). Appends a c t) one_more (Appends-trans a b c so_many (row_text x p q) so_far more)
+
+  -- a front of it is a front of those of all records
+  pub next_front : (a b c : Option (List ℕ)) → Appends a b so_many → PrintsFront (λ t. Appends b c t) (row_text x p q)
+      → PrintsFront (λ t. Appends a c t) (rows_text w (above + 1) records)
+  next_front a b c so_far more =
+      let some = some_rows w (above + 1) records (i + 1) in
+      subst (λ (t : List ℕ). PrintsFront (λ s. Appends a c s) t) (sym some.1)
+      (front_more _ (rows_text w (above + 1) (take (i + 1) records)) some.0
+      (subst (λ (t : List ℕ). PrintsFront (λ s. Appends a c s) t) one_more (front_after a b c so_many (row_text x p q) so_far more)))
+
+-- ---- all of them
 
 pub all_rows : (w : World) (records : List Record) (above i : ℕ) (a b : Option (List ℕ)) → length records ≤ i
     → AreAccepted w (events_of_history (take i records)) → Appends a b (rows_text w (above + 1) (take i records))
@@ -56,9 +87,3 @@ pub all_rows : (w : World) (records : List Record) (above i : ℕ) (a b : Option
 all_rows w records above i a b over accepted printed =
     let all : take i records ≡ records = take_all i records over in
     (subst (λ (rs : List Record). AreAccepted w (events_of_history rs)) all accepted, subst (λ (rs : List Record). Appends a b (rows_text w (above + 1) rs)) all printed)
-
-pub refused_rows : (w : World) (records : List Record) (above i n : ℕ) (r : Refusal) (a b : Option (List ℕ)) → n ≡ i + 1 → IsRefusedAt w records n r
-    → Appends a b (rows_text w (above + 1) (take i records)) → IsRefusedAt w records n r × Appends a b (rows_text w (above + 1) (take (n - 1) records))
-refused_rows w records above i n r a b e refused printed =
-    let one : i ≡ n - 1 = omega (arith, e) in
-    (refused, subst (λ k. Appends a b (rows_text w (above + 1) (take k records))) one printed)

@@ -1,6 +1,7 @@
 -- THE PAGE OF A HISTORY (our own): the fixed part, and between its halves the data.
-use Rattle.std.specs.Prelude.{◌≡◌, ℕ, ◌+◌, ◌-◌, nat_lt, if◌then◌else◌, List, [], ◌∷◌, ◌++◌, length, take, drop, Option, Some, None}
+use Rattle.std.specs.Prelude.{◌≡◌, ◌⊎◌, ℕ, ◌+◌, ◌-◌, nat_lt, if◌then◌else◌, List, [], ◌∷◌, ◌++◌, length, take, drop, Option, Some, None}
 use Rattle.mx_app_step.specs.Config.{Config}
+use Rattle.mx_app_step.specs.Failure.{PrintsFront}
 use Rattle.mx_app_step.specs.Log.{lines_above}
 use Rattle.mx_app_step.specs.Records.{IsRefusedAt, refused_record_line}
 use Rattle.mx_app_step.specs.Traces.{transition_of}
@@ -58,45 +59,55 @@ abbrev pub page_text : Run → World → List Record → List Record → Option 
 page_text r w above records refused = let v = world_after_events w (events_of_history above) in
     front_text r v ++ rows_text v (length above + 1) records ++ back_text (length records) refused
 
--- the same if they are to have rows from one on, which is counted from 1. If the refused one comes before that, the
--- page shows the machine at boot.
+-- the same if this many records are to stand above the first row. If the refused one is among those, the page shows the
+-- machine at boot.
 abbrev pub page_from : (ℕ → Run) → ℕ → World → List Record → Option (List ℕ) → List ℕ
-page_from run from w records None =
-    page_text (run (length (take (from - 1) records))) w (take (from - 1) records) (drop (from - 1) records) None
-page_from run from w records (Some line) =
-    if nat_lt (length records) (from - 1) then page_text (run 0) w [] [] (Some line)
-    else page_text (run (from - 1)) w (take (from - 1) records) (drop (from - 1) records) (Some line)
+page_from run first w records None =
+    page_text (run (length (take first records))) w (take first records) (drop first records) None
+page_from run first w records (Some line) =
+    if nat_lt (length records) first then page_text (run 0) w [] [] (Some line)
+    else page_text (run first) w (take first records) (drop first records) (Some line)
 
 -- the line of a refused record, without its end
 abbrev pub refused_line : Rules → ℕ → Refusal → List ℕ
 refused_line rules n r = but_last (refused_record_line (lines_above rules + n) r)
 
--- WHAT IS PRINTED of records: their page, or that of those before the first that is refused, which says in which line
--- it is and why
+-- WHAT IS PRINTED of records, of which this many are to stand above the first row: their page, or that of those before
+-- the first that is refused, which says in which line it is and why
 abbrev pub IsPagePrinted : (ℕ → Run) → World → List Record → ℕ → Replayed → (List ℕ → Type 0) → Type 0
-IsPagePrinted run w records from replayed.Whole Prints =
-    AreAccepted w (events_of_history records) × Prints (page_from run from w records None)
-IsPagePrinted run w records from replayed.Refused Prints =
+IsPagePrinted run w records first replayed.Whole Prints =
+    AreAccepted w (events_of_history records) × Prints (page_from run first w records None)
+IsPagePrinted run w records first replayed.Refused Prints =
     (n : ℕ) × (r : Refusal) × IsRefusedAt w records n r
-    × Prints (page_from run from w (take (n - 1) records) (Some (refused_line w.table.rules n r)))
+    × Prints (page_from run first w (take (n - 1) records) (Some (refused_line w.table.rules n r)))
+
+-- a front of the page of all records is printed, or of what is printed up to one that is refused
+abbrev pub IsPageBegun : (ℕ → Run) → World → List Record → ℕ → (List ℕ → Type 0) → Type 0
+IsPageBegun run w records first Prints =
+    PrintsFront Prints (page_from run first w records None)
+    ⊎ IsPagePrinted run w records first replayed.Refused (PrintsFront Prints)
 
 -- ---- parts of it
 
--- the rows of records, or of those before the first that is refused, and how the history is replayed by that. `above`
--- records come before the first.
+-- the rows of records, or of so many before the first that is refused. `above` records come before the first.
 abbrev pub AreRowsPrinted : World → ℕ → List Record → Option (ℕ × Refusal) → (List ℕ → Type 0) → Type 0
 AreRowsPrinted w above records None Prints =
     AreAccepted w (events_of_history records) × Prints (rows_text w (above + 1) records)
 AreRowsPrinted w above records (Some p) Prints =
-    IsRefusedAt w records p.0 p.1 × Prints (rows_text w (above + 1) (take (p.0 - 1) records))
+    IsRefusedAt w records (p.0 + 1) p.1 × Prints (rows_text w (above + 1) (take p.0 records))
 
--- the page from a world on, of which this many records are made, of the others; or of those before the first that is
--- refused
+-- the page from a world on, above whose records stand this many; or that of those before the first that is refused
 abbrev pub IsMadePrinted : Rules → Run → World → ℕ → List Record → Replayed → (List ℕ → Type 0) → Type 0
 IsMadePrinted rules r w above records replayed.Whole Prints =
     AreAccepted w (events_of_history records)
     × Prints (front_text r w ++ rows_text w (above + 1) records ++ back_text (length records) None)
 IsMadePrinted rules r w above records replayed.Refused Prints =
-    (n : ℕ) × (q : Refusal) × IsRefusedAt w records n q
-    × Prints (front_text r w ++ rows_text w (above + 1) (take (n - 1) records)
-    ++ back_text (n - 1) (Some (refused_line rules (above + n) q)))
+    (n : ℕ) × (q : Refusal) × IsRefusedAt w records (n + 1) q
+    × Prints (front_text r w ++ rows_text w (above + 1) (take n records)
+    ++ back_text n (Some (refused_line rules (above + n + 1) q)))
+
+-- a front of it
+abbrev pub IsMadeBegun : Rules → Run → World → ℕ → List Record → (List ℕ → Type 0) → Type 0
+IsMadeBegun rules r w above records Prints =
+    PrintsFront Prints (front_text r w ++ rows_text w (above + 1) records ++ back_text (length records) None)
+    ⊎ IsMadePrinted rules r w above records replayed.Refused (PrintsFront Prints)

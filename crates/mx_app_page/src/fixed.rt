@@ -5,7 +5,7 @@ pub(crate) const FRONT: &str = "<!DOCTYPE html>
 <html lang=\"en\">
 <head>
 <meta charset=\"utf-8\">
-<meta http-equiv=\"Content-Security-Policy\" content=\"default-src 'none'; script-src 'sha256-+EcqJtOgzU/Odha2xZ+m+Av5EbwJN+TrYTi4bSR7v14='; style-src 'sha256-imCFIj8QNZ5cHfxNymDCQL1yWjTtvWxPEpYfhbU1FFY='; base-uri 'none'; form-action 'none'; require-trusted-types-for 'script'; trusted-types 'none'\">
+<meta http-equiv=\"Content-Security-Policy\" content=\"default-src 'none'; script-src 'sha256-oOudLkj7IppaARppi5aSKjz/Trmds0INYZMxHXnPs0s='; style-src 'sha256-imCFIj8QNZ5cHfxNymDCQL1yWjTtvWxPEpYfhbU1FFY='; base-uri 'none'; form-action 'none'; require-trusted-types-for 'script'; trusted-types 'none'\">
 <meta name=\"viewport\" content=\"width=device-width, initial-scale=1\">
 <meta name=\"referrer\" content=\"no-referrer\">
 <title>A run of mx</title>
@@ -264,1163 +264,1155 @@ kbd { border: 1px solid var(--soft); border-radius: 3px; padding: 0 5px; font: 1
 /// What stands after them.
 pub(crate) const BACK: &str = "</script>
 <script>\"use strict\";
-// The fixed part of a page of a run. It reads the data part once, draws what is in view, and writes text only
-// by textContent: nothing of the data can become markup.
-(() => {
-  const $ = id => document.getElementById(id);
-  const NS = \"http://www.w3.org/2000/svg\";
-  const ANY = 31438, PSEUDO = {\"-1\": \"HARDWARE\", \"-2\": \"SYSTEM\", \"-3\": \"CLOCK\"};
-  const STATES = [
-    \"ready\", \"out\", \"doomed\", \"sending\", \"calling\", \"receiving\", \"awaiting\", \"down exit\", \"down kill\",
-    \"down fault\"
-  ];
-  const EVENTS = [\"take\", \"back\", \"line\", \"tick\", \"kill\", \"respawn\"], BACK = 1;
-  const DEATH = 1, RESPAWN = 2, WRONG = 4, CONSOLE = 8, MESSAGE = 16, PENDING = 32;
+{
+// The script of a page of a run: see the README beside this folder. It reads the data part once, draws what is in
+// view, and writes text only by textContent: nothing of the data can become markup.
 
-  // ---- the data: text, with the place of each row, and what is drawn as lists of numbers
-  // The first line is for the run, the last one for how it ends, and each line between them is a record's
-  // row.
-  const text = $(\"data\").textContent;
-  const firstRow = text.indexOf(\"\\n\") + 1, lastLine = text.lastIndexOf(\"\\n\", text.length - 2) + 1;
-  const head = JSON.parse(text.slice(0, firstRow)), tail = JSON.parse(text.slice(lastLine));
-  const base = head.first;  // how many records are above the first row
-  const N = head.services.length, total = base + tail.records;
-  const starts = new Uint32Array(total + 2);  // where row K is
-  const flags = new Uint8Array(total + 2), subject = new Int8Array(total + 2).fill(-1),
-        events = new Uint8Array(total + 2), actors = new Uint8Array(total + 2);
-  // of a return, what it did; few words, many records
-  const words = [], wordOf = new Map(), labelOf = new Uint16Array(total + 2);
-  // a list of rows of numbers, which grows
-  class Rows {
-    constructor(wide) {
-      this.wide = wide;
-      this.length = 0;
-      this.all = new Int32Array(wide * 64);
-    }
-    push(...row) {
-      if ((this.length + 1) * this.wide > this.all.length) {
-        const more = new Int32Array(this.all.length * 2);
-        more.set(this.all);
-        this.all = more;
-      }
-      for (let i = 0; i < this.wide; i++) this.all[this.length * this.wide + i] = row[i];
-      this.length++;
-    }
-    at(i, column) { return this.all[i * this.wide + column]; }
-    row(i) { return this.all.subarray(i * this.wide, (i + 1) * this.wide); }
-    // the last row whose first number is not above x
-    below(x) {
-      let a = 0, b = this.length;
-      while (a < b) {
-        const m = (a + b) >> 1;
-        if (this.all[m * this.wide] <= x) a = m + 1;
-        else b = m;
-      }
-      return a - 1;
-    }
-  }
-  const E = 1, S = 2, P = 3, L = 4, T = 5;  // of a lane: record, endpoint, state, partner, level, ticks
-  const lanes = head.start.map(c => {
-    const r = new Rows(6);
-    r.push(base, ...c.slice(1, 6));
-    return r;
-  });
-  const arrows = new Rows(5);  // record, kind, from, to, type
-  const bytes = new Rows(2);   // record, byte
-  const queueAt = new Rows(1), waitAt = new Rows(1);
-  queueAt.push(base);
-  waitAt.push(base);
-  let loaded = base, at = firstRow;
+const $ = id => document.getElementById(id);
 
-  // What a process did before it came back, by the record's own line: the word of its trap or kernel call, in
-  // brackets if it was killed before that was done; or how its steps ended.
-  function deedOf(line) {
-    const [what, ...more] = line.slice(line.indexOf(\": \") + 2).split(\", \");
-    const [, , ended, ...call] = what.split(\" \");
-    if (ended !== \"trap\") return [ended, ...call].join(\" \");
-    const doomed = more.at(-1) === \"doomed\", asked = doomed ? more.slice(0, -1) : more;
-    const word = asked.length ? asked[0].split(\" \", 1)[0] : call[0];
-    return doomed ? `(${word})` : word;
-  }
-  function word(w) {
-    let n = wordOf.get(w);
-    if (n === undefined) {
-      n = words.push(w);
-      wordOf.set(w, n);
-    }
-    return n;
-  }
-  function load(limit) {
-    const until = performance.now() + limit;
-    while (at < lastLine) {
-      const stop = text.indexOf(\"\\n\", at);
-      const row = JSON.parse(text.slice(at, stop)), k = ++loaded;
-      starts[k] = at;
-      starts[k + 1] = at = stop + 1;
-      events[k] = row.e;
-      actors[k] = row.a;
-      if (row.s !== undefined) subject[k] = row.s;
-      if (row.e === BACK) labelOf[k] = word(deedOf(row.t.split(\"\\n\", 1)[0]));
-      let f = row.x ? WRONG : 0;
-      if (row.c)
-        for (const c of row.c) {
-          const lane = lanes[c[0]], old = lane.row(lane.length - 1);
-          if (c[2] >= 7 && old[S] < 7) f |= DEATH;
-          if (old[E] !== c[1]) f |= RESPAWN;
-          lane.push(k, c[1], c[2], c[3], c[4], c[5]);
-        }
-      if (row.d)
-        for (const d of row.d) {
-          f |= d[0] === 2 ? PENDING : MESSAGE;
-          arrows.push(k, d[0], d[1], d[2], d[3]);
-        }
-      if (row.q) queueAt.push(k);
-      if (row.w) waitAt.push(k);
-      if (row.b !== undefined) {
-        f |= CONSOLE;
-        bytes.push(k, row.b);
-      }
-      flags[k] = f;
-      if ((k & 255) === 0 && performance.now() > until) return false;
-    }
-    return true;
-  }
-  const rowOf = k => JSON.parse(text.slice(starts[k], starts[k + 1]));
-  const traceOf = k => k === base ? (base ? \"after record \" + base : \"boot\") : k > loaded ? \"\" : rowOf(k).t;
+// ---- the data
+// The first line is for the run, the last one for how it ends, and each line between them is a record's row.
+// A row is parsed once while the page is read, for what is drawn of all records; what the panels show of one
+// record is parsed again when it is asked for. So the memory of a page is the text and some bytes a record.
 
-  // the last place of a sorted list that is not above x
-  function below(list, x) {
-    let a = 0, b = list.length;
-    while (a < b) {
-      const m = (a + b) >> 1;
-      if (list[m] <= x) a = m + 1;
-      else b = m;
-    }
-    return a - 1;
-  }
-  const stateAt = (slot, k) =>
-      lanes[slot].row(lanes[slot].below(k));  // [record, endpoint, state, partner, level, ticks]
-  const nameOf = p => PSEUDO[p] || (head.services[p] ? head.services[p].name : \"slot \" + p);
-  const partner = e => e === ANY ? \"any\" : PSEUDO[e] || nameOf(e & 1023) + \" \" + e;
-  function doing(c) {
-    const s = c[2];
-    if (s === 1 || s === 2) return STATES[s] + \" on processor \" + c[3];
-    if (s === 9) return \"down fault \" + c[3];
-    if (s === 3) return \"sending to \" + partner(c[3]);
-    if (s === 4) return \"calling \" + partner(c[3]);
-    if (s === 5) return \"receiving from \" + partner(c[3]);
-    if (s === 6) return \"awaiting \" + partner(c[3]);
-    return STATES[s];
-  }
-
-  // ---- what is in view
-  const ROW = 46, TOP = 22, OUTSIDE = 30;
-  let selected = 0, px = 28, first = 0, width = 800, focus = -1, hits = null, hitSet = null;
-  const hasSweep = tail.sweep ? 22 : 0;
-  const TALL = TOP + OUTSIDE + hasSweep + N * ROW + 26;
-  const laneTop = s => TOP + hasSweep + OUTSIDE + s * ROW, mid = s => laneTop(s) + 17;
-  const xOf = k => (k - first) * px;  // the left edge of record k's column; k's line is at its middle
-  const column = k => xOf(k) + px / 2;
-
-  function el(name, attributes, content) {
-    const e = document.createElementNS(NS, name);
-    for (const a in attributes) e.setAttribute(a, attributes[a]);
-    if (content !== undefined) e.textContent = content;
-    return e;
-  }
-  function html(name, cls, content) {
-    const e = document.createElement(name);
-    if (cls) e.className = cls;
-    if (content !== undefined) e.textContent = content;
-    return e;
-  }
-
-  // A service's bar in a state: its height tells the state without colour, waiting ones have strokes.
-  function bar(g, s, x0, x1, c) {
-    const state = c[2], y = mid(s), w = Math.max(0.5, x1 - x0);
-    if (state >= 7) {
-      if (w > 40)
-        g.append(
-            el(\"text\", {x: x0 + 8, y: y + 4, class: \"num\"}, STATES[state] + (state === 9 ? \" \" + c[3] : \"\")));
-      return;
-    }
-    const h = state === 1 || state === 2 ? 20 : state === 5 ? 4 : 10;
-    g.append(el(\"rect\", {x: x0, y: y - h / 2, width: w, height: h, class: \"s\" + state}));
-    if (state === 4) g.append(el(\"rect\", {x: x0, y, width: w, height: h / 2, class: \"s4b\"}));
-    if ((state === 6 || state === 3 || state === 4) && px >= 4) {
-      let d = \"\";
-      for (let x = x0 + 4; x < x1 - 2; x += 7)
-        d += state === 6 ? `M${x} ${y + 5}l5 -10` : `M${x} ${y - 5}l5 10`;
-      if (d) g.append(el(\"path\", {d, class: \"hatch\"}));
-    }
-    if ((state === 1 || state === 2) && w >= 12)
-      g.append(el(\"text\", {x: x0 + w / 2, y: y + 4, \"text-anchor\": \"middle\", class: \"in1\"}, String(c[3])));
-  }
-
-  function arrow(g, x, i, room) {
-    const [, kind, from, to, type] = arrows.row(i);
-    const y0 = from < 0 ? TOP + hasSweep + 15 : mid(from), y1 = mid(to), down = y1 >= y0 ? 1 : -1,
-          tip = y1 - down * 10;
-    if (from === to) return;
-    g.append(el(\"line\", {x1: x, y1: y0, x2: x, y2: tip, class: \"msg\" + (kind ? \" note\" : \"\")}));
-    if (room < 3) return;
-    g.append(el(\"circle\", {cx: x, cy: y0, r: 3, class: \"head\"}));
-    if (kind === 2) g.append(el(\"circle\", {cx: x, cy: y1 - down * 6, r: 4, class: \"open\"}));
-    else
-      g.append(el(\"path\", {
-        d: `M${x - 5} ${tip - down * 2}L${x} ${y1 - down * 1}L${x + 5} ${tip - down * 2}`,
-        class: kind ? \"open\" : \"head\"
-      }));
-    if (type && !kind && room >= 16)
-      g.append(el(\"text\", {x: x + 5, y: down > 0 ? y1 - 12 : y0 - 12, class: \"halo\"}, String(type >>> 0)));
-  }
-
-  // All that is seen of the records from a to b, where column(k) says where k is.
-  function draw(svg, a, b, wide, print) {
-    const g = document.createDocumentFragment();
-    const bottom = TALL;
-    if (!print) {
-      g.append(el(\"rect\", {x: xOf(selected), y: 0, width: Math.max(px, 3), height: bottom, class: \"sel\"}));
-    }
-    // records' numbers
-    const every =
-        [
-          1, 2, 5, 10, 20, 50, 100, 200, 500, 1000, 2000, 5000, 10000, 20000, 50000, 100000, 200000, 500000
-        ].find(n => n * px >= 46) ||
-        1e6;
-    for (let k = Math.ceil(a / every) * every; k <= b; k += every)
-      g.append(el(\"text\", {x: column(k), y: 14, \"text-anchor\": \"middle\", class: \"num\"}, String(k)));
-    for (let s = 0; s <= N; s++)
-      g.append(el(\"line\", {x1: 0, x2: wide, y1: laneTop(s), y2: laneTop(s), class: \"rule\"}));
-    if (hasSweep) drawSweep(g, a, b, wide);
-    if (px >= 3) {
-      for (let s = 0; s < N; s++) {
-        const lane = lanes[s];
-        let i = Math.max(0, lane.below(a - 1));
-        while (i < lane.length && lane.at(i, 0) <= b) {
-          let j = i + 1;
-          while (j < lane.length && lane.at(j, 0) <= b + 1 && lane.at(j, S) === lane.at(i, S) &&
-                 lane.at(j, P) === lane.at(i, P) && lane.at(j, E) === lane.at(i, E))
-            j++;
-          const x0 = Math.max(-2, column(lane.at(i, 0))),
-                x1 = j < lane.length ? Math.min(wide + 2, column(lane.at(j, 0))) :
-                                       Math.min(wide, column(loaded) + px / 2);
-          bar(g, s, x0, x1, lane.row(i));
-          i = j;
-        }
-      }
-      for (let i = arrows.below(a - 1) + 1; i < arrows.length && arrows.at(i, 0) <= b; i++)
-        arrow(g, column(arrows.at(i, 0)), i, px);
-    }
-    const used = new Array(N).fill(-1e9);
-    for (let k = Math.max(base + 1, a); k <= b && px >= 3; k++) {
-      const x = column(k), f = flags[k], s = subject[k];
-      if (f & DEATH || f & RESPAWN)
-        for (let i = 0; i < N; i++) {
-          const n = lanes[i].below(k);
-          if (lanes[i].at(n, 0) !== k || n === 0) continue;
-          const c = lanes[i].row(n), old = lanes[i].row(n - 1), y = mid(i), r = px < 8 ? 4 : 8;
-          if (c[2] >= 7 && old[2] < 7) {
-            const y0 = events[k] === 4 ? TOP + hasSweep + 15 : s >= 0 ? mid(s) : y;
-            if (y0 !== y) g.append(el(\"line\", {x1: x, x2: x, y1: y0, y2: y, class: \"death\"}));
-            g.append(el(\"path\", {
-              d: `M${x - r} ${y - r}l${2 * r} ${2 * r}M${x - r} ${y + r}l${2 * r} ${- 2 * r}`,
-              class: \"death\"
-            }));
-            if (px >= 16)
-              g.append(
-                  el(\"text\", {x: x + 10, y: y - 8, class: \"bad halo\"},
-                     c[2] === 8     ? \"kill\" :
-                         c[2] === 9 ? \"fault \" + c[3] :
-                                      \"exit\"));
-          }
-          if (c[1] !== old[1]) {
-            g.append(el(\"line\", {x1: x, x2: x, y1: TOP + hasSweep + 15, y2: y - r, class: \"respawn\"}));
-            g.append(
-                el(\"path\",
-                   {d: `M${x} ${y - r}L${x + r} ${y}L${x} ${y + r}L${x - r} ${y}Z`, class: \"respawnmark\"}));
-            if (px >= 16) g.append(el(\"text\", {x: x + 10, y: y - 10, class: \"good halo\"}, String(c[1])));
-          }
-        }
-      if (labelOf[k] && px >= 14 && s >= 0) {
-        const w = words[labelOf[k] - 1], text = (f & WRONG && events[k] === 1 ? \"! \" : \"\") + w,
-              room = text.length * 6.1;
-        if (x - room >= used[s] + 4 || px >= 56) {
-          g.append(
-              el(\"text\",
-                 {x: x - 2, y: laneTop(s) + ROW - 6, \"text-anchor\": \"end\", class: f & WRONG ? \"bad\" : \"num\"},
-                 text));
-          used[s] = x;
-        }
-      }
-      if (events[k] >= 2 && px >= 5) {
-        const y = TOP + hasSweep + 15, e = events[k];
-        if (e === 2) g.append(el(\"path\", {d: `M${x - 5} ${y - 6}h10l-5 9z`, class: \"head\"}));
-        else if (e === 3) g.append(el(\"line\", {x1: x, x2: x, y1: y - 8, y2: y + 6, class: \"msg\"}));
-        else g.append(el(\"circle\", {cx: x, cy: y, r: 3, class: e === 4 ? \"death\" : \"respawnmark\"}));
-        if (px >= 16 && e < 4) g.append(el(\"text\", {x: x + 6, y: y + 4, class: \"num halo\"}, EVENTS[e]));
-      }
-      if (hitSet && hitSet.has(k)) g.append(el(\"path\", {d: `M${x - 4} 17h8l-4 5z`, class: \"hitmark\"}));
-      if (px >= 6 && !print) {
-        const cell = el(\"rect\", {x: xOf(k), y: 0, width: px, height: bottom, class: \"cell\"});
-        if (px >= 14) cell.append(el(\"title\", {}, traceOf(k)));
-        g.append(cell);
-      }
-    }
-    if (px >= 7)
-      for (let i = bytes.below(a - 1) + 1; i < bytes.length && bytes.at(i, 0) <= b; i++) {
-        const c = bytes.at(i, 1);
-        g.append(
-            el(\"text\", {x: column(bytes.at(i, 0)), y: laneTop(N) + 17, \"text-anchor\": \"middle\"},
-               c > 32 && c < 127 ? String.fromCharCode(c) : c.toString(16).toUpperCase().padStart(2, \"0\")));
-      }
-    if (!print)
-      g.append(
-          el(\"rect\",
-             {x: xOf(selected), y: 0.75, width: Math.max(px, 3), height: bottom - 1.5, class: \"selline\"}));
-    svg.replaceChildren(g);
-  }
-
-  // Where a column is narrower than 3, a service's share of each state in the records of each pixel.
-  function dense(wide) {
-    const canvas = $(\"dense\"), ratio = devicePixelRatio || 1, on = px < 3;
-    canvas.hidden = !on;
-    $(\"shares\").hidden = !on;
-    if (!on) return;
-    const key = [first, px, wide, ratio, loaded, theme()].join();
-    if (key === dense.key) return;
-    dense.key = key;
-    canvas.width = wide * ratio;
-    canvas.height = TALL * ratio;
-    const c = canvas.getContext(\"2d\"), style = getComputedStyle(document.documentElement);
-    const ink = n => style.getPropertyValue(n).trim();
-    const colours =
-              [\"--ready\", \"--out\", \"--doomed\", \"--sending\", \"--sending\", \"--receiving\", \"--awaiting\"].map(
-                  ink),
-          order = [1, 2, 0, 3, 4, 6, 5];
-    c.scale(ratio, ratio);
-    const share = new Float64Array(10);
-    for (let s = 0; s < N; s++) {
-      const lane = lanes[s], y = laneTop(s) + 4, h = ROW - 8;
-      let i = Math.max(0, lane.below(first));
-      for (let x = 0; x < wide; x++) {
-        const a = first + x / px, b = Math.min(first + (x + 1) / px, total + 1);
-        if (a > loaded) break;
-        share.fill(0);
-        let from = a, died = false;
-        while (i + 1 < lane.length && lane.at(i + 1, 0) < b) {
-          share[lane.at(i, S)] += Math.max(0, lane.at(i + 1, 0) - from);
-          from = Math.max(from, lane.at(i + 1, 0));
-          i++;
-          if (lane.at(i, S) >= 7) died = true;
-        }
-        share[lane.at(i, S)] += Math.max(0, b - from);
-        let yy = y + h;
-        for (const n of order)
-          if (share[n]) {
-            const t = h * share[n] / (b - a);
-            c.fillStyle = colours[n];
-            c.fillRect(x, yy - t, 1, t);
-            yy -= t;
-          }
-        if (died) {
-          c.fillStyle = ink(\"--death\");
-          c.fillRect(x - 1, y - 3, 3, h + 6);
-        }
-      }
-    }
-  }
-
-  const theme = () =>
-      (document.documentElement.dataset.theme || \"\") + matchMedia(\"(prefers-color-scheme: dark)\").matches;
-  const ground = document.createElement(
-      \"canvas\");  // what the overview shows of the whole run: drawn again only if that has changed
-  function overview() {
-    const canvas = $(\"overview\"), ratio = devicePixelRatio || 1, wide = canvas.clientWidth, tall = 40;
-    if (!wide) return;
-    const style = getComputedStyle(document.documentElement), ink = n => style.getPropertyValue(n).trim();
-    const X = k => (k - base) / Math.max(1, total - base) * (wide - 2) + 1;
-    const key = [wide, ratio, loaded, theme(), hits && hits.length, asking].join();
-    if (ground.key !== key) {
-      ground.key = key;
-      ground.width = wide * ratio;
-      ground.height = tall * ratio;
-      const c = ground.getContext(\"2d\");
-      c.scale(ratio, ratio);
-      // messages as a grey profile, console below it, then deaths, respawns and hits as strokes
-      const messages = new Uint32Array(wide + 1);
-      let most = 1;
-      for (let i = 0; i < arrows.length; i++) {
-        const x = X(arrows.at(i, 0)) | 0;
-        if (++messages[x] > most) most = messages[x];
-      }
-      c.fillStyle = ink(\"--receiving\");
-      for (let x = 0; x <= wide; x++)
-        if (messages[x]) c.fillRect(x, 24 - 16 * messages[x] / most, 1, 16 * messages[x] / most);
-      let last = -1;
-      c.fillStyle = ink(\"--out\");
-      for (let i = 0; i < bytes.length; i++) {
-        const x = X(bytes.at(i, 0)) | 0;
-        if (x !== last) c.fillRect(x, 26, 1.5, 4);
-        last = x;
-      }
-      last = -9;
-      for (let k = base + 1; k <= loaded; k++) {
-        if (flags[k] & DEATH) {
-          c.fillStyle = ink(\"--death\");
-          c.fillRect(X(k) - 1, 0, 2.5, 25);
-        } else if (flags[k] & RESPAWN && X(k) - last > 1) {
-          c.fillStyle = ink(\"--respawn\");
-          c.fillRect(X(k), 12, 1.5, 13);
-          last = X(k);
-        }
-      }
-      if (hits) {
-        c.fillStyle = ink(\"--hit\");
-        let done = -1;
-        for (const k of hits) {
-          const x = X(k) | 0;
-          if (x !== done) {
-            c.fillRect(x, 32, 2, 8);
-            done = x;
-          }
-        }
-      }
-    }
-    canvas.width = wide * ratio;
-    canvas.height = tall * ratio;
-    const c = canvas.getContext(\"2d\");
-    c.scale(ratio, ratio);
-    c.fillStyle = ink(\"--mark\");
-    c.fillRect(X(first), 0, Math.max(3, X(Math.min(total, first + width / px)) - X(first)), tall);
-    c.drawImage(ground, 0, 0, wide, tall);
-    c.fillStyle = ink(\"--ink\");
-    c.fillRect(X(selected) - 1, 0, 2, tall);
-  }
-
-  // ---- the sweep: a strip of positions; those that end otherwise than without the fault are filled and have
-  // a letter
-  const ends =
-      tail.sweep ? [...new Set(tail.sweep.blocks.map(b => b.text))] : [];  // each way to end has a letter
-  const endOf = block => ends.indexOf(block.text);
-  const blockOf = k => tail.sweep.blocks.find(b => b.from <= k && k <= b.to);
-  const letter = i => i < 26 ? String.fromCharCode(65 + i) : String(i + 1);
-  // a position K is the one after record K: it is drawn in K's column
-  function drawSweep(g, a, b, wide) {
-    const y = TOP;
-    tail.sweep.blocks.forEach(block => {
-      if (block.to < a - 1 || block.from > b + 1) return;
-      const same = new Set(block.same), to = Math.min(block.to, b), kind = endOf(block);
-      for (let k = Math.max(block.from, Math.floor(a)); k <= to;) {
-        let j = k;
-        const like = same.has(k);
-        while (j <= to && same.has(j) === like) j++;
-        g.append(el(\"rect\", {
-          x: xOf(k),
-          y: y + 2,
-          width: Math.max(0.5, (j - k) * px),
-          height: 17,
-          class: like ? \"same\" : \"other t\" + kind % 4
-        }));
-        if (!like && px >= 3) {
-          let d = \"\";
-          for (let x = Math.max(0, xOf(k)) + 3; x < Math.min(wide, xOf(j)) - 2; x += 6)
-            d += `M${x} ${y + 19}l4 -4`;
-          g.append(el(\"path\", {d, class: \"tick\"}));
-        }
-        k = j;
-      }
-      const x0 = Math.max(0, xOf(block.from)), x1 = xOf(block.to + 1);
-      if (block.from && x1 - x0 > 5)
-        g.append(el(\"line\", {x1: xOf(block.from), x2: xOf(block.from), y1: y, y2: y + 21, class: \"selline\"}));
-      if (x1 - x0 > 12)
-        g.append(
-            el(\"text\", {x: (x0 + Math.min(wide, x1)) / 2, y: y + 14, \"text-anchor\": \"middle\", class: \"in\"},
-               letter(kind)));
-    });
-  }
-  function showSweep() {
-    const box = $(\"sweep\"), block = blockOf(selected);
-    $(\"sweeppanel\").hidden = false;
-    if (!block) {
-      box.replaceChildren(html(\"p\", \"\", \"no position here\"));
-      return;
-    }
-    const i = endOf(block), same = block.same.includes(selected);
-    const out = [
-      html(
-          \"p\", \"\",
-          \"fault: \" + tail.sweep.fault.trim().split(\"\\n\").join(\", \") + \". At position \" + selected +
-              \" (after record \" + selected + \") it ends \" +
-              (same ? \"as without the fault.\" : \"OTHERWISE than without the fault.\")),
-      html(
-          \"p\", \"\",
-          \"End \" + letter(i) +
-              (block.from === block.to ? \", of position \" + block.from + \":\" :
-                                         \", of the positions \" + block.from + \" to \" + block.to + \":\")),
-      html(\"pre\", \"\", block.text)
-    ];
-    const others =
-        tail.sweep.blocks.filter(b => b.text === block.text && b !== block).map(b => b.from + \" to \" + b.to);
-    if (others.length) out.push(html(\"p\", \"small\", \"The same end at positions \" + others.join(\", \")));
-    const all = tail.sweep.blocks.reduce((n, b) => n + b.same.length, 0);
-    out.push(html(
-        \"p\", \"small\",
-        all + \" of \" +
-            (tail.sweep.blocks.length ? tail.sweep.blocks[tail.sweep.blocks.length - 1].to + 1 : 0) +
-            \" positions end as without the fault.\"));
-    box.replaceChildren(...out);
-  }
-
-  // ---- panels
-  function names() {
-    const box = $(\"names\"), out = [];
-    const top = html(\"div\", \"\");
-    top.style.height = TOP + \"px\";
-    top.append(html(\"small\", \"\", \"record\"));
-    out.push(top);
-    if (hasSweep) {
-      const d = html(\"div\", \"\");
-      d.style.height = hasSweep + \"px\";
-      d.append(html(\"small\", \"\", \"sweep\"));
-      out.push(d);
-    }
-    const o = html(\"div\", \"\");
-    o.style.height = OUTSIDE + \"px\";
-    o.append(html(\"small\", \"\", \"outside\"));
-    out.push(o);
-    head.services.forEach((s, i) => {
-      const c = stateAt(i, selected), d = html(\"div\", \"lane\" + (i === focus ? \" focus\" : \"\"));
-      d.style.height = ROW + \"px\";
-      d.dataset.slot = i;
-      const b = html(\"b\", \"\", s.name);
-      d.append(b, \" \", String(c[1]));
-      d.append(html(\"small\", \"\", doing(c)));
-      d.title = s.name + \" \" + c[1] + \": \" + doing(c) + \", level \" + c[4] + \", \" + c[5] + \" ticks left\";
-      out.push(d);
-    });
-    const d = html(\"div\", \"lane\");
-    d.style.height = \"26px\";
-    d.append(html(\"small\", \"\", \"console\"));
-    out.push(d);
-    box.replaceChildren(...out);
-  }
-  function chain(slot, k) {
-    // who waits for whom, up to who waits for nobody in particular
-    const seen = new Set(), out = [];
-    for (let s = slot;;) {
-      const c = stateAt(s, k), name = nameOf(s) + \" \" + c[1];
-      if (seen.has(s)) {
-        out.push(name + \" (a ring)\");
-        break;
-      }
-      seen.add(s);
-      if (c[2] < 3 || c[2] === 5 && (c[3] === ANY || c[3] < 0) || c[2] >= 7) {
-        out.push(name + \" (\" + doing(c) + \")\");
-        break;
-      }
-      out.push(name + \" \" + STATES[c[2]]);
-      s = c[3] & 1023;
-    }
-    return out.join(\" \\u2192 \");
-  }
-  let consoleText = null;
-  function showConsole(k) {
-    // the last 4,096 bytes, in text nodes; what has no character is shown by its number
-    const last = bytes.below(k), from = Math.max(0, last - 4095), parts = [];
-    let run = \"\";
-    const flush = () => {
-      if (run) {
-        parts.push(document.createTextNode(run));
-        run = \"\";
-      }
-    };
-    for (let i = from; i <= last; i++) {
-      const b = bytes.at(i, 1), fresh = bytes.at(i, 0) === k, plain = b === 10 || b >= 32 && b < 127;
-      if (plain && !fresh) {
-        run += String.fromCharCode(b);
-        continue;
-      }
-      flush();
-      parts.push(html(
-          \"span\", (fresh ? \"new\" : \"\") + (plain ? \"\" : \" odd\"),
-          b === 10  ? \"\\u23ce\\n\" :
-              plain ? String.fromCharCode(b) :
-                      \"\\\\x\" + b.toString(16).padStart(2, \"0\")));
-    }
-    flush();
-    if (last < 0) parts.push(html(\"span\", \"small\", \"nothing yet\"));
-    const box = $(\"console\");
-    box.replaceChildren(...parts);
-    box.scrollTop = box.scrollHeight;
-  }
-  function gloss(k) {
-    // a record's own line in a sentence, from the row's numbers
-    if (k === base)
-      return base ? \"The page begins after record \" + base + \".\" :
-                    \"The machine has booted: all services are ready.\";
-    const row = rowOf(k), who = row.s === undefined ? \"\" : nameOf(row.s),
-          a = row.a < head.cpus ? \"Processor \" + row.a : \"Actor \" + row.a;
-    return [
-      `${a} takes ${who}, which may make ${row.n} steps.`, `${a} gives ${who} back after ${row.n} steps.`,
-      `An interrupt comes at line ${row.n}, which is ${who}'s.`, `The clock ticks: uptime ${row.n}.`,
-      `${who} is killed from outside.`, `${who} is started again, as a new process.`
-    ][row.e];
-  }
-  function panels() {
-    const k = selected;
-    $(\"gloss\").textContent = gloss(k);
-    for (const e of document.querySelectorAll(\".k\")) e.textContent = k;
-    const lines = traceOf(k).split(\"\\n\");
-    $(\"did\").replaceChildren(...lines.map((l, i) => {
-      const bad = /result -|answer -|down (kill|fault)|: no process may|is past the/.test(l);
-      return html(\"p\", (i ? \"rest\" : \"first\") + (bad ? \" bad\" : \"\"), i ? l.replace(/^\\d+ {3}/, \"\") : l);
-    }));
-    const touched = new Set();
-    if (k > base)
-      for (const c of rowOf(k).c || []) touched.add(c[0]);
-    $(\"processes\").tBodies[0].replaceChildren(...head.services.map((s, i) => {
-      const c = stateAt(i, k), tr = html(\"tr\", touched.has(i) ? \"changed\" : \"\");
-      const th = html(\"th\", \"\", s.name);
-      th.scope = \"row\";
-      tr.append(html(\"td\", \"\", String(i)), th);
-      for (const v of [c[1], doing(c), c[4], c[5]]) tr.append(html(\"td\", \"\", String(v)));
-      return tr;
-    }));
-    const qk = queueAt.at(queueAt.below(k), 0), wk = waitAt.at(waitAt.below(k), 0),
-          q = qk > base ? rowOf(qk).q : head.queue, w = wk > base ? rowOf(wk).w : head.wait, out = [];
-    const levels = new Map();
-    for (const s of q) {
-      const l = stateAt(s, k)[4];
-      levels.set(l, (levels.get(l) || []).concat(nameOf(s)));
-    }
-    out.push(html(
-        \"p\", \"\",
-        q.length ? \"Ready, the next one first: \" +
-                [...levels].map(([l, n]) => n.join(\", \") + \" (level \" + l + \")\").join(\"; \") :
-                   \"Nobody is ready.\"));
-    if (w.length)
-      out.push(html(
-          \"p\", \"\",
-          \"Wait to send, in order: \" +
-              w.map(s => nameOf(s) + \" to \" + partner(stateAt(s, k)[3])).join(\", \")));
-    const ul = html(\"ul\", \"\");
-    for (let i = 0; i < N; i++) {
-      const c = stateAt(i, k);
-      if (c[2] === 3 || c[2] === 4 || c[2] === 6 || c[2] === 5 && c[3] !== ANY && c[3] >= 0)
-        ul.append(html(\"li\", \"\", chain(i, k)));
-    }
-    if (ul.children.length) out.push(html(\"p\", \"\", \"Who waits for whom:\"), ul);
-    else out.push(html(\"p\", \"\", \"Nobody waits for one other process.\"));
-    $(\"queues\").replaceChildren(...out);
-    showConsole(k);
-    if (hasSweep) showSweep();
-  }
-
-  // ---- the list of records, of which only the rows in view exist
-  const LINE = 20, MOST = 8e6;
-  function listed() { return $(\"onlyhits\").checked && hits ? hits : null; }
-  function showList(follow) {
-    const box = $(\"list\"), only = listed(), count = only ? only.length : total - base;
-    // a browser has no box higher than some 30 million pixels: the list is scaled to one
-    const tall = Math.min(MOST, count * LINE), scale = count * LINE > MOST ? count * LINE / MOST : 1;
-    $(\"spacer\").style.height = tall + \"px\";
-    if (follow) {
-      const i = only ? Math.max(0, below(only, selected)) : selected - base - 1, y = i * LINE / scale;
-      if (y < box.scrollTop || y > box.scrollTop + box.clientHeight - LINE)
-        box.scrollTop = Math.max(0, y - box.clientHeight / 2);
-    }
-    const from = Math.max(0, Math.floor(box.scrollTop * scale / LINE)), rows = [];
-    for (let i = from; i < Math.min(count, from + Math.ceil(box.clientHeight / LINE) + 1); i++) {
-      const k = only ? only[i] : base + i + 1;
-      const d = html(
-          \"div\", \"row\" + (hitSet && hitSet.has(k) ? \" hit\" : \"\"),
-          k <= loaded ? traceOf(k).split(\"\\n\", 1)[0] : \"\");
-      d.style.top = (scale === 1 ? i * LINE : box.scrollTop + (i - from) * LINE) + \"px\";
-      d.id = \"r\" + k;
-      d.dataset.k = k;
-      d.setAttribute(\"role\", \"option\");
-      d.setAttribute(\"aria-selected\", k === selected);
-      d.setAttribute(\"aria-setsize\", count);
-      d.setAttribute(\"aria-posinset\", i + 1);
-      rows.push(d);
-    }
-    for (const r of box.querySelectorAll(\".row\")) r.remove();
-    box.append(...rows);
-    if (document.getElementById(\"r\" + selected)) box.setAttribute(\"aria-activedescendant\", \"r\" + selected);
-    else box.removeAttribute(\"aria-activedescendant\");
-  }
-
-  // ---- painting
-  let asked = 0;
-  function paint(follow = true) {
-    if (asked) {
-      asked = Math.max(asked, follow ? 2 : 1);
-      return;
-    }
-    asked = follow ? 2 : 1;
-    requestAnimationFrame(() => {
-      const f = asked === 2;
-      asked = 0;
-      paintNow(f);
-    });
-  }
-  function paintNow(follow) {
-    width = $(\"stage\").clientWidth;
-    const lastFirst = Math.max(base, total + 1 - width / px);
-    first = Math.min(Math.max(base, first), lastFirst);
-    const svg = $(\"picture\");
-    svg.setAttribute(\"height\", TALL);
-    svg.setAttribute(\"viewBox\", `0 0 ${width} ${TALL}`);
-    dense(width);
-    draw(svg, Math.floor(first), Math.min(loaded, Math.ceil(first + width / px)), width, false);
-    names();
-    overview();
-    panels();
-    showList(follow);
-    const slider = $(\"slider\"), said = traceOf(selected).split(\"\\n\", 1)[0];
-    slider.min = base;
-    slider.max = total;
-    slider.value = selected;
-    for (const e of [slider, $(\"stage\")])
-      e.setAttribute(\"aria-valuetext\", selected > base ? \"record \" + said : \"before the first record\");
-    $(\"stage\").setAttribute(\"aria-valuemin\", base);
-    $(\"stage\").setAttribute(\"aria-valuemax\", total);
-    $(\"stage\").setAttribute(\"aria-valuenow\", selected);
-    $(\"number\").value = selected;
-    $(\"number\").min = base;
-    $(\"number\").max = total;
-    $(\"stage\").setAttribute(
-        \"aria-label\",
-        \"Lanes of \" + N + \" services, records \" + Math.floor(first) + \" to \" +
-            Math.min(total, Math.ceil(first + width / px)));
-    $(\"said\").textContent = traceOf(selected).replace(/\\n\\d+ {3}/g, \". \");
-  }
-  function select(k, keep) {
-    selected = Math.min(Math.max(base, k | 0), loaded);
-    if (!keep) {
-      const room = width / px;
-      if (selected < first + 0.1 * room) first = selected - 0.3 * room;
-      else if (selected > first + 0.9 * room) first = selected - 0.7 * room;
-    }
-    history.replaceState(null, \"\", \"#\" + selected);
-    paint();
-  }
-  function zoom(factor, x) {
-    const anchor = x === undefined ?
-        (column(selected) >= 0 && column(selected) <= width ? column(selected) : width / 2) :
-        x,
-          k = first + anchor / px;
-    px = Math.min(120, Math.max(Math.min(1, width / (total - base + 1)), px * factor));
-    first = k - anchor / px;
-    paint(false);
-  }
-  function next(from, step, test) {
-    for (let k = from + step; k > base && k <= loaded; k += step)
-      if (test(k)) return k;
-    return -1;
-  }
-  function go(k, what) {
-    if (k > 0) select(k);
-    else say(\"no \" + what + \" there\");
-  }
-  function say(t) { $(\"found\").textContent = t; }
-  const about = k =>
-      k > base && (focus < 0 || subject[k] === focus || lanes[focus].at(lanes[focus].below(k), 0) === k);
-  function pair(step) {
-    // the pair of the arrow at the selected record, else of the one above it
-    let i = arrows.below(selected);
-    if (!arrows.length || i < 0 && step < 0) return say(\"no message there\");
-    if (i < 0) return select(arrows.at(0, 0));
-    const [k, , a, b] = arrows.row(i);
-    if (k !== selected && step < 0) return select(k);
-    for (let j = i + step; j >= 0 && j < arrows.length; j += step) {
-      const [r, , c, d] = arrows.row(j);
-      if (r !== selected && (a === c && b === d || a === d && b === c)) {
-        say(nameOf(a) + \" and \" + nameOf(b));
-        return select(r);
-      }
-    }
-    say(\"no further message of \" + nameOf(a) + \" and \" + nameOf(b));
-  }
-
-  // ---- search: words that all have to fit
-  const KINDS = {
-    death: f => f & DEATH,
-    respawn: f => f & RESPAWN,
-    error: f => f & WRONG,
-    console: f => f & CONSOLE,
-    message: f => f & MESSAGE,
-    pending: f => f & PENDING
-  };
-  // which records have a word in their trace: one look through the whole text, and each place's row is read
-  // to be sure
-  let lower = null;
-  function seek(w) {
-    if (lower === null || lower.length !== at) lower = text.slice(0, at).toLowerCase();
-    const marks = new Uint8Array(loaded + 2), low = JSON.stringify(w).slice(1, -1).replace(/</g, \"\\\\u003c\");
-    let k = base + 1;
-    for (let i = lower.indexOf(low, firstRow); i >= 0;) {
-      let a = k, b = loaded;
-      while (a < b) {
-        const m = (a + b + 1) >> 1;
-        if (starts[m] <= i) a = m;
-        else b = m - 1;
-      }
-      k = a;
-      if (traceOf(k).toLowerCase().includes(w)) marks[k] = 1;
-      if (++k > loaded) break;
-      i = lower.indexOf(low, starts[k]);
-    }
-    return marks;
-  }
-  function find(query) {
-    const began = performance.now();
-    const tests = query.trim().split(/\\s+/).filter(Boolean).map(w => {
-      const m = /^(is|from|to|type|service|call):(.+)$/.exec(w);
-      if (!m) {
-        const marks = seek(w.toLowerCase());
-        return k => marks[k] === 1;
-      }
-      const v = m[2], slot = head.services.findIndex(s => s.name === v), number = Number(v),
-            any = v in {HARDWARE: 1, SYSTEM: 1, CLOCK: 1} ?
-          Number(Object.keys(PSEUDO).find(p => PSEUDO[p] === v)) :
-          slot;
-      if (m[1] === \"is\")
-        return KINDS[v]        ? k => KINDS[v](flags[k]) :
-            EVENTS.includes(v) ? k => EVENTS[events[k]] === v :
-                                 () => false;
-      if (m[1] === \"service\") return k => subject[k] === slot && slot >= 0;
-      if (m[1] === \"call\")
-        return k =>
-                   labelOf[k] && words[labelOf[k] - 1].replace(/[()]/g, \"\").toLowerCase() === v.toLowerCase();
-      const column = m[1] === \"type\" ? 4 : m[1] === \"from\" ? 2 : 3, want = m[1] === \"type\" ? number | 0 : any;
-      return k => {
-        for (let i = arrows.below(k); i >= 0 && arrows.at(i, 0) === k; i--)
-          if (arrows.at(i, column) === want) return true;
-        return false;
-      };
-    });
-    const out = [];
-    if (tests.length)
-      for (let k = base + 1; k <= loaded; k++)
-        if (tests.every(t => t(k))) out.push(k);
-    window.searchTook = performance.now() - began;
-    return tests.length ? out : null;
-  }
-  let asking = null;
-  function search() {
-    const q = $(\"query\").value;
-    if (asking !== q) {
-      asking = q;
-      hits = find(q);
-      hitSet = hits && new Set(hits);
-    }
-  }
-  function hit(step) {
-    search();
-    if (!hits) {
-      say(\"\");
-      return paint();
-    }
-    if (!hits.length) {
-      say(\"none\");
-      return paint();
-    }
-    let i = step > 0 ? below(hits, selected) + 1 : below(hits, selected - 1);
-    if (i >= hits.length) i = 0;
-    if (i < 0) i = hits.length - 1;
-    say(\"hit \" + (i + 1) + \" of \" + hits.length);
-    select(hits[i]);
-  }
-
-  // ---- what a person does
-  const DO = {
-  first: () => select(base), last: () => select(loaded), before: () => select(selected - 1), after: () => select(selected + 1),
-  pairnext: () => pair(1), pairback: () => pair(-1),
-  death: () => go(next(selected, 1, k => flags[k] & DEATH), \"further death\"), deathback: () => go(next(selected, -1, k => flags[k] & DEATH), \"death above\"),
-  error: () => go(next(selected, 1, k => flags[k] & WRONG), \"further error\"), errorback: () => go(next(selected, -1, k => flags[k] & WRONG), \"error above\"),
-  console: () => go(next(selected, 1, k => flags[k] & CONSOLE), \"further console byte\"), consoleback: () => go(next(selected, -1, k => flags[k] & CONSOLE), \"console byte above\"),
-  in: () => zoom(1.5), out: () => zoom(1 / 1.5), fit: () => { px = width / (total - base + 1); first = base; paint(false); },
-  read: () => { px = 28; first = selected - width / px / 2; paint(false); },
-  pagenext: () => select(selected + Math.max(1, Math.floor(width / px * 0.8))), pageback: () => select(selected - Math.max(1, Math.floor(width / px * 0.8))),
-  lanedown: () => { focus = Math.min(N - 1, focus + 1); say(\"service \" + nameOf(focus)); paint(false); }, laneup: () => { focus = Math.max(-1, focus - 1); say(focus < 0 ? \"all services\" : \"service \" + nameOf(focus)); paint(false); },
-  ownnext: () => go(next(selected, 1, about), \"further record of it\"), ownback: () => go(next(selected, -1, about), \"record of it above\"),
-  search: () => { $(\"query\").focus(); $(\"query\").select(); }, help: () => $(\"help\").showModal(),
-  sweepnext: () => { if (!hasSweep) return; const b = tail.sweep.blocks.find(b => b.from > selected); go(b ? b.from : -1, \"further block\"); },
+const State = {
+  READY: 0, OUT: 1, DOOMED: 2, SENDING: 3, CALLING: 4, RECEIVING: 5, AWAITING: 6, EXITED: 7, KILLED: 8, FAULTED: 9
 };
-  const KEYS = [
-    [\"ArrowLeft\", \"before\", \"record before\"],
-    [\"ArrowRight\", \"after\", \"next record\"],
-    [\"PageUp\", \"pageback\", \"a screen back\"],
-    [\"PageDown\", \"pagenext\", \"a screen on\"],
-    [\"Home\", \"first\", \"before the first record\"],
-    [\"End\", \"last\", \"the last record\"],
-    [\"ArrowUp\", \"laneup\", \"service above (or all)\"],
-    [\"ArrowDown\", \"lanedown\", \"service below\"],
-    [\".\", \"ownnext\", \"next record of the chosen service\"],
-    [\",\", \"ownback\", \"record before of it\"],
-    [\"n\", \"pairnext\", \"next message of this pair\"],
-    [\"p\", \"pairback\", \"message before of this pair\"],
-    [\"d\", \"death\", \"next death\"],
-    [\"D\", \"deathback\", \"death before\"],
-    [\"e\", \"error\", \"next error\"],
-    [\"E\", \"errorback\", \"error before\"],
-    [\"c\", \"console\", \"next console byte\"],
-    [\"C\", \"consoleback\", \"console byte before\"],
-    [\"b\", \"sweepnext\", \"next block of the sweep\"],
-    [\"+\", \"in\", \"larger\"],
-    [\"-\", \"out\", \"smaller\"],
-    [\"0\", \"fit\", \"the whole run\"],
-    [\"1\", \"read\", \"readable size\"],
-    [\"/\", \"search\", \"search\"],
-    [\"?\", \"help\", \"this help\"]
+const STATE_WORDS = [
+  \"ready\", \"out\", \"doomed\", \"sending\", \"calling\", \"receiving\", \"awaiting\", \"down exit\", \"down kill\", \"down fault\"
+];
+const EventKind = {TAKE: 0, BACK: 1, LINE: 2, TICK: 3, KILL: 4, RESPAWN: 5};
+const EVENT_WORDS = [\"take\", \"back\", \"line\", \"tick\", \"kill\", \"respawn\"];
+const ArrowKind = {MESSAGE: 0, NOTIFICATION: 1, WAITING: 2};
+// A record's flags.
+const DEATH = 1, RESPAWN = 2, WRONG = 4, CONSOLE = 8, MESSAGE = 16, PENDING = 32;
+const ANY = 31438, SLOT_BITS = 1023;
+const SOURCES = {HARDWARE: -1, SYSTEM: -2, CLOCK: -3};
+
+const isDown = state => state >= State.EXITED;
+const isOut = state => state === State.OUT || state === State.DOOMED;
+const slotOf = endpoint => endpoint & SLOT_BITS;
+
+// How many of count rising numbers, at(0), at(1), .., are not above x: the place behind the last of them.
+function countUpTo(count, at, x) {
+  let low = 0, high = count;
+  while (low < high) {
+    const middle = (low + high) >> 1;
+    if (at(middle) <= x) low = middle + 1;
+    else high = middle;
+  }
+  return low;
+}
+
+// A list of rows of numbers, by their first one, which rises: 4 bytes a number, and room for twice as many.
+class Rows {
+  constructor(wide) {
+    this.wide = wide;
+    this.length = 0;
+    this.numbers = new Int32Array(wide * 64);
+  }
+  push(...row) {
+    const from = this.length * this.wide;
+    if (from + this.wide > this.numbers.length) {
+      const more = new Int32Array(this.numbers.length * 2);
+      more.set(this.numbers);
+      this.numbers = more;
+    }
+    this.numbers.set(row, from);
+    this.length++;
+  }
+  at(i, column) { return this.numbers[i * this.wide + column]; }
+  row(i) { return this.numbers.subarray(i * this.wide, (i + 1) * this.wide); }
+  // The last row whose first number is not above x, or -1.
+  upTo(x) { return countUpTo(this.length, i => this.at(i, 0), x) - 1; }
+}
+
+// The states of a service: a row for each record that changed one, the first for the state before all.
+class Lane extends Rows {
+  constructor() { super(6); }
+  change(i) {
+    const [record, endpoint, state, partner, level, ticks] = this.row(i);
+    return {record, endpoint, state, partner, level, ticks};
+  }
+  // The state after record k.
+  after(k) { return this.change(this.upTo(k)); }
+  // Whether rows i and j look alike in a lane.
+  isAlike(i, j) { return [1, 2, 3].every(column => this.at(i, column) === this.at(j, column)); }
+}
+
+// Words, each once, by a number from 1 on. 0 is no word.
+class Words {
+  constructor() {
+    this.words = [\"\"];
+    this.numbers = new Map();
+  }
+  number(word) {
+    if (!this.numbers.has(word)) this.numbers.set(word, this.words.push(word) - 1);
+    return this.numbers.get(word);
+  }
+  word(number) { return this.words[number]; }
+}
+
+const text = $(\"data\").textContent;
+const firstRow = text.indexOf(\"\\n\") + 1, lastLine = text.lastIndexOf(\"\\n\", text.length - 2) + 1;
+const head = JSON.parse(text.slice(0, firstRow)), tail = JSON.parse(text.slice(lastLine));
+// How many records come before the first row, how many there are with these, and how many services.
+const base = head.first, total = base + tail.records, N = head.services.length;
+
+const starts = new Uint32Array(total + 2);  // where the row of record k begins in the text
+const flags = new Uint8Array(total + 2), events = new Uint8Array(total + 2);
+const subjects = new Int8Array(total + 2).fill(-1);  // the slot that a record is about
+const labels = new Uint16Array(total + 2), labelWords = new Words();  // of a return, what it did
+const arrows = new Rows(5);  // record, kind, slot of the sender or -1, slot of the receiver, type
+const bytes = new Rows(2);   // record, byte for the console
+const queueChanges = new Rows(1), waitChanges = new Rows(1);
+const lanes = head.start.map(state => {
+  const lane = new Lane();
+  lane.push(base, ...state.slice(1, 6));
+  return lane;
+});
+queueChanges.push(base);
+waitChanges.push(base);
+let loaded = base, readTo = firstRow;  // up to which record, and up to where in the text, rows were read
+
+// What a process did before it came back, by the record's own line: the word of its trap or kernel call, in
+// brackets if it was killed before that was done; or how its steps ended.
+function deedOf(line) {
+  const [what, ...more] = line.slice(line.indexOf(\": \") + 2).split(\", \");
+  const [, , ended, ...call] = what.split(\" \");
+  if (ended !== \"trap\") return [ended, ...call].join(\" \");
+  const isDoomed = more.at(-1) === \"doomed\", asked = isDoomed ? more.slice(0, -1) : more;
+  const word = asked.length ? asked[0].split(\" \", 1)[0] : call[0];
+  return isDoomed ? `(${word})` : word;
+}
+
+// Notes a service's change of state, and returns what it shows: a death, a new process.
+function noteChange(k, [slot, ...state]) {
+  const lane = lanes[slot], before = lane.change(lane.length - 1);
+  lane.push(k, ...state.slice(0, 5));
+  const after = lane.change(lane.length - 1);
+  return (isDown(after.state) && !isDown(before.state) ? DEATH : 0) |
+      (after.endpoint !== before.endpoint ? RESPAWN : 0);
+}
+
+function noteRow(k, row) {
+  events[k] = row.e;
+  if (row.s !== undefined) subjects[k] = row.s;
+  if (row.e === EventKind.BACK) labels[k] = labelWords.number(deedOf(row.t.split(\"\\n\", 1)[0]));
+  let shown = row.x ? WRONG : 0;
+  for (const change of row.c || []) shown |= noteChange(k, change);
+  for (const [kind, from, to, type] of row.d || []) {
+    shown |= kind === ArrowKind.WAITING ? PENDING : MESSAGE;
+    arrows.push(k, kind, from, to, type);
+  }
+  if (row.q) queueChanges.push(k);
+  if (row.w) waitChanges.push(k);
+  if (row.b !== undefined) {
+    shown |= CONSOLE;
+    bytes.push(k, row.b);
+  }
+  flags[k] = shown;
+}
+
+// Reads rows for at most so many milliseconds. Returns whether all are read.
+function load(limit) {
+  const until = performance.now() + limit;
+  while (readTo < lastLine) {
+    const end = text.indexOf(\"\\n\", readTo), k = ++loaded;
+    starts[k] = readTo;
+    noteRow(k, JSON.parse(text.slice(readTo, end)));
+    starts[k + 1] = readTo = end + 1;
+    if (k % 256 === 0 && performance.now() > until) return false;
+  }
+  return true;
+}
+
+const rowOf = k => JSON.parse(text.slice(starts[k], starts[k + 1]));
+const ownLine = k => traceOf(k).split(\"\\n\", 1)[0];
+function traceOf(k) {
+  if (k === base) return base ? \"after record \" + base : \"boot\";
+  return k > loaded ? \"\" : rowOf(k).t;
+}
+
+// ---- in words
+const sourceName = number => Object.keys(SOURCES).find(name => SOURCES[name] === number);
+const nameOf = slot => sourceName(slot) || (head.services[slot] ? head.services[slot].name : \"slot \" + slot);
+const partnerName = endpoint =>
+    endpoint === ANY ? \"any\" : sourceName(endpoint) || nameOf(slotOf(endpoint)) + \" \" + endpoint;
+function doing({state, partner}) {
+  switch (state) {
+    case State.OUT:
+    case State.DOOMED: return STATE_WORDS[state] + \" on processor \" + partner;
+    case State.FAULTED: return STATE_WORDS[state] + \" \" + partner;
+    case State.SENDING: return \"sending to \" + partnerName(partner);
+    case State.RECEIVING: return \"receiving from \" + partnerName(partner);
+    case State.CALLING:
+    case State.AWAITING: return STATE_WORDS[state] + \" \" + partnerName(partner);
+    default: return STATE_WORDS[state];
+  }
+}
+// Whether a process waits for one other process.
+const waitsForOne = ({state, partner}) => state === State.SENDING || state === State.CALLING ||
+    state === State.AWAITING || state === State.RECEIVING && partner !== ANY && partner >= 0;
+
+// ---- what is in view
+// A record has a column px wide, and its line is at the column's middle. first is the record at the left edge,
+// which may be broken.
+
+const LANE = 46, NUMBERS = 22, OUTSIDE = 30, STRIP = 22, CONSOLE_LANE = 26;
+const READABLE = 28, WIDEST = 120;  // pixels of a column
+const DENSE = 3;  // below this a column is too narrow for a bar of its own
+const strip = tail.sweep ? STRIP : 0, outsideMiddle = NUMBERS + strip + 15;
+const TALL = NUMBERS + strip + OUTSIDE + N * LANE + CONSOLE_LANE;
+let selected = base, px = READABLE, first = 0, width = 800;
+let focus = -1;  // the slot whose records are gone through, or -1 for all
+let hits = null, hitSet = null;  // what a search has found, or nothing was searched
+
+const laneTop = slot => NUMBERS + strip + OUTSIDE + slot * LANE, laneMiddle = slot => laneTop(slot) + 17;
+const leftOf = k => (k - first) * px, middleOf = k => leftOf(k) + px / 2;
+
+function svg(name, attributes, content) {
+  const made = document.createElementNS(\"http://www.w3.org/2000/svg\", name);
+  for (const it in attributes) made.setAttribute(it, attributes[it]);
+  if (content !== undefined) made.textContent = content;
+  return made;
+}
+function html(name, cls, content) {
+  const made = document.createElement(name);
+  if (cls) made.className = cls;
+  if (content !== undefined) made.textContent = content;
+  return made;
+}
+function tall(name, cls, height, ...inside) {
+  const made = html(name, cls);
+  made.style.height = height + \"px\";
+  made.append(...inside);
+  return made;
+}
+const isDark = () => {
+  const chosen = document.documentElement.dataset.theme;
+  return chosen ? chosen === \"dark\" : matchMedia(\"(prefers-color-scheme: dark)\").matches;
+};
+const ink = name => getComputedStyle(document.documentElement).getPropertyValue(name).trim();
+// A canvas's pen, for a canvas of so many pixels of the page.
+function penOf(canvas, wide, high) {
+  const ratio = devicePixelRatio || 1;
+  canvas.width = wide * ratio;
+  canvas.height = high * ratio;
+  const pen = canvas.getContext(\"2d\");
+  pen.scale(ratio, ratio);
+  return pen;
+}
+
+// ---- the lanes: what is seen of the records from a to b
+// What a bar is shows without its colour: its height and its strokes tell the state too.
+
+const NUMBER_STEPS = [1, 2, 5].flatMap(n => [n, 10 * n, 100 * n, 1e3 * n, 1e4 * n, 1e5 * n]).sort((x, y) => x - y);
+
+function barHeight(state) {
+  if (isOut(state)) return 20;
+  return state === State.RECEIVING ? 4 : 10;
+}
+// Strokes of those that wait for a process: up for one that awaits an answer, down for one that sends.
+function strokes(state, from, to, y) {
+  let path = \"\";
+  for (let x = from; x < to; x += 7)
+    path += state === State.AWAITING ? `M${x} ${y + 5}l5 -10` : `M${x} ${y - 5}l5 10`;
+  return path;
+}
+const hasStrokes = state => state === State.SENDING || state === State.CALLING || state === State.AWAITING;
+
+function drawBar(into, slot, from, to, {state, partner}) {
+  const y = laneMiddle(slot), wide = Math.max(0.5, to - from), high = barHeight(state);
+  if (isDown(state)) {
+    if (wide > 40) into.append(svg(\"text\", {x: from + 8, y: y + 4, class: \"num\"}, doing({state, partner})));
+    return;
+  }
+  into.append(svg(\"rect\", {x: from, y: y - high / 2, width: wide, height: high, class: \"s\" + state}));
+  if (state === State.CALLING) into.append(svg(\"rect\", {x: from, y, width: wide, height: high / 2, class: \"s4b\"}));
+  const path = hasStrokes(state) && px >= 4 ? strokes(state, from + 4, to - 2, y) : \"\";
+  if (path) into.append(svg(\"path\", {d: path, class: \"hatch\"}));
+  if (isOut(state) && wide >= 12)
+    into.append(svg(\"text\", {x: from + wide / 2, y: y + 4, \"text-anchor\": \"middle\", class: \"in1\"}, partner));
+}
+
+// A service's bars, one for changes in a row that look alike.
+function drawBars(into, slot, a, b, wide) {
+  const lane = lanes[slot];
+  for (let i = Math.max(0, lane.upTo(a - 1)), next; i < lane.length && lane.at(i, 0) <= b; i = next) {
+    next = i + 1;
+    while (next < lane.length && lane.at(next, 0) <= b + 1 && lane.isAlike(i, next)) next++;
+    const from = Math.max(-2, middleOf(lane.at(i, 0)));
+    const to = next < lane.length ? Math.min(wide + 2, middleOf(lane.at(next, 0))) :
+                                    Math.min(wide, middleOf(loaded) + px / 2);
+    drawBar(into, slot, from, to, lane.change(i));
+  }
+}
+
+function drawArrow(into, i) {
+  const [k, kind, from, to, type] = arrows.row(i), x = middleOf(k);
+  if (from === to) return;
+  const y0 = from < 0 ? outsideMiddle : laneMiddle(from), y1 = laneMiddle(to);
+  const down = y1 >= y0 ? 1 : -1, tip = y1 - down * 10, isMessage = kind === ArrowKind.MESSAGE;
+  into.append(
+      svg(\"line\", {x1: x, y1: y0, x2: x, y2: tip, class: isMessage ? \"msg\" : \"msg note\"}),
+      svg(\"circle\", {cx: x, cy: y0, r: 3, class: \"head\"}));
+  if (kind === ArrowKind.WAITING) into.append(svg(\"circle\", {cx: x, cy: y1 - down * 6, r: 4, class: \"open\"}));
+  else {
+    const d = `M${x - 5} ${tip - down * 2}L${x} ${y1 - down}L${x + 5} ${tip - down * 2}`;
+    into.append(svg(\"path\", {d, class: isMessage ? \"head\" : \"open\"}));
+  }
+  if (type && isMessage && px >= 16)
+    into.append(svg(\"text\", {x: x + 5, y: (down > 0 ? y1 : y0) - 12, class: \"halo\"}, type >>> 0));
+}
+
+function drawDeath(into, k, slot, state, cause) {
+  const x = middleOf(k), y = laneMiddle(slot), r = px < 8 ? 4 : 8, killer = subjects[k];
+  const y0 = events[k] === EventKind.KILL ? outsideMiddle : killer >= 0 ? laneMiddle(killer) : y;
+  if (y0 !== y) into.append(svg(\"line\", {x1: x, x2: x, y1: y0, y2: y, class: \"death\"}));
+  into.append(svg(
+      \"path\", {d: `M${x - r} ${y - r}l${2 * r} ${2 * r}M${x - r} ${y + r}l${2 * r} ${-2 * r}`, class: \"death\"}));
+  const words = {[State.EXITED]: \"exit\", [State.KILLED]: \"kill\", [State.FAULTED]: \"fault \" + cause};
+  if (px >= 16) into.append(svg(\"text\", {x: x + 10, y: y - 8, class: \"bad halo\"}, words[state]));
+}
+function drawRespawn(into, k, slot, endpoint) {
+  const x = middleOf(k), y = laneMiddle(slot), r = px < 8 ? 4 : 8;
+  into.append(
+      svg(\"line\", {x1: x, x2: x, y1: outsideMiddle, y2: y - r, class: \"respawn\"}),
+      svg(\"path\", {d: `M${x} ${y - r}L${x + r} ${y}L${x} ${y + r}L${x - r} ${y}Z`, class: \"respawnmark\"}));
+  if (px >= 16) into.append(svg(\"text\", {x: x + 10, y: y - 10, class: \"good halo\"}, endpoint));
+}
+function drawLives(into, k) {
+  lanes.forEach((lane, slot) => {
+    const i = lane.upTo(k);
+    if (i === 0 || lane.at(i, 0) !== k) return;
+    const now = lane.change(i), before = lane.change(i - 1);
+    if (isDown(now.state) && !isDown(before.state)) drawDeath(into, k, slot, now.state, now.partner);
+    if (now.endpoint !== before.endpoint) drawRespawn(into, k, slot, now.endpoint);
+  });
+}
+
+// Under a lane, what a return did. A word that would reach into the last one is left out if columns are narrow.
+function drawLabel(into, k, usedTo) {
+  const slot = subjects[k], isWrong = flags[k] & WRONG && events[k] === EventKind.BACK;
+  if (!labels[k] || px < 14 || slot < 0) return;
+  const x = middleOf(k), word = (isWrong ? \"! \" : \"\") + labelWords.word(labels[k]);
+  if (x - word.length * 6.1 < usedTo[slot] + 4 && px < 56) return;
+  const y = laneTop(slot) + LANE - 6;
+  into.append(svg(\"text\", {x: x - 2, y, \"text-anchor\": \"end\", class: flags[k] & WRONG ? \"bad\" : \"num\"}, word));
+  usedTo[slot] = x;
+}
+
+// In the lane of what comes from outside, an interrupt, a tick, a kill or a respawn.
+function drawOutside(into, k) {
+  const x = middleOf(k), y = outsideMiddle, event = events[k];
+  if (event < EventKind.LINE || px < 5) return;
+  if (event === EventKind.LINE) into.append(svg(\"path\", {d: `M${x - 5} ${y - 6}h10l-5 9z`, class: \"head\"}));
+  else if (event === EventKind.TICK) into.append(svg(\"line\", {x1: x, x2: x, y1: y - 8, y2: y + 6, class: \"msg\"}));
+  else into.append(svg(\"circle\", {cx: x, cy: y, r: 3, class: event === EventKind.KILL ? \"death\" : \"respawnmark\"}));
+  if (px >= 16 && (event === EventKind.LINE || event === EventKind.TICK))
+    into.append(svg(\"text\", {x: x + 6, y: y + 4, class: \"num halo\"}, EVENT_WORDS[event]));
+}
+
+// A record's column, with its trace for a pointer that rests there.
+function drawColumn(into, k) {
+  const cell = svg(\"rect\", {x: leftOf(k), y: 0, width: px, height: TALL, class: \"cell\"});
+  if (px >= 14) cell.append(svg(\"title\", {}, traceOf(k)));
+  into.append(cell);
+}
+
+function drawNumbers(into, a, b) {
+  const every = NUMBER_STEPS.find(n => n * px >= 46) || 1e6;
+  for (let k = Math.ceil(a / every) * every; k <= b; k += every)
+    into.append(svg(\"text\", {x: middleOf(k), y: 14, \"text-anchor\": \"middle\", class: \"num\"}, k));
+}
+const isPrintable = byte => byte > 32 && byte < 127;
+function drawBytes(into, a, b) {
+  for (let i = bytes.upTo(a - 1) + 1; i < bytes.length && bytes.at(i, 0) <= b; i++) {
+    const byte = bytes.at(i, 1);
+    const shown = isPrintable(byte) ? String.fromCharCode(byte) : byte.toString(16).toUpperCase().padStart(2, \"0\");
+    into.append(svg(\"text\", {x: middleOf(bytes.at(i, 0)), y: laneTop(N) + 17, \"text-anchor\": \"middle\"}, shown));
+  }
+}
+function drawRecords(into, a, b, isOnPaper) {
+  const usedTo = new Array(N).fill(-Infinity);
+  for (let k = Math.max(base + 1, a); k <= b; k++) {
+    if (flags[k] & (DEATH | RESPAWN)) drawLives(into, k);
+    drawLabel(into, k, usedTo);
+    drawOutside(into, k);
+    if (hitSet && hitSet.has(k)) into.append(svg(\"path\", {d: `M${middleOf(k) - 4} 17h8l-4 5z`, class: \"hitmark\"}));
+    if (px >= 6 && !isOnPaper) drawColumn(into, k);
+  }
+}
+function drawSelection(into, cls, inset) {
+  const y = inset, height = TALL - 2 * inset;
+  into.append(svg(\"rect\", {x: leftOf(selected), y, width: Math.max(px, 3), height, class: cls}));
+}
+
+function draw(picture, a, b, wide, isOnPaper) {
+  const into = document.createDocumentFragment();
+  if (!isOnPaper) drawSelection(into, \"sel\", 0);
+  drawNumbers(into, a, b);
+  for (let slot = 0; slot <= N; slot++)
+    into.append(svg(\"line\", {x1: 0, x2: wide, y1: laneTop(slot), y2: laneTop(slot), class: \"rule\"}));
+  if (strip) drawSweep(into, a, b, wide);
+  if (px >= DENSE) {
+    for (let slot = 0; slot < N; slot++) drawBars(into, slot, a, b, wide);
+    for (let i = arrows.upTo(a - 1) + 1; i < arrows.length && arrows.at(i, 0) <= b; i++) drawArrow(into, i);
+    drawRecords(into, a, b, isOnPaper);
+  }
+  if (px >= 7) drawBytes(into, a, b);
+  if (!isOnPaper) drawSelection(into, \"selline\", 0.75);
+  picture.replaceChildren(into);
+}
+
+// ---- the lanes zoomed out: for each pixel a service's share of each state, in the records of that pixel
+const SHARES = [
+  [State.OUT, \"--out\"], [State.DOOMED, \"--doomed\"], [State.READY, \"--ready\"], [State.SENDING, \"--sending\"],
+  [State.CALLING, \"--sending\"], [State.AWAITING, \"--awaiting\"], [State.RECEIVING, \"--receiving\"]
+];
+
+// The shares of the states of a lane from place a to b, which is part of [a, b); i is the lane's row at a.
+// Returns the row at b, and whether the service died on the way.
+function addShares(share, lane, i, a, b) {
+  let from = a, hasDied = false;
+  for (; i + 1 < lane.length && lane.at(i + 1, 0) < b; i++) {
+    share[lane.at(i, 2)] += Math.max(0, lane.at(i + 1, 0) - from);
+    from = Math.max(from, lane.at(i + 1, 0));
+    hasDied ||= isDown(lane.at(i + 1, 2));
+  }
+  share[lane.at(i, 2)] += Math.max(0, b - from);
+  return [i, hasDied];
+}
+function drawShares(pen, slot, wide, inks, red) {
+  const lane = lanes[slot], top = laneTop(slot) + 4, high = LANE - 8, share = new Float64Array(10);
+  let i = Math.max(0, lane.upTo(first)), hasDied;
+  for (let x = 0; x < wide; x++) {
+    const a = first + x / px, b = Math.min(first + (x + 1) / px, total + 1);
+    if (a > loaded) return;
+    share.fill(0);
+    [i, hasDied] = addShares(share, lane, i, a, b);
+    let y = top + high;
+    for (const [state, colour] of inks) {
+      const part = high * share[state] / (b - a);
+      if (!part) continue;
+      y -= part;
+      pen.fillStyle = colour;
+      pen.fillRect(x, y, 1, part);
+    }
+    if (!hasDied) continue;
+    pen.fillStyle = red;
+    pen.fillRect(x - 1, top - 3, 3, high + 6);
+  }
+}
+let shownShares = \"\";  // what the canvas shows now, so that it is drawn again only if that has changed
+function drawDense(wide) {
+  const canvas = $(\"dense\");
+  canvas.hidden = $(\"shares\").hidden = px >= DENSE;
+  const asked = [first, px, wide, devicePixelRatio, loaded, isDark()].join();
+  if (canvas.hidden || asked === shownShares) return;
+  shownShares = asked;
+  const pen = penOf(canvas, wide, TALL), inks = SHARES.map(([state, name]) => [state, ink(name)]);
+  for (let slot = 0; slot < N; slot++) drawShares(pen, slot, wide, inks, ink(\"--death\"));
+}
+
+// ---- the overview: the whole run in forty pixels, and which part of it is in view
+// Messages are a profile, the console stands below it, then come deaths, respawns and hits as strokes.
+
+const OVERVIEW = 40;
+const ground = document.createElement(\"canvas\");  // all but what is in view
+let shownGround = \"\";
+
+// One stroke for each pixel that has a record of these.
+function drawStrokes(pen, colour, count, recordAt, xOf, y, wide, high) {
+  pen.fillStyle = colour;
+  for (let i = 0, last = -1; i < count; i++) {
+    const x = xOf(recordAt(i)) | 0;
+    if (x !== last) pen.fillRect(x, y, wide, high);
+    last = x;
+  }
+}
+function drawProfile(pen, xOf, wide) {
+  const messages = new Uint32Array(wide + 1);
+  for (let i = 0; i < arrows.length; i++) messages[xOf(arrows.at(i, 0)) | 0]++;
+  const most = messages.reduce((x, y) => Math.max(x, y), 1);
+  pen.fillStyle = ink(\"--receiving\");
+  messages.forEach((count, x) => pen.fillRect(x, 24 - 16 * count / most, 1, 16 * count / most));
+}
+function recordsWith(flag, without = 0) {
+  const found = [];
+  for (let k = base + 1; k <= loaded; k++)
+    if (flags[k] & flag && !(flags[k] & without)) found.push(k);
+  return found;
+}
+function drawGround(xOf, wide) {
+  const pen = penOf(ground, wide, OVERVIEW), deaths = recordsWith(DEATH), respawns = recordsWith(RESPAWN, DEATH);
+  drawProfile(pen, xOf, wide);
+  drawStrokes(pen, ink(\"--out\"), bytes.length, i => bytes.at(i, 0), xOf, 26, 1.5, 4);
+  drawStrokes(pen, ink(\"--respawn\"), respawns.length, i => respawns[i], xOf, 12, 1.5, 13);
+  drawStrokes(pen, ink(\"--death\"), deaths.length, i => deaths[i], xOf, 0, 2.5, 25);
+  if (hits) drawStrokes(pen, ink(\"--hit\"), hits.length, i => hits[i], xOf, 32, 2, 8);
+}
+function overview() {
+  const canvas = $(\"overview\"), wide = canvas.clientWidth;
+  if (!wide) return;
+  const xOf = k => (k - base) / Math.max(1, total - base) * (wide - 2) + 1;
+  const asked = [wide, devicePixelRatio, loaded, isDark(), hits && hits.length, searched].join();
+  if (asked !== shownGround) drawGround(xOf, wide);
+  shownGround = asked;
+  const pen = penOf(canvas, wide, OVERVIEW), last = Math.min(total, first + width / px);
+  pen.fillStyle = ink(\"--mark\");
+  pen.fillRect(xOf(first), 0, Math.max(3, xOf(last) - xOf(first)), OVERVIEW);
+  pen.drawImage(ground, 0, 0, wide, OVERVIEW);
+  pen.fillStyle = ink(\"--ink\");
+  pen.fillRect(xOf(selected) - 1, 0, 2, OVERVIEW);
+}
+const recordInOverview = x =>
+    Math.round((x - 1) / ($(\"overview\").clientWidth - 2) * (total - base)) + base;
+
+// ---- the sweep: a strip of positions, if the page has one
+// Position K is the one after record K, and stands in K's column. Each way to end has a letter; a position that
+// ends otherwise than without the fault is filled and ticked.
+
+const blocks = tail.sweep ? tail.sweep.blocks : [], ends = [...new Set(blocks.map(block => block.text))];
+const endOf = block => ends.indexOf(block.text);
+const blockOf = k => blocks.find(block => block.from <= k && k <= block.to);
+const letterOf = end => end < 26 ? String.fromCharCode(65 + end) : String(end + 1);
+
+function drawPositions(into, from, to, isSame, end, wide) {
+  const x = leftOf(from), width = Math.max(0.5, (to - from) * px), y = NUMBERS;
+  into.append(svg(\"rect\", {x, y: y + 2, width, height: 17, class: isSame ? \"same\" : \"other t\" + end % 4}));
+  if (isSame || px < DENSE) return;
+  let path = \"\";
+  for (let at = Math.max(0, x) + 3; at < Math.min(wide, leftOf(to)) - 2; at += 6) path += `M${at} ${y + 19}l4 -4`;
+  into.append(svg(\"path\", {d: path, class: \"tick\"}));
+}
+function drawBlock(into, block, a, b, wide) {
+  const same = new Set(block.same), to = Math.min(block.to, b), end = endOf(block);
+  for (let k = Math.max(block.from, Math.floor(a)), next; k <= to; k = next) {
+    next = k + 1;
+    while (next <= to && same.has(next) === same.has(k)) next++;
+    drawPositions(into, k, next, same.has(k), end, wide);
+  }
+  const left = leftOf(block.from), from = Math.max(0, left), until = leftOf(block.to + 1), y = NUMBERS;
+  if (block.from && until - from > 5)
+    into.append(svg(\"line\", {x1: left, x2: left, y1: y, y2: y + 21, class: \"selline\"}));
+  if (until - from <= 12) return;
+  const x = (from + Math.min(wide, until)) / 2;
+  into.append(svg(\"text\", {x, y: y + 14, \"text-anchor\": \"middle\", class: \"in\"}, letterOf(end)));
+}
+function drawSweep(into, a, b, wide) {
+  for (const block of blocks)
+    if (block.to >= a - 1 && block.from <= b + 1) drawBlock(into, block, a, b, wide);
+}
+
+function rangeOf({from, to}) { return from === to ? \"position \" + from : \"the positions \" + from + \" to \" + to; }
+function showSweep() {
+  const block = blockOf(selected), box = $(\"sweep\");
+  $(\"sweeppanel\").hidden = false;
+  if (!block) return box.replaceChildren(html(\"p\", \"\", \"no position here\"));
+  const how = block.same.includes(selected) ? \"as without the fault.\" : \"OTHERWISE than without the fault.\";
+  const fault = tail.sweep.fault.trim().split(\"\\n\").join(\", \");
+  const others = blocks.filter(it => it.text === block.text && it !== block).map(it => it.from + \" to \" + it.to);
+  const same = blocks.reduce((sum, it) => sum + it.same.length, 0), tried = blocks.at(-1).to + 1;
+  const lines = [
+    html(\"p\", \"\", `fault: ${fault}. At position ${selected} (after record ${selected}) it ends ${how}`),
+    html(\"p\", \"\", `End ${letterOf(endOf(block))}, of ${rangeOf(block)}:`),
+    html(\"pre\", \"\", block.text)
   ];
-  document.addEventListener(\"keydown\", e => {
-    const t = e.target, typing = t.matches(\"input:not([type=range]):not([type=checkbox]), textarea\");
-    if (e.key === \"Escape\" && typing) {
-      t.blur();
-      $(\"stage\").focus();
-      return;
-    }
-    if (e.ctrlKey || e.altKey || e.metaKey || typing || $(\"help\").open) return;
-    if (e.key.length === 1 && !$(\"single\").checked) return;
-    if (t.matches(\"button\") && (e.key === \" \" || e.key === \"Enter\")) return;
-    if (t.id === \"console\" && /^(Arrow(Up|Down)|Page|Home|End)/.test(e.key)) return;
-    const key = KEYS.find(k => k[0] === e.key);
-    if (!key) return;
-    e.preventDefault();
-    DO[key[1]]();
-  });
-  document.addEventListener(\"click\", e => {
-    const b = e.target.closest(\"[data-do]\");
-    if (b) DO[b.dataset.do]();
-  });
-  $(\"helpbutton\").addEventListener(\"click\", DO.help);
-  $(\"theme\").addEventListener(\"click\", () => {
-    const r = document.documentElement,
-          dark = r.dataset.theme ? r.dataset.theme === \"dark\" :
-                                   matchMedia(\"(prefers-color-scheme: dark)\").matches;
-    r.dataset.theme = dark ? \"light\" : \"dark\";
-    paint(false);
-  });
-  $(\"search\").addEventListener(\"submit\", e => {
-    e.preventDefault();
-    hit(1);
-  });
-  $(\"hitback\").addEventListener(\"click\", () => hit(-1));
-  $(\"query\").addEventListener(\"keydown\", e => {
-    if (e.key === \"Enter\" && e.shiftKey) {
-      e.preventDefault();
-      hit(-1);
-    }
-  });
-  $(\"onlyhits\").addEventListener(\"change\", () => {
-    search();
-    $(\"list\").scrollTop = 0;
-    showList(true);
-  });
-  $(\"slider\").addEventListener(\"input\", e => select(Number(e.target.value)));
-  $(\"number\").addEventListener(\"change\", e => select(Number(e.target.value)));
-  $(\"list\").addEventListener(\"scroll\", () => showList(false));
-  $(\"list\").addEventListener(\"click\", e => {
-    const r = e.target.closest(\".row\");
-    if (r) select(Number(r.dataset.k));
-  });
-  $(\"names\").addEventListener(\"click\", e => {
-    const d = e.target.closest(\"[data-slot]\");
-    if (d) {
-      focus = focus === Number(d.dataset.slot) ? -1 : Number(d.dataset.slot);
-      paint(false);
-    }
-  });
-  const overviewAt = e =>
-      select(Math.round((e.offsetX - 1) / ($(\"overview\").clientWidth - 2) * (total - base)) + base);
-  $(\"overview\").addEventListener(\"pointerdown\", e => {
-    $(\"overview\").setPointerCapture(e.pointerId);
-    overviewAt(e);
-  });
-  $(\"overview\").addEventListener(\"pointermove\", e => {
-    if (e.buttons) overviewAt(e);
-  });
-  let drag = null;
-  const stage = $(\"stage\");
-  stage.addEventListener(\"pointerdown\", e => {
-    drag = {x: e.clientX, first, moved: false};
-  });
-  stage.addEventListener(\"pointermove\", e => {
-    if (!drag || !e.buttons) return;
-    if (Math.abs(e.clientX - drag.x) > 4) drag.moved = true;
-    if (drag.moved) {
-      first = drag.first - (e.clientX - drag.x) / px;
-      paint(false);
-    }
-  });
-  addEventListener(\"pointerup\", e => {
-    if (drag && !drag.moved && stage.contains(e.target))
-      select(
-          Math.min(loaded, Math.floor(first + (e.clientX - stage.getBoundingClientRect().left) / px)), true);
-    drag = null;
-  });
-  stage.addEventListener(\"wheel\", e => {
-    e.preventDefault();
-    if (e.ctrlKey || e.metaKey)
-      zoom(Math.exp(-e.deltaY / 300), e.clientX - stage.getBoundingClientRect().left);
-    else {
-      first += (e.deltaX || e.deltaY) / px;
-      paint(false);
-    }
-  }, {passive: false});
-  addEventListener(\"resize\", () => paint(false));
-  addEventListener(\"hashchange\", () => select(Number(location.hash.slice(1)) || base));
-  matchMedia(\"(prefers-color-scheme: dark)\").addEventListener(\"change\", () => paint(false));
+  if (others.length) lines.push(html(\"p\", \"small\", \"The same end at positions \" + others.join(\", \")));
+  lines.push(html(\"p\", \"small\", `${same} of ${tried} positions end as without the fault.`));
+  box.replaceChildren(...lines);
+}
 
-  // ---- paper: what is in view, in strips of forty records, at most 400
-  addEventListener(\"beforeprint\", () => {
-    const keep = [px, first], from = Math.max(base, Math.floor(first)),
-          to = Math.min(total, from + Math.min(400, Math.ceil(width / px))), box = $(\"paper\");
-    px = 28;
-    const out = [html(\"p\", \"\", head.config + \", records \" + from + \" to \" + to + \" of \" + total)];
-    for (let a = from; a < to; a += 40) {
-      first = a;
-      const b = Math.min(a + 39, to), wide = 40 * px + 130,
-            svg = el(\"svg\", {viewBox: `-120 0 ${wide} ${TALL}`, xmlns: NS}),
-            inner = el(\"svg\", {x: 0, y: 0, width: 40 * px, height: TALL});
-      draw(inner, a, b, 40 * px, true);
-      svg.append(inner);
-      head.services.forEach(
-          (s, i) => svg.append(
-              el(\"text\", {x: -8, y: mid(i) + 4, \"text-anchor\": \"end\"},
-                 s.name + \" \" + stateAt(i, Math.max(base, a - 1))[1])));
-      svg.append(
-          el(\"text\", {x: -8, y: TOP + hasSweep + 19, \"text-anchor\": \"end\"}, \"outside\"),
-          el(\"text\", {x: -8, y: laneTop(N) + 17, \"text-anchor\": \"end\"}, \"console\"));
-      out.push(svg);
-    }
-    [px, first] = keep;
-    box.replaceChildren(...out);
-  });
-  addEventListener(\"afterprint\", () => $(\"paper\").replaceChildren());
+// ---- the names beside the lanes, and the panels: all about the state after the selected record
 
-  // ---- the legend, the help, and the beginning
-  function legend() {
-    const small = f => {
-      const s = el(\"svg\", {width: 30, height: 22, viewBox: \"0 0 30 22\"});
-      f(s);
-      return s;
-    };
-    const bars = [
-      [1, \"out: on that processor\"], [2, \"out, and killed there\"], [0, \"ready\"], [3, \"sending\"],
-      [4, \"calling\"], [6, \"awaiting an answer\"], [5, \"receiving\"]
-    ];
-    const rows = bars.map(([n, t]) => {
-      const s = small(s => {
-        const h = n === 1 || n === 2 ? 18 : n === 5 ? 4 : 10;
-        s.append(el(\"rect\", {x: 0, y: 11 - h / 2, width: 30, height: h, class: \"s\" + n}));
-        if (n === 4) s.append(el(\"rect\", {x: 0, y: 11, width: 30, height: 5, class: \"s4b\"}));
-        if (n === 3 || n === 4 || n === 6)
-          s.append(el(\"path\", {
-            d: n === 6 ? \"M4 16l5 -10M11 16l5 -10M18 16l5 -10M25 16l5 -10\" :
-                         \"M2 6l5 10M9 6l5 10M16 6l5 10M23 6l5 10\",
-            class: \"hatch\"
-          }));
-        if (n === 1 || n === 2)
-          s.append(el(\"text\", {x: 15, y: 15, \"text-anchor\": \"middle\", class: \"in1\"}, \"0\"));
-      });
-      const li = html(\"li\", \"\");
-      li.append(s, t);
-      return li;
-    });
-    const arrow = (dash, kind, t) => {
-      const li = html(\"li\", \"\");
-      li.append(
-          small(s => {
-            s.append(
-                el(\"line\", {x1: 2, y1: 11, x2: 22, y2: 11, class: \"msg\" + (dash ? \" note\" : \"\")}),
-                el(\"circle\", {cx: 3, cy: 11, r: 3, class: \"head\"}),
-                kind === 2 ? el(\"circle\", {cx: 25, cy: 11, r: 3.5, class: \"open\"}) :
-                             el(\"path\", {d: \"M20 6L28 11L20 16\", class: kind ? \"open\" : \"head\"}));
-          }),
-          t);
-      return li;
-    };
-    rows.push(
-        arrow(0, 0, \"message, with its type\"), arrow(1, 1, \"notification\"),
-        arrow(1, 2, \"notification that waits\"));
-    const x = html(\"li\", \"\");
-    x.append(small(s => s.append(el(\"path\", {d: \"M7 3l16 16M7 19l16 -16\", class: \"death\"}))), \"death\");
-    rows.push(x);
-    const r = html(\"li\", \"\");
-    r.append(
-        small(s => s.append(el(\"path\", {d: \"M15 3L23 11L15 19L7 11Z\", class: \"respawnmark\"}))),
-        \"respawn, new endpoint\");
-    rows.push(r);
-    if (hasSweep)
-      rows.push(html(
-          \"li\", \"\",
-          \"sweep: a letter for each way to end; coloured and ticked: otherwise than without the fault; grey: as without\"));
-    const shares = html(
-        \"li\", \"\",
-        \"zoomed out: of each column, from below: out, ready, sending, calling, awaiting, receiving; red: a death\");
-    shares.id = \"shares\";
-    rows.push(shares);
-    $(\"legend\").replaceChildren(...rows);
-    if (!hasSweep) $(\"listpanel\").classList.add(\"wide\");
+function nameRow(service, slot) {
+  const state = lanes[slot].after(selected);
+  const made = tall(\"div\", \"lane\" + (slot === focus ? \" focus\" : \"\"), LANE);
+  made.dataset.slot = slot;
+  made.append(html(\"b\", \"\", service.name), \" \", String(state.endpoint), html(\"small\", \"\", doing(state)));
+  const {endpoint, level, ticks} = state;
+  made.title = `${service.name} ${endpoint}: ${doing(state)}, level ${level}, ${ticks} ticks left`;
+  return made;
+}
+function names() {
+  const small = words => html(\"small\", \"\", words);
+  $(\"names\").replaceChildren(
+      tall(\"div\", \"\", NUMBERS, small(\"record\")), ...(strip ? [tall(\"div\", \"\", strip, small(\"sweep\"))] : []),
+      tall(\"div\", \"\", OUTSIDE, small(\"outside\")), ...head.services.map(nameRow),
+      tall(\"div\", \"lane\", CONSOLE_LANE, small(\"console\")));
+}
+
+// A record's own line in a sentence, from the row's numbers.
+function sentenceOf(k) {
+  if (k === base)
+    return base ? `The page begins after record ${base}.` : \"The machine has booted: all services are ready.\";
+  const row = rowOf(k), who = row.s === undefined ? \"\" : nameOf(row.s);
+  const actor = row.a < head.cpus ? \"Processor \" + row.a : \"Actor \" + row.a;
+  switch (row.e) {
+    case EventKind.TAKE: return `${actor} takes ${who}, which may make ${row.n} steps.`;
+    case EventKind.BACK: return `${actor} gives ${who} back after ${row.n} steps.`;
+    case EventKind.LINE: return `An interrupt comes at line ${row.n}, which is ${who}'s.`;
+    case EventKind.TICK: return `The clock ticks: uptime ${row.n}.`;
+    case EventKind.KILL: return `${who} is killed from outside.`;
+    default: return `${who} is started again, as a new process.`;
   }
-  for (const [key, , what] of KEYS) {
-    const tr = html(\"tr\"), td = html(\"td\");
-    td.append(html(\"kbd\", \"\", key.replace(\"Arrow\", \"arrow \")));
-    tr.append(td, html(\"td\", \"\", what));
-    $(\"keys\").tBodies[0].append(tr);
+}
+const BAD_LINE = /result -|answer -|down (kill|fault)|: no process may|is past the/;
+function showDeed(k) {
+  $(\"gloss\").textContent = sentenceOf(k);
+  for (const it of document.querySelectorAll(\".k\")) it.textContent = k;
+  $(\"did\").replaceChildren(...traceOf(k).split(\"\\n\").map((line, i) => {
+    const cls = (i ? \"rest\" : \"first\") + (BAD_LINE.test(line) ? \" bad\" : \"\");
+    return html(\"p\", cls, i ? line.replace(/^\\d+ {3}/, \"\") : line);
+  }));
+}
+
+function showProcesses(k) {
+  const changes = k > base ? rowOf(k).c || [] : [], changed = new Set(changes.map(([slot]) => slot));
+  $(\"processes\").tBodies[0].replaceChildren(...head.services.map((service, slot) => {
+    const state = lanes[slot].after(k), row = html(\"tr\", changed.has(slot) ? \"changed\" : \"\");
+    const name = html(\"th\", \"\", service.name);
+    name.scope = \"row\";
+    row.append(html(\"td\", \"\", slot), name);
+    for (const it of [state.endpoint, doing(state), state.level, state.ticks]) row.append(html(\"td\", \"\", it));
+    return row;
+  }));
+}
+
+// Who waits for whom, up to one who waits for nobody in particular.
+function chainFrom(slot, k) {
+  const seen = new Set(), parts = [];
+  for (;;) {
+    const state = lanes[slot].after(k), name = nameOf(slot) + \" \" + state.endpoint;
+    if (seen.has(slot)) return [...parts, name + \" (a ring)\"];
+    if (!waitsForOne(state)) return [...parts, `${name} (${doing(state)})`];
+    seen.add(slot);
+    parts.push(name + \" \" + STATE_WORDS[state.state]);
+    slot = slotOf(state.partner);
   }
-  for (
-      const [q, what] of [
-          [\"disk\", \"records whose trace has this word\"], [\"service:disk\", \"records about this service\"],
-          [\"from:ann to:disk\", \"messages and notifications from one to the other\"],
-          [\"type:3\", \"messages of this type\"], [\"call:DEVIO\", \"traps and kernel calls of this name\"], [
-            \"is:error\",
-            \"also is:death is:respawn is:console is:message is:pending is:take is:back is:kill is:line is:tick\"
-          ]]) {
-    const tr = html(\"tr\"), td = html(\"td\");
-    td.append(html(\"code\", \"\", q));
-    tr.append(td, html(\"td\", \"\", what));
-    $(\"words\").tBodies[0].append(tr);
+}
+function readyLine(queue, k) {
+  if (!queue.length) return \"Nobody is ready.\";
+  const levels = new Map();
+  for (const slot of queue) {
+    const {level} = lanes[slot].after(k);
+    levels.set(level, [...levels.get(level) || [], nameOf(slot)]);
   }
-  document.title = \"Run of \" + head.config;
-  $(\"title\").textContent = \"Run of \" + head.config;
-  const summary = () => {
-    $(\"summary\").textContent = N + \" services, \" + head.cpus +
-        (head.cpus === 1 ? \" processor, \" : \" processors, \") + (total - base).toLocaleString(\"en\") +
-        \" records\" + (base ? \" from record \" + (base + 1).toLocaleString(\"en\") + \" on\" : \"\") +
-        (loaded < total ? \", \" + loaded.toLocaleString(\"en\") + \" read\" : \"\") +
-        (tail.refused ? \"; \" + tail.refused : \"\");
-  };
+  const parts = [...levels].map(([level, those]) => `${those.join(\", \")} (level ${level})`);
+  return \"Ready, the next one first: \" + parts.join(\"; \");
+}
+function showQueues(k) {
+  const queueAt = queueChanges.at(queueChanges.upTo(k), 0), waitAt = waitChanges.at(waitChanges.upTo(k), 0);
+  const queue = queueAt > base ? rowOf(queueAt).q : head.queue, wait = waitAt > base ? rowOf(waitAt).w : head.wait;
+  const lines = [html(\"p\", \"\", readyLine(queue, k))];
+  if (wait.length) {
+    const parts = wait.map(slot => nameOf(slot) + \" to \" + partnerName(lanes[slot].after(k).partner));
+    lines.push(html(\"p\", \"\", \"Wait to send, in order: \" + parts.join(\", \")));
+  }
+  const waiting = head.services.map((_, slot) => slot).filter(slot => waitsForOne(lanes[slot].after(k)));
+  if (waiting.length) {
+    const list = html(\"ul\");
+    list.append(...waiting.map(slot => html(\"li\", \"\", chainFrom(slot, k).join(\" \\u2192 \"))));
+    lines.push(html(\"p\", \"\", \"Who waits for whom:\"), list);
+  } else lines.push(html(\"p\", \"\", \"Nobody waits for one other process.\"));
+  $(\"queues\").replaceChildren(...lines);
+}
+
+// The last 4,096 bytes; what has no character is shown by its number, and a byte of this record is marked.
+const LAST_BYTES = 4096;
+function consoleByte(byte, isNew) {
+  const isPlain = byte === 10 || byte === 32 || isPrintable(byte);
+  if (isPlain && !isNew) return String.fromCharCode(byte);
+  const shown = byte === 10 ? \"\\u23ce\\n\" : isPlain ? String.fromCharCode(byte) :
+                                                     \"\\\\x\" + byte.toString(16).padStart(2, \"0\");
+  return html(\"span\", (isNew ? \"new\" : \"\") + (isPlain ? \"\" : \" odd\"), shown);
+}
+function showConsole(k) {
+  const box = $(\"console\"), last = bytes.upTo(k), parts = [];
+  for (let i = Math.max(0, last - LAST_BYTES + 1); i <= last; i++)
+    parts.push(consoleByte(bytes.at(i, 1), bytes.at(i, 0) === k));
+  if (last < 0) parts.push(html(\"span\", \"small\", \"nothing yet\"));
+  box.replaceChildren(...parts);
+  box.normalize();
+  box.scrollTop = box.scrollHeight;
+}
+
+function panels() {
+  showDeed(selected);
+  showProcesses(selected);
+  showQueues(selected);
+  showConsole(selected);
+  if (strip) showSweep();
+}
+
+// ---- the list of records, of which only the rows in view exist
+// A browser has no box higher than some 30 million pixels: beyond MOST the list is scaled.
+const LINE = 20, MOST = 8e6;
+const listed = () => $(\"onlyhits\").checked && hits ? hits : null;
+
+function listRow(k, i, count, top) {
+  const made = html(\"div\", \"row\" + (hitSet && hitSet.has(k) ? \" hit\" : \"\"), k <= loaded ? ownLine(k) : \"\");
+  made.style.top = top + \"px\";
+  made.id = \"r\" + k;
+  made.dataset.k = k;
+  made.setAttribute(\"role\", \"option\");
+  made.setAttribute(\"aria-selected\", k === selected);
+  made.setAttribute(\"aria-setsize\", count);
+  made.setAttribute(\"aria-posinset\", i + 1);
+  return made;
+}
+function showList(isFollowing) {
+  const box = $(\"list\"), only = listed(), count = only ? only.length : total - base;
+  const high = Math.min(MOST, count * LINE), scale = Math.max(1, count * LINE / MOST);
+  $(\"spacer\").style.height = high + \"px\";
+  if (isFollowing) {
+    const i = only ? Math.max(0, countUpTo(count, j => only[j], selected) - 1) : selected - base - 1;
+    const y = i * LINE / scale;
+    if (y < box.scrollTop || y > box.scrollTop + box.clientHeight - LINE)
+      box.scrollTop = Math.max(0, y - box.clientHeight / 2);
+  }
+  const from = Math.max(0, Math.floor(box.scrollTop * scale / LINE)), rows = [];
+  for (let i = from; i < Math.min(count, from + Math.ceil(box.clientHeight / LINE) + 1); i++) {
+    const top = scale === 1 ? i * LINE : box.scrollTop + (i - from) * LINE;
+    rows.push(listRow(only ? only[i] : base + i + 1, i, count, top));
+  }
+  for (const row of box.querySelectorAll(\".row\")) row.remove();
+  box.append(...rows);
+  if ($(\"r\" + selected)) box.setAttribute(\"aria-activedescendant\", \"r\" + selected);
+  else box.removeAttribute(\"aria-activedescendant\");
+}
+
+// ---- search: words that all have to fit; a record is found if it fits each
+
+const KINDS = {death: DEATH, respawn: RESPAWN, error: WRONG, console: CONSOLE, message: MESSAGE, pending: PENDING};
+let searched = null, lowered = \"\";  // the words of the last search; the text up to readTo in small letters
+
+// Which records have a word in their trace: the whole text is looked through, and a row is parsed only where the
+// word stands in it, to be sure that it stands in its trace.
+function markRecordsWith(word) {
+  if (lowered.length !== readTo) lowered = text.slice(0, readTo).toLowerCase();
+  const marks = new Uint8Array(loaded + 2), written = JSON.stringify(word).slice(1, -1).replace(/</g, \"\\\\u003c\");
+  let at = lowered.indexOf(written, firstRow);
+  while (at >= 0) {
+    const k = base + countUpTo(loaded - base, i => starts[base + 1 + i], at);
+    if (traceOf(k).toLowerCase().includes(word)) marks[k] = 1;
+    if (k === loaded) break;
+    at = lowered.indexOf(written, starts[k + 1]);
+  }
+  return marks;
+}
+function hasArrow(k, column, wanted) {
+  for (let i = arrows.upTo(k); i >= 0 && arrows.at(i, 0) === k; i--)
+    if (arrows.at(i, column) === wanted) return true;
+  return false;
+}
+const isOfKind = word => KINDS[word] ? k => flags[k] & KINDS[word] : k => EVENT_WORDS[events[k]] === word;
+function isOfCall(word) {
+  const wanted = word.toLowerCase();
+  return k => labels[k] && labelWords.word(labels[k]).replace(/[()]/g, \"\").toLowerCase() === wanted;
+}
+// What a word of a search asks of a record.
+function testOf(word) {
+  const [, what, value] = /^(is|from|to|type|service|call):(.+)$/.exec(word) || [];
+  const slot = head.services.findIndex(service => service.name === value), place = SOURCES[value] ?? slot;
+  switch (what) {
+    case \"is\": return isOfKind(value);
+    case \"service\": return k => slot >= 0 && subjects[k] === slot;
+    case \"call\": return isOfCall(value);
+    case \"from\": return k => hasArrow(k, 2, place);
+    case \"to\": return k => hasArrow(k, 3, place);
+    case \"type\": return k => hasArrow(k, 4, Number(value) | 0);
+  }
+  const marks = markRecordsWith(word.toLowerCase());
+  return k => marks[k] === 1;
+}
+// The records that were found, or null if no word was given.
+function find(query) {
+  const tests = query.split(/\\s+/).filter(Boolean).map(testOf), found = [];
+  if (!tests.length) return null;
+  for (let k = base + 1; k <= loaded; k++)
+    if (tests.every(test => test(k))) found.push(k);
+  return found;
+}
+function search() {
+  const query = $(\"query\").value, began = performance.now();
+  if (searched === query) return;
+  searched = query;
+  hits = find(query);
+  hitSet = hits && new Set(hits);
+  window.searchTook = performance.now() - began;
+}
+// To the next hit, or with -1 to the one before; behind the last one comes the first.
+function goToHit(step) {
+  search();
+  if (!hits || !hits.length) {
+    say(hits ? \"none\" : \"\");
+    return paint();
+  }
+  const count = hits.length, upTo = countUpTo(count, i => hits[i], step > 0 ? selected : selected - 1);
+  const i = (step > 0 ? upTo : upTo - 1 + count) % count;
+  say(`hit ${i + 1} of ${count}`);
+  select(hits[i]);
+}
+
+// ---- painting: at most once a frame
+
+let asked = null;  // what the next frame paints: {isFollowing}, or nothing
+function paint(isFollowing = true) {
+  const isFirst = !asked;
+  asked = {isFollowing: isFollowing || asked !== null && asked.isFollowing};
+  if (isFirst) requestAnimationFrame(() => {
+    const now = asked;
+    asked = null;
+    paintNow(now.isFollowing);
+  });
+}
+// With isFollowing the list of records goes to the selected one.
+function paintNow(isFollowing) {
+  const picture = $(\"picture\");
+  width = $(\"stage\").clientWidth;
+  first = Math.min(Math.max(base, first), Math.max(base, total + 1 - width / px));
+  picture.setAttribute(\"height\", TALL);
+  picture.setAttribute(\"viewBox\", `0 0 ${width} ${TALL}`);
+  drawDense(width);
+  draw(picture, Math.floor(first), Math.min(loaded, Math.ceil(first + width / px)), width, false);
+  names();
+  overview();
+  panels();
+  showList(isFollowing);
+  tellPlace();
+}
+// The selected record in the fields, and for a screen reader.
+function tellPlace() {
+  const stage = $(\"stage\"), slider = $(\"slider\"), last = Math.min(total, Math.ceil(first + width / px));
+  for (const it of [slider, $(\"number\")]) Object.assign(it, {min: base, max: total, value: selected});
+  const words = selected > base ? \"record \" + ownLine(selected) : \"before the first record\";
+  slider.setAttribute(\"aria-valuetext\", words);
+  stage.setAttribute(\"aria-valuetext\", words);
+  stage.setAttribute(\"aria-valuemin\", base);
+  stage.setAttribute(\"aria-valuemax\", total);
+  stage.setAttribute(\"aria-valuenow\", selected);
+  stage.setAttribute(\"aria-label\", `Lanes of ${N} services, records ${Math.floor(first)} to ${last}`);
+  $(\"said\").textContent = traceOf(selected).replace(/\\n\\d+ {3}/g, \". \");
+}
+
+// ---- what a person does
+
+// Selects record k, or the nearest that is read; keepsView leaves what is in view as it is.
+function select(k, keepsView) {
+  selected = Math.min(Math.max(base, k | 0), loaded);
+  const room = width / px;
+  if (!keepsView && selected < first + 0.1 * room) first = selected - 0.3 * room;
+  else if (!keepsView && selected > first + 0.9 * room) first = selected - 0.7 * room;
+  history.replaceState(null, \"\", \"#\" + selected);
+  paint();
+}
+// Makes columns larger; what is at x stays where it is, or else the selected record, if it is in view.
+function zoom(factor, x) {
+  const middle = middleOf(selected), isInView = middle >= 0 && middle <= width;
+  const anchor = x ?? (isInView ? middle : width / 2), k = first + anchor / px;
+  px = Math.min(WIDEST, Math.max(Math.min(1, width / (total - base + 1)), px * factor));
+  first = k - anchor / px;
+  paint(false);
+}
+function show(columns, from) {
+  px = columns;
+  first = from();
+  paint(false);
+}
+function say(words) { $(\"found\").textContent = words; }
+
+// The next record for which a test holds, on or back; what there is none of is said.
+function goTo(step, test, what) {
+  for (let k = selected + step; k > base && k <= loaded; k += step)
+    if (test(k)) return select(k);
+  say(step > 0 ? `no further ${what} there` : `no ${what} above there`);
+}
+const goToFlag = (step, flag, what) => goTo(step, k => flags[k] & flag, what);
+const isOfFocus = k => focus < 0 || subjects[k] === focus || lanes[focus].at(lanes[focus].upTo(k), 0) === k;
+const screenful = () => Math.max(1, Math.floor(width / px * 0.8));
+
+// The next message of the pair of the arrow at the selected record, else of the one before it.
+function goToPair(step) {
+  const i = arrows.upTo(selected);
+  if (!arrows.length || i < 0 && step < 0) return say(\"no message there\");
+  if (i < 0) return select(arrows.at(0, 0));
+  const [record, , a, b] = arrows.row(i), those = nameOf(a) + \" and \" + nameOf(b);
+  if (record !== selected && step < 0) return select(record);
+  for (let j = i + step; j >= 0 && j < arrows.length; j += step) {
+    const [k, , from, to] = arrows.row(j);
+    if (k === selected || !(from === a && to === b || from === b && to === a)) continue;
+    say(those);
+    return select(k);
+  }
+  say(\"no further message of \" + those);
+}
+function chooseLane(slot) {
+  focus = Math.min(N - 1, Math.max(-1, slot));
+  say(focus < 0 ? \"all services\" : \"service \" + nameOf(focus));
+  paint(false);
+}
+function goToBlock() {
+  const next = blocks.find(block => block.from > selected);
+  if (next) select(next.from);
+  else if (strip) say(\"no further block there\");
+}
+function startSearch() {
+  $(\"query\").focus();
+  $(\"query\").select();
+}
+
+// Each act by its name: a key for it, what the help says, and what is done. A button names its act by data-do.
+const ACTS = {
+  before: [\"ArrowLeft\", \"record before\", () => select(selected - 1)],
+  after: [\"ArrowRight\", \"next record\", () => select(selected + 1)],
+  pageback: [\"PageUp\", \"a screen back\", () => select(selected - screenful())],
+  pagenext: [\"PageDown\", \"a screen on\", () => select(selected + screenful())],
+  first: [\"Home\", \"before the first record\", () => select(base)],
+  last: [\"End\", \"the last record\", () => select(loaded)],
+  laneup: [\"ArrowUp\", \"service above (or all)\", () => chooseLane(focus - 1)],
+  lanedown: [\"ArrowDown\", \"service below\", () => chooseLane(focus + 1)],
+  ownnext: [\".\", \"next record of the chosen service\", () => goTo(1, isOfFocus, \"record of it\")],
+  ownback: [\",\", \"record before of it\", () => goTo(-1, isOfFocus, \"record of it\")],
+  pairnext: [\"n\", \"next message of this pair\", () => goToPair(1)],
+  pairback: [\"p\", \"message before of this pair\", () => goToPair(-1)],
+  death: [\"d\", \"next death\", () => goToFlag(1, DEATH, \"death\")],
+  deathback: [\"D\", \"death before\", () => goToFlag(-1, DEATH, \"death\")],
+  error: [\"e\", \"next error\", () => goToFlag(1, WRONG, \"error\")],
+  errorback: [\"E\", \"error before\", () => goToFlag(-1, WRONG, \"error\")],
+  console: [\"c\", \"next console byte\", () => goToFlag(1, CONSOLE, \"console byte\")],
+  consoleback: [\"C\", \"console byte before\", () => goToFlag(-1, CONSOLE, \"console byte\")],
+  block: [\"b\", \"next block of the sweep\", goToBlock],
+  in: [\"+\", \"larger\", () => zoom(1.5)],
+  out: [\"-\", \"smaller\", () => zoom(1 / 1.5)],
+  fit: [\"0\", \"the whole run\", () => show(width / (total - base + 1), () => base)],
+  read: [\"1\", \"readable size\", () => show(READABLE, () => selected - width / px / 2)],
+  search: [\"/\", \"search\", startSearch],
+  help: [\"?\", \"this help\", () => $(\"help\").showModal()]
+};
+const act = name => ACTS[name][2]();
+
+function onKey(event) {
+  const at = event.target, isTyping = at.matches(\"input:not([type=range]):not([type=checkbox]), textarea\");
+  if (event.key === \"Escape\" && isTyping) return $(\"stage\").focus();
+  if (event.ctrlKey || event.altKey || event.metaKey || isTyping || $(\"help\").open) return;
+  if (event.key.length === 1 && !$(\"single\").checked) return;
+  if (at.matches(\"button\") && (event.key === \" \" || event.key === \"Enter\")) return;
+  if (at.id === \"console\" && /^(Arrow(Up|Down)|Page|Home|End)/.test(event.key)) return;
+  const found = Object.keys(ACTS).find(name => ACTS[name][0] === event.key);
+  if (!found) return;
+  event.preventDefault();
+  act(found);
+}
+addEventListener(\"keydown\", onKey);
+addEventListener(\"click\", event => {
+  const button = event.target.closest(\"[data-do]\");
+  if (button) act(button.dataset.do);
+});
+addEventListener(\"resize\", () => paint(false));
+addEventListener(\"hashchange\", () => select(Number(location.hash.slice(1)) || base));
+matchMedia(\"(prefers-color-scheme: dark)\").addEventListener(\"change\", () => paint(false));
+$(\"theme\").addEventListener(\"click\", () => {
+  document.documentElement.dataset.theme = isDark() ? \"light\" : \"dark\";
+  paint(false);
+});
+
+$(\"search\").addEventListener(\"submit\", event => {
+  event.preventDefault();
+  goToHit(1);
+});
+$(\"hitback\").addEventListener(\"click\", () => goToHit(-1));
+$(\"query\").addEventListener(\"keydown\", event => {
+  if (event.key !== \"Enter\" || !event.shiftKey) return;
+  event.preventDefault();
+  goToHit(-1);
+});
+$(\"onlyhits\").addEventListener(\"change\", () => {
+  search();
+  $(\"list\").scrollTop = 0;
+  showList(true);
+});
+for (const [id, kind] of [[\"slider\", \"input\"], [\"number\", \"change\"]])
+  $(id).addEventListener(kind, event => select(Number(event.target.value)));
+$(\"list\").addEventListener(\"scroll\", () => showList(false));
+$(\"list\").addEventListener(\"click\", event => {
+  const row = event.target.closest(\".row\");
+  if (row) select(Number(row.dataset.k));
+});
+$(\"names\").addEventListener(\"click\", event => {
+  const row = event.target.closest(\"[data-slot]\");
+  if (row) chooseLane(focus === Number(row.dataset.slot) ? -1 : Number(row.dataset.slot));
+});
+
+$(\"overview\").addEventListener(\"pointerdown\", event => {
+  $(\"overview\").setPointerCapture(event.pointerId);
+  select(recordInOverview(event.offsetX));
+});
+$(\"overview\").addEventListener(\"pointermove\", event => {
+  if (event.buttons) select(recordInOverview(event.offsetX));
+});
+// On the lanes a pointer that moves takes the view with it, and one that doesn't selects a record.
+let drag = null;
+const xInStage = event => event.clientX - $(\"stage\").getBoundingClientRect().left;
+$(\"stage\").addEventListener(\"pointerdown\", event => { drag = {x: event.clientX, first, hasMoved: false}; });
+$(\"stage\").addEventListener(\"pointermove\", event => {
+  if (!drag || !event.buttons) return;
+  drag.hasMoved ||= Math.abs(event.clientX - drag.x) > 4;
+  if (!drag.hasMoved) return;
+  first = drag.first - (event.clientX - drag.x) / px;
+  paint(false);
+});
+addEventListener(\"pointerup\", event => {
+  if (drag && !drag.hasMoved && $(\"stage\").contains(event.target))
+    select(Math.floor(first + xInStage(event) / px), true);
+  drag = null;
+});
+$(\"stage\").addEventListener(\"wheel\", event => {
+  event.preventDefault();
+  if (event.ctrlKey || event.metaKey) return zoom(Math.exp(-event.deltaY / 300), xInStage(event));
+  first += (event.deltaX || event.deltaY) / px;
+  paint(false);
+}, {passive: false});
+
+// ---- paper: what is in view, in strips of forty records, at most 400
+
+const ON_A_STRIP = 40, ON_PAPER = 400, LEFT_OF_STRIP = 120;
+function paperStrip(a, to) {
+  const wide = ON_A_STRIP * px, named = (y, words) => svg(\"text\", {x: -8, y, \"text-anchor\": \"end\"}, words);
+  const whole = svg(\"svg\", {viewBox: `${-LEFT_OF_STRIP} 0 ${wide + LEFT_OF_STRIP + 10} ${TALL}`});
+  const inner = svg(\"svg\", {x: 0, y: 0, width: wide, height: TALL});
+  first = a;
+  draw(inner, a, Math.min(a + ON_A_STRIP - 1, to), wide, true);
+  whole.append(inner, named(outsideMiddle + 4, \"outside\"), named(laneTop(N) + 17, \"console\"));
+  head.services.forEach((service, slot) => {
+    const {endpoint} = lanes[slot].after(Math.max(base, a - 1));
+    whole.append(named(laneMiddle(slot) + 4, `${service.name} ${endpoint}`));
+  });
+  return whole;
+}
+addEventListener(\"beforeprint\", () => {
+  const view = [px, first], from = Math.max(base, Math.floor(first));
+  const to = Math.min(total, from + Math.min(ON_PAPER, Math.ceil(width / px)));
+  const parts = [html(\"p\", \"\", `${head.config}, records ${from} to ${to} of ${total}`)];
+  px = READABLE;
+  for (let a = from; a < to; a += ON_A_STRIP) parts.push(paperStrip(a, to));
+  [px, first] = view;
+  $(\"paper\").replaceChildren(...parts);
+});
+addEventListener(\"afterprint\", () => $(\"paper\").replaceChildren());
+
+// ---- the legend and the help
+
+function legendLine(words, ...shapes) {
+  const line = html(\"li\");
+  if (shapes.length) {
+    const small = svg(\"svg\", {width: 30, height: 22, viewBox: \"0 0 30 22\"});
+    small.append(...shapes);
+    line.append(small);
+  }
+  line.append(words);
+  return line;
+}
+function legendBar([state, words]) {
+  const high = isOut(state) ? 18 : barHeight(state), shapes = [];
+  shapes.push(svg(\"rect\", {x: 0, y: 11 - high / 2, width: 30, height: high, class: \"s\" + state}));
+  if (state === State.CALLING) shapes.push(svg(\"rect\", {x: 0, y: 11, width: 30, height: 5, class: \"s4b\"}));
+  if (hasStrokes(state)) shapes.push(svg(\"path\", {d: strokes(state, 3, 28, 11), class: \"hatch\"}));
+  if (isOut(state)) shapes.push(svg(\"text\", {x: 15, y: 15, \"text-anchor\": \"middle\", class: \"in1\"}, \"0\"));
+  return legendLine(words, ...shapes);
+}
+function legendArrow([kind, words]) {
+  const isMessage = kind === ArrowKind.MESSAGE;
+  return legendLine(
+      words, svg(\"line\", {x1: 2, y1: 11, x2: 22, y2: 11, class: isMessage ? \"msg\" : \"msg note\"}),
+      svg(\"circle\", {cx: 3, cy: 11, r: 3, class: \"head\"}),
+      kind === ArrowKind.WAITING ? svg(\"circle\", {cx: 25, cy: 11, r: 3.5, class: \"open\"}) :
+                                   svg(\"path\", {d: \"M20 6L28 11L20 16\", class: isMessage ? \"head\" : \"open\"}));
+}
+function legend() {
+  const bars = [
+    [State.OUT, \"out: on that processor\"], [State.DOOMED, \"out, and killed there\"], [State.READY, \"ready\"],
+    [State.SENDING, \"sending\"], [State.CALLING, \"calling\"], [State.AWAITING, \"awaiting an answer\"],
+    [State.RECEIVING, \"receiving\"]
+  ];
+  const kinds = [
+    [ArrowKind.MESSAGE, \"message, with its type\"], [ArrowKind.NOTIFICATION, \"notification\"],
+    [ArrowKind.WAITING, \"notification that waits\"]
+  ];
+  const sweep = \"sweep: a letter for each way to end; coloured and ticked: otherwise than without the fault; \" +
+      \"grey: as without\";
+  const shares = legendLine(
+      \"zoomed out: of each column, from below: out, ready, sending, calling, awaiting, receiving; red: a death\");
+  shares.id = \"shares\";
+  $(\"legend\").replaceChildren(
+      ...bars.map(legendBar), ...kinds.map(legendArrow),
+      legendLine(\"death\", svg(\"path\", {d: \"M7 3l16 16M7 19l16 -16\", class: \"death\"})),
+      legendLine(\"respawn, new endpoint\", svg(\"path\", {d: \"M15 3L23 11L15 19L7 11Z\", class: \"respawnmark\"})),
+      ...(strip ? [legendLine(sweep)] : []), shares);
+}
+
+const SEARCH_HELP = [
+  [\"disk\", \"records whose trace has this word\"], [\"service:disk\", \"records about this service\"],
+  [\"from:ann to:disk\", \"messages and notifications from one to the other\"], [\"type:3\", \"messages of this type\"],
+  [\"call:DEVIO\", \"traps and kernel calls of this name\"],
+  [\"is:error\", \"also \" + [...Object.keys(KINDS), ...EVENT_WORDS.filter(word => !KINDS[word])]
+                   .filter(word => word !== \"error\").map(word => \"is:\" + word).join(\" \")]
+];
+function helpRow(name, key, words) {
+  const row = html(\"tr\"), cell = html(\"td\");
+  cell.append(html(name, \"\", key));
+  row.append(cell, html(\"td\", \"\", words));
+  return row;
+}
+function help() {
+  for (const [key, words] of Object.values(ACTS))
+    $(\"keys\").tBodies[0].append(helpRow(\"kbd\", key.replace(\"Arrow\", \"arrow \"), words));
+  for (const [query, words] of SEARCH_HELP) $(\"words\").tBodies[0].append(helpRow(\"code\", query, words));
+}
+
+// ---- the beginning: what is read in the first moment is shown, and the rest is read in pieces
+
+const FIRST_MOMENT = 60, PIECE = 40;  // milliseconds
+function summary() {
+  const count = number => number.toLocaleString(\"en\");
+  const processors = head.cpus === 1 ? \"1 processor\" : head.cpus + \" processors\";
+  const parts = [`${N} services, ${processors}, ${count(total - base)} records`];
+  if (base) parts.push(` from record ${count(base + 1)} on`);
+  if (loaded < total) parts.push(`, ${count(loaded)} read`);
+  if (tail.refused) parts.push(\"; \" + tail.refused);
+  $(\"summary\").textContent = parts.join(\"\");
+}
+function begin() {
+  const wanted = Number(location.hash.slice(1)) || base, isAll = load(FIRST_MOMENT);
+  $(\"title\").textContent = document.title = \"Run of \" + head.config;
   $(\"total\").textContent = total;
+  if (!strip) $(\"listpanel\").classList.add(\"wide\");
   legend();
-  let done = load(60);
+  help();
   width = $(\"stage\").clientWidth;
   if ((total - base + 1) * px < width) px = Math.min(60, width / (total - base + 1));
-  const wanted = Number(location.hash.slice(1)) || base;
   selected = Math.min(Math.max(base, wanted), loaded);
   first = selected - width / px / 2;
   summary();
   paintNow(true);
   window.firstPaint = performance.now();
-  (function more() {
-    if (done) {
-      window.allRead = performance.now();
-      if (wanted > selected) select(wanted);
-      summary();
-      paint(true);
-      return;
-    }
-    setTimeout(() => {
-      done = load(40);
-      summary();
-      more();
-    }, 0);
-  })();
-})();
+  readOn(isAll, wanted);
+}
+function readOn(isAll, wanted) {
+  if (!isAll) return setTimeout(() => {
+    const isAllNow = load(PIECE);
+    summary();
+    readOn(isAllNow, wanted);
+  });
+  window.allRead = performance.now();
+  if (wanted > selected) select(wanted);
+  summary();
+  paint();
+}
+begin();
+}
 </script>
 </body>
 </html>

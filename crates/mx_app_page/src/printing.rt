@@ -1,22 +1,22 @@
 //! The page of a history, from files' names to its text.
 
-ghost use Rattle.std.specs.Prelude.{◌≡◌, ◌<◌, ◌≤◌, ◌+◌, ◌-◌, ◌^◌, ◌++◌, List, All, IfOk, IfErr, IfSome, OnOk, length, take, option_map, string_bytes};
+ghost use Rattle.std.specs.Prelude.{◌≡◌, ◌<◌, ◌≤◌, ◌+◌, ◌-◌, ◌^◌, ◌++◌, List, All, IfOk, IfErr, IfSome, OnOk, length, take, drop, option_map};
 ghost use Rattle.std.specs.Io.KnownBytes.{Appends};
-ghost use Rattle.mx_app_step.specs.Failure.{IsWanting};
+ghost use Rattle.mx_app_step.specs.Failure.{IsWanting, PrintsFront};
 ghost use Rattle.mx_app_step.specs.Machine.{world_of};
 ghost use Rattle.mx_app_step.specs.Service.{Service};
 ghost use Rattle.mx_app_step.specs.Config.{Config as Configured};
 ghost use Rattle.mx_app_step.specs.Asked.{Asked};
 ghost use Rattle.mx_app_step.specs.Course.{IsSaved, TellsSaved};
 ghost use Rattle.mx_app_step.specs.Setup.{IsStart};
-ghost use Rattle.mx_app_step.specs.Telling.{IsTold};
+ghost use Rattle.mx_app_step.specs.Telling.{IsTold, PrintsBefore};
 ghost use Rattle.mx_machine.specs.declared.history.Record.{Record as Noted};
 ghost use Rattle.mx_machine.specs.Boot.{world_at_boot};
 ghost use Rattle.mx_machine.specs.World.{actors};
 ghost use Rattle.mx_look.specs.Glances.{glance_of};
 ghost use Rattle.mx_look_page.specs.Heads.{run_of};
 ghost use Rattle.mx_look_page.specs.Rows.{row_text};
-ghost use Rattle.mx_app_page.specs.Pages.{shown_in, rules_number, run_of_files, refused_line, front_text, back_text, AreRowsPrinted, IsMadePrinted, IsPagePrinted};
+ghost use Rattle.mx_app_page.specs.Pages.{shown_in, rules_number, run_of_files, refused_line, front_text, back_text, rows_text, AreRowsPrinted, IsMadeBegun, IsMadePrinted, IsPageBegun, IsPagePrinted};
 
 use crate::fixed::{BACK, FRONT};
 use mx_app_step::{
@@ -94,6 +94,9 @@ fn print_row<W: Write>(
     out: &mut W,
 ) -> Result<(), Failure>
     ensures err { IfErr result IsWanting }
+    ensures front { IfErr result (λ _. PrintsFront
+        (λ front. Appends (W.contents out.old) (W.contents out.new) front)
+        (row_text transition.now before.now after.now)) }
     ensures bytes { OnOk result (Appends (W.contents out.old) (W.contents out.new)
         (row_text transition.now before.now after.now)) }
 {
@@ -102,8 +105,8 @@ fn print_row<W: Write>(
     print_text(text.as_slice(), out)
 }
 
-/// Prints the rows of records, up to the first that is refused. `above` records come before them. Answers the number of
-/// the refused one, the first of these having the number 1, and why.
+/// Prints the rows of records, up to the first that is refused. `above` records come before them. Answers how many rows
+/// stand above the refused one, and why it is refused.
 fn print_rows<W: Write>(
     alloc: Global,
     machine: &mut Machine,
@@ -114,10 +117,13 @@ fn print_rows<W: Write>(
     requires few { above + length records.now < 2 ^ 32 }
     requires actors { All (λ (x : Noted). x.actor < actors (world_of machine.old)) records.now }
     ensures err { IfErr result IsWanting }
+    ensures front { IfErr result (λ _. PrintsFront
+        (λ front. Appends (W.contents out.old) (W.contents out.new) front)
+        (rows_text (world_of machine.old) (above + 1) records.now)) }
     ensures printed { IfOk result (λ refused.
         AreRowsPrinted (world_of machine.old) above records.now refused (λ text.
         Appends (W.contents out.old) (W.contents out.new) text)) }
-    ensures few { IfOk result (λ refused. IfSome refused (λ p. p.0 ≤ length records.now)) }
+    ensures few { IfOk result (λ refused. IfSome refused (λ p. p.0 < length records.now)) }
 {
     let mut text = Vec::new(alloc);
     let mut scratch = Vec::new(alloc);
@@ -125,9 +131,9 @@ fn print_rows<W: Write>(
     let mut before = shown_in(alloc, machine)?;
     let mut after = Shown::nothing(alloc);
     for (index, entry) in records.iter().enumerate() {
-        let number = index as u32 + 1;
-        if let Err(refusal) = look_record(machine, above + number, *entry, &mut transition) {
-            return Ok(Some((number as usize, refusal)));
+        let number = above + index as u32 + 1;
+        if let Err(refusal) = look_record(machine, number, *entry, &mut transition) {
+            return Ok(Some((index, refusal)));
         }
         show(&mut after, machine, &transition.after)?;
         print_row(&mut text, &mut scratch, &transition, &before, &after, out)?;
@@ -144,6 +150,9 @@ fn print_back<W: Write>(
     out: &mut W,
 ) -> Result<(), Failure>
     ensures err { IfErr result IsWanting }
+    ensures front { IfErr result (λ _. PrintsFront
+        (λ front. Appends (W.contents out.old) (W.contents out.new) front)
+        (back_text rows (option_map (λ s. s.now) refused.entry))) }
     ensures bytes { OnOk result (Appends (W.contents out.old) (W.contents out.new)
         (back_text rows (option_map (λ s. s.now) refused.entry))) }
 {
@@ -164,6 +173,9 @@ fn print_refused<W: Write>(
 ) -> Result<(), Failure>
     requires { number < 2 ^ 32 }
     ensures err { IfErr result IsWanting }
+    ensures front { IfErr result (λ _. PrintsFront
+        (λ front. Appends (W.contents out.old) (W.contents out.new) front)
+        (back_text rows (Some (refused_line rules number refusal)))) }
     ensures bytes { OnOk result (Appends (W.contents out.old) (W.contents out.new)
         (back_text rows (Some (refused_line rules number refusal)))) }
 {
@@ -185,6 +197,9 @@ fn print_made<W: Write>(
     requires few { terms.first + length records.now < 2 ^ 32 }
     requires actors { All (λ (x : Noted). x.actor < actors (world_of machine.old)) records.now }
     ensures err { IfErr result IsWanting }
+    ensures begun { IfErr result (λ _. IsMadeBegun rules (run_of terms.entry)
+        (world_of machine.old) terms.entry.first records.now (λ text.
+        Appends (W.contents out.old) (W.contents out.new) text)) }
     ensures printed { IfOk result (λ replayed.
         IsMadePrinted rules (run_of terms.entry) (world_of machine.old) terms.entry.first records.now
         replayed (λ text. Appends (W.contents out.old) (W.contents out.new) text)) }
@@ -196,19 +211,20 @@ fn print_made<W: Write>(
             print_back(alloc, records.len() as u32, None, out)?;
             Ok(Replayed::Whole)
         }
-        Some((number, refusal)) => {
-            let rows = number as u32 - 1;
-            print_refused(
-                alloc,
-                rules,
-                rows,
-                terms.first as usize + number,
-                refusal,
-                out,
-            )?;
+        Some((rows, refusal)) => {
+            let number = terms.first as usize + rows + 1;
+            print_refused(alloc, rules, rows as u32, number, refusal, out)?;
             Ok(Replayed::Refused)
         }
     }
+}
+
+/// The records that stand in rows, if so many are to be above the first row.
+fn records_in_rows(records: &[Record], first: u32) -> &[Record]
+    ensures { result.now ≡ drop (length (take first records.entry.now)) records.entry.now }
+{
+    let above = first_records(records, first);
+    &records[above.len()..]
 }
 
 /// Prints the page of a history's part. `records` are those up to the last row, and `terms.first` of them are to be
@@ -223,26 +239,23 @@ fn print_page<W: Write>(
     requires few { length records.now < 2 ^ 32 }
     requires actors { All (λ (x : Noted). x.actor < actors (world_of machine.old)) records.now }
     ensures err { IfErr result IsWanting }
+    ensures begun { IfErr result (λ _. IsPageBegun
+        (λ first. record (run_of terms.entry) { first = first }) (world_of machine.old)
+        records.now terms.entry.first (λ text.
+        Appends (W.contents out.old) (W.contents out.new) text)) }
     ensures printed { IfOk result (λ replayed.
         IsPagePrinted (λ first. record (run_of terms.entry) { first = first }) (world_of machine.old)
-        records.now (terms.entry.first + 1) replayed (λ text.
+        records.now terms.entry.first replayed (λ text.
         Appends (W.contents out.old) (W.contents out.new) text)) }
 {
     let rules = machine.rules();
     let at_boot = front_text(alloc, machine, RunTerms { first: 0, ..terms })?;
-    let skipped = first_records(records, terms.first);
-    let above = skipped.len();
-    match perform_records(machine, skipped) {
+    let above = first_records(records, terms.first);
+    match perform_records(machine, above) {
         Ok(()) => {
-            let first = above as u32;
-            print_made(
-                alloc,
-                machine,
-                RunTerms { first, ..terms },
-                rules,
-                &records[above..],
-                out,
-            )
+            let first = above.len() as u32;
+            let rows = records_in_rows(records, terms.first);
+            print_made(alloc, machine, RunTerms { first, ..terms }, rules, rows, out)
         }
         Err((number, refusal)) => {
             print_text(at_boot.as_slice(), out)?;
@@ -253,7 +266,11 @@ fn print_page<W: Write>(
 }
 
 /// What the page says of a run, of which `first` records are to be above the first row.
-fn terms_of<'a>(chosen: HistoryPart<'a>, config: &Config) -> RunTerms<'a> {
+fn terms_of<'a>(chosen: HistoryPart<'a>, config: &Config) -> RunTerms<'a>
+    ensures first { result.first ≡ chosen.entry.from - 1 }
+    ensures run { run_of result ≡ run_of_files chosen.entry.config.now chosen.entry.log.now
+        (chosen.entry.from - 1) config.now }
+{
     RunTerms {
         config: chosen.config.as_bytes(),
         history: chosen.log.as_bytes(),
@@ -267,7 +284,7 @@ fn terms_of<'a>(chosen: HistoryPart<'a>, config: &Config) -> RunTerms<'a> {
 
 /// Starts the machine of a saved history, makes its records up to `to`, and prints a document that shows those from
 /// record `from` on in a browser. If an event is refused, the document has the records before it, and the line and the
-/// refusal.
+/// refusal. Before a failure a front of this is printed; nothing, if no machine is started.
 pub fn page<R: Reader, W: Write>(
     alloc: Global,
     reader: &mut R,
@@ -279,11 +296,18 @@ pub fn page<R: Reader, W: Write>(
         × (R.asked reader.new ≡ R.asked reader.old ++ qs)
         × IsStart IsSaved chosen.entry.config.now chosen.entry.log.now qs c vs records
         × IsPagePrinted (λ first. run_of_files chosen.entry.config.now chosen.entry.log.now first c)
-        (world_at_boot c vs) (take chosen.entry.to records) chosen.entry.from replayed (λ text.
+        (world_at_boot c vs) (take chosen.entry.to records) (chosen.entry.from - 1) replayed (λ text.
         Appends (W.contents out.old) (W.contents out.new) text)) }
     ensures fault { IfErr result (λ f. (qs : List Asked)
         × (R.asked reader.new ≡ R.asked reader.old ++ qs)
         × IsTold IsSaved TellsSaved chosen.entry.config.now chosen.entry.log.now qs f) }
+    ensures begun { IfErr result (λ _. PrintsBefore IsSaved chosen.entry.config.now
+        chosen.entry.log.now (R.asked reader.old) (R.asked reader.new)
+        (λ text. Appends (W.contents out.old) (W.contents out.new) text)
+        (λ c vs records. IsPageBegun
+        (λ first. run_of_files chosen.entry.config.now chosen.entry.log.now first c)
+        (world_at_boot c vs) (take chosen.entry.to records) (chosen.entry.from - 1)
+        (λ text. Appends (W.contents out.old) (W.contents out.new) text))) }
 {
     let mut started = start::<History, R>(alloc, reader, chosen.config, chosen.log)?;
     let terms = terms_of(chosen, &started.config);

@@ -1,5 +1,5 @@
 -- A text that is printed is read as it was.
-use Rattle.std.proofs.Common.{◌≡◌, ◌∙◌, ◌++◌, ◌<◌, ◌≤◌, ◌≢◌, ◌||◌, ◌==◌, ℕ, Bool, true, false, cond, List, [], ◌∷◌, inl, inr, refl, sym, ap, subst, arith}
+use Rattle.std.proofs.Common.{◌≡◌, ◌∙◌, ◌++◌, suc, get_or, ◌<◌, ◌≤◌, ◌≢◌, ◌||◌, ℕ, Bool, true, false, cond, List, [], ◌∷◌, inl, inr, refl, sym, ap, subst}
 use Rattle.std.specs.Prelude.{codes, nat_lt}
 use Rattle.std.specs.List.{flat_map}
 use Rattle.std.proofs.lemmas.Bool.{cases_eq, cases_lt, ne_eqb, lt-ltb}
@@ -16,9 +16,9 @@ plain b e = elim (cases_lt b 32) [
   | inr more ↦ more
 ]
 
-module _ (b : ℕ) (t bytes : List ℕ) (h : Reads t bytes) where
+module _ (b : ℕ) (t bytes : List ℕ) (small : b < 256) (h : Reads t bytes) where
   other : (c : Bool) → is_coded b ≡ c → b ≢ 34 → b ≢ 92 → Reads (cond c (codes "\\u00" ++ two_digits b) (b ∷ []) ++ t) (b ∷ bytes)
-  other true e n m = by_number b t bytes h
+  other true e n m = by_number b t bytes small h
   other false e n m = as_it_is b t bytes (plain b e) n m h
 
   one : Reads (escaped b ++ t) (b ∷ bytes)
@@ -34,6 +34,6 @@ module _ (b : ℕ) (t bytes : List ℕ) (h : Reads t bytes) where
     ]
   ]
 
-pub read_again : (bytes : List ℕ) → Reads (flat_map escaped bytes) bytes
-read_again [] = at_end
-read_again (b ∷ bytes) = one b (flat_map escaped bytes) bytes (read_again bytes)
+pub read_again : (bytes : List ℕ) → ((i : ℕ) → get_or bytes i 0 < 256) → Reads (flat_map escaped bytes) bytes
+read_again [] small = at_end
+read_again (b ∷ bytes) small = one b (flat_map escaped bytes) bytes (small 0) (read_again bytes (λ i. small (suc i)))

@@ -1,6 +1,6 @@
 -- Texts and lists in JSON (RFC 8259), of bytes that can stand in a script element of HTML.
-use Rattle.std.specs.Prelude.{ℕ, ◌≤◌, ◌≢◌, ◌==◌, ◌||◌, nat_lt, if◌then◌else◌, Bool, List, [], ◌∷◌, ◌++◌, codes, drop}
-use Rattle.std.specs.List.{flat_map}
+use Rattle.std.specs.Prelude.{ℕ, ◌≡◌, ◌≤◌, ◌<◌, ◌≢◌, ◌==◌, ◌&&◌, ◌||◌, nat_lt, not, if◌then◌else◌, Bool, true, List, [], ◌∷◌, ◌++◌, codes, drop}
+use Rattle.std.specs.List.{flat_map, list_all}
 use Rattle.std.specs.Fmt.{decimal}
 use Rattle.mx_print_report.specs.Numbers.{two_digits}
 
@@ -21,7 +21,7 @@ pub data Reads : List ℕ → List ℕ → Type 0 where
   quote : (t bytes : List ℕ) → Reads t bytes → Reads (codes "\\\"" ++ t) (34 ∷ bytes)
   backslash : (t bytes : List ℕ) → Reads t bytes → Reads (codes "\\\\" ++ t) (92 ∷ bytes)
   line_feed : (t bytes : List ℕ) → Reads t bytes → Reads (codes "\\n" ++ t) (10 ∷ bytes)
-  by_number : (b : ℕ) (t bytes : List ℕ) → Reads t bytes → Reads (codes "\\u00" ++ two_digits b ++ t) (b ∷ bytes)
+  by_number : (b : ℕ) (t bytes : List ℕ) → b < 256 → Reads t bytes → Reads (codes "\\u00" ++ two_digits b ++ t) (b ∷ bytes)
 
 -- A TEXT
 unfoldable pub text : List ℕ → List ℕ
@@ -38,3 +38,16 @@ list_of items = codes "[" ++ drop 1 items ++ codes "]"
 -- the name of a member that isn't the first of its object
 abbrev pub member : List ℕ → List ℕ
 member name = codes ",\"" ++ name ++ codes "\":"
+
+-- ---- what stands in a line
+
+-- a character of ASCII, but for <
+abbrev pub is_plain : ℕ → Bool
+is_plain b = nat_lt 31 b && (nat_lt b 127 && not (b == 60))
+
+abbrev pub ArePlain : List ℕ → Type 0
+ArePlain bytes = list_all is_plain bytes ≡ true
+
+-- A LINE, with its end, and none before
+abbrev pub IsPlainLine : List ℕ → Type 0
+IsPlainLine bytes = (line : List ℕ) × (bytes ≡ line ++ codes "\n") × ArePlain line

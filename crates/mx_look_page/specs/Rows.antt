@@ -146,11 +146,17 @@ unfoldable pub result_part : Option ℕ → List ℕ
 result_part None = []
 result_part (Some r) = codes "," ++ signed_decimal (cast_signed w32 r)
 
--- a slot's state, if it differs from the one before or the process has gone on
+-- WHAT A ROW SAYS OF A SLOT: its state, if it differs from the one before or the process has gone on
+abbrev pub told_state : Option SlotState → Option SlotState → Option ℕ → Option SlotState
+told_state (Some v) (Some u) r = if differs v u || is_some r then Some u else None
+told_state _ _ r = None
+
+abbrev pub state_text : ℕ → Option ℕ → Option SlotState → List ℕ
+state_text s r None = []
+state_text s r (Some u) = state_items s u ++ result_part r ++ codes "]"
+
 unfoldable pub state_part : ℕ → Option SlotState → Option SlotState → Option ℕ → List ℕ
-state_part s (Some v) (Some u) r =
-    if differs v u || is_some r then state_items s u ++ result_part r ++ codes "]" else []
-state_part s _ _ r = []
+state_part s p q r = state_text s r (told_state p q r)
 
 unfoldable pub changed_states : Transition → ShownWorld → ShownWorld → List ℕ
 changed_states x p q = of_slots (λ s. state_part s (state_in p s) (state_in q s) (gone_on x s))

@@ -2,7 +2,7 @@
 
 ghost use Rattle.std.specs.Prelude.{◌≡◌, ◌++◌, ◌∷◌, [], OnOk};
 ghost use Rattle.std.specs.List.{flat_map};
-ghost use Rattle.mx_look_page.specs.Json.{Reads, escaped, text, numbered, list_of, member};
+ghost use Rattle.mx_look_page.specs.Json.{ArePlain, Reads, escaped, text, numbered, list_of, member};
 
 use mx_print_report::{push_decimal, push_two_digits};
 use std::alloc::AllocError;
@@ -37,12 +37,21 @@ fn push_all_escaped(out: &mut Vec<u8>, bytes: &[u8]) -> Result<(), AllocError>
     Ok(())
 }
 
+/// Law: a text stands in a line of the data and has no markup, and a reader of JSON reads what it is of.
+fn text_facts(bytes: &[u8])
+    ensures read { Reads (flat_map escaped bytes.now) bytes.now }
+    ensures plain { ArePlain (text bytes.now) }
+{
+}
+
 /// Appends a text between quotes. No byte of it is a control, `<`, or above 126, and a reader of JSON reads the text.
-#[tactic(auto, using(crate::proofs::JsonLemmas::read_again), unfolding(crate::specs::Json::text))]
+#[tactic(auto, unfolding(crate::specs::Json::text))]
 pub fn push_text(out: &mut Vec<u8>, bytes: &[u8]) -> Result<(), AllocError>
     ensures value { OnOk result (out.new.items ≡ out.old.items ++ text bytes.now) }
     ensures read { Reads (flat_map escaped bytes.now) bytes.now }
+    ensures plain { ArePlain (text bytes.now) }
 {
+    text_facts(bytes);
     out.push(b'"')?;
     push_all_escaped(out, bytes)?;
     out.push(b'"')?;

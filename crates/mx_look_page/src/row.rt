@@ -2,8 +2,11 @@
 
 ghost use Rattle.std.specs.Prelude.{◌≡◌, ◌<◌, ◌++◌, OnOk};
 ghost use Rattle.mx_look.specs.Going.{gone_on};
+ghost use Rattle.mx_look.specs.Trace.{record_text};
+ghost use Rattle.mx_look_page.specs.Json.{ArePlain, IsPlainLine, Reads, escaped, text};
 ghost use Rattle.mx_look_page.specs.Shown.{state_in};
-ghost use Rattle.mx_look_page.specs.Rows.{some_go_wrong, event_number, event_detail, subject_part, is_wrong, has_gone_wrong, has_failed, wrong_part, trace_part, state_items, result_part, differs, state_part, party_items, delivery_item, kept_item, arrow_items, order_items, order_part, byte_part, row_text, all_arrows, changed_states, changes_part, event_part, has_failed_call, has_faulted, items_part, kept_between, source_at};
+ghost use Rattle.std.specs.List.{flat_map};
+ghost use Rattle.mx_look_page.specs.Rows.{but_last, some_go_wrong, event_number, event_detail, subject_part, is_wrong, has_gone_wrong, has_failed, wrong_part, trace_part, state_items, result_part, differs, state_part, party_items, delivery_item, kept_item, arrow_items, order_items, order_part, byte_part, row_text, all_arrows, changed_states, changes_part, event_part, has_failed_call, has_faulted, items_part, kept_between, source_at};
 
 use crate::json::{push_list, push_member, push_numbered, push_text};
 use crate::shown::{Shown, SlotState};
@@ -149,7 +152,10 @@ fn push_trace(
     scratch: &mut Vec<u8>,
     transition: &Transition,
 ) -> Result<(), AllocError>
-    ensures { OnOk result (out.new.items ≡ out.old.items ++ trace_part transition.now) }
+    ensures value { OnOk result (out.new.items ≡ out.old.items ++ trace_part transition.now) }
+    ensures read { OnOk result (Reads (flat_map escaped (but_last (record_text transition.now)))
+        (but_last (record_text transition.now))) }
+    ensures plain { OnOk result (ArePlain (text (but_last (record_text transition.now)))) }
 {
     scratch.clear();
     push_record(scratch, transition)?;
@@ -447,8 +453,9 @@ fn push_changes(
     push_items(out, b"d", scratch.as_slice())
 }
 
-/// Appends the row of a record, a line: of what is shown before it and after it. What was in `scratch` is lost.
-#[tactic(auto, unfolding(crate::specs::Rows::row_text))]
+/// Appends the row of a record, a line: of what is shown before it and after it. What was in `scratch` is lost. No byte
+/// of the line is a control, `<`, or above 126, and a reader of JSON reads what the trace says of the record.
+#[tactic(auto, unfolding(crate::specs::Rows::row_text), using(crate::proofs::PlainRows::plain_row))]
 pub fn push_row(
     out: &mut Vec<u8>,
     scratch: &mut Vec<u8>,
@@ -456,8 +463,11 @@ pub fn push_row(
     before: &Shown,
     after: &Shown,
 ) -> Result<(), AllocError>
-    ensures { OnOk result (out.new.items ≡ out.old.items
+    ensures value { OnOk result (out.new.items ≡ out.old.items
         ++ row_text transition.now before.now after.now) }
+    ensures read { OnOk result (Reads (flat_map escaped (but_last (record_text transition.now)))
+        (but_last (record_text transition.now))) }
+    ensures line { OnOk result (IsPlainLine (row_text transition.now before.now after.now)) }
 {
     push_event(out, transition)?;
     push_trace(out, scratch, transition)?;

@@ -1,10 +1,15 @@
 -- Trials that are made ahead, in the order of their positions, by several pairs (our own).
 use Rattle.std.specs.Prelude.{◌≡◌, ◌<◌, ◌≤◌, ◌+◌, ◌-◌, ℕ, List, [], ◌∷◌, All, length}
+use Rattle.std.specs.Borrow.{Bor}
+use Rattle.mx_machine.specs.declared.history.Record.{Record}
+use Rattle.mx_machine.specs.declared.config.Config.{Config}
 use Rattle.mx_machine.specs.World.{World}
 use Rattle.mx_turns.specs.declared.ahead.Ahead.{Ahead}
 use Rattle.mx_turns.specs.declared.ahead.Told.{Told}
 use Rattle.mx_turns.specs.declared.ahead.Tried.{Tried}
+use Rattle.mx_turns.specs.declared.faulted_run.Range.{Range}
 use Rattle.mx_turns.specs.declared.faulted_run.Sweep.{Sweep}
+use Rattle.mx_turns.specs.declared.faults.FaultLine.{FaultLine}
 use Rattle.mx_turns.specs.declared.pairs.Pair.{Pair}
 use Rattle.mx_turns.specs.Findings.{findings_of}
 use Rattle.mx_turns.specs.Sweep.{trial_text}
@@ -42,6 +47,19 @@ LastIs is (p ∷ []) = is p
 LastIs is (p ∷ q ∷ ps) = LastIs is (q ∷ ps)
 
 -- ---- positions that are tried
+
+-- the sweep of these parts
+abbrev pub sweep_of : Bor Config → ℕ → Bor (List Record) → Bor (List FaultLine) → Range → ℕ → Sweep
+sweep_of config other records fault range bound =
+    record { config = config; other = other; records = records; fault = fault; range = range; bound = bound }
+
+-- Positions are a piece for these pairs: they are of the sweep's machine, and none is past the first position.
+pub record IsPiece (s : Sweep) (w : World) (range : Range) (ps : List Pair) : Type 0 where
+  pub swept : IsSwept s w
+  pub some : 0 < length ps
+  pub pairs : All (IsBefore s w range.from) ps
+  pub order : range.from ≤ range.end
+  pub within : range.end ≤ length s.records.now + 1
 
 -- The positions from one to the one above another were tried: each tells what it tells, and the pairs can go on; the last
 -- pair's copy made the last run, if there was one.

@@ -8,7 +8,7 @@
 
 ghost use Rattle.std.specs.Prelude.{◌≡◌, ◌<◌, ◌≤◌, ◌+◌, ◌-◌, ◌++◌, All, IfOk, OnOk, length};
 ghost use Rattle.std.specs.Thread.{IsSync};
-ghost use Rattle.mx_turns.specs.Ahead.{AreTold, AreTried, IsAfter, IsAhead, IsBefore, IsTold, boot_of};
+ghost use Rattle.mx_turns.specs.Ahead.{AreTold, AreTried, IsAfter, IsAhead, IsBefore, IsPiece, IsTold, boot_of, sweep_of};
 ghost use Rattle.mx_turns.specs.declared.faulted_run.Sweep.{Sweep as Swept};
 ghost use Rattle.mx_turns.specs.Swept.{IsSwept, run_in};
 
@@ -162,22 +162,51 @@ fn try_all<R: Threads + Sync>(
         from: middle,
         end: range.end,
     };
+    // A closure that owns something and takes a struct with a lifetime tells nothing, so the sweep goes in parts.
+    let Sweep {
+        config,
+        other,
+        records,
+        fault,
+        range: whole,
+        bound,
+    } = sweep;
     let front = move || -> Result<Tried, NoMemory>
-        requires { IsSync R.row × IsSwept sweep boot.now.value.kernel.boot
-            × (0 < length lower.items)
-            × All (IsBefore sweep boot.now.value.kernel.boot below.from) lower.items
-            × (below.from ≤ below.end) × (below.end ≤ length sweep.records.now + 1) }
+        requires { IsSync R.row
+            × IsPiece (sweep_of config other records fault whole bound)
+            boot.now.value.kernel.boot below lower.items }
         ensures { IfOk result
-            (AreTried sweep.entry boot.entry.now.value.kernel.boot below.from below.end) }
-    { try_all(rt, alloc, lower, boot, sweep, below) };
+            (AreTried (sweep_of config.entry other records.entry fault.entry whole bound)
+            boot.entry.now.value.kernel.boot below.from below.end) }
+    {
+        let sweep = Sweep {
+            config,
+            other,
+            records,
+            fault,
+            range: whole,
+            bound,
+        };
+        try_all(rt, alloc, lower, boot, sweep, below)
+    };
     let back = move || -> Result<Tried, NoMemory>
-        requires { IsSync R.row × IsSwept sweep boot.now.value.kernel.boot
-            × (0 < length upper.items)
-            × All (IsBefore sweep boot.now.value.kernel.boot above.from) upper.items
-            × (above.from ≤ above.end) × (above.end ≤ length sweep.records.now + 1) }
+        requires { IsSync R.row
+            × IsPiece (sweep_of config other records fault whole bound)
+            boot.now.value.kernel.boot above upper.items }
         ensures { IfOk result
-            (AreTried sweep.entry boot.entry.now.value.kernel.boot above.from above.end) }
-    { try_all(rt, alloc, upper, boot, sweep, above) };
+            (AreTried (sweep_of config.entry other records.entry fault.entry whole bound)
+            boot.entry.now.value.kernel.boot above.from above.end) }
+    {
+        let sweep = Sweep {
+            config,
+            other,
+            records,
+            fault,
+            range: whole,
+            bound,
+        };
+        try_all(rt, alloc, upper, boot, sweep, above)
+    };
     let (first, second) = join(rt, front, back);
     first?.and(second?)
 }

@@ -1,5 +1,5 @@
-"""Lab 2: a server's clients, and a pair of which one may be a stranger with another number."""
-from .machines import ASK, POKE, TAKE, TELL, WORK, bystanders, machine, served, service
+"""Lab 2: a server's clients; a pair of which one may be a stranger with another number; and all in one machine."""
+from .machines import ASK, POKE, TAKE, TELL, WORK, bystanders, machine, plan, requests, served, service
 
 ADD, READ = 1, 2
 SERVER = service("server", "server.out", send="fffe", calls="1", level=4)
@@ -13,8 +13,8 @@ def totals(draw, name, actors, **more):
     return served(draw, name, [*silent, *actors], "totals", server=SERVER, **more)
 
 
-def additions(draw, count, most=1000):
-    return [(ASK, 0, ADD, draw.randint(1, most)) for _ in range(count)]
+def additions(draw, count, server=0):
+    return [(ASK, server, ADD, draw.randint(1, 1000)) for _ in range(count)]
 
 
 def additions_and_total(draw, count):
@@ -23,16 +23,14 @@ def additions_and_total(draw, count):
 
 
 def one_adder(draw):
-    yield totals(draw, "one client adds", [("asker", additions_and_total(draw, draw.randint(4, 8)), 7, 0)])
+    for name, count in (("one client adds", draw.randint(4, 8)), ("many requests", draw.randint(105, 120))):
+        yield totals(draw, name, [("asker", additions_and_total(draw, count), 7, 0)])
 
 
-def two_adders(draw, cpus=1):
-    actors = [(it, additions(draw, draw.randint(4, 6)), 7, 0) for it in ("asker", "second")]
-    yield totals(draw, f"two clients, {cpus} processors", actors, cpus=cpus)
-
-
-def adders_of_three(draw):
-    yield from two_adders(draw, 3)
+def two_adders(draw):
+    for cpus in (1, 3):
+        actors = [(it, additions(draw, draw.randint(4, 6)), 7, 0) for it in ("asker", "second")]
+        yield totals(draw, f"two clients, {cpus} processors", actors, cpus=cpus)
 
 
 def strange_requests(draw):
@@ -58,17 +56,13 @@ def dead_clients(draw):
     yield totals(draw, "a client ends and is replaced", [("asker", twice, 7, draw.randint(2, 4))], **rest)
 
 
-def many_requests(draw):
-    yield totals(draw, "many requests", [("asker", additions_and_total(draw, draw.randint(105, 120)), 7, 0)])
-
-
 def pair_case(draw, name, cpus, levels, other=None, number=0):
     """Left and right, or one of them with a stranger in the place of `other`."""
     mine = {it: number if it == other else PAIR[it] for it in PAIR}
     names = ["stranger" if it == other else it for it in PAIR]
     partner = dict(zip(names, reversed(names)))
     digit = f"0x{ord('0') + sum(mine.values()):02x}"
-    facts = [] if other else ["1+ trap * * * result -101"]
+    facts = [] if other else [("1+ trap left|right * * result -101", "left or right gets ELOCKED")]
     for slot, it in zip(PAIR, names):
         facts.append(f"1 message {it} to {partner[it]} type 1 words {mine[slot]} ..")
         facts.append(f"1 message {it} to {partner[it]} ..")
@@ -106,5 +100,33 @@ def pair_of_two(draw):
 
 
 def strangers(draw):
-    yield from with_strangers(draw, 1)
-    yield from with_strangers(draw, draw.randint(2, 4))
+    yield from with_strangers(draw, draw.randint(3, 4))
+
+
+def with_server(draw, case):
+    """A pair's machine with the server behind it, two clients that add, and one between them that waits for the server and
+    sends nothing."""
+    slot = sum(line.startswith("service ") for line in case["config"])
+    clients = {"asker": additions(draw, draw.randint(3, 5), slot), "silent": [(TAKE, slot)],
+               "second": additions(draw, draw.randint(3, 5), slot)}
+    server = SERVER.replace("fffe", f"{0xFFFF & ~(1 << slot | 3):x}")
+    lines = [service(it, "actor.out", send=f"{1 << slot:x}", calls="1", level=draw.randint(6, 8)) for it in clients]
+    states = case["want"]["states"] | {"server": "receiving any"}
+    return case | {"config": [*case["config"], server, *lines], "set": case["set"] | {it: plan(*clients[it]) for it in clients},
+                   "models": [*case["models"], ("totals", "server")], "want": {"states": states},
+                   "facts": [*case["facts"], *[requests(it, "server", steps) for it, steps in clients.items()]]}
+
+
+def together(draw, cpus):
+    """All in one machine: the pair, or one of it with a stranger, and the server with its clients."""
+    first = (("left first", (7, 7)), ("right first", (8, 7)))
+    for case in (*[pair_case(draw, name, cpus, levels) for name, levels in first], *with_strangers(draw, cpus)):
+        yield with_server(draw, case)
+
+
+def together_on_one(draw):
+    yield from together(draw, 1)
+
+
+def together_on_several(draw):
+    yield from together(draw, draw.randint(2, 4))

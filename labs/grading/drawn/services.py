@@ -20,7 +20,7 @@ def all_but(slot):
 
 def looked_up(draw):
     """Names that are looked up before anybody has them, by several; a name that another one takes, and its successor after
-    it; what there is not; a process that ends while it waits. And a name that a crowd waits for."""
+    it; what there is not; a process that ends while it waits."""
     name, other = draw.sample([0, 3, 4, 5, 6, 7], 2)
     first = [(ASK, 0, LOOKUP, name), (ASK, 0, draw.randint(5, 99), 0), (ASK, 0, LOOKUP, draw.randint(8, 99)),
              (ASK, 0, REGISTER, -draw.randint(1, 9))]
@@ -29,41 +29,62 @@ def looked_up(draw):
               ("judge", [(ASK, 0, LOOKUP, 2)], 6, 0),
               ("owner", [(POKE, 0), (WORK, draw.randint(2, 5)), (ASK, 0, REGISTER, other), (ASK, 0, REGISTER, name)], 8, 0),
               ("heir", [(ASK, 0, REGISTER, name), (ASK, 0, LOOKUP, name), (ASK, 0, LOOKUP, other)], 9, draw.randint(1, 2))]
-    server = service("names", "names.out", "fffe", "1", 3)
-    yield served(draw, "names that are looked up before anybody has them, or never has", actors, "names", server=server)
+    yield served(draw, "names that are looked up before anybody has them, or never has", actors, "names",
+                 server=service("names", "names.out", "fffe", "1", 3))
+
+
+def crowd_looked_up(draw):
+    """A name that a crowd waits for, by a server that does the rest too."""
+    yield from looked_up(draw)
     # Name 0: what a server writes over its tables, if it has no room for all, is found there first.
     crowd = [(f"client{i}", [(ASK, 0, LOOKUP, 0, draw.randint(1, 99))], draw.randint(5, 8), 0) for i in range(CROWD)]
     owner = ("owner", [(WORK, 2), (ASK, 0, REGISTER, 0)], 9, 0)
     yield served(draw, f"a name that {CROWD} clients wait for", [*crowd, owner], "names",
-                 server=server.replace("fffe", "fffffffe"))
+                 server=service("names", "names.out", "fffffffe", "1", 3))
+
+
+def queue_case(name, *actors, restarts=0):
+    """The queue and clients: of each its name, plan and level."""
+    names = service("names", "good_names.out", all_but(0), "1", 2)
+    queue = service("queue", "queue.out", "fffffffd", "1", 3)
+    lines = [service(it, "actor.out", "3", "1", level, restarts) for it, _, level in actors]
+    return {"name": name, "config": machine(1, names, queue, *lines), "models": [("queue", "queue")],
+            "facts": [requests(it, "queue", steps, 1 + restarts) for it, steps, _ in actors],
+            "set": {it: plan((WORK, 4), *steps) for it, steps, _ in actors}}
+
+
+def drawn_items(draw, count):
+    return draw.sample(range(1, 1 << 32), count)
+
+
+def consumers_wait(name, items, *others):
+    """Consumers that wait before a producer comes, who brings less than they want."""
+    put = [(WORK, 6), *[(ASK, 1, PUT, it) for it in items], (ASK, 1, END), (ASK, 1, END)]
+    return queue_case(name, *others, ("first", [(ASK, 1, GET)] * 2, 5), ("second", [(ASK, 1, GET)] * 2, 6), ("putter", put, 8))
 
 
 def queued(draw):
-    """Room, order and end; who waits longest is served first; a consumer and a producer that die while they wait; a crowd
-    that waits, and its successors after it."""
-    items = draw.sample(range(1, 1 << 32), 15)
-    names = service("names", "good_names.out", all_but(0), "1", 2)
-    queue = service("queue", "queue.out", "fffffffd", "1", 3)
-
-    def case(name, *actors, restarts=0):
-        lines = [service(it, "actor.out", "3", "1", level, restarts) for it, _, level in actors]
-        return {"name": name, "config": machine(1, names, queue, *lines), "models": [("queue", "queue")],
-                "facts": [requests(it, "queue", steps, 1 + restarts) for it, steps, _ in actors],
-                "set": {it: plan((WORK, 4), *steps) for it, steps, _ in actors}}
-
+    """Room, order and end; and two consumers that wait."""
+    items = drawn_items(draw, 12)
     filler = [(POKE, 1), (ASK, 1, TRY), (ASK, 1, draw.randint(5, 99)), *[(ASK, 1, PUT, it) for it in items[:9]], (ASK, 1, END)]
     taker = [(ASK, 1, (GET, TRY)[i % 2]) for i in range(7)] + [(ASK, 1, END)] + [(ASK, 1, GET)] * 4 + [(ASK, 1, TRY)]
-    yield case("a producer that fills the queue, and a consumer", ("filler", filler, 5), ("taker", taker, 7))
-    put = [(WORK, 6), *[(ASK, 1, PUT, it) for it in items[9:12]], (ASK, 1, END), (ASK, 1, END)]
-    yield case("three consumers wait, and one of them dies", ("hasty", [(TELL, 1, GET)], 4), ("first", [(ASK, 1, GET)] * 2, 5),
-               ("second", [(ASK, 1, GET)] * 2, 6), ("putter", put, 8))
-    full = [*[(ASK, 1, PUT, it) for it in items[:8]]]
-    yield case("three producers wait for room, and one of them dies", ("filler", full, 4),
-               ("first", [(ASK, 1, PUT, items[12])], 5), ("hasty", [(TELL, 1, PUT, items[13])], 6),
-               ("second", [(ASK, 1, PUT, items[14])], 7), ("taker", [(ASK, 1, GET)] * 11 + [(ASK, 1, TRY)], 8))
+    yield queue_case("a producer that fills the queue, and a consumer", ("filler", filler, 5), ("taker", taker, 7))
+    yield consumers_wait("two consumers wait", items[9:])
+
+
+def crowd_queued(draw):
+    """A consumer and a producer that die while they wait; a crowd that waits, and its successors after it. By a queue that
+    does the rest too."""
+    yield from queued(draw)
+    items = drawn_items(draw, 14)
+    yield consumers_wait("three consumers wait, and one of them dies", items[:3], ("hasty", [(TELL, 1, GET)], 4))
+    full = [(ASK, 1, PUT, it) for it in items[3:11]]
+    yield queue_case("three producers wait for room, and one of them dies", ("filler", full, 4),
+                     ("first", [(ASK, 1, PUT, items[11])], 5), ("hasty", [(TELL, 1, PUT, items[12])], 6),
+                     ("second", [(ASK, 1, PUT, items[13])], 7), ("taker", [(ASK, 1, GET)] * 11 + [(ASK, 1, TRY)], 8))
     crowd = [(f"client{i}", [(ASK, 1, GET)], draw.randint(4, 7)) for i in range(CROWD)]
     put = [(ASK, 1, PUT, draw.randint(1, 1000)) for _ in range(CROWD)]
-    yield case(f"{CROWD} consumers wait, each end and is replaced", *crowd, ("putter", put, 8), restarts=1)
+    yield queue_case(f"{CROWD} consumers wait, each end and is replaced", *crowd, ("putter", put, 8), restarts=1)
 
 
 def asked(who, kinds):
@@ -162,8 +183,8 @@ def with_reports(draw):
 
 def by_threads(draw):
     """The runs are of these machines by turns. On one processor, where producers come first, the queue gets full."""
-    yield six(draw, 4, steps="judge") | {"name": "on four processors"}
-    yield six(draw, 1, FULL, steps="judge") | {"name": "on one processor"}
+    yield six(draw, 4) | {"name": "on four processors"}
+    yield six(draw, 1, FULL) | {"name": "on one processor"}
 
 
 ADDERS = ("ann", "ben", "cleo")

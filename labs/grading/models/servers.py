@@ -15,7 +15,8 @@ class Served:
 
     def __init__(self, name, server):
         self.name, self.server = name, server
-        self.due = {}  # of each endpoint that waits for an answer: its request, the answer's type and words
+        self.due = {}  # of each endpoint whose answer is due: its request, the answer's type and words
+        self.waiting = []  # requests that can't be answered yet, each with its endpoint; the oldest first
         self.dead = set()
         self.notified = set()  # each endpoint whose notification was taken, and no request since then
 
@@ -52,11 +53,19 @@ class Served:
         """An answer has to be the one that is due to who gets it."""
         request, answer = self.due.pop(event.who[1], (None, None))
         if request is None:
-            raise wrong(self.name, event, f"no message of {self.server} to {event.words[3]}, which waits for no answer", said(event))
+            raise wrong(self.name, event, self.wanted_of(event.words[3], event.who[1]), said(event))
         kind, words = answer
         came = numbers(event)
         if int(event.words[5]) != kind or any(it != came[i] for i, it in enumerate(words)):
             raise wrong(self.name, event, f"{told(request)}: an answer {shown(answer)}", said(event))
+
+    def wanted_of(self, name, who):
+        """What is wanted where a process gets a message to which no answer is due: its request has to wait, or there is
+        none."""
+        request = next((it[0] for it in self.waiting if it[1] == who), None)
+        if request is None:
+            return f"no message of {self.server} to {name}, which waits for no answer"
+        return f"{told(request)}: no answer yet, {self.why_it_waits(request)}"
 
 
 class Totals(Served):
@@ -80,7 +89,7 @@ class Names(Served):
 
     def __init__(self, name, server):
         super().__init__(name, server)
-        self.owners, self.waiting = {}, []
+        self.owners = {}
         self.turn = []  # who is answered next of those that waited for one name
 
     def serve(self, event, who, kind, words):
@@ -100,6 +109,9 @@ class Names(Served):
             self.answer(event, who, 0, self.owners[words[0]])
         else:
             self.waiting.append((event, who, words[0]))
+
+    def why_it_waits(self, request):
+        return f"since nobody has the name {numbers(request)[0]}"
 
     def compare(self, event):
         who = event.who[1]
@@ -121,7 +133,7 @@ class Queue(Served):
 
     def __init__(self, name, server):
         super().__init__(name, server)
-        self.items, self.waiting, self.ended = [], [], 0
+        self.items, self.ended = [], 0
 
     def serve(self, event, who, kind, words):
         if not self.PUT <= kind <= self.END:
@@ -132,6 +144,11 @@ class Queue(Served):
         elif not self.is_served(event, who, kind, words[0]):
             self.waiting.append((event, who, kind, words[0]))
         self.serve_waiting()
+
+    def why_it_waits(self, request):
+        if int(request.words[5]) == self.PUT:
+            return f"since the queue has {self.ROOM} items and no room"
+        return f"since the queue has no item, and {self.ended} of {self.PRODUCERS} ENDs have come"
 
     def serve_waiting(self):
         """Who waits for an item and died is forgotten, and no item is lost by that."""

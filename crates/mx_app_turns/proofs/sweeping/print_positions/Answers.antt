@@ -1,4 +1,5 @@
 use Rattle.std.proofs.Common.{◌≡◌, ◌∙◌, ◌+◌, ◌-◌, IfOk, OnOk, ap, arith, subst, sym}
+use Rattle.std.proofs.lemmas.List.{append-nil}
 use Rattle.std.proofs.lemmas.Result.{IfOk-weaker}
 use Rattle.std.specs.Io.KnownBytes.{Appends}
 use Rattle.std.specs.List.{flat_map}
@@ -8,6 +9,7 @@ use Rattle.mx_app_turns.specs.Begun.{sweep_of}
 use Rattle.mx_app_turns.specs.Blocks.{block_text}
 use Rattle.mx_app_turns.specs.Sweeping.{blocks_at, findings_at, refusal_at, run_at, text_at, total_of}
 use Rattle.mx_app_turns.specs.declared.sweeping.Done.{Done}
+use Rattle.mx_app_turns.proofs.SweptLemmas.{shown_failed}
 use Rattle.mx_app_turns.proofs.sweeping.print_positions.Goals as goal
 
 pub returns-clause-printed : goal.returns-clause-printed
@@ -34,12 +36,18 @@ returns-clause-kernel g c =
     (subst (λ (w : World). IfOk c.print_more.result (λ (done : Done). done.machine.kernel ≡ (run_at (sweep_of c.args.sweep w) (end - 1)).kernel)) (c.in_ok-first.ensures.boot ∙ c.in_ok-ahead.ensures.boot) c.print_more.ensures.kernel)
 
 pub print_more-requires-clause-there : goal.print_more-requires-clause-there
-print_more-requires-clause-there g c = c.in_ok-first.ensures.next ∙ ap (λ n. n + 1) c.in_ok-ahead.ensures.first
+print_more-requires-clause-there g c κs within = c.in_ok-first.ensures.next ∙ ap (λ n. n + 1) c.in_ok-ahead.ensures.first
 
 pub print_more-requires-clause-first : goal.print_more-requires-clause-first
-print_more-requires-clause-first g c =
+print_more-requires-clause-first g c κs within =
     let told = c.in_ok-first.ensures.told in
     let t = c.in_ok-first.first in
     let from = c.args.sweep.range.from in
     let here = subst (λ k. IsTold c.args.sweep (boot_of c.in_ok-ahead.ahead) k t) c.in_ok-ahead.ensures.first told in
     subst (λ (w : World). (let s = sweep_of c.args.sweep w in (t.text.items ≡ text_at s from) × (t.findings ≡ findings_at s from))) (sym c.in_ok-first.ensures.boot) (here.text, here.findings)
+
+pub returns-in_err-first-clause-shown : goal.returns-in_err-first-clause-shown
+returns-in_err-first-clause-shown g c =
+    let all = c.args.sweep.range.end - c.args.sweep.range.from in
+    let was = g.P.Progress.shown c.args.progress.now in
+    shown_failed was was all 0 _ c.from_residual-in_err-first.result c.from_residual-in_err-first.ensures.1 (omega arith) (sym (append-nil _))

@@ -1,4 +1,4 @@
-use Rattle.std.proofs.Common.{◌≡◌, ◌∙◌, ◌<◌, ℕ, ◌+◌, List, [], ◌∷◌, ◌++◌, Option, drop, subst, sym, ap, arith, append_assoc}
+use Rattle.std.proofs.Common.{◌∙◌, ◌<◌, ℕ, ◌+◌, List, [], ◌∷◌, ◌++◌, Option, drop, subst, sym, ap, arith, append_assoc}
 use Rattle.std.proofs.Common.{IfSome}
 use Rattle.std.proofs.lemmas.List.{append-nil}
 use Rattle.mx_look_page.proofs.Places.{one_more, no_more}
