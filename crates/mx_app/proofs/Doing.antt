@@ -66,7 +66,7 @@ untyped : (WasShown : Part → Type 0) (request : CommandRequest) (asks : Bool) 
 untyped WasShown (Run config log ticks events) asks qs ws Prints r h = absurd h
 untyped WasShown (Look config log) asks qs ws Prints r h = absurd h
 untyped WasShown (Turns config log ticks events bound) asks qs ws Prints r h = absurd h
-untyped WasShown (Sweep config log fault bound from to strict save) asks qs ws Prints r h = absurd h
+untyped WasShown (Sweep config log fault bound from to jobs strict save) asks qs ws Prints r h = absurd h
 untyped WasShown request asks qs ws Prints r h = (refl, refl, h)
 
 -- what is done of the request that this one is

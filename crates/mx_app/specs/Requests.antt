@@ -194,7 +194,7 @@ PerformsUntyped (Step config script (Some log) numbered) qs ws Prints r =
     × (r ≡ done_after_work d)
 PerformsUntyped (Run config log ticks events) qs ws Prints r = ⊥
 PerformsUntyped (Turns config log ticks events bound) qs ws Prints r = ⊥
-PerformsUntyped (Sweep config log fault bound from to strict save) qs ws Prints r = ⊥
+PerformsUntyped (Sweep config log fault bound from to jobs strict save) qs ws Prints r = ⊥
 PerformsUntyped (Replay config log) qs ws Prints r =
     (d : Result Replayed Kind) × (ws ≡ []) × Replays config.now log.now qs Prints d × (r ≡ done_after_replay d)
 PerformsUntyped (Trace config log range) qs ws Prints r =
@@ -222,7 +222,7 @@ PerformsApart WasShown (Turns config log ticks events bound) asks did Prints r =
     × MakesTurns config.now
     (option_map (λ s. s.now) events) log.now ticks bound did.asked did.written did.shown Prints d
     × (r ≡ done_after_turns d)
-PerformsApart WasShown (Sweep config log fault bound from to strict save) asks did Prints r =
+PerformsApart WasShown (Sweep config log fault bound from to jobs strict save) asks did Prints r =
     (did.typed ≡ []) × (d : Result Swept Kind)
     × Sweeps config.now log.now fault.now
     (option_map (λ s. s.now) save) from to bound did.asked did.written did.shown Prints d

@@ -225,6 +225,7 @@ fn perform_apart<
             bound,
             from,
             to,
+            jobs,
             strict,
             save,
         } => {
@@ -233,9 +234,10 @@ fn perform_apart<
                 from,
                 to,
                 bound,
+                jobs,
                 save,
             };
-            let swept = sweep(alloc, channels, &mut io.progress, names, wanted);
+            let swept = sweep(rt, alloc, channels, &mut io.progress, names, wanted);
             done_after_sweep(swept, strict)
         }
         CommandRequest::Replay { config, log } => {
@@ -278,9 +280,9 @@ fn perform_apart<
 }
 
 /// Does what a request asks for, and answers the status to end with, and how turns or a run ended. The
-/// processors of `run` are threads. `look` answers the typed lines. It shows its progress, and so do `run`,
-/// `turns` and `sweep`. No file that is read is written over: nothing is read or written then. Two names of one file
-/// aren't seen to be one.
+/// processors of `run` are threads, and `sweep` has some. `look` answers the typed lines. It shows its
+/// progress, and so do `run`, `turns` and `sweep`. No file that is read is written over: nothing is read or
+/// written then. Two names of one file aren't seen to be one.
 pub fn perform<
     T: Threads + Wait + Clock + Sync,
     R: Reader + Drop,

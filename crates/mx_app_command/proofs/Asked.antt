@@ -2,7 +2,7 @@
 use Rattle.std.proofs.Common.{◌≡◌, ◌∙◌, true, false, List, codes, ap, inl, inr, sym, refl, true≢false}
 use Rattle.std.specs.Str.{bytes_eq}
 use Rattle.clap.specs.Words.{Row, Text}
-use Rattle.mx_app_command.specs.Words.{IsHistoryAsked, IsMachineAsked}
+use Rattle.mx_app_command.specs.Words.{IsHistoryAsked, IsMachineAsked, IsOtherHistoryAsked}
 
 not_named : (name word : Text) → bytes_eq word word ≡ true → bytes_eq name word ≡ false → name ≡ word → ⊥
 not_named name word same h e = true≢false (sym same ∙ ap (λ (t : Text). bytes_eq t word) (sym e) ∙ h)
@@ -19,3 +19,11 @@ history_left name rows explain step db asked = elim asked.1 [
     | inr history ↦ history
   ]
 ]
+
+-- a subcommand with a history that isn't `run` is another one
+pub other_left : (name : Text) (rows : List Row) → bytes_eq name (codes "run") ≡ false → IsHistoryAsked name rows → IsOtherHistoryAsked name rows
+other_left name rows not asked =
+    elim asked.1 [
+      | inl run ↦ absurd (not_named name (codes "run") refl not run.0)
+      | inr other ↦ other
+    ]

@@ -15,7 +15,7 @@ use Rattle.clap.specs.Faults.{defaults_fault, entered_fault, level_fault, settle
 use Rattle.clap.specs.Walk.{answers_to, finished, nothing_held, rows_after, settled, stop_after, walk, walk_from}
 use Rattle.clap.specs.declared.builder.value_parser.ValueParser.TheVariants.{Signed}
 use Rattle.clap.proofs.ValueTestLemmas.{accepts-Accepts}
-use Rattle.mx_app_command.specs.Words.{HasNumber, IsAsked, IsGiven, MayHaveNumber, MayHaveRange, following_shape, looking_shape, mx_grammar, number_after, of_one, of_two, one_shape, run_shape, step_shape, sweep_shape, turns_shape, required_text, required_number}
+use Rattle.mx_app_command.specs.Words.{HasNumber, IsAsked, IsGiven, MayHaveNumber, MayHaveRange, following_shape, jobs_after, looking_shape, mx_grammar, number_after, of_one, of_two, one_shape, run_shape, step_shape, sweep_shape, turns_shape, required_text, required_number}
 use Rattle.mx_app_command.proofs.Given.{IsOnly, SetsValue, all_found, has_wanted, no_fault, value_given, value_if_given}
 
 -- the grammar as a parse sees it: with the help flag, and each argument's place
@@ -211,6 +211,25 @@ number_if_given s long id n only words fine =
           inr (number.0, (without_minus given.0, given.2, number.1)))
     ]
 
+-- a number of jobs is one of 32 bits
+few_of : (t : Text) → IsSignedIn (pos 1) (pos 64) t → IsSignedIn (pos 0) (pos 4294967295) t
+few_of t passed = (passed.0, passed.1, omega (arith, ints, passed.2), omega (arith, ints, passed.3))
+
+jobs_sets : (long id : Text) (n : ℕ) → SetsValue (with_index n (filled (jobs_after long id)))
+jobs_sets long id n = record { set = refl; least = omega arith; defaults = refl }
+
+-- a number of jobs after a long name, of which the argument is the only one
+jobs_if_given : (s : Shape) (long id : Text) (n : ℕ) → IsOnly (with_index n (filled (jobs_after long id))) s.rules
+    → (words : List Text) → level_fault s [] nothing_held words false [] ≡ [] → MayHaveNumber id (rows_after s.rules [] words)
+jobs_if_given s long id n only words fine =
+    let rule = with_index n (filled (jobs_after long id)) in
+    elim (value_if_given rule (jobs_sets long id n) s only words fine) [
+      | inl absent ↦ inl absent
+      | inr given ↦
+          (let number = number_of given.0 (few_of given.0 (accepts-Accepts rule.ignore_case (Signed (pos 1) (pos 64)) given.0 given.3)) in
+          inr (number.0, (without_minus given.0, given.2, number.1)))
+    ]
+
 run_fits : Fits run_whole
 run_fits words fine =
     let config = value_given config_rule (required_sets (codes "CONFIG") 1) run_whole only_run_config words refl (inl refl) refl fine in
@@ -250,22 +269,25 @@ abbrev fault_rule : Rule
 fault_rule = with_index 3 (filled (required_text (codes "FAULT")))
 
 only_sweep_config : IsOnly config_rule sweep_whole.rules
-only_sweep_config = ((λ e. refl), ((λ e. never e), ((λ e. never e), ((λ e. never e), ((λ e. never e), ((λ e. never e), ((λ e. never e), ((λ e. never e), ((λ e. never e), ((λ e. never e), ((λ e. never e), ((λ e. never e), tt))))))))))))
+only_sweep_config = ((λ e. refl), ((λ e. never e), ((λ e. never e), ((λ e. never e), ((λ e. never e), ((λ e. never e), ((λ e. never e), ((λ e. never e), ((λ e. never e), ((λ e. never e), ((λ e. never e), ((λ e. never e), ((λ e. never e), tt)))))))))))))
 
 only_sweep_log : IsOnly log_rule sweep_whole.rules
-only_sweep_log = ((λ e. never e), ((λ e. refl), ((λ e. never e), ((λ e. never e), ((λ e. never e), ((λ e. never e), ((λ e. never e), ((λ e. never e), ((λ e. never e), ((λ e. never e), ((λ e. never e), ((λ e. never e), tt))))))))))))
+only_sweep_log = ((λ e. never e), ((λ e. refl), ((λ e. never e), ((λ e. never e), ((λ e. never e), ((λ e. never e), ((λ e. never e), ((λ e. never e), ((λ e. never e), ((λ e. never e), ((λ e. never e), ((λ e. never e), ((λ e. never e), tt)))))))))))))
 
 only_sweep_fault : IsOnly fault_rule sweep_whole.rules
-only_sweep_fault = ((λ e. never e), ((λ e. never e), ((λ e. refl), ((λ e. never e), ((λ e. never e), ((λ e. never e), ((λ e. never e), ((λ e. never e), ((λ e. never e), ((λ e. never e), ((λ e. never e), ((λ e. never e), tt))))))))))))
+only_sweep_fault = ((λ e. never e), ((λ e. never e), ((λ e. refl), ((λ e. never e), ((λ e. never e), ((λ e. never e), ((λ e. never e), ((λ e. never e), ((λ e. never e), ((λ e. never e), ((λ e. never e), ((λ e. never e), ((λ e. never e), tt)))))))))))))
 
 only_sweep_bound : IsOnly (with_index 4 (filled (number_after (codes "turns") (codes "N")))) sweep_whole.rules
-only_sweep_bound = ((λ e. never e), ((λ e. never e), ((λ e. never e), ((λ e. refl), ((λ e. never e), ((λ e. never e), ((λ e. never e), ((λ e. never e), ((λ e. never e), ((λ e. never e), ((λ e. never e), ((λ e. never e), tt))))))))))))
+only_sweep_bound = ((λ e. never e), ((λ e. never e), ((λ e. never e), ((λ e. refl), ((λ e. never e), ((λ e. never e), ((λ e. never e), ((λ e. never e), ((λ e. never e), ((λ e. never e), ((λ e. never e), ((λ e. never e), ((λ e. never e), tt)))))))))))))
 
 only_sweep_from : IsOnly (with_index 5 (filled (number_after (codes "from") (codes "A")))) sweep_whole.rules
-only_sweep_from = ((λ e. never e), ((λ e. never e), ((λ e. never e), ((λ e. never e), ((λ e. refl), ((λ e. never e), ((λ e. never e), ((λ e. never e), ((λ e. never e), ((λ e. never e), ((λ e. never e), ((λ e. never e), tt))))))))))))
+only_sweep_from = ((λ e. never e), ((λ e. never e), ((λ e. never e), ((λ e. never e), ((λ e. refl), ((λ e. never e), ((λ e. never e), ((λ e. never e), ((λ e. never e), ((λ e. never e), ((λ e. never e), ((λ e. never e), ((λ e. never e), tt)))))))))))))
 
 only_sweep_to : IsOnly (with_index 6 (filled (number_after (codes "to") (codes "B")))) sweep_whole.rules
-only_sweep_to = ((λ e. never e), ((λ e. never e), ((λ e. never e), ((λ e. never e), ((λ e. never e), ((λ e. refl), ((λ e. never e), ((λ e. never e), ((λ e. never e), ((λ e. never e), ((λ e. never e), ((λ e. never e), tt))))))))))))
+only_sweep_to = ((λ e. never e), ((λ e. never e), ((λ e. never e), ((λ e. never e), ((λ e. never e), ((λ e. refl), ((λ e. never e), ((λ e. never e), ((λ e. never e), ((λ e. never e), ((λ e. never e), ((λ e. never e), ((λ e. never e), tt)))))))))))))
+
+only_sweep_jobs : IsOnly (with_index 7 (filled (jobs_after (codes "jobs") (codes "J")))) sweep_whole.rules
+only_sweep_jobs = ((λ e. never e), ((λ e. never e), ((λ e. never e), ((λ e. never e), ((λ e. never e), ((λ e. never e), ((λ e. refl), ((λ e. never e), ((λ e. never e), ((λ e. never e), ((λ e. never e), ((λ e. never e), ((λ e. never e), tt)))))))))))))
 
 sweep_fits : Fits sweep_whole
 sweep_fits words fine =
@@ -275,7 +297,8 @@ sweep_fits words fine =
     let bound = number_if_given sweep_whole (codes "turns") (codes "N") 4 only_sweep_bound words fine in
     let from = number_if_given sweep_whole (codes "from") (codes "A") 5 only_sweep_from words fine in
     let to = number_if_given sweep_whole (codes "to") (codes "B") 6 only_sweep_to words fine in
-    ((λ e. (ap is_some config.1, inr (inr (ap is_some log.1, inr (inr (inr (inr (refl, (ap is_some fault.1, bound, (from, to)))))))))), (λ e. absurd (true≢false e)))
+    let jobs = jobs_if_given sweep_whole (codes "jobs") (codes "J") 7 only_sweep_jobs words fine in
+    ((λ e. (ap is_some config.1, inr (inr (ap is_some log.1, inr (inr (inr (inr (refl, record { fault = ap is_some fault.1; bound = bound; range = (from, to); jobs = jobs })))))))), (λ e. absurd (true≢false e)))
 
 abbrev following_whole : Text → Shape
 following_whole name = whole_of (following_shape name)

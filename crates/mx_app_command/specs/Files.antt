@@ -42,7 +42,7 @@ files_read (Explain config) = one_file (codes "CONFIG") config.now
 files_read (Step config script save numbered) = with_course config.now (codes "SCRIPT") script.now
 files_read (Run config log ticks events) = with_events config.now (option_map (λ s. s.now) events)
 files_read (Turns config log ticks events bound) = with_events config.now (option_map (λ s. s.now) events)
-files_read (Sweep config log fault bound from to strict save) =
+files_read (Sweep config log fault bound from to jobs strict save) =
     record {
       first = file_word (codes "CONFIG") config.now;
       course = Some (file_word (codes "LOG") log.now);
@@ -60,7 +60,7 @@ file_written (As text file) = Some (file_word (codes "FILE") file.now)
 file_written (Step config script (Some log) numbered) = Some (file_word (codes "LOG") log.now)
 file_written (Run config log ticks events) = Some (file_word (codes "LOG") log.now)
 file_written (Turns config log ticks events bound) = Some (file_word (codes "LOG") log.now)
-file_written (Sweep config log fault bound from to strict (Some file)) = Some (file_word (codes "FILE") file.now)
+file_written (Sweep config log fault bound from to jobs strict (Some file)) = Some (file_word (codes "FILE") file.now)
 file_written r = None
 
 -- ---- names

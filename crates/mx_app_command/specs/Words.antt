@@ -33,6 +33,10 @@ after_name long id = record (new_rule id) { long = Some long; action = Some Set 
 abbrev pub number_after : Text → Text → Rule
 number_after long id = record (after_name long id) { parser = Some (Signed (pos 0) (pos 4294967295)) }
 
+-- an argument that may be given once, after a long name, a number of jobs: 1 to 64
+abbrev pub jobs_after : Text → Text → Rule
+jobs_after long id = record (after_name long id) { parser = Some (Signed (pos 1) (pos 64)) }
+
 -- a flag, by its name
 abbrev pub flag : Text → Rule
 flag id = record (new_rule id) { long = Some id; action = Some SetTrue }
@@ -88,14 +92,14 @@ turns_shape =
     (required_text (codes "CONFIG") ∷ required_text (codes "LOG") ∷ number_after (codes "ticks") (codes "T")
     ∷ after_name (codes "events") (codes "EVENTS") ∷ number_after (codes "turns") (codes "N") ∷ sums_rule ∷ [])
 
--- `sweep CONFIG LOG FAULT --turns N --from A --to B --strict --save FILE --sums SUMS`
+-- `sweep CONFIG LOG FAULT --turns N --from A --to B --jobs J --strict --save FILE --sums SUMS`
 abbrev pub sweep_shape : Shape
 sweep_shape =
     subcommand (codes "sweep")
     (required_text (codes "CONFIG") ∷ required_text (codes "LOG") ∷ required_text (codes "FAULT")
     ∷ number_after (codes "turns") (codes "N") ∷ number_after (codes "from") (codes "A")
-    ∷ number_after (codes "to") (codes "B") ∷ flag (codes "strict") ∷ after_name (codes "save") (codes "FILE")
-    ∷ sums_rule ∷ [])
+    ∷ number_after (codes "to") (codes "B") ∷ jobs_after (codes "jobs") (codes "J") ∷ flag (codes "strict")
+    ∷ after_name (codes "save") (codes "FILE") ∷ sums_rule ∷ [])
 
 -- `NAME CONFIG LOG --from A --to B --sums SUMS`, what is printed of a history's records
 abbrev pub looking_shape : Text → Shape
@@ -170,6 +174,11 @@ HasNumber id rows n =
 abbrev pub HasNumberOr : ℕ → Text → List Row → ℕ → Type 0
 HasNumberOr other id rows n = ((one_of id rows ≡ None) × (n ≡ other)) ⊎ HasNumber id rows n
 
+-- the argument isn't given, and there is no number; or it is its text's
+abbrev pub HasNumberIf : Text → List Row → Option ℕ → Type 0
+HasNumberIf id rows None = one_of id rows ≡ None
+HasNumberIf id rows (Some n) = HasNumber id rows n
+
 -- the records from A, by default the first, to B, by default the last: a history has fewer than 2 ^ 32
 abbrev pub HasRange : List Row → RecordRange → Type 0
 HasRange rows range = HasNumberOr 1 (codes "A") rows range.from × HasNumberOr 4294967295 (codes "B") rows range.to
@@ -212,11 +221,11 @@ AsksBy (Turns config log ticks events bound) name rows =
     (name ≡ codes "turns") × HasText (codes "CONFIG") rows config.now × HasText (codes "LOG") rows log.now
     × HasNumberOr 0 (codes "T") rows ticks × MayHaveText (codes "EVENTS") rows (option_map (λ s. s.now) events)
     × HasNumberOr 4294967295 (codes "N") rows bound
-AsksBy (Sweep config log fault bound from to strict save) name rows =
+AsksBy (Sweep config log fault bound from to jobs strict save) name rows =
     (name ≡ codes "sweep") × HasText (codes "CONFIG") rows config.now × HasText (codes "LOG") rows log.now
     × HasText (codes "FAULT") rows fault.now
     × HasNumberOr 1000 (codes "N") rows bound × HasNumberOr 0 (codes "A") rows from
-    × HasNumberOr 4294967295 (codes "B") rows to
+    × HasNumberOr 4294967295 (codes "B") rows to × HasNumberIf (codes "J") rows jobs
     × IsFlag (codes "strict") rows strict × MayHaveText (codes "FILE") rows (option_map (λ s. s.now) save)
 AsksBy (Replay config log) name rows =
     (name ≡ codes "replay") × HasText (codes "CONFIG") rows config.now × HasText (codes "LOG") rows log.now
@@ -280,11 +289,14 @@ IsScriptAsked name rows = IsGiven (codes "SCRIPT") rows × ((name ≡ codes "ste
 abbrev pub MayHaveTurns : List Row → Type 0
 MayHaveTurns rows = MayHaveNumber (codes "T") rows × MayHaveNumber (codes "N") rows
 
--- `sweep` has a fault, and may have the numbers of turns, and of the first and the last position
-abbrev pub MayHaveSweep : List Row → Type 0
-MayHaveSweep rows = IsGiven (codes "FAULT") rows × MayHaveNumber (codes "N") rows × MayHaveRange rows
+-- `sweep` has a fault, and may have the numbers of turns, of the first and the last position, and of jobs
+pub record MayHaveSweep (rows : List Row) : Type 0 where
+  pub fault : IsGiven (codes "FAULT") rows
+  pub bound : MayHaveNumber (codes "N") rows
+  pub range : MayHaveRange rows
+  pub jobs : MayHaveNumber (codes "J") rows
 
--- those with a history but for `run`: `turns`, `trace` and `draw` may have two numbers, `sweep` three
+-- those with a history but for `run`: `turns`, `trace` and `draw` may have two numbers, `sweep` four
 abbrev pub IsOtherHistoryAsked : Text → List Row → Type 0
 IsOtherHistoryAsked name rows =
     ((name ≡ codes "replay") ⊎ (name ≡ codes "look"))

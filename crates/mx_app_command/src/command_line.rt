@@ -2,7 +2,7 @@
 
 ghost use Rattle.std.specs.Prelude.{◌≡◌, ◌&&◌, ◌⊎◌, ℕ, Bool, IfErr, IfOk, MatchResult, [], codes, false, is_some, map, not, option_map, true};
 ghost use Rattle.clap.specs.Words.{FailsBy, HasMatchesOf, fault_of, first_of, found_of, kind_of, rows_of, subcommand_of, takes};
-ghost use Rattle.mx_app_command.specs.Words.{Asks, AsksBy, AsksForSilence, AsksForSums, AsksToExplain, HasNumber, HasNumberOr, HasRange, HasText, IsFlag, MayHaveNumber, MayHaveRange, MayHaveSweep, MayHaveText, MayHaveTurns, IsAsked, IsHistoryAsked, IsMachineAsked, IsProgramAsked, IsOtherHistoryAsked, IsScriptAsked, is_following, is_machine, mx_grammar};
+ghost use Rattle.mx_app_command.specs.Words.{Asks, AsksBy, AsksForSilence, AsksForSums, AsksToExplain, HasNumber, HasNumberIf, HasNumberOr, HasRange, HasText, IsFlag, MayHaveNumber, MayHaveRange, MayHaveSweep, MayHaveText, MayHaveTurns, IsAsked, IsHistoryAsked, IsMachineAsked, IsProgramAsked, IsOtherHistoryAsked, IsScriptAsked, is_following, is_machine, mx_grammar};
 ghost use Rattle.mx_app_command.specs.Mistakes.{IsMistake, IsOutOfMemory, both_given, has_both};
 
 use crate::grammar::grammar;
@@ -77,7 +77,7 @@ pub enum CommandRequest<'a> {
         /// The most turns, which a history can't have if none are given.
         bound: u32,
     },
-    /// `sweep CONFIG LOG FAULT`, with `--turns N`, `--from A`, `--to B`, `--strict` and `--save FILE` or
+    /// `sweep CONFIG LOG FAULT`, with `--turns N`, `--from A`, `--to B`, `--jobs J`, `--strict` and `--save FILE` or
     /// without.
     Sweep {
         config: &'a str,
@@ -89,6 +89,8 @@ pub enum CommandRequest<'a> {
         from: u32,
         /// The last.
         to: u32,
+        /// How many threads try positions.
+        jobs: Option<u32>,
         strict: bool,
         save: Option<&'a str>,
     },
@@ -184,6 +186,14 @@ fn number_or(matches: &ArgMatches<'_>, id: &str, other: u32) -> u32
     matches.get_one::<u32>(id).unwrap_or(other)
 }
 
+/// The number that an argument has, if it is there.
+fn number_if_asked(matches: &ArgMatches<'_>, id: &str) -> Option<u32>
+    requires { MayHaveNumber id.now (rows_of (found_of matches.now)) }
+    ensures { HasNumberIf id.now (rows_of (found_of matches.now)) result }
+{
+    matches.get_one::<u32>(id)
+}
+
 /// The records that are asked for: all, but for what the arguments leave out.
 fn range_asked(matches: &ArgMatches<'_>) -> RecordRange
     requires { MayHaveRange (rows_of (found_of matches.now)) }
@@ -274,6 +284,7 @@ fn sweep_request<'a>(config: &'a str, log: &'a str, matches: &ArgMatches<'a>) ->
     let bound = number_or(matches, "N", TURNS_AFTER);
     let from = number_or(matches, "A", 0);
     let to = number_or(matches, "B", u32::MAX);
+    let jobs = number_if_asked(matches, "J");
     let strict = flag_asked(matches, "strict");
     let save = value_if_asked(matches, "FILE");
     CommandRequest::Sweep {
@@ -283,6 +294,7 @@ fn sweep_request<'a>(config: &'a str, log: &'a str, matches: &ArgMatches<'a>) ->
         bound,
         from,
         to,
+        jobs,
         strict,
         save,
     }

@@ -2,12 +2,15 @@
 
 ghost use Rattle.std.specs.Prelude.{◌≡◌, IfOk, false, fold, map};
 ghost use Rattle.clap.specs.Words.{app_of, rule_of, shape_of, with_subcommand};
-ghost use Rattle.mx_app_command.specs.Words.{IsLocal, after_name, flag, machine_app, mx_grammar, number_after, program_app, top_app, turn_app, required_text, required_number};
+ghost use Rattle.mx_app_command.specs.Words.{IsLocal, after_name, flag, jobs_after, machine_app, mx_grammar, number_after, program_app, top_app, turn_app, required_text, required_number};
 ghost use Rattle.mx_app_command.specs.Tables.{rule_of_argument, shape_of_subcommand};
 
 use crate::help::Example;
 use clap::{Arg, ArgAction, Command};
 use std::alloc::{AllocError, Global};
+
+/// The most jobs that a sweep may have.
+const MOST_JOBS: i64 = 64;
 
 /// What an argument is, and its place.
 #[derive(Clone, Copy)]
@@ -22,6 +25,8 @@ enum ArgumentForm<'a> {
     Flag,
     /// A number of 32 bits that may be given, after this long name.
     NumberAfter(&'a str),
+    /// A number of jobs that may be given, after this long name.
+    JobsAfter(&'a str),
 }
 
 /// An argument of a subcommand, with a line of help.
@@ -165,6 +170,13 @@ const LAST_POSITION: CommandArgument<'static> = CommandArgument {
     name: "B",
     help: "The last position, the history's end by default",
     form: ArgumentForm::NumberAfter("to"),
+};
+
+/// How many threads try positions.
+const JOBS: CommandArgument<'static> = CommandArgument {
+    name: "J",
+    help: "How many threads try positions, 1 to 64; without it as many as there are processors",
+    form: ArgumentForm::JobsAfter("jobs"),
 };
 
 /// Whether a difference is an error.
@@ -323,6 +335,7 @@ static TURN_COMMANDS: [Subcommand<'static>; 2] = [
             TURNS_AFTER,
             FIRST_POSITION,
             LAST_POSITION,
+            JOBS,
             STRICT,
             SAVED_FAULT,
             SUMS,
@@ -399,6 +412,14 @@ fn number_after<'a>(alloc: Global, long: &'a str, name: &'a str) -> Arg<'a>
     after_name(alloc, long, name).value_parser(clap::value_parser!(u32))
 }
 
+/// A number of jobs that may be given, after a long name.
+fn jobs_after<'a>(alloc: Global, long: &'a str, name: &'a str) -> Arg<'a>
+    ensures rule { rule_of result ≡ jobs_after long.entry.now name.entry.now }
+    ensures local { result.global ≡ false }
+{
+    after_name(alloc, long, name).value_parser(clap::value_parser!(u32).range(1..=MOST_JOBS))
+}
+
 /// A flag that may be given, by its own name.
 fn flag<'a>(alloc: Global, name: &'a str) -> Arg<'a>
     ensures rule { rule_of result ≡ flag name.entry.now }
@@ -419,6 +440,7 @@ fn argument_of<'a>(alloc: Global, argument: &CommandArgument<'a>) -> Arg<'a>
         ArgumentForm::After(long) => after_name(alloc, long, name),
         ArgumentForm::Flag => flag(alloc, name),
         ArgumentForm::NumberAfter(long) => number_after(alloc, long, name),
+        ArgumentForm::JobsAfter(long) => jobs_after(alloc, long, name),
     };
     arg.help(argument.help)
 }

@@ -261,7 +261,8 @@ FAULT's lines, each service's name, endpoint and state, how the turns ended (res
 turns or full), and the console. Of a block that ends otherwise than without the fault
 the last line names the first such position K; --from K --to K --save FILE writes the
 history of its run. FAULT has lines of a script, and kill slot S, which kills who is in
-slot S then. If nothing was tested, standard error says why.
+slot S then. If nothing was tested, standard error says why. What is printed is the
+same for each J of --jobs.
 
 Status: 0 done; 1 a text or a program's file is refused, or an event of LOG, or, with
 --strict, a position ends otherwise than without the fault, or nothing was tested; 2 a

@@ -86,7 +86,7 @@ record_wanted (Db config script) =
 record_wanted (Run config log ticks events) =
     codes "line L, tick, kill E or wait N; --events wants others 2 or more in CONFIG"
 record_wanted (Turns config log ticks events bound) = codes "an outside event: line L, tick or kill E"
-record_wanted (Sweep config log fault bound from to strict save) =
+record_wanted (Sweep config log fault bound from to jobs strict save) =
     codes "in LOG a record and its line feed; in FAULT an event of a script, or kill slot S"
 record_wanted r =
     codes "a record and its line feed: A take, A back N, A line L, A tick, A kill E or A respawn S; or "

@@ -26,7 +26,8 @@ ghost use Rattle.mx_app_turns.specs.declared.sweeping.Swept.TheVariants as swept
 ghost use Rattle.mx_app_turns.specs.Blocks.{block_text, positions_of, total_text};
 ghost use Rattle.mx_app_turns.specs.Tallied.{both, has_room, tally_of, with_next};
 ghost use Rattle.mx_app_turns.specs.Untested.{untested_by};
-ghost use Rattle.mx_turns.specs.Swept.{IsPair, IsSwept};
+ghost use Rattle.mx_turns.specs.Ahead.{IsAhead, boot_of};
+ghost use Rattle.mx_turns.specs.Swept.{IsSwept};
 ghost use Rattle.mx_app_turns.specs.Sweeping.{IsBegun, IsNotBegun, IsShown, IsUnsaved, Sweeps, blocks_at, ended, findings_at, refusal_at, run_at, saved_if, saves_program, text_at, total_of};
 ghost use Rattle.mx_app_step.specs.Kept.{kept_of, text_kept};
 ghost use Rattle.mx_app_turns.specs.Begun.{IsDone, IsReady, begun_of, is_ready, sweep_of};
@@ -41,11 +42,11 @@ use mx_app_start::{
 use mx_app_step::{perform_records, print_refusal, write_history};
 use mx_boot::lines_above;
 use mx_machine::{Config, Machine, Record, Refusal};
-use mx_turns::{FaultLine, Findings, Pair, Range, Sweep, Trial, trial_at};
+use mx_turns::{Ahead, FaultLine, Findings, Range, Sweep, Told};
 use mx_walk::{Part, Progress};
-use mx_word::NoMemory;
 use std::alloc::Global;
 use std::io::Write;
+use std::thread::{Threads, available_parallelism};
 
 /// The names of the files that are read: of the configuration, of the saved history and of the fault.
 #[derive(Clone, Copy)]
@@ -63,6 +64,8 @@ pub struct SweepWanted<'a> {
     pub to: u32,
     /// The most turns after each.
     pub bound: u32,
+    /// How many threads try positions: as many as there are processors, if it isn't said.
+    pub jobs: Option<u32>,
     /// The file that the history with the fault is written to, if one is named.
     pub save: Option<&'a str>,
 }
@@ -224,113 +227,120 @@ struct Done {
     refusal: Option<Refusal>,
 }
 
-/// The trial of a position of a sweep. It is shown then that the position is done.
-fn trial_shown<P: Progress>(
+/// What the next position of a sweep tells. It is shown then that the position is done.
+fn told_shown<T: Threads + Sync, P: Progress>(
+    rt: &T,
     alloc: Global,
-    pair: Pair,
+    ahead: &mut Ahead,
     sweep: Sweep<'_>,
     position: usize,
     progress: &mut P,
-) -> Result<Trial, Failure>
-    requires swept { IsSwept sweep pair.along.kernel.boot }
-    requires pair { IsPair sweep.records.now pair }
-    requires later { pair.position ≤ position }
+) -> Result<Told, Failure>
+    requires ahead { IsAhead sweep ahead.old }
+    requires there { ahead.old.position ≡ position }
     requires from { sweep.range.from ≤ position }
     requires end { position < sweep.range.end }
-    requires within { sweep.range.end ≤ length sweep.records.now + 1 }
     ensures err { IfErr result IsWanting }
-    ensures outcome { IfOk result (λ o. let s = sweep_of sweep.entry pair.along.kernel.boot in
-        (o.text.items ≡ text_at s position) × (o.findings ≡ findings_at s position)
-        × (o.pair.copy.kernel ≡ (run_at s position).kernel)) }
-    ensures pair { IfOk result (λ o. IsPair sweep.entry.records.now o.pair) }
-    ensures there { IfOk result (λ o. o.pair.position ≡ position) }
-    ensures boot { IfOk result (λ o. o.pair.along.kernel.boot ≡ pair.along.kernel.boot) }
+    ensures told { IfOk result (λ t. let s = sweep_of sweep.entry (boot_of ahead.old) in
+        (t.text.items ≡ text_at s position) × (t.findings ≡ findings_at s position)) }
+    ensures ahead { OnOk result (IsAhead sweep.entry ahead.new) }
+    ensures there { OnOk result (ahead.new.position ≡ position + 1) }
+    ensures boot { OnOk result (boot_of ahead.new ≡ boot_of ahead.old) }
     ensures shown { OnOk result (let range = sweep.entry.range in P.shown progress.new
         ≡ P.shown progress.old
         ++ record { done = position - range.from + 1; all = range.end - range.from } ∷ []) }
     ensures same { IfErr result (λ _. P.shown progress.new ≡ P.shown progress.old) }
 {
-    let outcome = trial_at(alloc, pair, sweep, position)?;
+    let told = ahead.ask(rt, alloc, sweep)?;
     progress.show(Part {
         done: position - sweep.range.from + 1,
         all: sweep.range.end - sweep.range.from,
     });
-    Ok(outcome)
+    Ok(told)
 }
 
-/// Sweeps positions, of which the first has this trial, and prints their blocks.
-fn print_more<P: Progress, W: Write>(
+/// Sweeps positions, of which the first tells this, and prints their blocks.
+fn print_more<T: Threads + Sync, P: Progress, W: Write>(
+    rt: &T,
     alloc: Global,
-    first: Trial,
+    first: Told,
+    ahead: Ahead,
     sweep: Sweep<'_>,
     progress: &mut P,
     out: &mut W,
 ) -> Result<Done, Failure>
-    requires swept { IsSwept sweep first.pair.along.kernel.boot }
-    requires pair { IsPair sweep.records.now first.pair }
-    requires there { first.pair.position ≡ sweep.range.from }
+    requires ahead { IsAhead sweep ahead }
+    requires there { ahead.position ≡ sweep.range.from + 1 }
     requires some { sweep.range.from < sweep.range.end }
-    requires within { sweep.range.end ≤ length sweep.records.now + 1 }
-    requires first { let s = sweep_of sweep first.pair.along.kernel.boot in
+    requires first { let s = sweep_of sweep (boot_of ahead) in
         (first.text.items ≡ text_at s sweep.range.from)
-        × (first.findings ≡ findings_at s sweep.range.from)
-        × (first.pair.copy.kernel ≡ (run_at s sweep.range.from).kernel) }
+        × (first.findings ≡ findings_at s sweep.range.from) }
     ensures err { IfErr result IsWanting }
     ensures printed { OnOk result (let range = sweep.entry.range in
         Appends (W.contents out.old) (W.contents out.new)
-        (flat_map block_text (blocks_at (sweep_of sweep.entry first.pair.along.kernel.boot)
+        (flat_map block_text (blocks_at (sweep_of sweep.entry (boot_of ahead))
         (range.end - range.from) range.from))) }
     ensures total { IfOk result (λ done. let range = sweep.entry.range in
-        let s = sweep_of sweep.entry first.pair.along.kernel.boot in
+        let s = sweep_of sweep.entry (boot_of ahead) in
         done.total ≡ total_of s (range.end - range.from) range.from) }
     ensures refusal { IfOk result (λ done. done.refusal
-        ≡ refusal_at (sweep_of sweep.entry first.pair.along.kernel.boot) sweep.entry.range.from) }
+        ≡ refusal_at (sweep_of sweep.entry (boot_of ahead)) sweep.entry.range.from) }
     ensures kernel { IfOk result (λ done. done.machine.kernel
-        ≡ (run_at (sweep_of sweep.entry first.pair.along.kernel.boot)
-        (sweep.entry.range.end - 1)).kernel) }
+        ≡ (run_at (sweep_of sweep.entry (boot_of ahead)) (sweep.entry.range.end - 1)).kernel) }
     ensures shown { IsShown (P.shown progress.old) (P.shown progress.new)
         (sweep.entry.range.end - sweep.entry.range.from) result }
 {
     let range = sweep.range;
     let all = range.end - range.from;
+    let mut ahead = ahead;
     let refusal = first.findings.refusal;
-    let mut pair = first.pair;
     let mut tally = Tally::one(range.from, first.text, first.findings);
     progress.show(Part { done: 1, all });
     for position in range.from + 1..range.end {
-        let outcome = trial_shown(alloc, pair, sweep, position, progress)?;
-        pair = outcome.pair;
-        let next = Tally::one(position, outcome.text, outcome.findings);
+        let told = told_shown(rt, alloc, &mut ahead, sweep, position, progress)?;
+        let next = Tally::one(position, told.text, told.findings);
         tally.push(alloc, next, progress, out)?;
     }
     print_block(alloc, &tally.block, progress, out)?;
     Ok(Done {
-        machine: pair.copy,
+        machine: ahead.into_machine(),
         total: tally.total,
         refusal,
     })
 }
 
-/// A pair of machines at the boot of another machine, which is let go.
-fn pair_of(alloc: Global, machine: Machine, sweep: Sweep<'_>) -> Result<Pair, NoMemory>
-    requires { IsSwept sweep machine.kernel.boot }
-    ensures pair { IfOk result (λ pair. IsPair sweep.entry.records.now pair) }
-    ensures first { IfOk result (λ pair. pair.position ≡ 0) }
-    ensures boot { IfOk result (λ pair. pair.along.kernel.boot ≡ machine.kernel.boot) }
+/// The most threads that try positions.
+const MOST_JOBS: usize = 64;
+
+/// How many threads try positions: as many as were asked for, or else as many as there are processors, if the system
+/// says so.
+fn jobs_of<T: Threads>(rt: &T, wanted: Option<u32>) -> usize
+    ensures some { 0 < result }
+    ensures few { result ≤ 64 }
 {
-    let services = machine.into_kernel().into_services();
-    Pair::new(alloc, sweep.config, services.as_slice())
+    let jobs = match wanted {
+        Some(jobs) => jobs as usize,
+        None => match available_parallelism(rt) {
+            Ok(processors) => processors.get(),
+            Err(_) => 1,
+        },
+    };
+    jobs.max(1).min(MOST_JOBS)
 }
 
 /// Sweeps positions, and prints their blocks.
-fn print_positions<P: Progress, W: Write>(
+fn print_positions<T: Threads + Sync, P: Progress, W: Write>(
+    rt: &T,
     alloc: Global,
     machine: Machine,
     sweep: Sweep<'_>,
+    jobs: usize,
     progress: &mut P,
     out: &mut W,
 ) -> Result<Done, Failure>
     requires swept { IsSwept sweep machine.kernel.boot }
+    requires jobs { 0 < jobs }
+    requires few { jobs ≤ 64 }
     requires within { sweep.range.end ≤ length sweep.records.now + 1 }
     ensures err { IfErr result IsWanting }
     ensures printed { OnOk result (let range = sweep.entry.range in
@@ -356,9 +366,10 @@ fn print_positions<P: Progress, W: Write>(
             refusal: None,
         });
     }
-    let pair = pair_of(alloc, machine, sweep)?;
-    let first = trial_at(alloc, pair, sweep, sweep.range.from)?;
-    print_more(alloc, first, sweep, progress, out)
+    let jobs = jobs.min(sweep.range.end - sweep.range.from);
+    let mut ahead = Ahead::new(alloc, machine, sweep, jobs)?;
+    let first = ahead.ask(rt, alloc, sweep)?;
+    print_more(rt, alloc, first, ahead, sweep, progress, out)
 }
 
 /// The positions that are swept of a history, by the number of its records.
@@ -479,7 +490,8 @@ fn end_sweep<F: FileWriter, W: Write>(
 
 /// Sweeps a history that was replayed, prints its blocks and the counts, and then writes a history if that is
 /// wanted.
-fn sweep_replayed<R: Drop, F: FileWriter + Drop, W: Write + Drop, P: Progress>(
+fn sweep_replayed<T: Threads + Sync, R: Drop, F: FileWriter + Drop, W: Write + Drop, P: Progress>(
+    rt: &T,
     alloc: Global,
     channels: &mut Channels<R, F, W>,
     progress: &mut P,
@@ -497,7 +509,16 @@ fn sweep_replayed<R: Drop, F: FileWriter + Drop, W: Write + Drop, P: Progress>(
         plan.entry.wanted.to (option_map (λ s. s.now) plan.entry.wanted.save) ws ps
         (λ text. Appends (W.contents channels.old.out) (W.contents channels.new.out) text) result }
 {
-    let done = print_positions(alloc, machine, plan.sweep, progress, &mut channels.out)?;
+    let jobs = jobs_of(rt, plan.wanted.jobs);
+    let done = print_positions(
+        rt,
+        alloc,
+        machine,
+        plan.sweep,
+        jobs,
+        progress,
+        &mut channels.out,
+    )?;
     end_sweep(alloc, &done, &mut channels.files, &mut channels.out, plan)
 }
 
@@ -520,7 +541,8 @@ fn replay_history(machine: &mut Machine, records: &[Record]) -> Result<(), (usiz
 }
 
 /// Replays a history, and sweeps it; or prints the event that is refused.
-fn sweep_started<R: Drop, F: FileWriter + Drop, W: Write + Drop, P: Progress>(
+fn sweep_started<T: Threads + Sync, R: Drop, F: FileWriter + Drop, W: Write + Drop, P: Progress>(
+    rt: &T,
     alloc: Global,
     channels: &mut Channels<R, F, W>,
     progress: &mut P,
@@ -542,12 +564,13 @@ fn sweep_started<R: Drop, F: FileWriter + Drop, W: Write + Drop, P: Progress>(
     if let Err((line, refusal)) = replay_history(&mut machine, plan.sweep.records) {
         return print_refused(alloc, line, refusal, &mut channels.out);
     }
-    sweep_replayed(alloc, channels, progress, machine, plan)
+    sweep_replayed(rt, alloc, channels, progress, machine, plan)
 }
 
 /// Sweeps a history that is read, prints its blocks and the counts, and then writes a history if that is
 /// wanted.
-fn sweep_begun<R: Drop, F: FileWriter + Drop, W: Write + Drop, P: Progress>(
+fn sweep_begun<T: Threads + Sync, R: Drop, F: FileWriter + Drop, W: Write + Drop, P: Progress>(
+    rt: &T,
     alloc: Global,
     channels: &mut Channels<R, F, W>,
     progress: &mut P,
@@ -578,17 +601,32 @@ fn sweep_begun<R: Drop, F: FileWriter + Drop, W: Write + Drop, P: Progress>(
         range: range_of(wanted, records.len()),
         bound: wanted.bound,
     };
-    sweep_started(alloc, channels, progress, machine, Plan { sweep, wanted })
+    sweep_started(
+        rt,
+        alloc,
+        channels,
+        progress,
+        machine,
+        Plan { sweep, wanted },
+    )
 }
 
-/// Replays a saved history; then, for each of its positions that is wanted, boots the machine again, makes the
-/// records above the position, does what the fault's lines say, and makes turns. Prints what comes of each,
+/// Replays a saved history; then, for each of its positions that is wanted, takes the machine there, does what the
+/// fault's lines say, and makes turns. Threads try several positions at once; what is printed, shown and written is the
+/// same for each number of them. Prints what comes of each,
 /// positions in a row with the same lines as one block, with a mark if one of them has another result without the
 /// fault, and how many have the result that they have without it. Then writes the history of the last position's run
 /// to the file `save`, if it is named. If an event of the saved history is refused, prints that as `replay` does, and
 /// nothing is swept. If `save` has the name of a service's program, nothing is swept, printed or written. After each
 /// position `progress` is shown how many are done.
-pub fn sweep<R: Reader + Drop, F: FileWriter + Drop, W: Write + Drop, P: Progress>(
+pub fn sweep<
+    T: Threads + Sync,
+    R: Reader + Drop,
+    F: FileWriter + Drop,
+    W: Write + Drop,
+    P: Progress,
+>(
+    rt: &T,
     alloc: Global,
     channels: &mut Channels<R, F, W>,
     progress: &mut P,
@@ -606,5 +644,5 @@ pub fn sweep<R: Reader + Drop, F: FileWriter + Drop, W: Write + Drop, P: Progres
 {
     let begun = begin(alloc, &mut channels.reader, names)?;
     spare_if_saved(&begun.started.config, wanted.save)?;
-    sweep_begun(alloc, channels, progress, begun, wanted)
+    sweep_begun(rt, alloc, channels, progress, begun, wanted)
 }

@@ -8,3 +8,4 @@ pub mod ShownLemmas
 pub mod AlongLemmas
 pub mod RunLemmas
 pub mod LineLemmas
+pub mod AheadLemmas

@@ -6,3 +6,4 @@ pub mod Faults
 pub mod Findings
 pub mod Sweep
 pub mod Swept
+pub mod Ahead

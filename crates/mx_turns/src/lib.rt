@@ -6,6 +6,8 @@
 //! One machine goes along the history (`Pair`). A copy of it at the position is given the `FaultLine`s of the fault and
 //! run on by turns. The text of its trial is compared with that of a copy that is run on without the fault.
 //!
+//! Positions are independent of each other, so several threads try some each, ahead of what is printed (`Ahead`).
+//!
 //! `specs/Turns.antt` says which events come of turns; `specs/Sweep.antt` what a trial is, and how it is printed.
 //!
 //! # Why the order is fixed
@@ -15,6 +17,7 @@
 //! may compare two runs, with a fault and without, and why two numbers of turns join (`joining_laws`).
 #![tactic(auto)]
 
+mod ahead;
 mod coming;
 mod faulted_run;
 mod faults;
@@ -26,6 +29,7 @@ mod services;
 mod trials;
 mod turns;
 
+pub use ahead::{Ahead, Told};
 pub use faulted_run::{Range, Sweep};
 pub use faults::FaultLine;
 pub use joining_laws::{rest_is_still, turn_of_one, turns_join};

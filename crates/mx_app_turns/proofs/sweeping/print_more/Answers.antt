@@ -6,14 +6,14 @@ use Rattle.mx_app_turns.specs.declared.blocks.Total.{Total}
 use Rattle.mx_app_turns.specs.declared.sweeping.Tally.{Tally}
 use Rattle.mx_app_turns.specs.Blocks.{Positions, block_at, positions_of}
 use Rattle.mx_app_turns.specs.Begun.{sweep_of}
-use Rattle.mx_turns.specs.Swept.{IsSwept}
+use Rattle.mx_turns.specs.Ahead.{boot_of}
 use Rattle.mx_turns.specs.declared.trials.Findings.{Findings}
 use Rattle.mx_app_turns.specs.Sweeping.{SweepOf, findings_at, is_alike_at, run_at, text_at}
 use Rattle.mx_app_turns.specs.Tallied.{tally_of, total_one}
 use Rattle.mx_walk.specs.Parts.{parts_shown}
 use Rattle.mx_walk.proofs.PartsShown.{next_shown}
 use Rattle.mx_app_turns.proofs.SweptLemmas.{shown_failed}
-use Rattle.mx_app_turns.proofs.BlockLemmas.{SweptSoFar, first_swept, goes, last_kernel, last_printed, last_total, small}
+use Rattle.mx_app_turns.proofs.BlockLemmas.{SweptSoFar, first_swept, goes, last_printed, last_total, small}
 use Rattle.mx_app_turns.proofs.sweeping.print_more.Goals as goal
 
 -- one position, by its outcome
@@ -24,16 +24,18 @@ one s p text found told which =
 
 pub loop-position-init : goal.loop-position-init
 loop-position-init g c =
-    let s = sweep_of c.args.sweep c.args.first.pair.along.kernel.boot in
+    let s = sweep_of c.args.sweep (boot_of c.args.ahead) in
     let first = c.requires.first in
     let from = c.args.sweep.range.from in
     let end = c.args.sweep.range.end in
+    let k = (run_at s (from + 1 - 1)).kernel in
+    let here : from + 1 - 1 ≡ from = omega arith in
     record {
-      swept = subst (λ (t : Tally). SweptSoFar s from end (from + 1) (g.W.Write.contents c.args.out.now) (g.W.Write.contents c.args.out.now) (positions_of t.block) t.total c.args.first.pair.copy.kernel) (sym c.one-tally.ensures)
-          (first_swept s from end (g.W.Write.contents c.args.out.now) (positions_of (tally_of from c.args.first.text c.args.first.findings).block) (total_one c.args.first.findings) c.args.first.pair.copy.kernel c.requires.some
-          (one s from c.args.first.text c.args.first.findings first.0 first.1) (ap total_one first.1) first.2);
-      pair = c.requires.pair;
-      there = ap (λ n. n + 1) c.requires.there;
+      swept = subst (λ (t : Tally). SweptSoFar s from end (from + 1) (g.W.Write.contents c.args.out.now) (g.W.Write.contents c.args.out.now) (positions_of t.block) t.total k) (sym c.one-tally.ensures)
+          (first_swept s from end (g.W.Write.contents c.args.out.now) (positions_of (tally_of from c.args.first.text c.args.first.findings).block) (total_one c.args.first.findings) k c.requires.some
+          (one s from c.args.first.text c.args.first.findings first.0 first.1) (ap total_one first.1) (ap (λ n. (run_at s n).kernel) here));
+      ahead = c.requires.ahead;
+      there = c.requires.there;
       boot = refl;
       shown = next_shown (c.args.sweep.range.end - c.args.sweep.range.from) 0 (c.args.sweep.range.from + 1 - c.args.sweep.range.from) 1 (g.P.Progress.shown c.args.progress.now) (g.P.Progress.shown c.args.progress.now) (g.P.Progress.shown c.show.new.self) _ (omega arith) (omega arith) refl
           (sym (append-nil (g.P.Progress.shown c.args.progress.now))) c.show.ensures;
@@ -41,24 +43,25 @@ loop-position-init g c =
 
 pub loop-position-preserved : goal.loop-position-preserved
 loop-position-preserved g c =
-    let s = sweep_of c.args.sweep c.args.first.pair.along.kernel.boot in
+    let s = sweep_of c.args.sweep (boot_of c.args.ahead) in
     let inv = c.loop-position.invariant in
     let p = c.loop-position.position in
     let from = c.args.sweep.range.from in
     let end = c.args.sweep.range.end in
-    let outcome = c.in_ok-outcome.outcome in
-    let made = c.in_ok-outcome.ensures in
+    let told = c.in_ok-told.told in
+    let made = c.in_ok-told.ensures in
     let pushed = c.in_ok-push.ensures in
     let tally = c.loop-position.tally in
-    let is = subst (λ (w : World). (let s = sweep_of c.args.sweep w in (outcome.text.items ≡ text_at s p) × (outcome.findings ≡ findings_at s p) × (outcome.pair.copy.kernel ≡ (run_at s p).kernel))) inv.boot made.outcome in
+    let is = subst (λ (w : World). (let s = sweep_of c.args.sweep w in (told.text.items ≡ text_at s p) × (told.findings ≡ findings_at s p))) inv.boot made.told in
+    let here : p + 1 - 1 ≡ p = omega arith in
     let next_part : p + 1 - from ≡ p - from + 1 = omega (arith, inv.swept.above, c.loop-position-test.true) in
     record {
-      swept = goes s from end p (g.W.Write.contents c.args.out.now) (g.W.Write.contents c.loop-position.out) (g.W.Write.contents c.push.new.out) c.loop-position.pair.copy.kernel outcome.pair.copy.kernel tally c.push.new.self c.one-next.result outcome.text outcome.findings
-          (bytes_eq (text_at s p) tally.block.text.items) inv.swept c.loop-position-test.true is.1 c.one-next.ensures is.0 refl pushed.goes_on pushed.begins is.2;
-      pair = made.pair;
-      there = ap (λ n. n + 1) made.there;
+      swept = goes s from end p (g.W.Write.contents c.args.out.now) (g.W.Write.contents c.loop-position.out) (g.W.Write.contents c.push.new.out) (run_at s (p - 1)).kernel (run_at s (p + 1 - 1)).kernel tally c.push.new.self c.one-next.result told.text told.findings
+          (bytes_eq (text_at s p) tally.block.text.items) inv.swept c.loop-position-test.true is.1 c.one-next.ensures is.0 refl pushed.goes_on pushed.begins (ap (λ n. (run_at s n).kernel) here);
+      ahead = made.ahead;
+      there = made.there;
       boot = made.boot ∙ inv.boot;
-      shown = pushed.shown ∙ next_shown (end - from) (p - from) (p + 1 - from) (p - from + 1) (g.P.Progress.shown c.args.progress.now) (g.P.Progress.shown c.loop-position.progress) (g.P.Progress.shown c.trial_shown.new.progress) _ next_part (sym next_part) refl inv.shown c.in_ok-outcome.ensures.shown;
+      shown = pushed.shown ∙ next_shown (end - from) (p - from) (p + 1 - from) (p - from + 1) (g.P.Progress.shown c.args.progress.now) (g.P.Progress.shown c.loop-position.progress) (g.P.Progress.shown c.told_shown.new.progress) _ next_part (sym next_part) refl inv.shown c.in_ok-told.ensures.shown;
     }
 
 pub returns-clause-printed : goal.returns-clause-printed
@@ -68,8 +71,8 @@ returns-clause-printed g c =
     let end = c.args.sweep.range.end in
     let last : p ≡ end = omega (arith, so_far.within, c.loop-position-test.false) in
     let block = positions_of c.loop-position.tally.block in
-    last_printed (sweep_of c.args.sweep c.args.first.pair.along.kernel.boot) c.args.sweep.range.from end p (g.W.Write.contents c.args.out.now) (g.W.Write.contents c.loop-position.out) block c.loop-position.tally.total
-    c.loop-position.pair.copy.kernel so_far last (g.W.Write.contents c.print_block.new.out) c.in_ok-print_block.ensures.bytes
+    last_printed (sweep_of c.args.sweep (boot_of c.args.ahead)) c.args.sweep.range.from end p (g.W.Write.contents c.args.out.now) (g.W.Write.contents c.loop-position.out) block c.loop-position.tally.total
+    (run_at (sweep_of c.args.sweep (boot_of c.args.ahead)) (p - 1)).kernel so_far last (g.W.Write.contents c.print_block.new.out) c.in_ok-print_block.ensures.bytes
 
 pub returns-clause-total : goal.returns-clause-total
 returns-clause-total g c =
@@ -78,25 +81,23 @@ returns-clause-total g c =
     let end = c.args.sweep.range.end in
     let last : p ≡ end = omega (arith, so_far.within, c.loop-position-test.false) in
     let tally = c.loop-position.tally in
-    last_total (sweep_of c.args.sweep c.args.first.pair.along.kernel.boot) c.args.sweep.range.from end p (g.W.Write.contents c.args.out.now) (g.W.Write.contents c.loop-position.out) (positions_of tally.block) tally.total c.loop-position.pair.copy.kernel so_far last
+    last_total (sweep_of c.args.sweep (boot_of c.args.ahead)) c.args.sweep.range.from end p (g.W.Write.contents c.args.out.now) (g.W.Write.contents c.loop-position.out) (positions_of tally.block) tally.total (run_at (sweep_of c.args.sweep (boot_of c.args.ahead)) (p - 1)).kernel so_far last
 
 pub returns-clause-refusal : goal.returns-clause-refusal
 returns-clause-refusal g c = ap (λ (f : Findings). f.refusal) c.requires.first.1
 
 pub returns-clause-kernel : goal.returns-clause-kernel
 returns-clause-kernel g c =
-    let so_far = c.loop-position.invariant.swept in
-    let p = c.loop-position.position in
+    let inv = c.loop-position.invariant in
     let end = c.args.sweep.range.end in
-    let last : p ≡ end = omega (arith, so_far.within, c.loop-position-test.false) in
-    let tally = c.loop-position.tally in
-    last_kernel (sweep_of c.args.sweep c.args.first.pair.along.kernel.boot) c.args.sweep.range.from end p (g.W.Write.contents c.args.out.now) (g.W.Write.contents c.loop-position.out) (positions_of tally.block) tally.total c.loop-position.pair.copy.kernel so_far last
+    let last : c.loop-position.position ≡ end = omega (arith, inv.swept.within, c.loop-position-test.false) in
+    c.into_machine.ensures c.args.sweep inv.ahead (inv.there ∙ last) c.requires.some ∙ ap (λ (w : World). (run_at (sweep_of c.args.sweep w) (end - 1)).kernel) inv.boot
 
 -- as many as there are positions so far, and one more
 pub push-requires : goal.push-requires
 push-requires g c =
     let inv = c.loop-position.invariant.swept in
-    let found = c.in_ok-outcome.outcome.findings in
+    let found = c.in_ok-told.told.findings in
     let one = ap (λ (t : Tally). t.total) c.one-next.ensures in
     let n = ap (λ (t : Total). t.positions) one in
     let b = ap (λ (t : Total). t.blocks) one in
@@ -115,24 +116,14 @@ push-requires g c =
       );
     }
 
-pub trial_shown-requires-clause-swept : goal.trial_shown-requires-clause-swept
-trial_shown-requires-clause-swept g c =
-    subst (λ (w : World). IsSwept c.args.sweep w) (sym c.loop-position.invariant.boot) c.requires.swept
+pub told_shown-requires-clause-from : goal.told_shown-requires-clause-from
+told_shown-requires-clause-from g c = let h = c.loop-position.invariant.swept.above in omega (arith, h)
 
-pub trial_shown-requires-clause-from : goal.trial_shown-requires-clause-from
-trial_shown-requires-clause-from g c = let h = c.loop-position.invariant.swept.above in omega (arith, h)
-
-pub trial_shown-requires-clause-pair : goal.trial_shown-requires-clause-pair
-trial_shown-requires-clause-pair g c = c.loop-position.invariant.pair
-
-pub trial_shown-requires-clause-later : goal.trial_shown-requires-clause-later
-trial_shown-requires-clause-later g c = let h = c.loop-position.invariant.there in omega (arith, h)
-
-pub returns-in_err-outcome-clause-shown : goal.returns-in_err-outcome-clause-shown
-returns-in_err-outcome-clause-shown g c =
+pub returns-in_err-told-clause-shown : goal.returns-in_err-told-clause-shown
+returns-in_err-told-clause-shown g c =
     let all = c.args.sweep.range.end - c.args.sweep.range.from in
-    shown_failed (g.P.Progress.shown c.args.progress.now) (g.P.Progress.shown c.trial_shown.new.progress) all (c.loop-position.position - c.args.sweep.range.from) _ c.from_residual.result c.from_residual.ensures.1
-    (omega (arith, c.loop-position-test.true)) (c.in_err-outcome.ensures.same ∙ c.loop-position.invariant.shown)
+    shown_failed (g.P.Progress.shown c.args.progress.now) (g.P.Progress.shown c.told_shown.new.progress) all (c.loop-position.position - c.args.sweep.range.from) _ c.from_residual.result c.from_residual.ensures.1
+    (omega (arith, c.loop-position-test.true)) (c.in_err-told.ensures.same ∙ c.loop-position.invariant.shown)
 
 pub returns-in_err-push-clause-shown : goal.returns-in_err-push-clause-shown
 returns-in_err-push-clause-shown g c =
@@ -141,7 +132,7 @@ returns-in_err-push-clause-shown g c =
     let all = c.args.sweep.range.end - from in
     let before = g.P.Progress.shown c.args.progress.now in
     let inv = c.loop-position.invariant in
-    let shown = next_shown all (p - from) (p - from + 1) (p - from + 1) before (g.P.Progress.shown c.loop-position.progress) (g.P.Progress.shown c.trial_shown.new.progress) _ refl refl refl inv.shown c.in_ok-outcome.ensures.shown in
+    let shown = next_shown all (p - from) (p - from + 1) (p - from + 1) before (g.P.Progress.shown c.loop-position.progress) (g.P.Progress.shown c.told_shown.new.progress) _ refl refl refl inv.shown c.in_ok-told.ensures.shown in
     shown_failed before (g.P.Progress.shown c.push.new.progress) all (p - from + 1) _ c.from_residual-in_err-push.result c.from_residual-in_err-push.ensures.1
     (omega (arith, c.loop-position-test.true, inv.swept.above)) (c.in_err-push.ensures.shown ∙ shown)
 

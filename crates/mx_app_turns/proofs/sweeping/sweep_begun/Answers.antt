@@ -9,7 +9,7 @@ use Rattle.mx_app_turns.proofs.ReadyLemmas.{same_sweep}
 use Rattle.mx_app_turns.proofs.sweeping.sweep_begun.Goals as goal
 
 pub sweep_started-requires-clause-ready : goal.sweep_started-requires-clause-ready
-sweep_started-requires-clause-ready g c =
+sweep_started-requires-clause-ready g c κs within =
     let started = c.args.begun.started in
     subst (λ (rs : List Record). IsReady started.machine started.config started.other rs) (sym c.as_slice.ensures.value) c.requires
 

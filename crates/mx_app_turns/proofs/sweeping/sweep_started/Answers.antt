@@ -24,7 +24,7 @@ returns-in-Err-clause-done g c =
     )
 
 pub sweep_replayed-requires-clause-swept : goal.sweep_replayed-requires-clause-swept
-sweep_replayed-requires-clause-swept g c =
+sweep_replayed-requires-clause-swept g c κs within =
     let m = c.args.machine in
     let sweep = c.args.plan.sweep in
     let boot = boot_stays m sweep.config.now sweep.other sweep.records.now c.requires.ready c.replay_history.new.machine (events_of_history sweep.records.now) c.in_default.ensures.kept in
