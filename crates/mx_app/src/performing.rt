@@ -1,4 +1,4 @@
-//! Does what the program's words ask for.
+//! Does what the program's words ask for, unless it would write over a file that it reads.
 
 ghost use Rattle.std.specs.Prelude.{◌≡◌};
 ghost use Rattle.mx_app.specs.Deeds.{Does};

@@ -1,5 +1,5 @@
 -- Looks: the lines of a debugger's script that change nothing; how each is written, and what it shows (our own).
-use Rattle.std.specs.Prelude.{ℕ, List, [], ◌∷◌, codes, if◌then◌else◌, Option, Some, None}
+use Rattle.std.specs.Prelude.{ℕ, List, [], ◌∷◌, ◌++◌, codes, if◌then◌else◌, Option, Some, None}
 use Rattle.std.specs.Option.{option_map}
 use Rattle.std.specs.Str.{bytes_eq}
 use Rattle.mx_text.specs.Fields.{pair, ◌>>=◌}
@@ -14,6 +14,12 @@ use Rattle.mx_print_answers.specs.Slots.{address_asked, memory_at, memory_of, re
 use Rattle.mx_app_db.specs.LastMessages.{last_lines}
 use Rattle.mx_app_db.specs.declared.looks.Look.{Look}
 use Rattle.mx_app_db.specs.declared.looks.Look.TheVariants.{Registers, RegistersOf, Memory, MemoryOf, Messages, LastMessages}
+
+-- the lines of a script, as a failure says what was wanted
+abbrev pub script_lines : List ℕ
+script_lines =
+    codes "an event, or break S PLACE, clear S PLACE, go C K, regs C, regs of S, mem C M N, mem of S M N, "
+    ++ codes "messages or messages N"
 
 -- ---- how they are written: the fields after the first word
 

@@ -17,6 +17,7 @@ mod script_breakpoints;
 
 pub use db_command::db;
 pub use go_line::go;
+pub use looks::script_lines;
 pub use mx_app_start::{
     Channels, Failure, InputLines, KeptFile, MemoryWriter, NamedFile, NamedFiles, Script, start,
 };

@@ -7,7 +7,7 @@ ghost use Rattle.mx_app_step.specs.Machine.{world_of};
 ghost use Rattle.mx_machine.specs.World.{held_by};
 ghost use Rattle.mx_print_answers.specs.Messages.{delivery_lines};
 ghost use Rattle.mx_print_answers.specs.Processes.{registers_text};
-ghost use Rattle.mx_app_db.specs.Looks.{address_and_count, image_held, look_of, look_text, memory_asked, memory_held, memory_of_slot, messages_asked, registers_asked};
+ghost use Rattle.mx_app_db.specs.Looks.{address_and_count, image_held, look_of, look_text, memory_asked, memory_held, memory_of_slot, messages_asked, registers_asked, script_lines};
 
 use crate::last_messages::push_last_messages;
 use mx_boot::{AddressWord, actor, address_named, count, only_actor, only_count};
@@ -34,6 +34,14 @@ pub enum Look {
     Messages,
     /// The last deliveries, as many as the number, with their words.
     LastMessages(u32),
+}
+
+/// The lines of a debugger's script, as a failure says what was wanted: what does something comes first.
+pub fn script_lines() -> &'static str
+    ensures { result.now ≡ script_lines }
+{
+    "an event, or break S PLACE, clear S PLACE, go C K, regs C, regs of S, mem C M N, \
+     mem of S M N, messages or messages N"
 }
 
 /// The registers that a line asks for: of a processor, or after `of` of a slot.

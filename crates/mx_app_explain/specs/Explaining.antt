@@ -14,6 +14,7 @@ use Rattle.mx_app_failure.specs.declared.failure.OutputProblem.{OutputProblem}
 use Rattle.mx_app_failure.specs.declared.failure.OutputProblem.TheVariants.{ReaderEnded, NoRoom, Other}
 use Rattle.mx_app_failure.specs.declared.failure.Failure.{Failure as Kind}
 use Rattle.mx_app_failure.specs.declared.failure.Failure.TheVariants.{Of, NotText, Input, Output, NoMemory}
+use Rattle.mx_app_db.specs.Looks.{script_lines}
 use Rattle.mx_app_explain.specs.Details.{config_detail, detail_told, wanted_told}
 use Rattle.mx_app_explain.specs.TextAdvice.{advice_told, advised, words_at}
 use Rattle.mx_app_explain.specs.Wanted.{problem_wanted, refusal_wanted}
@@ -80,9 +81,7 @@ subject_of r NoMemory = memory_told
 abbrev pub record_wanted : CommandRequest → List ℕ
 record_wanted (Step config script save numbered) =
     codes "an event: take C, step C K, back C, line L, tick, kill E or respawn S"
-record_wanted (Db config script) =
-    codes "an event, or break S PLACE, clear S PLACE, go C K, regs C, regs of S, mem C M N, mem of S M N, "
-    ++ codes "messages or messages N"
+record_wanted (Db config script) = script_lines
 record_wanted (Run config log ticks events) =
     codes "line L, tick, kill E or wait N; --events wants others 2 or more in CONFIG"
 record_wanted (Turns config log ticks events bound) = codes "an outside event: line L, tick or kill E"

@@ -6,6 +6,7 @@ ghost use Rattle.mx_app_explain.specs.Explaining.{file_wanted, lines_wanted, rec
 
 use mx_aout::FileError;
 use mx_app_command::CommandRequest;
+use mx_app_db::script_lines;
 use mx_app_failure::FileProblem;
 use mx_asm::Problem;
 use mx_text::BootError;
@@ -64,10 +65,7 @@ fn record_wanted(request: CommandRequest<'_>) -> &'static str
         CommandRequest::Step { .. } => {
             "an event: take C, step C K, back C, line L, tick, kill E or respawn S"
         }
-        CommandRequest::Db { .. } => {
-            "an event, or break S PLACE, clear S PLACE, go C K, regs C, regs of S, mem C M N, \
-             mem of S M N, messages or messages N"
-        }
+        CommandRequest::Db { .. } => script_lines(),
         CommandRequest::Run { .. } => {
             "line L, tick, kill E or wait N; --events wants others 2 or more in CONFIG"
         }

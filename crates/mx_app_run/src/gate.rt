@@ -231,7 +231,7 @@ impl<'a, R: Clock + Wait, P: SharedProgress> WatchingGate for RunGate<'a, R, P> 
             all: self.plan.log,
         });
         if actor < self.plan.respawner {
-            self.respawns.wait_for_round();
+            self.respawns.wait_for_round(self.clock);
         }
     }
 

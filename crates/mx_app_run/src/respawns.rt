@@ -3,18 +3,21 @@
 //! # Which round serves a death
 //!
 //! Deaths are counted as they are reported. A round that has begun may have passed the slot of the next one, so a round
-//! serves those that were reported before it began. While one isn't served, processors begin no turn, for some
+//! serves those that were reported before it began. While one isn't served, processors begin no turn, for some tens of
 //! milliseconds at most, and the respawner doesn't sleep.
 
 use std::sync::Wait;
 use std::sync::atomic::{AtomicBool, AtomicU32, Ordering};
 use std::thread;
 use std::thread::Parker;
-use std::time::Duration;
+use std::time::{Clock, Duration};
 
-/// How often a processor yields at most while it lets the respawner go first: if that gets no processor for so long,
-/// the run goes on.
-const PATIENCE: u32 = 65_536;
+/// How often a processor only yields while it lets the respawner go first, before it sleeps: where more threads want to
+/// run than there are processors, those that yield would keep the respawner from them.
+const YIELDS: u32 = 256;
+
+/// How many times it sleeps a millisecond then, at most: if the respawner gets no processor for so long, the run goes on.
+const NAPS: u32 = 64;
 
 /// What is to respawn, and how far the respawner is.
 #[derive(Drop)]
@@ -52,12 +55,16 @@ impl Respawns {
     }
 
     /// A processor lets the respawner go first, if a death isn't served.
-    pub(crate) fn wait_for_round(&self) {
-        for _ in 0..PATIENCE {
+    pub(crate) fn wait_for_round(&self, rt: &(impl Clock + Wait)) {
+        for waits in 0..YIELDS + NAPS {
             if self.are_served() || self.has_ended.load(Ordering::SeqCst) {
                 return;
             }
-            thread::yield_now();
+            if waits < YIELDS {
+                thread::yield_now();
+            } else {
+                thread::sleep(rt, Duration::from_millis(1));
+            }
         }
     }
 

@@ -1,4 +1,4 @@
-//! Blocks: positions in a row whose trials are printed alike.
+//! How blocks are printed: positions in a row whose trials are printed alike.
 
 ghost use Rattle.std.specs.Prelude.{◌≡◌, ◌++◌, if◌then◌else◌, IfOk, None, OnOk, Some, string_bytes};
 ghost use Rattle.mx_app_turns.specs.Blocks.{block_text, head_text, mark_text, positions_of, total_text};

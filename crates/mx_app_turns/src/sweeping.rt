@@ -1,4 +1,4 @@
-//! A history that is swept.
+//! A history that is swept, position after position: what is printed alike joins the block before.
 
 ghost use Rattle.std.specs.Prelude.{◌≡◌, ◌<◌, ◌≤◌, ◌+◌, ◌-◌, ◌^◌, ◌++◌, ◌∷◌, ◌⊎◌, if◌then◌else◌, [], ℕ, All, Err, List, IfErr, IfOk, Ok, OnOk, false, length, min, option_map, true};
 ghost use Rattle.std.specs.Io.KnownBytes.{Appends};
