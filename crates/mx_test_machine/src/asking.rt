@@ -4,6 +4,7 @@ use mx_app::{
     DrivenEnding, Ending, Note, NotingOutput, PrintedText, RunEnding, Terminals, texts_asked,
 };
 use std::alloc::{AllocError, Global};
+use std::io;
 use std::io::Write;
 use std::test::Fail;
 
@@ -171,5 +172,28 @@ fn last_bytes(rt: HostRuntime) -> Result<(), Fail> {
     assert!(rt; out.last() == Some(b'1'));
     out.write_all(b"\n")?;
     assert!(rt; out.last() == Some(b'\n'));
+    Ok(())
+}
+
+/// Takes all bytes, and can't be flushed.
+#[derive(Drop)]
+struct Unflushed {}
+
+impl Write for Unflushed {
+    fn write(&mut self, buf: &[u8]) -> io::Result<usize> {
+        Ok(buf.len())
+    }
+
+    fn flush(&mut self) -> io::Result<()> {
+        Err(io::Error::from(io::ErrorKind::Other))
+    }
+}
+
+/// A flush is handed on to the writer that takes the bytes.
+#[test]
+fn flushes(rt: HostRuntime) -> Result<(), Fail> {
+    let mut out = NotingOutput::new(Unflushed {});
+    out.write_all(b"console 3\n")?;
+    assert!(rt; out.flush().is_err());
     Ok(())
 }

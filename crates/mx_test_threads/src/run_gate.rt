@@ -10,6 +10,9 @@ use std::test::Fail;
 /// How many records the history may have.
 const LOG: usize = 64;
 
+/// So many turns that minutes pass if each waits for the respawner as long as one may.
+const TURNS: usize = 100_000;
+
 /// What an actor has seen of the machine before its question.
 #[derive(Clone, Copy)]
 enum Look {
@@ -245,4 +248,21 @@ fn parts_of_a_run(rt: HostRuntime) {
     assert!(rt; progress.parts.load(Ordering::SeqCst) == 2);
     assert!(rt; progress.done.load(Ordering::SeqCst) == 12);
     assert!(rt; progress.all.load(Ordering::SeqCst) == 2 * LOG);
+}
+
+/// Once the respawner has ended no processor waits for it, though a death isn't served.
+#[test]
+fn no_wait_after_the_end(rt: HostRuntime) {
+    let outside = Outside {
+        ticks: 0,
+        calls: &[],
+    };
+    let plan = RunPlan::new(2, outside, LOG);
+    let progress = NoProgress::new();
+    let gate = RunGate::new(&rt, &progress, plan);
+    gate.due(0);
+    gate.ended(2);
+    for _ in 0..TURNS {
+        gate.seen(0, 5);
+    }
 }
