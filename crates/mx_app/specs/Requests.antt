@@ -1,9 +1,9 @@
 -- What is done of requests (our own).
-use Rattle.std.specs.Prelude.{◌≡◌, ◌⊎◌, ℕ, Bool, true, false, if◌then◌else◌, List, [], ◌∷◌, ◌++◌, Option, Some, None, Result, Ok, Err, option_map, take}
+use Rattle.std.specs.Prelude.{◌≡◌, ◌⊎◌, ℕ, ◌-◌, Bool, true, false, if◌then◌else◌, List, [], ◌∷◌, ◌++◌, Option, Some, None, Result, Ok, Err, option_map, take}
 use Rattle.mx_app_command.specs.Files.{writes_over}
 use Rattle.mx_app_command.specs.declared.command_line.CommandRequest.{CommandRequest}
 use Rattle.mx_app_command.specs.declared.command_line.RecordRange.{RecordRange}
-use Rattle.mx_app_command.specs.declared.command_line.CommandRequest.TheVariants.{One, As, Show, Explain, Step, Run, Turns, Sweep, Replay, Trace, Draw, Look, Db}
+use Rattle.mx_app_command.specs.declared.command_line.CommandRequest.TheVariants.{One, As, Show, Explain, Step, Run, Turns, Sweep, Replay, Trace, Draw, Page, Look, Db}
 use Rattle.mx_app_db.specs.ScriptLine.{ScriptLine}
 use Rattle.mx_app_db.specs.declared.script.DebugLine.{DebugLine}
 use Rattle.mx_app_failure.specs.declared.failure.Failure.{Failure as Kind}
@@ -34,6 +34,7 @@ use Rattle.mx_app_db.specs.Traces.{IsTracePrinted}
 use Rattle.mx_app_db.specs.Replayed.{Replayed}
 use Rattle.mx_app_db.specs.Replayed.TheVariants as replayed
 use Rattle.mx_app_draw.specs.Scenes.{IsDrawingPrinted}
+use Rattle.mx_app_page.specs.Pages.{IsPagePrinted, run_of_files}
 use Rattle.mx_app_look.specs.Sessions.{HasFailed, IsBegun, IsSession, IsWhole, begun_text, sight_at}
 use Rattle.mx_app_run.specs.Run.{Runs}
 use Rattle.mx_app_turns.specs.Sweeping.{Sweeps}
@@ -150,6 +151,14 @@ Draws config log range qs Prints (Ok how) =
     × IsDrawingPrinted (world_at_boot c vs) c.cpus records range.from range.to how Prints
 Draws config log range qs Prints (Err f) = IsTold IsSaved TellsSaved config log qs f
 
+-- the records of a trace, as a page
+abbrev pub Pages : List ℕ → List ℕ → RecordRange → List Asked → (List ℕ → Type 0) → Result Replayed Kind → Type 0
+Pages config log range qs Prints (Ok how) =
+    (c : Config) × (vs : List Service) × (records : List Record) × IsStart IsSaved config log qs c vs records
+    × IsPagePrinted (λ first. run_of_files config log first c) (world_at_boot c vs) (take range.to records)
+    (range.from - 1) how Prints
+Pages config log range qs Prints (Err f) = IsTold IsSaved TellsSaved config log qs f
+
 -- a session over a history: what it prints is determined by the lines that are typed, which it takes up to `quit` or to
 -- the end of the input; it shows each record of the walk to the last position, with which it begins, and then those of
 -- the lines' walks
@@ -201,6 +210,8 @@ PerformsUntyped (Trace config log range) qs ws Prints r =
     (d : Result Replayed Kind) × (ws ≡ []) × Traces config.now log.now range qs Prints d × (r ≡ done_after_replay d)
 PerformsUntyped (Draw config log range) qs ws Prints r =
     (d : Result Replayed Kind) × (ws ≡ []) × Draws config.now log.now range qs Prints d × (r ≡ done_after_replay d)
+PerformsUntyped (Page config log range) qs ws Prints r =
+    (d : Result Replayed Kind) × (ws ≡ []) × Pages config.now log.now range qs Prints d × (r ≡ done_after_replay d)
 PerformsUntyped (Look config log) qs ws Prints r = ⊥
 PerformsUntyped (Db config script) qs ws Prints r =
     (d : Result (Unit {0}) Kind) × (ws ≡ []) × Debugs config.now script.now qs Prints d × (r ≡ done_after_work d)

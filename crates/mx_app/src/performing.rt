@@ -13,6 +13,7 @@ use mx_app_db::{HistoryPart, NamedScript, Replayed, db, replay, step, step_saved
 use mx_app_draw::draw;
 use mx_app_failure::{About, Failure, FileProblem};
 use mx_app_look::{SessionWanted, look};
+use mx_app_page::page;
 use mx_app_run::{RunEnding, RunWanted, run};
 use mx_app_start::{FileWriter, LineReader, Reader, SharedProgress};
 use mx_app_turns::{
@@ -268,6 +269,18 @@ fn perform_apart<
             let reader = &mut channels.reader;
             let out = &mut channels.out;
             done_after_replay(draw(alloc, reader, records, out))
+        }
+        CommandRequest::Page { config, log, range } => {
+            let RecordRange { from, to } = range;
+            let records = HistoryPart {
+                config,
+                log,
+                from,
+                to,
+            };
+            let reader = &mut channels.reader;
+            let out = &mut channels.out;
+            done_after_replay(page(alloc, reader, records, out))
         }
         CommandRequest::Look { config, log } => {
             let asks = io.asks;

@@ -2,7 +2,7 @@
 use Rattle.std.proofs.Common.{◌≡◌, ◌∙◌, true, false, List, codes, ap, inl, inr, sym, refl, true≢false}
 use Rattle.std.specs.Str.{bytes_eq}
 use Rattle.clap.specs.Words.{Row, Text}
-use Rattle.mx_app_command.specs.Words.{IsHistoryAsked, IsMachineAsked, IsOtherHistoryAsked}
+use Rattle.mx_app_command.specs.Words.{IsHistoryAsked, IsMachineAsked, IsOtherHistoryAsked, MayHaveSweep}
 
 not_named : (name word : Text) → bytes_eq word word ≡ true → bytes_eq name word ≡ false → name ≡ word → ⊥
 not_named name word same h e = true≢false (sym same ∙ ap (λ (t : Text). bytes_eq t word) (sym e) ∙ h)
@@ -26,4 +26,31 @@ other_left name rows not asked =
     elim asked.1 [
       | inl run ↦ absurd (not_named name (codes "run") refl not run.0)
       | inr other ↦ other
+    ]
+
+-- a name is one word only
+one_name : (name word other : Text) → bytes_eq word other ≡ false → bytes_eq name other ≡ true → name ≡ word → ⊥
+one_name name word other apart is e = true≢false (sym is ∙ ap (λ (t : Text). bytes_eq t other) e ∙ apart)
+
+-- `sweep` has what it may have
+pub sweep_left : (name : Text) (rows : List Row) → bytes_eq name (codes "sweep") ≡ true → IsOtherHistoryAsked name rows → MayHaveSweep rows
+sweep_left name rows is asked =
+    elim asked [
+      | inl reads ↦ elim reads [
+        | inl e ↦ absurd (one_name name (codes "replay") (codes "sweep") refl is e)
+        | inr e ↦ absurd (one_name name (codes "look") (codes "sweep") refl is e)
+      ]
+      | inr rest ↦ elim rest [
+        | inl records ↦ elim records.0 [
+          | inl e ↦ absurd (one_name name (codes "trace") (codes "sweep") refl is e)
+          | inr two ↦ elim two [
+            | inl e ↦ absurd (one_name name (codes "draw") (codes "sweep") refl is e)
+            | inr e ↦ absurd (one_name name (codes "page") (codes "sweep") refl is e)
+          ]
+        ]
+        | inr more ↦ elim more [
+          | inl turns ↦ absurd (one_name name (codes "turns") (codes "sweep") refl is turns.0)
+          | inr sweep ↦ sweep.1
+        ]
+      ]
     ]

@@ -362,7 +362,11 @@ trace_fits words fine = let given = looking_values (codes "trace") words fine in
 
 draw_fits : Fits (looking_whole (codes "draw"))
 draw_fits words fine = let given = looking_values (codes "draw") words fine in
-    ((λ e. (given.0, inr (inr (given.1, inr (inr (inl (inr refl, given.2))))))), (λ e. absurd (true≢false e)))
+    ((λ e. (given.0, inr (inr (given.1, inr (inr (inl (inr (inl refl), given.2))))))), (λ e. absurd (true≢false e)))
+
+page_fits : Fits (looking_whole (codes "page"))
+page_fits words fine = let given = looking_values (codes "page") words fine in
+    ((λ e. (given.0, inr (inr (given.1, inr (inr (inl (inr (inr refl), given.2))))))), (λ e. absurd (true≢false e)))
 
 look_fits : Fits (following_whole (codes "look"))
 look_fits words fine = let given = following_values (codes "look") words fine in
@@ -377,7 +381,7 @@ explain_fits words fine = let given = one_text_given (codes "explain") (codes "C
     ((λ e. (given, inl refl)), (λ e. absurd (true≢false e)))
 
 all_fit : AllByRecursion Fits whole.subs
-all_fit = (one_fits, (as_fits, (dis_fits, (nm_fits, (explain_fits, (step_fits, (run_fits, (turns_fits, (sweep_fits, (replay_fits, (trace_fits, (draw_fits, (look_fits, (db_fits, tt))))))))))))))
+all_fit = (one_fits, (as_fits, (dis_fits, (nm_fits, (explain_fits, (step_fits, (run_fits, (turns_fits, (sweep_fits, (replay_fits, (trace_fits, (draw_fits, (page_fits, (look_fits, (db_fits, tt)))))))))))))))
 
 -- ---- the words of a command line
 

@@ -13,7 +13,7 @@ use Rattle.mx_app_command.specs.declared.command_line.CommandRequest.{CommandReq
 use Rattle.mx_app_command.specs.declared.command_line.Listing.{Listing}
 use Rattle.mx_app_command.specs.declared.command_line.Listing.TheVariants.{Instructions, Symbols}
 use Rattle.mx_app_command.specs.declared.command_line.RecordRange.{RecordRange}
-use Rattle.mx_app_command.specs.declared.command_line.CommandRequest.TheVariants.{One, As, Show, Explain, Step, Run, Turns, Sweep, Replay, Trace, Draw, Look, Db}
+use Rattle.mx_app_command.specs.declared.command_line.CommandRequest.TheVariants.{One, As, Show, Explain, Step, Run, Turns, Sweep, Replay, Trace, Draw, Page, Look, Db}
 
 -- ---- the grammar
 
@@ -157,6 +157,7 @@ mx_grammar = record {
       ++ following_shape (codes "replay")
       ∷ looking_shape (codes "trace")
       ∷ looking_shape (codes "draw")
+      ∷ looking_shape (codes "page")
       ∷ following_shape (codes "look")
       ∷ of_two (codes "db") (codes "CONFIG") (codes "SCRIPT")
       ∷ [];
@@ -235,6 +236,9 @@ AsksBy (Trace config log range) name rows =
 AsksBy (Draw config log range) name rows =
     (name ≡ codes "draw") × HasText (codes "CONFIG") rows config.now × HasText (codes "LOG") rows log.now
     × HasRange rows range
+AsksBy (Page config log range) name rows =
+    (name ≡ codes "page") × HasText (codes "CONFIG") rows config.now × HasText (codes "LOG") rows log.now
+    × HasRange rows range
 AsksBy (Look config log) name rows =
     (name ≡ codes "look") × HasText (codes "CONFIG") rows config.now × HasText (codes "LOG") rows log.now
 AsksBy (Db config script) name rows =
@@ -296,11 +300,11 @@ pub record MayHaveSweep (rows : List Row) : Type 0 where
   pub range : MayHaveRange rows
   pub jobs : MayHaveNumber (codes "J") rows
 
--- those with a history but for `run`: `turns`, `trace` and `draw` may have two numbers, `sweep` four
+-- those with a history but for `run`: `turns`, `trace`, `draw` and `page` may have two numbers, `sweep` four
 abbrev pub IsOtherHistoryAsked : Text → List Row → Type 0
 IsOtherHistoryAsked name rows =
     ((name ≡ codes "replay") ⊎ (name ≡ codes "look"))
-    ⊎ ((((name ≡ codes "trace") ⊎ (name ≡ codes "draw")) × MayHaveRange rows)
+    ⊎ ((((name ≡ codes "trace") ⊎ ((name ≡ codes "draw") ⊎ (name ≡ codes "page"))) × MayHaveRange rows)
     ⊎ (((name ≡ codes "turns") × MayHaveTurns rows)
     ⊎ ((name ≡ codes "sweep") × MayHaveSweep rows)))
 
@@ -321,7 +325,8 @@ abbrev pub is_following : Text → Bool
 is_following name =
     bytes_eq name (codes "replay")
     || (bytes_eq name (codes "trace")
-    || (bytes_eq name (codes "draw") || (bytes_eq name (codes "look") || bytes_eq name (codes "db"))))
+    || (bytes_eq name (codes "draw")
+    || (bytes_eq name (codes "page") || (bytes_eq name (codes "look") || bytes_eq name (codes "db")))))
 
 abbrev pub is_machine : Text → Bool
 is_machine name =

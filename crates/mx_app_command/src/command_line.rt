@@ -111,6 +111,12 @@ pub enum CommandRequest<'a> {
         log: &'a str,
         range: RecordRange,
     },
+    /// `page CONFIG LOG`, with `--from A` and `--to B` or without.
+    Page {
+        config: &'a str,
+        log: &'a str,
+        range: RecordRange,
+    },
     /// `look CONFIG LOG`.
     Look {
         config: &'a str,
@@ -326,15 +332,18 @@ fn records_request<'a>(
 ) -> CommandRequest<'a>
     requires config { HasText (codes "CONFIG") (rows_of (found_of matches.now)) config.now }
     requires log { HasText (codes "LOG") (rows_of (found_of matches.now)) log.now }
-    requires name { (name.now ≡ codes "trace") ⊎ (name.now ≡ codes "draw") }
+    requires name { (name.now ≡ codes "trace")
+        ⊎ ((name.now ≡ codes "draw") ⊎ (name.now ≡ codes "page")) }
     requires range { MayHaveRange (rows_of (found_of matches.now)) }
     ensures { AsksBy result name.now (rows_of (found_of matches.now)) }
 {
     let range = range_asked(matches);
     if name == "trace" {
         CommandRequest::Trace { config, log, range }
-    } else {
+    } else if name == "draw" {
         CommandRequest::Draw { config, log, range }
+    } else {
+        CommandRequest::Page { config, log, range }
     }
 }
 
@@ -348,7 +357,8 @@ fn reading_request<'a>(
     requires config { HasText (codes "CONFIG") (rows_of (found_of matches.now)) config.now }
     requires log { HasText (codes "LOG") (rows_of (found_of matches.now)) log.now }
     requires asked { ((name.now ≡ codes "replay") ⊎ (name.now ≡ codes "look"))
-        ⊎ (((name.now ≡ codes "trace") ⊎ (name.now ≡ codes "draw"))
+        ⊎ (((name.now ≡ codes "trace")
+        ⊎ ((name.now ≡ codes "draw") ⊎ (name.now ≡ codes "page")))
         × MayHaveRange (rows_of (found_of matches.now))) }
     ensures { AsksBy result name.now (rows_of (found_of matches.now)) }
 {
@@ -415,7 +425,12 @@ fn machine_request<'a>(name: &str, matches: &ArgMatches<'a>) -> CommandRequest<'
 fn is_following(name: &str) -> bool
     ensures { result ≡ is_following name.now }
 {
-    name == "replay" || name == "trace" || name == "draw" || name == "look" || name == "db"
+    name == "replay"
+        || name == "trace"
+        || name == "draw"
+        || name == "page"
+        || name == "look"
+        || name == "db"
 }
 
 /// Whether the subcommand of this name works on a machine.

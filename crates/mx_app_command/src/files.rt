@@ -109,6 +109,7 @@ impl<'a> CommandRequest<'a> {
             CommandRequest::Replay { config, log } => with_course(config, "LOG", log),
             CommandRequest::Trace { config, log, .. } => with_course(config, "LOG", log),
             CommandRequest::Draw { config, log, .. } => with_course(config, "LOG", log),
+            CommandRequest::Page { config, log, .. } => with_course(config, "LOG", log),
             CommandRequest::Look { config, log } => with_course(config, "LOG", log),
         }
     }

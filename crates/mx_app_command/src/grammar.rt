@@ -347,7 +347,7 @@ static TURN_COMMANDS: [Subcommand<'static>; 2] = [
 ];
 
 /// Those that follow a history or a script.
-static HISTORY_COMMANDS: [Subcommand<'static>; 5] = [
+static HISTORY_COMMANDS: [Subcommand<'static>; 6] = [
     Subcommand {
         name: "replay",
         help: "Runs a saved history again and prints the report",
@@ -365,6 +365,12 @@ static HISTORY_COMMANDS: [Subcommand<'static>; 5] = [
         help: "Runs a saved history again and prints a picture of it as SVG",
         arguments: &[CONFIG, LOG, FROM, TO, SUMS, EXPLAIN, SILENT],
         example: Example::Draw,
+    },
+    Subcommand {
+        name: "page",
+        help: "Runs a saved history again and prints a page that shows it in a browser",
+        arguments: &[CONFIG, LOG, FROM, TO, SUMS, EXPLAIN, SILENT],
+        example: Example::Page,
     },
     Subcommand {
         name: "look",

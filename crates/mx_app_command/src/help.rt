@@ -28,6 +28,8 @@ pub(crate) enum Example {
     Trace,
     /// A picture of a history.
     Draw,
+    /// A history in a browser.
+    Page,
     /// A session over a history.
     Look,
     /// A debugger's script.
@@ -50,6 +52,7 @@ impl Example {
             Example::Replay => REPLAY_EXAMPLE,
             Example::Trace => TRACE_EXAMPLE,
             Example::Draw => DRAW_EXAMPLE,
+            Example::Page => PAGE_EXAMPLE,
             Example::Look => LOOK_EXAMPLE,
             Example::Db => DB_EXAMPLE,
         }
@@ -404,3 +407,18 @@ records: of a longer history it has those from A on, and its title says which.
 Status: 0 done; 1 a text or a program's file is refused, or an event, which the picture
 names at its top right; 2 a mistake in the words; 3 a file can't be read; 4 no memory.
 Formats: docs/use/REFERENCE.md.";
+
+/// A history in a browser.
+const PAGE_EXAMPLE: &str = "In the folder examples/machines/restart:
+
+$ mx page restart.config restart.log >/tmp/restart.html
+$ mx page restart.config restart.log --from 19 --to 30 >/tmp/killed.html
+
+A browser opens the page from the disk; it asks for nothing from a network. A slider
+goes through the whole run. For each record the page has what mx trace prints of it,
+what each process does then, who is ready and who waits for whom, and the console
+until then. ? shows the keys and what can be searched. restart.html#85 opens record 85.
+
+Status: 0 done; 1 a text or a program's file is refused, or an event, which the page
+names; 2 a mistake in the words; 3 a file can't be read; 4 no memory. Formats:
+docs/use/REFERENCE.md.";

@@ -1,4 +1,4 @@
-use Rattle.std.proofs.Common.{◌∙◌, sym}
+use Rattle.std.proofs.Common.{sym, ◌∙◌}
 use Rattle.mx_app_command.proofs.command_line.request_of.Goals as goal
 
 pub machine_request-requires : goal.machine_request-requires

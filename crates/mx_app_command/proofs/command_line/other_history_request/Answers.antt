@@ -1,0 +1,8 @@
+use Rattle.std.proofs.Common.{◌∙◌, sym}
+use Rattle.clap.specs.Words.{found_of, rows_of}
+use Rattle.mx_app_command.proofs.Asked.{sweep_left}
+use Rattle.mx_app_command.proofs.command_line.other_history_request.Goals as goal
+
+pub sweep_request-requires-clause-asked : goal.sweep_request-requires-clause-asked
+sweep_request-requires-clause-asked c =
+    sweep_left c.args.name.now (rows_of (found_of c.args.matches.now)) (sym c.eq-else-eq.ensures ∙ c.if-eq-2.true) c.requires.asked

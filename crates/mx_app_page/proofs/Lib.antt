@@ -1,0 +1,5 @@
+mod PageLemmas
+mod MadeLemmas
+mod AboveLemmas
+mod PageStart
+mod ReadingLemmas

@@ -1,0 +1,4 @@
+mod JsonLemmas
+mod PlainLemmas
+mod PlainRows
+mod Places

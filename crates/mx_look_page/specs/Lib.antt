@@ -1,0 +1,4 @@
+pub mod Json
+pub mod Shown
+pub mod Rows
+pub mod Heads
