@@ -1,5 +1,5 @@
 """Lab 2: a server's clients; a pair of which one may be a stranger with another number; and all in one machine."""
-from .machines import ASK, POKE, TAKE, TELL, WORK, bystanders, machine, plan, requests, served, service
+from .machines import ASK, POKE, TAKE, TELL, WORK, bystanders, machine, on, plan, requests, served, service
 
 ADD, READ = 1, 2
 SERVER = service("server", "server.out", send="fffe", calls="1", level=4)
@@ -30,7 +30,7 @@ def one_adder(draw):
 def two_adders(draw):
     for cpus in (1, 3):
         actors = [(it, additions(draw, draw.randint(4, 6)), 7, 0) for it in ("asker", "second")]
-        yield totals(draw, f"two clients, {cpus} processors", actors, cpus=cpus)
+        yield totals(draw, f"two clients {on(cpus)}", actors, cpus=cpus)
 
 
 def strange_requests(draw):
@@ -95,7 +95,7 @@ def right_first(draw):
 
 
 def pair_of_two(draw):
-    yield pair_case(draw, "two processors", 2, (7, 7))
+    yield pair_case(draw, on(2), 2, (7, 7))
     yield from with_strangers(draw, 2)
 
 

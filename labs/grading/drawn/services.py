@@ -1,5 +1,5 @@
 """Lab 6: a name server, a queue, consumers and producers; and adders with a board."""
-from .machines import ASK, POKE, TELL, WORK, machine, plan, requests, served, service
+from .machines import ASK, POKE, TELL, WORK, machine, on, plan, requests, served, service
 
 REGISTER, LOOKUP = 1, 2
 PUT, GET, TRY, END = 1, 2, 3, 4
@@ -165,26 +165,26 @@ def by_turns(draw):
     """Here `polls` is followed too."""
     for name, cpus, levels in (("on one processor, where producers come first", 1, FULL),
                                ("on one processor, where consumers come first", 1, EMPTY),
-                               ("on four processors", 4, (7, 7))):
+                               (on(4), 4, (7, 7))):
         case = six(draw, cpus, levels)
         yield case | {"name": name, "models": [*case["models"], ("polls", "polls")]}
 
 
 def in_other_slots(draw):
     """On one processor, where producers come first, the queue gets full."""
-    yield six(draw, 2, levels=None) | {"name": "on two processors"}
+    yield six(draw, 2, levels=None) | {"name": on(2)}
     yield six(draw, 1, FULL) | {"name": "on one processor, where producers come first"}
 
 
 def with_reports(draw):
-    yield six(draw, 1, FULL, steps="judge") | {"name": "on one processor"}
-    yield six(draw, 4, steps="judge") | {"name": "on four processors"}
+    yield six(draw, 1, FULL, steps="judge") | {"name": on(1)}
+    yield six(draw, 4, steps="judge") | {"name": on(4)}
 
 
 def by_threads(draw):
     """The runs are of these machines by turns. On one processor, where producers come first, the queue gets full."""
-    yield six(draw, 4) | {"name": "on four processors"}
-    yield six(draw, 1, FULL) | {"name": "on one processor"}
+    yield six(draw, 4) | {"name": on(4)}
+    yield six(draw, 1, FULL) | {"name": on(1)}
 
 
 ADDERS = ("ann", "ben", "cleo")
@@ -200,7 +200,7 @@ def added(draw, cpus):
     an adder asks again and again for its copy."""
     first = draw.randint(10, 9000)
     lines = [service(it, "adder.out", calls="21") for it in ADDERS]
-    return {"name": f"on {cpus} processors", "set": {"board": {"count": [first]}},
+    return {"name": on(cpus), "set": {"board": {"count": [first]}},
             "config": machine(cpus, service("board", "counter.out", "e", "111", 4), *lines, log=MUCH),
             "models": [("adder", it) for it in ADDERS],
             "want": {"console": str(first + 9), "counted": first, "states": {it: "down exit" for it in ("board", *ADDERS)}},

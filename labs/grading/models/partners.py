@@ -54,5 +54,9 @@ class Asker:
     def compare(self, event):
         whom = event.who[1]
         if whom is not None and int(whom) % GENERATION == 0 and whom not in self.known:
-            wanted = f"{event.words[2]} with {' or '.join(sorted(self.known, key=int))}, which WHOIS told"
-            raise wrong(self.name, event, wanted, f"{event.words[2]} with {whom}")
+            raise wrong(self.name, event, f"{event.words[2]} with {self.allowed()}", f"{event.words[2]} with {whom}")
+
+    def allowed(self):
+        """The endpoints that may be used, in words."""
+        told = sorted(self.known - {"0"}, key=int)
+        return "0, the first endpoint; WHOIS told none" if not told else f"0 or {' or '.join(told)}, which WHOIS told"
