@@ -56,7 +56,7 @@ def dead_clients(draw):
     yield totals(draw, "a client ends and is replaced", [("asker", twice, 7, draw.randint(2, 4))], **rest)
 
 
-def pair_case(draw, name, cpus, levels, other=None, number=0):
+def pair_case(draw, name, cpus, levels, other=None, number=0, receives_first=False):
     """Left and right, or one of them with a stranger in the place of `other`."""
     mine = {it: number if it == other else PAIR[it] for it in PAIR}
     names = ["stranger" if it == other else it for it in PAIR]
@@ -72,16 +72,22 @@ def pair_case(draw, name, cpus, levels, other=None, number=0):
     others, plans = bystanders(draw)
     students = [it for it in names if it != "stranger"]
     return {"name": name, "config": machine(cpus, *lines, *others), "facts": facts,
-            "models": [("exchange", it) for it in students], "set": plans | ({"stranger": {"number": [number]}} if other else {}),
+            "models": [("exchange", it) for it in students],
+            "set": plans | ({"stranger": {"number": [number], "receives": [receives_first]}} if other else {}),
             "want": {"states": {it: "down exit" for it in students}}}
 
 
 def with_strangers(draw, cpus):
-    """A partner whose number is another one, in each place. It is first or second."""
+    """A partner in each place. It is first or second, and has another number or, once, that of whose place it has; and one
+    that receives first, so that nobody is second to it. So neither the number nor waiting says whether to send again."""
     for other, numbers in (("right", [1, 4, 5, 6, 7]), ("left", [1, 4, 5, 6])):
-        for levels in ((7, 7), (8, 7)):
-            number = draw.choice(numbers)
+        own = draw.randint(0, 1)
+        for i, levels in enumerate(((7, 7), (8, 7))):
+            number = PAIR[other] if i == own else draw.choice(numbers)
             yield pair_case(draw, f"a stranger with {number} in the place of {other}", cpus, levels, other, number)
+        number = draw.choice(numbers)
+        name = f"a stranger with {number}, which receives first, in the place of {other}"
+        yield pair_case(draw, name, cpus, draw.choice([(7, 7), (8, 7)]), other, number, receives_first=True)
 
 
 def left_first(draw):
