@@ -1,10 +1,12 @@
 """Lab 6: a name server, a queue, consumers and producers; and adders with a board."""
-from .machines import ASK, POKE, TELL, WORK, machine, on, plan, requests, served, service
+from .machines import ASK, POKE, TELL, WORK, bystanders, machine, on, plan, requests, served, service
 
 REGISTER, LOOKUP = 1, 2
 PUT, GET, TRY, END = 1, 2, 3, 4
+ASKS = {"waits": GET, "polls": TRY}  # what a consumer asks for, the first time at least
 ITEMS = 12
 FULL, EMPTY = (7, 8), (8, 7)  # levels of producers and consumers on one processor, and how the queue is most of the time
+SOON, LATE = 5, 11  # levels of a judge that is there before it is looked up, and of one that isn't
 LARGEST = 10_000_000  # of an item, so that no sum of a machine is below 0
 MUCH = 40_000  # records of a history
 CROWD = 27  # clients: with the others of their machine nearly as many as there are slots
@@ -18,17 +20,35 @@ def all_but(slot):
     return f"{0xFFFF & ~(1 << slot):x}"
 
 
+def is_sorted(rows):
+    """Whether they go up all the way, or down."""
+    return rows in (sorted(rows), sorted(rows, reverse=True))
+
+
+def in_awkward_slots(draw, actors, waiting, levels):
+    """The actors in slots that are drawn. Those of the names `waiting` have levels of this range; they don't come in the order
+    of their slots, nor in the reverse, so nobody can serve them by these."""
+    while True:
+        rows = [(it[0], it[1], draw.randint(*levels), *it[3:]) if it[0] in waiting else it for it in actors]
+        draw.shuffle(rows)
+        came = sorted((it[2], slot) for slot, it in enumerate(rows) if it[0] in waiting)
+        if not is_sorted([slot for _, slot in came]):
+            return rows
+
+
 def looked_up(draw):
     """Names that are looked up before anybody has them, by several; a name that another one takes, and its successor after
     it; what there is not; a process that ends while it waits."""
     name, other = draw.sample([0, 3, 4, 5, 6, 7], 2)
     first = [(ASK, 0, LOOKUP, name), (ASK, 0, draw.randint(5, 99), 0), (ASK, 0, LOOKUP, draw.randint(8, 99)),
              (ASK, 0, REGISTER, -draw.randint(1, 9))]
+    registers = [(ASK, 0, REGISTER, it) for it in draw.sample([other, name], 2)]
     actors = [("first", first, 4, 0), ("second", [(ASK, 0, LOOKUP, name)], 5, 0), ("hasty", [(TELL, 0, LOOKUP, name)], 5, 0),
-              ("third", [(ASK, 0, LOOKUP, name), (ASK, 0, LOOKUP, other)], 6, 0), ("queue", [(ASK, 0, LOOKUP, 1)], 6, 0),
-              ("judge", [(ASK, 0, LOOKUP, 2)], 6, 0),
-              ("owner", [(POKE, 0), (WORK, draw.randint(2, 5)), (ASK, 0, REGISTER, other), (ASK, 0, REGISTER, name)], 8, 0),
+              ("third", [(ASK, 0, LOOKUP, name), (ASK, 0, LOOKUP, other)], 6, 0),
+              ("queue", [(ASK, 0, LOOKUP, 1)], draw.randint(4, 7), 0), ("judge", [(ASK, 0, LOOKUP, 2)], draw.randint(4, 7), 0),
+              ("owner", [(POKE, 0), (WORK, draw.randint(2, 5)), *registers], 8, 0),
               ("heir", [(ASK, 0, REGISTER, name), (ASK, 0, LOOKUP, name), (ASK, 0, LOOKUP, other)], 9, draw.randint(1, 2))]
+    actors = in_awkward_slots(draw, actors, ("first", "second", "third"), (4, 7))
     yield served(draw, "names that are looked up before anybody has them, or never has", actors, "names",
                  server=service("names", "names.out", "fffe", "1", 3))
 
@@ -38,38 +58,45 @@ def crowd_looked_up(draw):
     yield from looked_up(draw)
     # Name 0: what a server writes over its tables, if it has no room for all, is found there first.
     crowd = [(f"client{i}", [(ASK, 0, LOOKUP, 0, draw.randint(1, 99))], draw.randint(5, 8), 0) for i in range(CROWD)]
-    owner = ("owner", [(WORK, 2), (ASK, 0, REGISTER, 0)], 9, 0)
-    yield served(draw, f"a name that {CROWD} clients wait for", [*crowd, owner], "names",
+    crowd.insert(draw.randint(0, CROWD), ("owner", [(WORK, 2), (ASK, 0, REGISTER, 0)], 9, 0))
+    yield served(draw, f"a name that {CROWD} clients wait for", crowd, "names",
                  server=service("names", "names.out", "fffffffe", "1", 3))
 
 
-def queue_case(name, *actors, restarts=0):
-    """The queue and clients: of each its name, plan and level."""
+def queue_case(draw, name, *actors, restarts=0):
+    """The queue and clients: of each its name, plan and level. Their slots are drawn, among those of others, for whom a
+    crowd that is replaced leaves no room."""
     names = service("names", "good_names.out", all_but(0), "1", 2)
     queue = service("queue", "queue.out", "fffffffd", "1", 3)
-    lines = [service(it, "actor.out", "3", "1", level, restarts) for it, _, level in actors]
+    others, plans = bystanders(draw) if not restarts else ([], {})
+    lines = [*others, *[service(it, "actor.out", "3", "1", level, restarts) for it, _, level in actors]]
+    draw.shuffle(lines)
     return {"name": name, "config": machine(1, names, queue, *lines), "models": [("queue", "queue")],
             "facts": [requests(it, "queue", steps, 1 + restarts) for it, steps, _ in actors],
-            "set": {it: plan((WORK, 4), *steps) for it, steps, _ in actors}}
+            "set": plans | {it: plan((WORK, 4), *steps) for it, steps, _ in actors}}
 
 
 def drawn_items(draw, count):
     return draw.sample(range(1, 1 << 32), count)
 
 
-def consumers_wait(name, items, *others):
-    """Consumers that wait before a producer comes, who brings less than they want."""
+def consumers_wait(draw, name, items, *others):
+    """Consumers that wait before a producer comes, who brings less than they want. Who comes first of them is drawn."""
     put = [(WORK, 6), *[(ASK, 1, PUT, it) for it in items], (ASK, 1, END), (ASK, 1, END)]
-    return queue_case(name, *others, ("first", [(ASK, 1, GET)] * 2, 5), ("second", [(ASK, 1, GET)] * 2, 6), ("putter", put, 8))
+    first, second = draw.sample([5, 6], 2)
+    return queue_case(draw, name, *others, ("first", [(ASK, 1, GET)] * 2, first), ("second", [(ASK, 1, GET)] * 2, second),
+                      ("putter", put, 8))
 
 
 def queued(draw):
-    """Room, order and end; and two consumers that wait."""
-    items = drawn_items(draw, 12)
-    filler = [(POKE, 1), (ASK, 1, TRY), (ASK, 1, draw.randint(5, 99)), *[(ASK, 1, PUT, it) for it in items[:9]], (ASK, 1, END)]
-    taker = [(ASK, 1, (GET, TRY)[i % 2]) for i in range(7)] + [(ASK, 1, END)] + [(ASK, 1, GET)] * 4 + [(ASK, 1, TRY)]
-    yield queue_case("a producer that fills the queue, and a consumer", ("filler", filler, 5), ("taker", taker, 7))
-    yield consumers_wait("two consumers wait", items[9:])
+    """Room, order and end; and two consumers that wait. How much is brought, and when what is asked for, is drawn."""
+    count, before = draw.randint(9, 11), draw.randint(5, 7)
+    items = drawn_items(draw, count + 3)
+    filler = [(POKE, 1), (ASK, 1, TRY), (ASK, 1, draw.randint(5, 99)), *[(ASK, 1, PUT, it) for it in items[3:]], (ASK, 1, END)]
+    taker = [(ASK, 1, draw.choice([GET, TRY])) for _ in range(count)] + [(ASK, 1, GET)] * 2 + [(ASK, 1, TRY)]
+    taker.insert(before, (ASK, 1, END))
+    yield queue_case(draw, "a producer that fills the queue, and a consumer", ("filler", filler, 5), ("taker", taker, 7))
+    yield consumers_wait(draw, "two consumers wait", items[:3])
 
 
 def crowd_queued(draw):
@@ -77,14 +104,14 @@ def crowd_queued(draw):
     does the rest too."""
     yield from queued(draw)
     items = drawn_items(draw, 14)
-    yield consumers_wait("three consumers wait, and one of them dies", items[:3], ("hasty", [(TELL, 1, GET)], 4))
+    yield consumers_wait(draw, "three consumers wait, and one of them dies", items[:3], ("hasty", [(TELL, 1, GET)], 4))
     full = [(ASK, 1, PUT, it) for it in items[3:11]]
-    yield queue_case("three producers wait for room, and one of them dies", ("filler", full, 4),
+    yield queue_case(draw, "three producers wait for room, and one of them dies", ("filler", full, 4),
                      ("first", [(ASK, 1, PUT, items[11])], 5), ("hasty", [(TELL, 1, PUT, items[12])], 6),
                      ("second", [(ASK, 1, PUT, items[13])], 7), ("taker", [(ASK, 1, GET)] * 11 + [(ASK, 1, TRY)], 8))
     crowd = [(f"client{i}", [(ASK, 1, GET)], draw.randint(4, 7)) for i in range(CROWD)]
     put = [(ASK, 1, PUT, draw.randint(1, 1000)) for _ in range(CROWD)]
-    yield queue_case(f"{CROWD} consumers wait, each end and is replaced", *crowd, ("putter", put, 8), restarts=1)
+    yield queue_case(draw, f"{CROWD} consumers wait, each end and is replaced", *crowd, ("putter", put, 8), restarts=1)
 
 
 def asked(who, kinds):
@@ -136,15 +163,18 @@ def in_any_slots(draw, rows):
     return rows
 
 
-def six(draw, cpus, levels=(7, 7), given=(), **want):
+def six(draw, cpus, levels=(7, 7), given=(), takers=("waits", "polls"), **want):
     """Name server, queue, judge, two producers with items of their own, two consumers, in slots that are drawn. The levels
-    are those of producers and consumers; without them all are drawn. The servers that are `given` are the grader's; then the
-    items are large."""
+    are those of producers and consumers; without them all are drawn. On one processor the judge runs when all others wait:
+    so both consumers look it up before it has its name. The servers that are `given` are the grader's; then the items are
+    large. The consumers are of the programs `takers`."""
     items = [[draw.randint(1, LARGEST if given else 1000) for _ in range(ITEMS)] for _ in range(2)]
     names, queue = (f"good_{it}.out" if it in given else f"{it}.out" for it in ("names", "queue"))
     makes, takes = levels or (0, 0)
-    rows = [("queue", queue, 4, "1"), ("judge", "judge.out", 5, "11"), ("ann", "maker.out", makes, "1"),
-            ("ben", "maker.out", makes, "1"), ("waits", "waits.out", takes, "3"), ("polls", "polls.out", takes, "3")]
+    consumers = {"second" if it in takers[:i] else it: it for i, it in enumerate(takers)}
+    rows = [("queue", queue, 4, "1"), ("judge", "judge.out", LATE if cpus == 1 else SOON, "11"),
+            ("ann", "maker.out", makes, "1"), ("ben", "maker.out", makes, "1"),
+            *[(name, f"{program}.out", takes, "3") for name, program in consumers.items()]]
     if not levels:
         rows = [(name, program, draw.choice([5, 7, 8]), calls) for name, program, _, calls in rows]
     rows = in_any_slots(draw, rows)
@@ -155,19 +185,23 @@ def six(draw, cpus, levels=(7, 7), given=(), **want):
                        for slot, (name, program, level, calls) in enumerate(rows, 1)])
     return {"config": config, "set": {it: {"items": items[i]} for i, it in enumerate(("ann", "ben"))},
             "models": [("names", "names"), ("queue", "queue")],
-            "facts": ["1+ message waits to queue type 2 ..", "1+ message polls to queue type 3 ..", *reports("waits"),
-                      *reports("polls")],
+            "facts": [f"1+ message {name} to queue type {ASKS[program]} .." for name, program in consumers.items()]
+                     + [fact for it in consumers for fact in reports(it)],
             "want": {"starts": f"24 items, sum {sum(map(sum, items))}\n", "taken": ["queue", "judge"],
-                     "states": {it: "down exit" for it in ("judge", "ann", "ben", "waits", "polls")}, **want}}
+                     "states": {it: "down exit" for it in ("judge", "ann", "ben", *consumers)}, **want}}
 
 
 def by_turns(draw):
-    """Here `polls` is followed too."""
+    """Here `polls` is followed too. With two consumers of one program nobody else takes what they leave."""
     for name, cpus, levels in (("on one processor, where producers come first", 1, FULL),
                                ("on one processor, where consumers come first", 1, EMPTY),
                                (on(4), 4, (7, 7))):
         case = six(draw, cpus, levels)
         yield case | {"name": name, "models": [*case["models"], ("polls", "polls")]}
+    for name, program in (("two that wait", "waits"), ("two that poll", "polls")):
+        case = six(draw, 1, draw.choice([FULL, EMPTY]), takers=(program, program))
+        followed = [("polls", it) for it in (program, "second") if program == "polls"]
+        yield case | {"name": f"{name}, {on(1)}", "models": [*case["models"], *followed]}
 
 
 def in_other_slots(draw):

@@ -13,6 +13,8 @@ def shown(answer):
 class Served:
     """A server's requests and answers. Each model says which answers are due when a request is taken."""
 
+    at_once = False  # whether each answer that is due has to come before the next message is taken
+
     def __init__(self, name, server):
         self.name, self.server = name, server
         self.due = {}  # of each endpoint whose answer is due: its request, the answer's type and words
@@ -28,6 +30,8 @@ class Served:
                 self.notified.add(it.who[0])
             elif it.words[:3] == ["try", self.server, "SEND"] and it.who[1] in self.notified:
                 raise wrong(self.name, it, f"no answer to the notification of {it.words[3]}", said(it))
+            elif it.words[:3] == ["try", self.server, "NOTIFY"]:
+                raise wrong(self.name, it, f"{self.server} answers, and sends nothing else", said(it))
             elif it.words[:3] == ["try", self.server, "RECEIVE"] and it.words[3] not in ("any", "names"):
                 raise wrong(self.name, it, f"{self.server} receives from any, since it serves whoever comes", said(it))
             elif it.words[0] == "message" and self.others(it) == {self.server}:
@@ -41,6 +45,10 @@ class Served:
         return {it for it in (event.words[1], event.words[3]) if it in (self.server, "names")}
 
     def take(self, event):
+        late = next((it for who, it in self.due.items() if who not in self.dead), None)
+        if self.at_once and late:
+            raise wrong(self.name, event, f"{told(late[0])}: an answer {shown(late[1])} before the next message is taken",
+                        said(event))
         kind = int(event.words[5])
         if kind != NOTIFICATION:
             self.notified.discard(event.who[0])
@@ -86,6 +94,7 @@ class Names(Served):
     """Lab 6's name server: who waits longest for a name is answered first."""
 
     REGISTER, LOOKUP, MOST = 1, 2, 8
+    at_once = True
 
     def __init__(self, name, server):
         super().__init__(name, server)
@@ -130,6 +139,7 @@ class Queue(Served):
     PUT, GET, TRY, END = 1, 2, 3, 4
     NOTHING, ENDED = 1, 2
     ROOM, PRODUCERS = 8, 2
+    at_once = True
 
     def __init__(self, name, server):
         super().__init__(name, server)
