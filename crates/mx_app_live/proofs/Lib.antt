@@ -1,0 +1,6 @@
+pub mod ConsoleLemmas
+pub mod GoingLemmas
+pub mod KeyboardLemmas
+pub mod LivingLemmas
+pub mod SessionLemmas
+pub mod WrittenLemmas

@@ -1,0 +1,85 @@
+//! What a console has more than is on the screen.
+
+ghost use Rattle.std.specs.Prelude.{◌≡◌, ◌+◌, ◌-◌, ◌++◌, IfErr, IfOk, OnOk, drop, length};
+ghost use Rattle.std.specs.Io.KnownBytes.{Appends};
+ghost use Rattle.mx_app_failure.specs.Failure.{IsWanting, PrintsFront};
+ghost use Rattle.mx_machine.specs.Machine.{world_of};
+ghost use Rattle.mx_app_live.specs.Screen.{grown};
+
+use mx_app_failure::{Failure, print_text};
+use mx_machine::Machine;
+use mx_proc::{Console, KEPT_BYTES};
+use std::alloc::AllocError;
+use std::io::Write;
+
+/// The first index from one on at which a console has no byte.
+fn end_from(console: &Console, from: usize) -> usize
+    ensures { result ≡ from + (length console.now.kept - from) }
+{
+    for index in from..usize::MAX {
+        if console.get(index).is_none() {
+            return index;
+        }
+    }
+    usize::MAX
+}
+
+/// How many bytes a console has still.
+fn kept_length(console: &Console) -> usize
+    ensures { result ≡ length console.now.kept }
+{
+    // As many as were written, up to those that it keeps: so the first question is the answer.
+    let count = console.count() as usize;
+    let kept = if count < KEPT_BYTES {
+        count
+    } else {
+        KEPT_BYTES
+    };
+    if kept > 0 && console.get(kept - 1).is_none() {
+        return end_from(console, 0);
+    }
+    end_from(console, kept)
+}
+
+/// Appends the bytes of a console from an index on.
+fn push_from(out: &mut Vec<u8>, console: &Console, first: usize) -> Result<(), AllocError>
+    ensures { OnOk result (out.new.items ≡ out.old.items ++ drop first console.now.kept) }
+{
+    let mut index = first;
+    while let Some(byte) = console.get(index) {
+        out.push(byte)?;
+        index += 1;
+    }
+    Ok(())
+}
+
+/// Prints the bytes of a machine's console after the first `shown`, and answers how many it has now. They stand in
+/// `bytes` meanwhile, so that no memory is taken if that has enough.
+#[tactic(auto, unfolding(mx_machine::specs::Machine::world_of))]
+pub(crate) fn show<W: Write>(
+    machine: &Machine,
+    shown: u32,
+    bytes: &mut Vec<u8>,
+    screen: &mut W,
+) -> Result<u32, Failure>
+    ensures shown { IfOk result (λ count.
+        count ≡ (world_of machine.now).table.devices.console.count) }
+    ensures text { OnOk result (Appends (W.contents screen.old) (W.contents screen.new)
+        (grown shown (world_of machine.now).table.devices.console)) }
+    ensures failed { IfErr result IsWanting }
+    ensures front { IfErr result (λ _. PrintsFront
+        (λ front. Appends (W.contents screen.old) (W.contents screen.new) front)
+        (grown shown (world_of machine.now).table.devices.console)) }
+{
+    let console = &machine.kernel().table().devices().console;
+    let count = console.count();
+    let more = count.saturating_sub(shown) as usize;
+    let first = kept_length(console).saturating_sub(more);
+    bytes.clear();
+    push_from(bytes, console, first)?;
+    if bytes.is_empty() {
+        return Ok(count);
+    }
+    print_text(bytes.as_slice(), screen)?;
+    Ok(count)
+}
