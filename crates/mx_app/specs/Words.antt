@@ -16,7 +16,7 @@ use Rattle.mx_app_command.specs.Words.{Asks, AsksForSilence, AsksForSums, AsksTo
 use Rattle.mx_app_failure.specs.declared.failure.Failure.{Failure as Kind}
 use Rattle.mx_app_failure.specs.declared.failure.Failure.TheVariants.{NotText, NoMemory}
 use Rattle.mx_app_failure.specs.Failure.{IsWanting}
-use Rattle.mx_app.specs.Deeds.{Deeds}
+use Rattle.mx_app.specs.Deeds.{Deeds, IsAlone}
 use Rattle.mx_app.specs.Requests.{with_status}
 use Rattle.mx_app.specs.Summing.{PerformsLine, line_failure_line, line_failure_status}
 use Rattle.mx_app.specs.declared.summing.LineFailure.{LineFailure}
