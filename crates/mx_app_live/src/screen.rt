@@ -1,6 +1,6 @@
 //! What a console has more than is on the screen.
 
-ghost use Rattle.std.specs.Prelude.{◌≡◌, ◌+◌, ◌-◌, ◌++◌, IfErr, IfOk, OnOk, drop, length};
+ghost use Rattle.std.specs.Prelude.{◌≡◌, ◌⊎◌, ◌≤◌, ◌+◌, ◌++◌, IfErr, IfOk, OnOk, drop, length};
 ghost use Rattle.std.specs.Io.KnownBytes.{Appends};
 ghost use Rattle.mx_app_failure.specs.Failure.{IsWanting, PrintsFront};
 ghost use Rattle.mx_machine.specs.Machine.{world_of};
@@ -12,37 +12,28 @@ use mx_proc::{Console, KEPT_BYTES};
 use std::alloc::AllocError;
 use std::io::Write;
 
-/// The first index from one on at which a console has no byte.
-fn end_from(console: &Console, from: usize) -> usize
-    ensures { result ≡ from + (length console.now.kept - from) }
+/// An index from which on a console has so many bytes more, or 0: the index of the first of its last `more` bytes, as it
+/// keeps the last 4,096 of those that were written.
+fn first_of(console: &Console, more: usize) -> usize
+    ensures there { (result ≡ 0) ⊎ (result + more ≤ length console.now.kept) }
+    ensures small { result ≤ 4096 }
 {
-    for index in from..usize::MAX {
-        if console.get(index).is_none() {
-            return index;
-        }
-    }
-    usize::MAX
-}
-
-/// How many bytes a console has still.
-fn kept_length(console: &Console) -> usize
-    ensures { result ≡ length console.now.kept }
-{
-    // As many as were written, up to those that it keeps: so the first question is the answer.
     let count = console.count() as usize;
     let kept = if count < KEPT_BYTES {
         count
     } else {
         KEPT_BYTES
     };
-    if kept > 0 && console.get(kept - 1).is_none() {
-        return end_from(console, 0);
+    let first = kept.saturating_sub(more);
+    if first > 0 && console.get(kept - 1).is_none() {
+        return 0;
     }
-    end_from(console, kept)
+    first
 }
 
 /// Appends the bytes of a console from an index on.
 fn push_from(out: &mut Vec<u8>, console: &Console, first: usize) -> Result<(), AllocError>
+    requires { first ≤ 4096 }
     ensures { OnOk result (out.new.items ≡ out.old.items ++ drop first console.now.kept) }
 {
     let mut index = first;
@@ -74,12 +65,13 @@ pub(crate) fn show<W: Write>(
     let console = &machine.kernel().table().devices().console;
     let count = console.count();
     let more = count.saturating_sub(shown) as usize;
-    let first = kept_length(console).saturating_sub(more);
+    let first = first_of(console, more);
     bytes.clear();
     push_from(bytes, console, first)?;
-    if bytes.is_empty() {
+    let text = &bytes.as_slice()[bytes.len().saturating_sub(more)..];
+    if text.is_empty() {
         return Ok(count);
     }
-    print_text(bytes.as_slice(), screen)?;
+    print_text(text, screen)?;
     Ok(count)
 }

@@ -22,9 +22,9 @@ const STOP_PAUSE: u64 = 20;
 /// After how many milliseconds without room keys are read on, for the sake of commands.
 const PATIENCE: u64 = 2000;
 
-/// Somebody at the runtime's standard streams.
+/// What is heard of a runtime: its keys, its clock, and the file that ends a session.
 #[derive(Drop)]
-pub struct Seat<'a, R> {
+struct Ear<'a, R> {
     rt: &'a R,
     keys: [u8; KEYS],
     first: usize,
@@ -37,17 +37,12 @@ pub struct Seat<'a, R> {
     looked_at: u64,
     room_at: u64,
     is_over: bool,
-    heard: Noted<Heard>,
-    told: Noted<Note>,
 }
 
-impl<'a, R: Clock> Seat<'a, R> {
-    /// Somebody at a runtime's streams, who has typed nothing yet.
-    pub fn new(rt: &'a R) -> Seat<'a, R>
-        ensures heard { result.heard.items ≡ [] }
-        ensures told { result.told.items ≡ [] }
-    {
-        Seat {
+impl<'a, R: Clock> Ear<'a, R> {
+    /// Nothing is heard yet.
+    fn new(rt: &'a R) -> Ear<'a, R> {
+        Ear {
             rt,
             keys: [0; KEYS],
             first: 0,
@@ -58,8 +53,6 @@ impl<'a, R: Clock> Seat<'a, R> {
             looked_at: 0,
             room_at: 0,
             is_over: false,
-            heard: Noted::new(),
-            told: Noted::new(),
         }
     }
 
@@ -103,7 +96,7 @@ impl<'a, R: Clock> Seat<'a, R> {
     }
 }
 
-impl<'a, R: Clock + Files> Seat<'a, R> {
+impl<'a, R: Clock + Files> Ear<'a, R> {
     /// Whether the file that ends the session is there.
     fn has_stop(&self, stop: Option<&str>) -> bool {
         match stop {
@@ -122,7 +115,7 @@ impl<'a, R: Clock + Files> Seat<'a, R> {
     }
 }
 
-impl<'a, R: Clock + Files + Input> Seat<'a, R> {
+impl<'a, R: Clock + Files + Input> Ear<'a, R> {
     /// Reads keys. A terminal that gives each key at once may have none; else a read that gives none is their end.
     fn read_keys(&mut self, is_raw: bool) -> Heard {
         let mut reader = self.rt.reader();
@@ -183,6 +176,28 @@ impl<'a, R: Clock + Files + Input> Seat<'a, R> {
     }
 }
 
+/// Somebody at the runtime's standard streams.
+#[derive(Drop)]
+pub struct Seat<'a, R> {
+    ear: Ear<'a, R>,
+    heard: Noted<Heard>,
+    told: Noted<Note>,
+}
+
+impl<'a, R: Clock> Seat<'a, R> {
+    /// Somebody at a runtime's streams, who has typed nothing yet.
+    pub fn new(rt: &'a R) -> Seat<'a, R>
+        ensures heard { result.heard.items ≡ [] }
+        ensures told { result.told.items ≡ [] }
+    {
+        Seat {
+            ear: Ear::new(rt),
+            heard: Noted::new(),
+            told: Noted::new(),
+        }
+    }
+}
+
 /// How a session's end is said.
 fn word_of(ending: SessionEnding) -> &'static str {
     match ending {
@@ -193,30 +208,28 @@ fn word_of(ending: SessionEnding) -> &'static str {
     }
 }
 
-impl<'a, R: Clock + Files + Input + Eprint> Seat<'a, R> {
-    /// Prints a note.
-    fn print(&self, note: Note) {
-        let _ = match note {
-            Note::Refused => eprint!(self.rt; "\x07"),
-            Note::Help(records) => {
-                eprint!(self.rt;
-                    "\nmx: Ctrl-A and then x leaves, k and a slot (0-9, a-v) kills, t ticks, a is Ctrl-A; {records} records\n"
+/// Prints a note.
+fn print_note(rt: &impl Eprint, note: Note) {
+    let _ = match note {
+        Note::Refused => eprint!(rt; "\x07"),
+        Note::Help(records) => {
+            eprint!(rt;
+                "\nmx: Ctrl-A and then x leaves, k and a slot (0-9, a-v) kills, t ticks, a is Ctrl-A; {records} records\n"
+            )
+        }
+        Note::Killed(record) => eprint!(rt; "\nmx: killed at record {record}\n"),
+        Note::NobodyKilled(slot) => eprint!(rt; "\nmx: nobody to kill in slot {slot}\n"),
+        Note::Ended(ending, records, untaken) => {
+            let word = word_of(ending);
+            if untaken > 0 {
+                eprint!(rt;
+                    "mx: {word} after {records} records; {untaken} typed bytes weren't taken\n"
                 )
+            } else {
+                eprint!(rt; "mx: {word} after {records} records\n")
             }
-            Note::Killed(record) => eprint!(self.rt; "\nmx: killed at record {record}\n"),
-            Note::NobodyKilled(slot) => eprint!(self.rt; "\nmx: nobody to kill in slot {slot}\n"),
-            Note::Ended(ending, records, untaken) => {
-                let word = word_of(ending);
-                if untaken > 0 {
-                    eprint!(self.rt;
-                        "mx: {word} after {records} records; {untaken} typed bytes weren't taken\n"
-                    )
-                } else {
-                    eprint!(self.rt; "mx: {word} after {records} records\n")
-                }
-            }
-        };
-    }
+        }
+    };
 }
 
 impl<'a, R: Clock + Files + Input + Eprint> Outside for Seat<'a, R> {
@@ -225,10 +238,10 @@ impl<'a, R: Clock + Files + Input + Eprint> Outside for Seat<'a, R> {
     ghost told = { λ seat. seat.told.items };
 
     fn hear(&mut self, asking: Asking<'_>) -> Heard {
-        let heard = self.next_heard(asking);
+        let heard = self.ear.next_heard(asking);
         if let Heard::Nothing = heard {
             if asking.at_rest {
-                thread::sleep(self.rt, Duration::from_millis(1));
+                thread::sleep(self.ear.rt, Duration::from_millis(1));
             }
         }
         self.heard = self.heard.and(&heard);
@@ -236,7 +249,7 @@ impl<'a, R: Clock + Files + Input + Eprint> Outside for Seat<'a, R> {
     }
 
     fn tell(&mut self, note: Note) {
-        self.print(note);
+        print_note(self.ear.rt, note);
         self.told = self.told.and(&note);
     }
 }

@@ -1,4 +1,4 @@
-use Rattle.std.proofs.Common.{◌≡◌, ◌∙◌, ℕ, Bool, [], ◌∷◌, ap, length, subst, sym}
+use Rattle.std.proofs.Common.{◌∙◌, ℕ, Bool, [], ◌∷◌, ap, length, subst, sym}
 use Rattle.mx_machine.specs.Machine.{world_of}
 use Rattle.mx_machine.specs.World.{World}
 use Rattle.mx_turns.specs.Made.{HasOffered}

@@ -3,6 +3,7 @@ use Rattle.std.proofs.lemmas.List.{length-replicate}
 use Rattle.std.proofs.lemmas.Result.{err_from_is_err_and}
 use Rattle.mx_app_start.proofs.SetupLemmas.{as_many_services}
 use Rattle.mx_app_start.proofs.BootLemmas.{other_booted}
+use Rattle.mx_machine.specs.Machine.{world_of}
 use Rattle.mx_machine.specs.World.{World}
 use Rattle.mx_app_live.proofs.living.begin.Goals as goal
 

@@ -1,16 +1,9 @@
-use Rattle.std.proofs.Common.{◌≡◌, ◌∙◌, [], ◌++◌, ◌⊎◌, List, ℕ, ap, refl, subst, sym}
-use Rattle.std.specs.Io.KnownBytes.{Appends}
+use Rattle.std.proofs.Common.{[], refl}
 use Rattle.std.proofs.KnownBytes.{Appends-nil}
 use Rattle.std.proofs.lemmas.Result.{err_from_is_err_and}
-use Rattle.mx_app_failure.specs.Failure.{PrintsFront}
 use Rattle.mx_app_live.proofs.screen.show.Goals as goal
 
 pub returns-in_err-push_from-clause-front : goal.returns-in_err-push_from-clause-front
 returns-in_err-push_from-clause-front g c =
     let p = err_from_is_err_and c.from_residual.result c.from_residual.ensures.1 in
-    rw (p.1, p.2) ([], _, refl, Appends-nil _)
-
-pub returns-in_err-print_text-clause-front : goal.returns-in_err-print_text-clause-front
-returns-in_err-print_text-clause-front g c =
-    let p = err_from_is_err_and c.from_residual-in_err-print_text.result c.from_residual-in_err-print_text.ensures.1 in
-    rw (p.1, p.2) ?
+    rw p.1 ([], _, refl, Appends-nil _)

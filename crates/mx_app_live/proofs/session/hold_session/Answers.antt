@@ -18,47 +18,47 @@ pub returns-in_err-gone-clause-held : goal.returns-in_err-gone-clause-held
 returns-in_err-gone-clause-held g c =
     let m = c.args.machine.now in
     let n = c.loop.machine in
-    let p = c.go_on-gone.new.machine in
+    let p = c.go_on.new.machine in
     let r = err_from_is_err_and c.from_residual.result c.from_residual.ensures.1 in
     let h = c.in_err-gone.ensures.failed in
     rw (r.1, r.2)
     (unshown_going c.args.has_clock (seat_of (world_of m) c.args.session.now) m n (seat_of (world_of n) c.loop.session) c.loop.counter (g.O.Outside.heard c.args.outside.now) (g.O.Outside.heard c.loop.outside)
-    (g.O.Outside.told c.args.outside.now) (g.O.Outside.told c.loop.outside) (g.W.Write.contents c.args.screen.now) (g.W.Write.contents c.loop.screen) c.loop.invariant.so p (seat_of (world_of p) c.go_on-gone.new.session) c.in_err-gone.field-0.0
-    (g.W.Write.contents c.go_on-gone.new.screen) h.1 h.0 h.2)
+    (g.O.Outside.told c.args.outside.now) (g.O.Outside.told c.loop.outside) (g.W.Write.contents c.args.screen.now) (g.W.Write.contents c.loop.screen) c.loop.invariant.so p (seat_of (world_of p) c.go_on.new.session) c.in_err-gone.field-0.0
+    (g.W.Write.contents c.go_on.new.screen) h.1 h.0 h.2)
 
 pub returns-in-Some-clause-held : goal.returns-in-Some-clause-held
 returns-in-Some-clause-held g c =
     let m = c.args.machine.now in
     let n = c.loop.machine in
-    let p = c.go_on-gone.new.machine in
+    let p = c.go_on.new.machine in
     let h = c.in_ok-gone.ensures.going in
     ended_going c.args.has_clock (seat_of (world_of m) c.args.session.now) m n (seat_of (world_of n) c.loop.session) c.loop.counter (g.O.Outside.heard c.args.outside.now) (g.O.Outside.heard c.loop.outside)
-    (g.O.Outside.told c.args.outside.now) (g.O.Outside.told c.loop.outside) (g.W.Write.contents c.args.screen.now) (g.W.Write.contents c.loop.screen) c.loop.invariant.so p (seat_of (world_of p) c.go_on-gone.new.session) c.in_ok-gone.gone c.in-Some.ending
-    (g.W.Write.contents c.go_on-gone.new.screen) h.0 h.1 h.2 c.in_ok-gone.ensures.text c.in-Some.is
+    (g.O.Outside.told c.args.outside.now) (g.O.Outside.told c.loop.outside) (g.W.Write.contents c.args.screen.now) (g.W.Write.contents c.loop.screen) c.loop.invariant.so p (seat_of (world_of p) c.go_on.new.session) c.in_ok-gone.gone c.in-Some.ending
+    (g.W.Write.contents c.go_on.new.screen) h.0 h.1 h.2 c.in_ok-gone.ensures.text c.in-Some.is
 
-pub returns-in-Some-in_default-clause-held : goal.returns-in-Some-in_default-clause-held
-returns-in-Some-in_default-clause-held g c =
+pub returns-in-Some-done-clause-held : goal.returns-in-Some-done-clause-held
+returns-in-Some-done-clause-held g c =
     let m = c.args.machine.now in
     let n = c.loop.machine in
-    let p = c.go_on-gone.new.machine in
+    let p = c.go_on.new.machine in
     let q = c.do_heard-done.new.machine in
-    let y = seat_of (world_of p) c.go_on-gone.new.session in
+    let y = seat_of (world_of p) c.go_on.new.session in
     let z = seat_of (world_of q) c.do_heard-done.new.session in
     let h = c.in_ok-gone.ensures.going in
     let d = c.do_heard-done.ensures.done in
     let heard = c.do_heard-done.ensures.heard ∙ c.listen-heard.ensures.heard in
     let told = d.3 ∙ ap (λ (l : List Note). l ++ (hearing y c.listen-heard.result).told) c.listen-heard.ensures.told in
     ended_hearing c.args.has_clock (seat_of (world_of m) c.args.session.now) m n (seat_of (world_of n) c.loop.session) c.loop.counter (g.O.Outside.heard c.args.outside.now) (g.O.Outside.heard c.loop.outside)
-    (g.O.Outside.told c.args.outside.now) (g.O.Outside.told c.loop.outside) (g.W.Write.contents c.args.screen.now) (g.W.Write.contents c.loop.screen) c.loop.invariant.so p q y z c.listen-heard.result c.do_heard-done.result c.in-Some-in_default.ending (g.W.Write.contents c.go_on-gone.new.screen)
-    (g.O.Outside.heard c.do_heard-done.new.outside) (g.O.Outside.told c.do_heard-done.new.outside) h.0 h.1 (sym h.2 ∙ c.in_default.is) c.in_ok-gone.ensures.text heard d.0 d.1 d.2 told c.in-Some-in_default.is
+    (g.O.Outside.told c.args.outside.now) (g.O.Outside.told c.loop.outside) (g.W.Write.contents c.args.screen.now) (g.W.Write.contents c.loop.screen) c.loop.invariant.so p q y z c.listen-heard.result c.do_heard-done.result c.in-Some-done.ending (g.W.Write.contents c.go_on.new.screen)
+    (g.O.Outside.heard c.do_heard-done.new.outside) (g.O.Outside.told c.do_heard-done.new.outside) h.0 h.1 (sym h.2 ∙ c.in_default.is) c.in_ok-gone.ensures.text heard d.0 d.1 d.2 told c.in-Some-done.is
 
 pub loop-preserved : goal.loop-preserved
 loop-preserved g c =
     let m = c.args.machine.now in
     let n = c.loop.machine in
-    let p = c.go_on-gone.new.machine in
+    let p = c.go_on.new.machine in
     let q = c.do_heard-done.new.machine in
-    let y = seat_of (world_of p) c.go_on-gone.new.session in
+    let y = seat_of (world_of p) c.go_on.new.session in
     let z = seat_of (world_of q) c.do_heard-done.new.session in
     let h = c.in_ok-gone.ensures.going in
     let d = c.do_heard-done.ensures.done in
@@ -66,10 +66,10 @@ loop-preserved g c =
     let told = d.3 ∙ ap (λ (l : List Note). l ++ (hearing y c.listen-heard.result).told) c.listen-heard.ensures.told in
     record {
       so = one_more c.args.has_clock (seat_of (world_of m) c.args.session.now) m n (seat_of (world_of n) c.loop.session) c.loop.counter (g.O.Outside.heard c.args.outside.now) (g.O.Outside.heard c.loop.outside)
-          (g.O.Outside.told c.args.outside.now) (g.O.Outside.told c.loop.outside) (g.W.Write.contents c.args.screen.now) (g.W.Write.contents c.loop.screen) c.loop.invariant.so p q y z c.listen-heard.result c.do_heard-done.result (g.W.Write.contents c.go_on-gone.new.screen)
-          (g.O.Outside.heard c.do_heard-done.new.outside) (g.O.Outside.told c.do_heard-done.new.outside) h.0 h.1 (sym h.2 ∙ c.in_default.is) c.in_ok-gone.ensures.text heard d.0 d.1 d.2 told c.in_default-2.is;
+          (g.O.Outside.told c.args.outside.now) (g.O.Outside.told c.loop.outside) (g.W.Write.contents c.args.screen.now) (g.W.Write.contents c.loop.screen) c.loop.invariant.so p q y z c.listen-heard.result c.do_heard-done.result (g.W.Write.contents c.go_on.new.screen)
+          (g.O.Outside.heard c.do_heard-done.new.outside) (g.O.Outside.told c.do_heard-done.new.outside) h.0 h.1 (sym h.2 ∙ c.in_default.is) c.in_ok-gone.ensures.text heard d.0 d.1 d.2 told c.in_default-done.is;
       other = c.do_heard-done.ensures.other;
-      shown = heard_on p q y c.listen-heard.result c.go_on-gone.new.session.shown c.do_heard-done.new.session.shown d.0 c.in_ok-gone.ensures.shown c.do_heard-done.ensures.shown;
+      shown = heard_on p q y c.listen-heard.result c.go_on.new.session.shown c.do_heard-done.new.session.shown d.0 c.in_ok-gone.ensures.shown c.do_heard-done.ensures.shown;
     }
 
 pub returns-clause-held : goal.returns-clause-held

@@ -1,4 +1,4 @@
-use Rattle.std.proofs.Common.{◌∙◌, ℕ, Option, subst, sym}
+use Rattle.std.proofs.Common.{◌∙◌, ℕ, Option, false, subst, sym}
 use Rattle.mx_machine.specs.Machine.{world_of}
 use Rattle.mx_turns.specs.Made.{HasOffered}
 use Rattle.mx_turns.proofs.MadeLemmas.{none_offered}
@@ -13,4 +13,4 @@ returns-in-Some-clause-offered c =
 pub returns-in-None-clause-offered : goal.returns-in-None-clause-offered
 returns-in-None-clause-offered c =
     let m = c.args.machine.now in
-    subst (λ (e : Option ℕ). HasOffered m (killed_at (world_of m) e) _ m) (sym c.in-None.is ∙ c.endpoint_at.ensures) (none_offered m)
+    subst (λ (e : Option ℕ). HasOffered m (killed_at (world_of m) e) false m) (sym c.in-None.is ∙ c.endpoint_at.ensures) (none_offered m)
