@@ -18,14 +18,12 @@ fn first_of(console: &Console, more: usize) -> usize
     ensures there { (result ≡ 0) ⊎ (result + more ≤ length console.now.kept) }
     ensures small { result ≤ 4096 }
 {
-    let count = console.count() as usize;
-    let kept = if count < KEPT_BYTES {
-        count
-    } else {
-        KEPT_BYTES
-    };
+    let kept = (console.count() as usize).min(KEPT_BYTES);
     let first = kept.saturating_sub(more);
-    if first > 0 && console.get(kept - 1).is_none() {
+    if first == 0 {
+        return 0;
+    }
+    if console.get(kept - 1).is_none() {
         return 0;
     }
     first
