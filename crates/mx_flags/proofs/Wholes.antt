@@ -1,7 +1,7 @@
 -- Flags of whole sums and differences, from dwords of the same sign.
 use Rattle.std.proofs.Common.{ℕ, ◌≡◌, ◌+◌, ◌-◌, ◌%◌, ◌^◌, ◌≤◌, ◌<◌, ◌==◌, refl, sym, arith, Bool, true, false, inl, inr, nat_le, nat_lt, int_lt, pos, ◌+ℤ◌, ◌-ℤ◌, ◌≤ℤ◌, neg_ℤ, ℤ}
 use Rattle.std.proofs.lemmas.Bool.{cases_lt}
-use Rattle.mx_word.specs.Word.{width, is_negative, signed, modulo, sum_of, difference_of, leaves_unsigned, leaves_signed, differ}
+use Rattle.mx_word.specs.Word.{width, is_negative, signed, modulo, difference_of, leaves_unsigned, leaves_signed, differ}
 use Rattle.mx_word.specs.declared.size.Size.{Size}
 use Rattle.mx_word.specs.declared.size.Size.TheVariants.{Byte, Word, Dword}
 use Rattle.mx_flags.specs.Last.{extended}

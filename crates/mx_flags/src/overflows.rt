@@ -31,7 +31,11 @@ pub enum Overflow {
 pub fn overflow_of(overflow: bool) -> Overflow
     ensures { (x y k : ℕ) → overflow_from result x y k ≡ overflow }
 {
-    if overflow { Overflow::Set } else { Overflow::Clear }
+    if overflow {
+        Overflow::Set
+    } else {
+        Overflow::Clear
+    }
 }
 
 /// That of a sum.
