@@ -20,6 +20,7 @@ use mx_app_turns::{
 };
 use mx_turns::Ending;
 use mx_walk::Progress;
+use mx_why::why;
 use std::alloc::Global;
 use std::io::Write;
 use std::sync::Wait;
@@ -268,6 +269,11 @@ fn perform_apart<
             let reader = &mut channels.reader;
             let out = &mut channels.out;
             done_after_replay(draw(alloc, reader, records, out))
+        }
+        CommandRequest::Why { config, log } => {
+            let reader = &mut channels.reader;
+            let out = &mut channels.out;
+            done_after_replay(why(alloc, reader, config, log, out))
         }
         CommandRequest::Look { config, log } => {
             let asks = io.asks;

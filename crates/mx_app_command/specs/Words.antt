@@ -13,7 +13,7 @@ use Rattle.mx_app_command.specs.declared.command_line.CommandRequest.{CommandReq
 use Rattle.mx_app_command.specs.declared.command_line.Listing.{Listing}
 use Rattle.mx_app_command.specs.declared.command_line.Listing.TheVariants.{Instructions, Symbols}
 use Rattle.mx_app_command.specs.declared.command_line.RecordRange.{RecordRange}
-use Rattle.mx_app_command.specs.declared.command_line.CommandRequest.TheVariants.{One, As, Show, Explain, Step, Run, Turns, Sweep, Replay, Trace, Draw, Look, Db}
+use Rattle.mx_app_command.specs.declared.command_line.CommandRequest.TheVariants.{One, As, Show, Explain, Step, Run, Turns, Sweep, Replay, Trace, Draw, Look, Why, Db}
 
 -- ---- the grammar
 
@@ -158,6 +158,7 @@ mx_grammar = record {
       ∷ looking_shape (codes "trace")
       ∷ looking_shape (codes "draw")
       ∷ following_shape (codes "look")
+      ∷ following_shape (codes "why")
       ∷ of_two (codes "db") (codes "CONFIG") (codes "SCRIPT")
       ∷ [];
 }
@@ -237,6 +238,8 @@ AsksBy (Draw config log range) name rows =
     × HasRange rows range
 AsksBy (Look config log) name rows =
     (name ≡ codes "look") × HasText (codes "CONFIG") rows config.now × HasText (codes "LOG") rows log.now
+AsksBy (Why config log) name rows =
+    (name ≡ codes "why") × HasText (codes "CONFIG") rows config.now × HasText (codes "LOG") rows log.now
 AsksBy (Db config script) name rows =
     (name ≡ codes "db") × HasText (codes "CONFIG") rows config.now × HasText (codes "SCRIPT") rows script.now
 
@@ -299,7 +302,7 @@ pub record MayHaveSweep (rows : List Row) : Type 0 where
 -- those with a history but for `run`: `turns`, `trace` and `draw` may have two numbers, `sweep` four
 abbrev pub IsOtherHistoryAsked : Text → List Row → Type 0
 IsOtherHistoryAsked name rows =
-    ((name ≡ codes "replay") ⊎ (name ≡ codes "look"))
+    ((name ≡ codes "replay") ⊎ ((name ≡ codes "look") ⊎ (name ≡ codes "why")))
     ⊎ ((((name ≡ codes "trace") ⊎ (name ≡ codes "draw")) × MayHaveRange rows)
     ⊎ (((name ≡ codes "turns") × MayHaveTurns rows)
     ⊎ ((name ≡ codes "sweep") × MayHaveSweep rows)))
@@ -321,7 +324,7 @@ abbrev pub is_following : Text → Bool
 is_following name =
     bytes_eq name (codes "replay")
     || (bytes_eq name (codes "trace")
-    || (bytes_eq name (codes "draw") || (bytes_eq name (codes "look") || bytes_eq name (codes "db"))))
+    || (bytes_eq name (codes "draw") || (bytes_eq name (codes "look") || (bytes_eq name (codes "why") || bytes_eq name (codes "db")))))
 
 abbrev pub is_machine : Text → Bool
 is_machine name =

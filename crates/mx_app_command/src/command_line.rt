@@ -116,6 +116,11 @@ pub enum CommandRequest<'a> {
         config: &'a str,
         log: &'a str,
     },
+    /// `why CONFIG LOG`.
+    Why {
+        config: &'a str,
+        log: &'a str,
+    },
     /// `db CONFIG SCRIPT`.
     Db {
         config: &'a str,
@@ -347,7 +352,7 @@ fn reading_request<'a>(
 ) -> CommandRequest<'a>
     requires config { HasText (codes "CONFIG") (rows_of (found_of matches.now)) config.now }
     requires log { HasText (codes "LOG") (rows_of (found_of matches.now)) log.now }
-    requires asked { ((name.now ≡ codes "replay") ⊎ (name.now ≡ codes "look"))
+    requires asked { ((name.now ≡ codes "replay") ⊎ ((name.now ≡ codes "look") ⊎ (name.now ≡ codes "why")))
         ⊎ (((name.now ≡ codes "trace") ⊎ (name.now ≡ codes "draw"))
         × MayHaveRange (rows_of (found_of matches.now))) }
     ensures { AsksBy result name.now (rows_of (found_of matches.now)) }
@@ -356,6 +361,8 @@ fn reading_request<'a>(
         CommandRequest::Replay { config, log }
     } else if name == "look" {
         CommandRequest::Look { config, log }
+    } else if name == "why" {
+        CommandRequest::Why { config, log }
     } else {
         records_request(name, config, log, matches)
     }
@@ -415,7 +422,12 @@ fn machine_request<'a>(name: &str, matches: &ArgMatches<'a>) -> CommandRequest<'
 fn is_following(name: &str) -> bool
     ensures { result ≡ is_following name.now }
 {
-    name == "replay" || name == "trace" || name == "draw" || name == "look" || name == "db"
+    name == "replay"
+        || name == "trace"
+        || name == "draw"
+        || name == "look"
+        || name == "why"
+        || name == "db"
 }
 
 /// Whether the subcommand of this name works on a machine.

@@ -110,6 +110,7 @@ impl<'a> CommandRequest<'a> {
             CommandRequest::Trace { config, log, .. } => with_course(config, "LOG", log),
             CommandRequest::Draw { config, log, .. } => with_course(config, "LOG", log),
             CommandRequest::Look { config, log } => with_course(config, "LOG", log),
+            CommandRequest::Why { config, log } => with_course(config, "LOG", log),
         }
     }
 
