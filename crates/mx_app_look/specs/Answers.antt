@@ -46,7 +46,7 @@ help_text =
     ++ codes "list [SLOT [ADDRESS]]       its code, from the address or from EIP on\n"
     ++ codes "stack [SLOT [N]]            N dwords of its stack, or eight\n"
     ++ codes "print SLOT NAME             its variable of that name\n"
-    ++ codes "help, quit                  this; the end\n"
+    ++ codes "help, quit, exit            this; the end\n"
     ++ codes "A record is one event; back N is N steps of a process, and then its return.\n"
     ++ codes "A command may be shortened, as f or stepb. Without SLOT it is the process on the\n"
     ++ codes "processor whose record is next. ADDRESS is a number, decimal or 0x.., or a symbol\n"

@@ -36,6 +36,23 @@ verbs =
     Back ∷ Break ∷ Clear ∷ Continue ∷ Forward ∷ GoTo ∷ Help ∷ Listing ∷ Memory ∷ Messages ∷ Points ∷ Print ∷ Processes
     ∷ Quit ∷ Registers ∷ Reverse ∷ Stack ∷ Step ∷ StepBack ∷ Until ∷ Watch ∷ Where ∷ Why ∷ []
 
+-- how a line about it is written
+abbrev pub verb_form : Verb → List ℕ
+verb_form Back = codes "back [N]"
+verb_form Break = codes "break SLOT ADDRESS"
+verb_form Forward = codes "forward [N]"
+verb_form GoTo = codes "goto K, goto K.J, goto end"
+verb_form Listing = codes "list [SLOT [ADDRESS]]"
+verb_form Memory = codes "mem SLOT ADDRESS N"
+verb_form Print = codes "print SLOT NAME"
+verb_form Registers = codes "regs [SLOT]"
+verb_form Stack = codes "stack [SLOT [N]]"
+verb_form Step = codes "step [N]"
+verb_form StepBack = codes "stepback [N]"
+verb_form Until = codes "until SLOT TYPE, until death SLOT, until message FROM TO"
+verb_form Watch = codes "watch SLOT ADDRESS N"
+verb_form v = verb_word v
+
 -- a word is a front of the verb's
 abbrev pub begins_verb : List ℕ → Verb → Bool
 begins_verb word v = starts_with nat_eq (verb_word v) word
@@ -45,9 +62,11 @@ abbrev pub verb_by : Option Verb → List ℕ → Option Verb
 verb_by (Some v) word = Some v
 verb_by None word = if count_by (begins_verb word) verbs == 1 then find (begins_verb word) verbs else None
 
--- THE VERB that a word is, or that it abbreviates
+-- THE VERB that a word is, or that it abbreviates; `exit` is another word for `quit`
 unfoldable pub verb_of : List ℕ → Option Verb
-verb_of word = verb_by (find (λ v. bytes_eq word (verb_word v)) verbs) word
+verb_of word =
+    if bytes_eq word (codes "exit") then Some Quit
+    else verb_by (find (λ v. bytes_eq word (verb_word v)) verbs) word
 
 -- ---- what is printed if a line asks for nothing known
 
@@ -56,14 +75,20 @@ abbrev pub names_after : List ℕ → List Verb → List ℕ
 names_after between [] = []
 names_after between (v ∷ vs) = between ++ verb_word v ++ names_after (codes ", ") vs
 
-abbrev pub shared_names_by : Option Verb → List ℕ → List ℕ
-shared_names_by (Some v) word = []
-shared_names_by None word = names_after (codes ": ") (filter (begins_verb word) verbs)
+-- of no verb: those of whose words it is a front
+abbrev pub named : List ℕ → List ℕ
+named word =
+    if count_by (begins_verb word) verbs == 0 then codes ": help has all commands"
+    else names_after (codes ": ") (filter (begins_verb word) verbs)
 
--- the verbs of whose words the line's first is a front, if it is no verb's
-abbrev pub shared_names : List (List ℕ) → List ℕ
-shared_names [] = []
-shared_names (f ∷ fs) = shared_names_by (verb_of f) f
+abbrev pub hint_by : Option Verb → List ℕ → List ℕ
+hint_by (Some v) word = codes ": " ++ verb_form v
+hint_by None word = named word
+
+-- what is wanted in place of a line with these words: a line about its verb is written so
+abbrev pub hint : List (List ℕ) → List ℕ
+hint [] = []
+hint (f ∷ fs) = hint_by (verb_of f) f
 
 unfoldable pub unknown_text : List ℕ → List ℕ
-unknown_text line = codes "refused 73 BadRecord" ++ shared_names (fields line) ++ codes "\n"
+unknown_text line = codes "refused 73 BadRecord" ++ hint (fields line) ++ codes "\n"

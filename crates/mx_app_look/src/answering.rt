@@ -50,7 +50,7 @@ const HELP: &str = "forward [N], back [N]       by N records, or one\n\
         list [SLOT [ADDRESS]]       its code, from the address or from EIP on\n\
         stack [SLOT [N]]            N dwords of its stack, or eight\n\
         print SLOT NAME             its variable of that name\n\
-        help, quit                  this; the end\n\
+        help, quit, exit            this; the end\n\
         A record is one event; back N is N steps of a process, and then its return.\n\
         A command may be shortened, as f or stepb. Without SLOT it is the process on the\n\
         processor whose record is next. ADDRESS is a number, decimal or 0x.., or a symbol\n\

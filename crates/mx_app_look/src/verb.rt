@@ -3,7 +3,7 @@
 ghost use Rattle.std.specs.Prelude.{◌≡◌, ◌++◌, OnOk, codes, count_by, find, option_copied, filter};
 ghost use Rattle.std.specs.Str.{bytes_eq};
 ghost use Rattle.mx_text.specs.Fields.{fields};
-ghost use Rattle.mx_app_look.specs.Verbs.{begins_verb, names_after, shared_names, unknown_text, verb_of, verb_word, verbs};
+ghost use Rattle.mx_app_look.specs.Verbs.{begins_verb, hint, named, names_after, unknown_text, verb_form, verb_of, verb_word, verbs};
 
 use mx_text::next_field;
 use std::alloc::AllocError;
@@ -95,6 +95,28 @@ impl Verb {
         }
     }
 
+    /// How a line about it is written.
+    fn form(self) -> &'static [u8]
+        ensures { result.now ≡ verb_form self }
+    {
+        match self {
+            Verb::Back => b"back [N]",
+            Verb::Break => b"break SLOT ADDRESS",
+            Verb::Forward => b"forward [N]",
+            Verb::GoTo => b"goto K, goto K.J, goto end",
+            Verb::Listing => b"list [SLOT [ADDRESS]]",
+            Verb::Memory => b"mem SLOT ADDRESS N",
+            Verb::Print => b"print SLOT NAME",
+            Verb::Registers => b"regs [SLOT]",
+            Verb::Stack => b"stack [SLOT [N]]",
+            Verb::Step => b"step [N]",
+            Verb::StepBack => b"stepback [N]",
+            Verb::Until => b"until SLOT TYPE, until death SLOT, until message FROM TO",
+            Verb::Watch => b"watch SLOT ADDRESS N",
+            _ => self.word(),
+        }
+    }
+
     /// Whether its word begins with these bytes.
     fn begins_with(self, front: &[u8]) -> bool
         ensures { result ≡ begins_verb front.now self }
@@ -124,11 +146,14 @@ fn count_begun(verbs: &[Verb], front: &[u8]) -> usize
     verbs.iter().filter(|verb| verb.begins_with(front)).count()
 }
 
-/// The verb that a word is; else the only verb whose word begins so.
+/// The verb that a word is, `exit` as `quit`; else the only verb whose word begins so.
 #[tactic(auto, unfolding(crate::specs::Verbs::verb_of))]
 pub(crate) fn verb_named(word: &[u8]) -> Option<Verb>
     ensures { result ≡ verb_of word.now }
 {
+    if word == b"exit".as_slice() {
+        return Some(Verb::Quit);
+    }
     if let Some(verb) = first_named(&VERBS, word) {
         return Some(*verb);
     }
@@ -155,27 +180,45 @@ fn push_begun(out: &mut Vec<u8>, verbs: &[Verb], front: &[u8]) -> Result<(), All
     Ok(())
 }
 
-/// Appends the words of the verbs of which a line's first word is a front, if it is no verb's.
-fn push_shared(out: &mut Vec<u8>, line: &[u8]) -> Result<(), AllocError>
-    ensures { OnOk result (out.new.items ≡ out.old.items ++ shared_names (fields line.now)) }
+/// Appends the words of the verbs that begin so, or what tells all of them.
+fn push_named(out: &mut Vec<u8>, front: &[u8]) -> Result<(), AllocError>
+    ensures { OnOk result (out.new.items ≡ out.old.items ++ named front.now) }
+{
+    if count_begun(&VERBS, front) == 0 {
+        return out.extend_from_slice(b": help has all commands");
+    }
+    push_begun(out, &VERBS, front)
+}
+
+/// Appends how a line about a verb is written.
+fn push_form(out: &mut Vec<u8>, verb: Verb) -> Result<(), AllocError>
+    ensures { OnOk result (out.new.items ≡ out.old.items ++ (codes ": " ++ verb_form verb)) }
+{
+    out.extend_from_slice(b": ")?;
+    out.extend_from_slice(verb.form())
+}
+
+/// Appends what is wanted in place of a line: how one about its verb is written, or the words of verbs.
+fn push_hint(out: &mut Vec<u8>, line: &[u8]) -> Result<(), AllocError>
+    ensures { OnOk result (out.new.items ≡ out.old.items ++ hint (fields line.now)) }
 {
     let Some((word, _)) = next_field(line) else {
         return Ok(());
     };
     match verb_named(word) {
-        Some(_) => Ok(()),
-        None => push_begun(out, &VERBS, word),
+        Some(verb) => push_form(out, verb),
+        None => push_named(out, word),
     }
 }
 
-/// Appends the answer to a line that asks for nothing known. If its first word is the front of several
-/// verbs' words, the answer has these.
+/// Appends the answer to a line that asks for nothing known: if its first word is a verb, how a line about it
+/// is written; if it is the front of several verbs' words, these.
 #[tactic(auto, unfolding(crate::specs::Verbs::unknown_text))]
 pub fn push_unknown(out: &mut Vec<u8>, line: &[u8]) -> Result<(), AllocError>
     ensures { OnOk result (out.new.items ≡ out.old.items ++ unknown_text line.now) }
 {
     out.extend_from_slice(b"refused 73 BadRecord")?;
-    push_shared(out, line)?;
+    push_hint(out, line)?;
     out.extend_from_slice(b"\n")?;
     Ok(())
 }
