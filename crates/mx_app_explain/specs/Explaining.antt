@@ -1,5 +1,6 @@
 -- The second line of a failure: what it is about, and what was wanted (our own).
-use Rattle.std.specs.Prelude.{◌++◌, ℕ, List, [], codes, Option, Some, None, option_map, string_bytes}
+use Rattle.std.specs.Prelude.{◌++◌, ◌-◌, ℕ, if◌then◌else◌, List, [], codes, Option, Some, None, option_map, slice_get, string_bytes}
+use Rattle.std.specs.List.{list_any}
 use Rattle.mx_text.specs.declared.error.BootError.{BootError}
 use Rattle.mx_text.specs.declared.error.BootError.TheVariants as lines
 use Rattle.mx_app_command.specs.Files.{FileWord, file_written, files_read}
@@ -15,6 +16,8 @@ use Rattle.mx_app_failure.specs.declared.failure.OutputProblem.TheVariants.{Read
 use Rattle.mx_app_failure.specs.declared.failure.Failure.{Failure as Kind}
 use Rattle.mx_app_failure.specs.declared.failure.Failure.TheVariants.{Of, NotText, Input, Output, NoMemory}
 use Rattle.mx_app_explain.specs.Details.{config_detail, detail_told, wanted_told}
+use Rattle.mx_text.specs.Lines.{lines as text_lines}
+use Rattle.mx_app_explain.specs.FoundWords.{is_return}
 use Rattle.mx_app_explain.specs.TextAdvice.{advice_told, advised, words_at}
 use Rattle.mx_app_explain.specs.Wanted.{problem_wanted, refusal_wanted}
 use Rattle.mx_app_explain.specs.declared.explaining.Explanation.{Explanation}
@@ -125,9 +128,16 @@ abbrev pub faulty_words : FileProblem → Option (List ℕ) → List (List ℕ)
 faulty_words (Faulty f) (Some text) = words_at text f.line
 faulty_words p text = []
 
+-- of a line of a script or of a history, if it has a carriage return
+abbrev pub return_detail : Option (List ℕ) → Option (List ℕ)
+return_detail None = None
+return_detail (Some line) =
+    if list_any is_return line then Some (wanted_told [] (codes "a line feed alone at the line's end") []) else None
+
 -- what was wanted of the line at fault of a text, if that is known
 abbrev pub line_detail : FileProblem → Option (List ℕ) → Option (List ℕ)
 line_detail (Misstated (lines.BadLine n)) (Some text) = config_detail text n
+line_detail (Misstated (lines.BadRecord n)) (Some text) = return_detail (slice_get (text_lines text) (n - 1))
 line_detail (Faulty f) (Some text) = Some (advice_told (advised f.problem (words_at text f.line)))
 line_detail p text = None
 

@@ -9,7 +9,7 @@ use Rattle.mx_asm.specs.declared.fault.Problem.{Problem}
 use Rattle.mx_asm.specs.declared.fault.Problem.TheVariants as problems
 use Rattle.mx_app_explain.specs.declared.text_advice.Sought.{Sought}
 use Rattle.mx_app_explain.specs.declared.text_advice.Sought.TheVariants as sought
-use Rattle.mx_app_explain.specs.TextWords.{begins_with_digit, is_bad_number, is_capital, is_close, is_equals, is_free_word, is_long_name, is_punctuation_word, is_odd_byte, is_open, is_quote, is_size, words_in}
+use Rattle.mx_app_explain.specs.TextWords.{begins_with_digit, is_bad_number, is_borrowed, is_capital, is_close, is_equals, is_free_word, is_left_out, is_long_name, is_punctuation_word, is_odd_byte, is_open, is_quote, is_size, words_in}
 use Rattle.mx_app_explain.specs.Details.{word_detail}
 use Rattle.mx_app_explain.specs.Wanted.{problem_wanted}
 
@@ -38,6 +38,7 @@ is_sought sought.Open w = is_open w
 is_sought sought.Size w = is_size w
 is_sought sought.FreeWord w = is_free_word w
 is_sought sought.Number w = begins_with_digit w
+is_sought sought.Borrowed w = is_borrowed w
 
 -- the first word that is so, and the words after it
 abbrev pub next_sought : Sought → List (List ℕ) → Option (List ℕ × List (List ℕ))
@@ -149,9 +150,15 @@ abbrev pub about : (List ℕ → List ℕ) → Problem → Option (List ℕ) →
 about wanted p None = plain p
 about wanted p (Some w) = (wanted w, Some w)
 
--- a character, a constant, or another word that is no token
+-- it begins as registers and numbers do in another order of operands
+abbrev pub is_of_other_order : List ℕ → Bool
+is_of_other_order w = slice_index w 0 == 37 || slice_index w 0 == 36
+
+-- a register or a number of another order, a character, a constant, or another word that is no token
 abbrev pub token_wanted : List ℕ → List ℕ
 token_wanted w =
+    if is_of_other_order w
+    then codes "Intel's order: the target first, registers without % and numbers without $" else
     if slice_index w 0 == 39 then codes "the character's number, as 97 for a" else
     if list_any is_equals w then codes "the number itself in each place, since there are no constants" else
     codes "a word, a number, a text in \" or one of [ ] + - * , :"
@@ -168,10 +175,17 @@ number_wanted w =
     if slice_index w (length w - 1) == 104 then codes "hexadecimal after 0x and without h, as 0x21"
     else problem_wanted problems.BadNumber
 
--- a name of another assembler, a word with a capital letter, or another one
+-- a directive, a word with a capital letter, an instruction of the 386 that the table hasn't, or another one
+abbrev pub statement_wanted : List ℕ → List ℕ
+statement_wanted w =
+    if slice_index w 0 == 46 then codes ".text .data .bss .data1 .data2 .data4 .ascii .space .sep .entry or .stack" else
+    if list_any is_capital w then codes "lower case" else
+    if is_left_out w then codes "an instruction that this machine has" else
+    codes "an instruction or a directive"
+
+-- a name of another assembler, or one of these
 abbrev pub word_wanted : List ℕ → List ℕ
-word_wanted w =
-    unwrap_or (own_name w) (if list_any is_capital w then codes "lower case" else codes "an instruction or a directive")
+word_wanted w = unwrap_or (own_name w) (statement_wanted w)
 
 abbrev pub number_advice : List (List ℕ) → Advised
 number_advice ws = about number_wanted problems.BadNumber (find_word sought.BadNumber ws)
@@ -207,8 +221,13 @@ address_advice (Some w) ws =
     (codes "a register or a number in place of the second bracket, since no instruction has two", Some w)
 address_advice None ws = extra_advice (extra_word false ws) ws
 
+-- a word of another assembler; or one of these
+abbrev pub borrowed_advice : Option (List ℕ) → List (List ℕ) → Advised
+borrowed_advice (Some w) ws = (codes "the operand without this word; a name is its address", Some w)
+borrowed_advice None ws = address_advice (second_address ws) ws
+
 abbrev pub operand_advice : List (List ℕ) → Advised
-operand_advice ws = address_advice (second_address ws) ws
+operand_advice ws = borrowed_advice (find_word sought.Borrowed ws) ws
 
 -- THE ADVICE on a line that has these words, by what is wrong with it
 abbrev pub advised : Problem → List (List ℕ) → Advised

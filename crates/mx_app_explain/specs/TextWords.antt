@@ -69,6 +69,31 @@ is_capital b = is_between 65 90 b
 abbrev pub is_size : List ℕ → Bool
 is_size w = bytes_eq w (codes "byte") || (bytes_eq w (codes "word") || bytes_eq w (codes "dword"))
 
+-- words of other assemblers beside an operand
+abbrev pub is_borrowed : List ℕ → Bool
+is_borrowed w = bytes_eq w (codes "offset") || bytes_eq w (codes "ptr")
+
+-- ---- instructions of the 386 that aren't in the table
+
+abbrev pub adjusts_decimals : List ℕ → Bool
+adjusts_decimals w =
+    bytes_eq w (codes "aaa") || (bytes_eq w (codes "aad") || (bytes_eq w (codes "aam") || (bytes_eq w (codes "aas")
+    || (bytes_eq w (codes "daa") || bytes_eq w (codes "das")))))
+
+abbrev pub loads_segment : List ℕ → Bool
+loads_segment w =
+    bytes_eq w (codes "lds") || (bytes_eq w (codes "les") || (bytes_eq w (codes "lfs") || (bytes_eq w (codes "lgs")
+    || bytes_eq w (codes "lss"))))
+
+abbrev pub is_other_instruction : List ℕ → Bool
+is_other_instruction w =
+    bytes_eq w (codes "lock") || (bytes_eq w (codes "rcl") || (bytes_eq w (codes "rcr") || (bytes_eq w (codes "enter")
+    || (bytes_eq w (codes "bound") || (bytes_eq w (codes "xlat") || (bytes_eq w (codes "iret")
+    || (bytes_eq w (codes "in") || bytes_eq w (codes "out"))))))))
+
+abbrev pub is_left_out : List ℕ → Bool
+is_left_out w = adjusts_decimals w || (loads_segment w || is_other_instruction w)
+
 -- the words that are no names: registers and sizes
 abbrev pub reserved_words : List (List ℕ)
 reserved_words =

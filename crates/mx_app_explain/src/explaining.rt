@@ -2,11 +2,11 @@
 
 ghost use Rattle.std.specs.Prelude.{◌≡◌, IfOk, option_map, string_bytes};
 ghost use Rattle.mx_app_explain.specs.Details.{detail_told};
-ghost use Rattle.mx_app_explain.specs.Explaining.{explained, faulty_words, file_said, file_subject, line_detail, output_said, plain_detail, said_line, subject_told, text_of};
+ghost use Rattle.mx_app_explain.specs.Explaining.{explained, faulty_words, file_said, file_subject, line_detail, output_said, plain_detail, return_detail, said_line, subject_told, text_of};
 ghost use Rattle.mx_text.specs.Fields.{fields};
 
 use crate::detail::{Detail, Label, config_detail, line_below};
-use crate::found_word::FoundWord;
+use crate::found_word::{FoundWord, has_return};
 use crate::subject::{Subject, file_subject, first_subject};
 use crate::text_advice::advice_on;
 use crate::text_words::with_spaces;
@@ -77,6 +77,21 @@ fn faulty_words(alloc: Global, failure: &FileFailure) -> Result<Vec<u8>, AllocEr
     }
 }
 
+/// What was wanted of a line of a script or of a history, if it has a carriage return.
+fn return_detail<'a>(line: Option<&[u8]>) -> Option<Detail<'a>>
+    ensures { option_map detail_told result
+        ≡ return_detail (option_map (λ l. l.now) line.entry) }
+{
+    match line {
+        Some(line) if has_return(line) => Some(Detail {
+            label: Label::Nowhere,
+            wanted: "a line feed alone at the line's end",
+            found: FoundWord::Unseen,
+        }),
+        _ => None,
+    }
+}
+
 /// What was wanted of the line of a text that is at fault: of a text for the assembler its words are given. None if
 /// there is no such line.
 fn line_detail<'a>(failure: &'a FileFailure, words: &'a [u8]) -> Option<Detail<'a>>
@@ -87,6 +102,9 @@ fn line_detail<'a>(failure: &'a FileFailure, words: &'a [u8]) -> Option<Detail<'
     match (failure.problem, &failure.text) {
         (FileProblem::Misstated(BootError::BadLine(number)), Some(text)) => {
             config_detail(text.as_slice(), number)
+        }
+        (FileProblem::Misstated(BootError::BadRecord(number)), Some(text)) => {
+            return_detail(line_below(text.as_slice(), number.saturating_sub(1)))
         }
         (FileProblem::Faulty(fault), Some(_)) => Some(advice_on(words, fault.problem).detail()),
         _ => None,

@@ -59,7 +59,8 @@ fn is_control(byte: u8) -> bool
     byte < 32 || byte == 127
 }
 
-fn has_return(word: &[u8]) -> bool
+/// Whether there is a carriage return.
+pub(crate) fn has_return(word: &[u8]) -> bool
     ensures { result ≡ list_any is_return word.now }
 {
     word.iter().any(|byte| is_return(*byte))

@@ -3,14 +3,14 @@
 ghost use Rattle.std.specs.Prelude.{◌≡◌, None, Some, MatchOption, false, option_map};
 ghost use Rattle.mx_text.specs.Fields.{fields};
 ghost use Rattle.mx_app_explain.specs.Details.{detail_told};
-ghost use Rattle.mx_app_explain.specs.TextAdvice.{advice_told, advised, after_first, after_label, byte_advice, data_name, equal_name, extra_word, find_word, first_of, is_sought, lacks_register, lacks_size, may_end, name_or, next_sought, number_advice, number_wanted, only_free_word, operand_advice, operand_word_advice, order_name, own_name, plain, second_address, single_name, size_advice, stack_name, token_wanted, word_advice, word_wanted};
+ghost use Rattle.mx_app_explain.specs.TextAdvice.{address_advice, advice_told, advised, after_first, after_label, byte_advice, data_name, equal_name, extra_word, find_word, first_of, is_of_other_order, is_sought, lacks_register, lacks_size, may_end, name_or, next_sought, number_advice, number_wanted, only_free_word, operand_advice, operand_word_advice, order_name, own_name, plain, second_address, single_name, size_advice, stack_name, statement_wanted, token_wanted, word_advice, word_wanted};
 ghost use Rattle.mx_app_explain.specs.declared.text_advice.Sought.TheVariants.{FreeWord};
 
 use crate::detail::{Detail, Label};
 use crate::found_word::{FoundWord, byte_at, found_at};
 use crate::text_words::{
-    begins_with_digit, has_capital, has_equals, has_quote, is_bad_number, is_close, is_free_word,
-    is_long_name, is_odd, is_open, is_punctuation_word, is_size,
+    begins_with_digit, has_capital, has_equals, has_quote, is_bad_number, is_borrowed, is_close,
+    is_free_word, is_left_out, is_long_name, is_odd, is_open, is_punctuation_word, is_size,
 };
 use crate::wanted::problem_wanted;
 use mx_asm::Problem;
@@ -59,6 +59,8 @@ enum Sought {
     FreeWord,
     /// What begins as a number.
     Number,
+    /// A word of other assemblers beside an operand.
+    Borrowed,
 }
 
 impl Sought {
@@ -75,6 +77,7 @@ impl Sought {
             Sought::Size => is_size(word),
             Sought::FreeWord => is_free_word(word),
             Sought::Number => begins_with_digit(word),
+            Sought::Borrowed => is_borrowed(word),
         }
     }
 }
@@ -294,11 +297,20 @@ fn own_name(word: &[u8]) -> Option<&'static str>
     name_or(equal_name(word), rest)
 }
 
+/// Whether a word begins as registers and numbers do in another order of operands.
+fn is_of_other_order(word: &[u8]) -> bool
+    ensures { result ≡ is_of_other_order word.now }
+{
+    byte_at(word, 0) == b'%' || byte_at(word, 0) == b'$'
+}
+
 /// What is wanted in place of a word that is no token.
 fn token_wanted(word: &[u8]) -> &'static str
     ensures { result.now ≡ token_wanted word.now }
 {
-    if byte_at(word, 0) == b'\'' {
+    if is_of_other_order(word) {
+        "Intel's order: the target first, registers without % and numbers without $"
+    } else if byte_at(word, 0) == b'\'' {
         "the character's number, as 97 for a"
     } else if has_equals(word) {
         "the number itself in each place, since there are no constants"
@@ -318,19 +330,28 @@ fn number_wanted(word: &[u8]) -> &'static str
     }
 }
 
+/// What is wanted in place of a statement's first word, which is no name of another assembler.
+fn statement_wanted(word: &[u8]) -> &'static str
+    ensures { result.now ≡ statement_wanted word.now }
+{
+    if byte_at(word, 0) == b'.' {
+        ".text .data .bss .data1 .data2 .data4 .ascii .space .sep .entry or .stack"
+    } else if has_capital(word) {
+        "lower case"
+    } else if is_left_out(word) {
+        "an instruction that this machine has"
+    } else {
+        "an instruction or a directive"
+    }
+}
+
 /// What is wanted in place of a statement's first word.
 fn word_wanted(word: &[u8]) -> &'static str
     ensures { result.now ≡ word_wanted word.now }
 {
     match own_name(word) {
         Some(own) => own,
-        None => {
-            if has_capital(word) {
-                "lower case"
-            } else {
-                "an instruction or a directive"
-            }
-        }
+        None => statement_wanted(word),
     }
 }
 
@@ -425,10 +446,24 @@ fn size_advice(line: &[u8]) -> Advice<'_>
     }
 }
 
-/// Advice on operands: two addresses; or a word too many; or an address without a size.
+/// Advice on operands: a word of another assembler; or another fault.
 fn operand_advice(line: &[u8]) -> Advice<'_>
     ensures { (result.wanted.now, option_map (λ w. w.now) result.word)
         ≡ operand_advice (fields line.now) }
+{
+    match find_word(line, Sought::Borrowed) {
+        Some(word) => Advice {
+            wanted: "the operand without this word; a name is its address",
+            word: Some(word),
+        },
+        None => address_advice(line),
+    }
+}
+
+/// Advice on operands: two addresses; or a word too many; or an address without a size.
+fn address_advice(line: &[u8]) -> Advice<'_>
+    ensures { (result.wanted.now, option_map (λ w. w.now) result.word)
+        ≡ address_advice (second_address (fields line.now)) (fields line.now) }
 {
     if let Some(word) = second_address(line) {
         return Advice {

@@ -2,7 +2,7 @@
 
 ghost use Rattle.std.specs.Prelude.{◌≡◌, ◌++◌, IfOk, OnOk};
 ghost use Rattle.std.specs.List.{flat_map, list_any};
-ghost use Rattle.mx_app_explain.specs.TextWords.{begins_with_digit, is_bad_number, is_blank, is_capital, is_close, is_equals, is_free_word, is_long_name, is_punctuation, is_punctuation_word, is_number, is_odd_byte, is_open, is_quote, is_reserved, is_size, with_spaces, spaced_byte};
+ghost use Rattle.mx_app_explain.specs.TextWords.{adjusts_decimals, begins_with_digit, is_bad_number, is_blank, is_borrowed, is_capital, is_close, is_equals, is_free_word, is_left_out, is_long_name, is_other_instruction, is_punctuation, is_punctuation_word, is_number, is_odd_byte, is_open, is_quote, is_reserved, is_size, loads_segment, with_spaces, spaced_byte};
 
 use crate::found_word::byte_at;
 use mx_boot::before_byte;
@@ -131,6 +131,44 @@ pub(crate) fn is_size(word: &[u8]) -> bool
     ensures { result ≡ is_size word.now }
 {
     word == b"byte".as_slice() || word == b"word".as_slice() || word == b"dword".as_slice()
+}
+
+/// Whether a word is one of other assemblers beside an operand.
+pub(crate) fn is_borrowed(word: &[u8]) -> bool
+    ensures { result ≡ is_borrowed word.now }
+{
+    word == b"offset".as_slice() || word == b"ptr".as_slice()
+}
+
+/// Whether an instruction that isn't in the table adjusts decimals.
+fn adjusts_decimals(word: &[u8]) -> bool
+    ensures { result ≡ adjusts_decimals word.now }
+{
+    matches!(word, b"aaa" | b"aad" | b"aam" | b"aas" | b"daa" | b"das")
+}
+
+/// Whether an instruction that isn't in the table loads a segment.
+fn loads_segment(word: &[u8]) -> bool
+    ensures { result ≡ loads_segment word.now }
+{
+    matches!(word, b"lds" | b"les" | b"lfs" | b"lgs" | b"lss")
+}
+
+/// Whether a word is another instruction that isn't in the table.
+fn is_other_instruction(word: &[u8]) -> bool
+    ensures { result ≡ is_other_instruction word.now }
+{
+    matches!(
+        word,
+        b"lock" | b"rcl" | b"rcr" | b"enter" | b"bound" | b"xlat" | b"iret" | b"in" | b"out"
+    )
+}
+
+/// Whether a word is an instruction of the 386 that isn't in the table.
+pub(crate) fn is_left_out(word: &[u8]) -> bool
+    ensures { result ≡ is_left_out word.now }
+{
+    adjusts_decimals(word) || loads_segment(word) || is_other_instruction(word)
 }
 
 /// Whether a word is a register or a size.

@@ -51,7 +51,9 @@ pub(crate) fn problem_wanted(problem: Problem) -> &'static str
         Problem::Undefined => "a name that a line defines",
         Problem::TooFar => "a target at most 127 bytes ahead or 128 back",
         Problem::WrongSection => "a statement that may stand in this section",
-        Problem::TooLarge => "a program within the limits of a file",
+        Problem::TooLarge => {
+            "at most 1048576 bytes of text, 262144 of symbols and 4194304 in all"
+        }
         Problem::LongName => "a name of at most 8 bytes",
     }
 }
