@@ -11,7 +11,7 @@ use crate::{Image, InsnEnd, Place, Source};
 use mx_alu::{
     DivideFault, Signedness, alu, divide, multiply, multiply_low, shift, shift_in_place, unary,
 };
-use mx_insn::{Count, Insn, Operands, Product};
+use mx_insn::{Count, Insn, Operand, Operands, Product};
 use mx_mem::DIVIDE_ERROR;
 use mx_word::{Arithmetic, Register, Shift, Size, Unary};
 
