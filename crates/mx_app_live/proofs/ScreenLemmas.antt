@@ -1,7 +1,6 @@
 -- The last bytes of a console.
-use Rattle.std.proofs.Common.{◌≡◌, ◌∙◌, ◌⊎◌, ℕ, ◌+◌, ◌-◌, ◌<◌, ◌≤◌, Bool, false, List, Option, Some, None, drop, is_none, length, slice_get, inl, inr, ap, sym, arith, length-drop, true≢false}
-use Rattle.std.proofs.lemmas.List.{drop-drop}
-use Rattle.std.proofs.lemmas.Option.{slice_get_within}
+use Rattle.std.proofs.Common.{◌≡◌, ◌∙◌, ◌⊎◌, ℕ, zero, suc, ◌+◌, ◌-◌, ◌≤◌, List, [], ◌∷◌, Option, Some, None, drop, length, slice_get, inl, inr, ap, arith, length-drop}
+use Rattle.std.proofs.lemmas.List.{drop-drop, drop_all}
 
 -- the last `more` of those from an index on are the last of all
 pub tail_of : (kept bytes : List ℕ) (first more : ℕ) → bytes ≡ drop first kept → (first ≡ 0) ⊎ (first + more ≤ length kept) → drop (length bytes - more) bytes ≡ drop (length kept - more) kept
@@ -13,7 +12,22 @@ tail_of kept bytes first more is (inr within) =
     let at : first + (length (drop first kept) - more) ≡ length kept - more = omega (arith, long, within) in
     ap (λ (l : List ℕ). drop (length l - more) l) is ∙ drop-drop (length (drop first kept) - more) first kept ∙ ap (λ (n : ℕ). drop n kept) at
 
--- where there is a byte
-pub some_within : (kept : List ℕ) (i : ℕ) (found : Option ℕ) → found ≡ slice_get kept i → is_none found ≡ false → i < length kept
-some_within kept i None is h = absurd (true≢false h)
-some_within kept i (Some b) is h = slice_get_within kept i b (sym is)
+-- ---- one byte after another
+
+pub kept_more : (kept : List ℕ) (i b : ℕ) → slice_get kept i ≡ Some b → drop i kept ≡ b ∷ drop (i + 1) kept
+kept_more [] i b h = absurd cc
+kept_more (x ∷ xs) zero b h = ap (λ (y : ℕ). y ∷ xs) (some_is x b h)
+  where
+    some_is : (x b : ℕ) → Some x ≡ Some b → x ≡ b
+    some_is x b h = cc
+kept_more (x ∷ xs) (suc i) b h =
+    let next : suc (i + 1) ≡ suc i + 1 = omega arith in
+    kept_more xs i b h ∙ ap (λ (n : ℕ). b ∷ drop n (x ∷ xs)) next
+
+past : (kept : List ℕ) (i : ℕ) → slice_get kept i ≡ None → length kept ≤ i
+past [] i h = omega arith
+past (x ∷ xs) zero h = absurd cc
+past (x ∷ xs) (suc i) h = let further = past xs i h in omega (arith, further)
+
+pub kept_none : (kept : List ℕ) (i : ℕ) → slice_get kept i ≡ None → drop i kept ≡ []
+kept_none kept i h = drop_all i kept (past kept i h)

@@ -1,5 +1,5 @@
 -- The keyboard of a machine: nine interrupt lines and a register (our own).
-use Rattle.std.specs.Prelude.{◌==◌, ◌+◌, ◌∷◌, [], ◌++◌, if◌then◌else◌, nat_lt, ℕ, Bool, false, List, Option, Some, None, drop, filter, is_ok, length, map, slice_get, slice_index_or}
+use Rattle.std.specs.Prelude.{◌==◌, ◌+◌, ◌∷◌, [], ◌++◌, if◌then◌else◌, nat_lt, ℕ, Bool, false, List, Option, Some, None, drop, filter, is_ok, length, map, slice_get, slice_index_or, take}
 use Rattle.std.specs.List.{list_all, range_with_len}
 use Rattle.mx_machine.specs.declared.events.Event.{Event}
 use Rattle.mx_machine.specs.declared.events.Event.TheVariants.{Line}
@@ -32,7 +32,7 @@ endpoint_in t None = None
 
 -- THE DRIVER is the process that owns lines 7 to 15
 abbrev pub driver_of : TableState → Option ℕ
-driver_of t = endpoint_in t (owner_of_all (drop 7 t.devices.owners))
+driver_of t = endpoint_in t (owner_of_all (take 9 (drop 7 t.devices.owners)))
 
 -- ---- a look
 

@@ -23,10 +23,10 @@ fn first_of(console: &Console, more: usize) -> usize
     if first == 0 {
         return 0;
     }
-    if console.get(kept - 1).is_none() {
-        return 0;
+    match console.get(kept - 1) {
+        Some(_) => first,
+        None => 0,
     }
-    first
 }
 
 /// Appends the bytes of a console from an index on.

@@ -45,5 +45,5 @@ pub returns-clause-other : goal.returns-clause-other
 returns-clause-other g c =
     let booted = c.in_ok-boot.ensures.world in
     let below = other_booted _ c.in_ok-config.config c.in_ok-config.services.items booted in
-    let as_many : length (world_of c.in_ok-boot.field-0.0).cpus ≡ c.in_ok-config.config.cpus = ap (λ (w : World). length w.cpus) booted ∙ length-replicate c.in_ok-config.config.cpus None in
+    let as_many : length (world_of c.in_ok-boot.field-0).cpus ≡ c.in_ok-config.config.cpus = ap (λ (w : World). length w.cpus) booted ∙ length-replicate c.in_ok-config.config.cpus None in
     omega (arith, below, as_many)

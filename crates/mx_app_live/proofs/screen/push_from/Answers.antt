@@ -1,6 +1,7 @@
 use Rattle.std.proofs.Common.{◌≡◌, ◌∙◌, ◌+◌, ◌<◌, ◌++◌, ◌∷◌, [], ℕ, List, ap, append_assoc, arith, drop, length, length-append, sym}
 use Rattle.std.proofs.lemmas.Option.{slice_get_within}
-use Rattle.mx_print_report.proofs.Steps.{kept_more, kept_none, nil_after}
+use Rattle.std.proofs.lemmas.List.{append-nil}
+use Rattle.mx_app_live.proofs.ScreenLemmas.{kept_more, kept_none}
 use Rattle.mx_app_live.proofs.screen.push_from.Goals as goal
 
 pub overflow_add-index : goal.overflow_add-index
@@ -31,4 +32,4 @@ loop-byte-preserved c =
 pub returns : goal.returns
 returns c =
     let over = kept_none c.args.console.now.kept c.loop-byte.index (sym c.get.ensures ∙ c.in_default.is) in
-    sym (nil_after c.loop-byte.out.items) ∙ ap (λ (z : List ℕ). c.loop-byte.out.items ++ z) (sym over) ∙ c.loop-byte.invariant.items
+    sym (append-nil c.loop-byte.out.items) ∙ ap (λ (z : List ℕ). c.loop-byte.out.items ++ z) (sym over) ∙ c.loop-byte.invariant.items
