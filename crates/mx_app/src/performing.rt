@@ -293,9 +293,9 @@ fn perform_apart<
 }
 
 /// Does what a request asks for, and answers the status to end with, and how turns or a run ended. The
-/// processors of `run` are threads, and `sweep` has some. `look` answers the typed lines. It shows its progress, and so do `run`,
-/// `turns` and `sweep`. No file that is read is written over: nothing is read or written then. Two names of one file
-/// aren't seen to be one.
+/// processors of `run` are threads, and `sweep` has some. `look` answers the typed lines. It shows its
+/// progress, and so do `run`, `turns` and `sweep`. No file that is read is written over: nothing is read or
+/// written then. Two names of one file aren't seen to be one.
 pub fn perform<
     T: Threads + Wait + Clock + Sync,
     R: Reader + Drop,
