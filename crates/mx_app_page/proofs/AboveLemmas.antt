@@ -58,14 +58,13 @@ module _ (run : ℕ → Run) (w v : World) (records : List Record) (first : ℕ)
       let there : length above + n ≡ length whole + 1 = omega (arith, at, length-append above earlier) in
       let after : world_after_events v (events_of_history earlier) ≡ world_after_events w (events_of_history whole) =
       ap (λ (u : World). world_after_events u (events_of_history earlier)) world
-      ∙ sym (ap (λ (es : List (ℕ × Event)). world_after_events w es) (events_both above earlier) ∙ after_both w (events_of_history above) (events_of_history earlier)) in
-      (
+      ∙ sym (ap (λ (es : List (ℕ × Event)). world_after_events w es) (events_both above earlier) ∙ after_both w (events_of_history above) (events_of_history earlier)) in (
         whole,
         later,
         x,
         parts ∙ ap (λ (xs : List Record). above ++ xs) is ∙ sym (append_assoc above earlier (x ∷ later)),
         subst (λ (es : List (ℕ × Event)). AreAccepted w es) (sym (events_both above earlier))
-        (accepted_both w (events_of_history above) (events_of_history earlier) accepted (subst (λ (u : World). AreAccepted u (events_of_history earlier)) world before)),
+            (accepted_both w (events_of_history above) (events_of_history earlier) accepted (subst (λ (u : World). AreAccepted u (events_of_history earlier)) world before)),
         subst (λ (u : World). IsFirstRefusal u (events_of x.actor x.event) r) after why,
         there,
       )
@@ -137,14 +136,13 @@ module _ (run : ℕ → Run) (w v : World) (records : List Record) (first : ℕ)
   above_printed rules Prints replayed.Whole same (h, printed) = (all_accepted h, subst (λ (t : List ℕ). Prints t) page_is printed)
   above_printed rules Prints replayed.Refused same (n, r, refused, printed) =
       let number : length above + (n + 1) ≡ length above + n + 1 = omega arith in
-      let line = refused_line w.table.rules (length above + n + 1) r in
-      (
+      let line = refused_line w.table.rules (length above + n + 1) r in (
         length above + n + 1,
         r,
         subst (λ k. IsRefusedAt w records k r) number (refused_later (n + 1) r refused),
         subst (λ (t : List ℕ). Prints t)
-        (refused_page_is n r refused (Some (refused_line rules (length above + n + 1) r)) line (ap (λ (x : Rules). Some (refused_line x (length above + n + 1) r)) same))
-        printed,
+            (refused_page_is n r refused (Some (refused_line rules (length above + n + 1) r)) line (ap (λ (x : Rules). Some (refused_line x (length above + n + 1) r)) same))
+            printed,
       )
 
   pub above_begun : (rules : Rules) (Prints : List ℕ → Type 0) → rules ≡ w.table.rules
@@ -176,15 +174,14 @@ module _ (run : ℕ → Run) (w : World) (records : List Record) (first n : ℕ)
   pub boot_printed : (rules : Rules) (Prints : List ℕ → Type 0) → rules ≡ w.table.rules
       → Prints (front_text (run 0) w ++ back_text 0 (Some (refused_line rules n r))) → IsPagePrinted run w records first replayed.Refused Prints
   boot_printed rules Prints same printed =
-      let line = Some (refused_line w.table.rules n r) in
-      (
+      let line = Some (refused_line w.table.rules n r) in (
         n,
         r,
         boot_refused,
         subst (λ (t : List ℕ). Prints t)
-        (ap (λ (t : List ℕ). t ++ back_text 0 line) (sym (append-nil (front_text (run 0) w)))
-        ∙ sym (ap (λ b. cond b (page_text (run 0) w [] [] line) (page_text (run first) w (take first early) (drop first early) line)) is_below))
-        (subst (λ (x : Rules). Prints (front_text (run 0) w ++ back_text 0 (Some (refused_line x n r)))) same printed),
+            (ap (λ (t : List ℕ). t ++ back_text 0 line) (sym (append-nil (front_text (run 0) w)))
+            ∙ sym (ap (λ b. cond b (page_text (run 0) w [] [] line) (page_text (run first) w (take first early) (drop first early) line)) is_below))
+            (subst (λ (x : Rules). Prints (front_text (run 0) w ++ back_text 0 (Some (refused_line x n r)))) same printed),
       )
 
 -- ---- by what a body has

@@ -255,7 +255,14 @@ fn print_page<W: Write>(
         Ok(()) => {
             let first = above.len() as u32;
             let rows = records_in_rows(records, terms.first);
-            print_made(alloc, machine, RunTerms { first, ..terms }, rules, rows, out)
+            print_made(
+                alloc,
+                machine,
+                RunTerms { first, ..terms },
+                rules,
+                rows,
+                out,
+            )
         }
         Err((number, refusal)) => {
             print_text(at_boot.as_slice(), out)?;

@@ -28,12 +28,15 @@ not_coded b e =
   where
     clash : is_coded b ≡ true → false ≡ true
     clash t = sym e ∙ t
+
     above : (b < 32) ⊎ (32 ≤ b) → 31 < b
     above (inl less) = absurd (let f = clash (or_left (nat_lt b 32) _ (lt-ltb b 32 less)) in cc)
     above (inr more) = omega (arith, more)
+
     below : (126 < b) ⊎ (b ≤ 126) → b < 127
     below (inl more) = absurd (let f = clash (or_right (nat_lt b 32) _ (or_right (b == 60) _ (lt-ltb 126 b more))) in cc)
     below (inr less) = omega (arith, less)
+
     other : b ≢ 60
     other is = absurd (let f = clash (or_right (nat_lt b 32) _ (or_left (b == 60) _ (ap (λ n. n == 60) is))) in cc)
 
@@ -83,7 +86,7 @@ hex : (d : ℕ) → d < 16 → is_plain (digit_glyph false d) ≡ true
 hex d few = elim (cases_lt d 10) [
   | inl less ↦ digit false d less
   | inr more ↦ (let no : nat_lt d 10 ≡ false = not_less d more in
-    ap (λ b. is_plain (cond b (48 + d) (87 + d))) no ∙ plain_byte (87 + d) (omega (arith, few)) (omega (arith, few)) (λ e. omega (arith, more, e)))
+      ap (λ b. is_plain (cond b (48 + d) (87 + d))) no ∙ plain_byte (87 + d) (omega (arith, few)) (omega (arith, few)) (λ e. omega (arith, more, e)))
 ]
   where
     not_less : (d : ℕ) → 10 ≤ d → nat_lt d 10 ≡ false

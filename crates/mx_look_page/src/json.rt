@@ -41,8 +41,7 @@ fn push_all_escaped(out: &mut Vec<u8>, bytes: &[u8]) -> Result<(), AllocError>
 fn text_facts(bytes: &[u8])
     ensures read { Reads (flat_map escaped bytes.now) bytes.now }
     ensures plain { ArePlain (text bytes.now) }
-{
-}
+{}
 
 /// Appends a text between quotes. No byte of it is a control, `<`, or above 126, and a reader of JSON reads the text.
 #[tactic(auto, unfolding(crate::specs::Json::text))]

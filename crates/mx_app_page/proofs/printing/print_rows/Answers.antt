@@ -17,8 +17,7 @@ pub returns-in-Err-clause-printed : goal.returns-in-Err-clause-printed
 returns-in-Err-clause-printed g c =
     let inv = c.loop-index.invariant in
     let w = world_of c.args.machine.now in
-    let i = c.loop-index.index in
-    (
+    let i = c.loop-index.index in (
       refused_at w (world_of c.loop-index.machine) c.args.records.now i _ c.loop-index-test.true inv.accepted inv.world (i + 1) c.in-Err.refusal refl c.in-Err.ensures.err,
       inv.printed,
     )
