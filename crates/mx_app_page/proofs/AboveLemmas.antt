@@ -147,8 +147,20 @@ module _ (run : ℕ → Run) (w v : World) (records : List Record) (first : ℕ)
 
   pub above_begun : (rules : Rules) (Prints : List ℕ → Type 0) → rules ≡ w.table.rules
       → IsMadeBegun rules (run (length above)) v (length above) others Prints → IsPageBegun run w records first Prints
-  above_begun rules Prints same (inl h) = inl (subst (λ (t : List ℕ). PrintsFront Prints t) page_is h)
-  above_begun rules Prints same (inr h) = inr (above_printed rules (PrintsFront Prints) replayed.Refused same h)
+  above_begun rules Prints same (inl (n, h, begun)) =
+      let some = take n (drop first records) in
+      let rows : take n others ≡ some = ap (λ (xs : List Record). take n xs) (drop_taken first records) in
+      let u = world_after_events w (events_of_history above) in
+      inr (inl (
+        n,
+        subst (λ (es : List (ℕ × Event)). AreAccepted w es) (sym (events_both above some))
+            (accepted_both w (events_of_history above) (events_of_history some) accepted
+            (subst (λ (z : World). AreAccepted z (events_of_history some)) world
+            (subst (λ (xs : List Record). AreAccepted v (events_of_history xs)) rows h))),
+        subst (λ (z : World). PrintsFront Prints (front_text (run (length above)) z ++ rows_text z (length above + 1) some)) world
+            (subst (λ (xs : List Record). PrintsFront Prints (front_text (run (length above)) v ++ rows_text v (length above + 1) xs)) rows begun),
+      ))
+  above_begun rules Prints same (inr (how, h)) = inr (inr (how, above_printed rules (PrintsFront Prints) how same h))
 
 -- ---- one of those above is refused
 

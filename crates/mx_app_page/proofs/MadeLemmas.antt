@@ -10,7 +10,7 @@ use Rattle.mx_look_page.specs.Heads.{Run}
 use Rattle.mx_app_step.specs.Failure.{PrintsFront}
 use Rattle.mx_app_step.specs.declared.records.Replayed.TheVariants as replayed
 use Rattle.mx_app_step.proofs.FrontLemmas.{front_after, front_more, front_none}
-use Rattle.mx_app_page.specs.Pages.{front_text, back_text, rows_text, refused_line, AreRowsPrinted, IsMadeBegun, IsMadePrinted}
+use Rattle.mx_app_page.specs.Pages.{front_text, back_text, rows_text, refused_line, AreRowsBegun, AreRowsPrinted, IsMadeBegun, IsMadePrinted}
 
 module _ (rules : Rules) (r : Run) (w : World) (above : ℕ) (records : List Record) (x y : Option (List ℕ)) where
   abbrev head : List ℕ
@@ -30,22 +30,22 @@ module _ (rules : Rules) (r : Run) (w : World) (above : ℕ) (records : List Rec
 
   -- a front, where printing stops
   pub none_begun : IsMadeBegun rules r w above records (λ t. Appends x x t)
-  none_begun = inl (front_none x (head ++ rows ++ back))
+  none_begun = inl (0, tt, front_none x (head ++ some 0))
 
   pub head_begun : PrintsFront (λ t. Appends x y t) head → IsMadeBegun rules r w above records (λ t. Appends x y t)
-  head_begun h = inl (front_more (λ t. Appends x y t) (head ++ rows) back (front_more (λ t. Appends x y t) head rows h))
+  head_begun h = inl (0, tt, front_more (λ t. Appends x y t) head (some 0) h)
 
   module _ (z : Option (List ℕ)) (headed : Appends x y head) where
-    pub rows_begun : PrintsFront (λ t. Appends y z t) rows → IsMadeBegun rules r w above records (λ t. Appends x z t)
-    rows_begun h = inl (front_more (λ t. Appends x z t) (head ++ rows) back (front_after x y z head rows headed h))
+    pub rows_begun : AreRowsBegun w above records (λ t. Appends y z t) → IsMadeBegun rules r w above records (λ t. Appends x z t)
+    rows_begun (n, accepted, h) = inl (n, accepted, front_after x y z head (some n) headed h)
 
     module _ (u : Option (List ℕ)) where
       pub back_begun : AreRowsPrinted w above records None (λ t. Appends y z t) → PrintsFront (λ t. Appends z u t) back → IsMadeBegun rules r w above records (λ t. Appends x u t)
-      back_begun p h = inl (front_after x z u (head ++ rows) back (Appends-trans x y z head rows headed p.1) h)
+      back_begun p h = inr (replayed.Whole, (p.0, front_after x z u (head ++ rows) back (Appends-trans x y z head rows headed p.1) h))
 
       pub refused_begun : (n : ℕ) (q : Refusal) → AreRowsPrinted w above records (Some (n, q)) (λ t. Appends y z t) → PrintsFront (λ t. Appends z u t) (back_at n q)
           → IsMadeBegun rules r w above records (λ t. Appends x u t)
-      refused_begun n q p h = inr (n, q, p.0, front_after x z u (head ++ some n) (back_at n q) (Appends-trans x y z head (some n) headed p.1) h)
+      refused_begun n q p h = inr (replayed.Refused, (n, q, p.0, front_after x z u (head ++ some n) (back_at n q) (Appends-trans x y z head (some n) headed p.1) h))
 
       -- all of it
       pub whole_printed : AreRowsPrinted w above records None (λ t. Appends y z t) → Appends z u back → IsMadePrinted rules r w above records replayed.Whole (λ t. Appends x u t)

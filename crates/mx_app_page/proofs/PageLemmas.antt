@@ -9,11 +9,11 @@ use Rattle.mx_machine.specs.World.{World}
 use Rattle.mx_look.specs.declared.transition.Transition.{Transition}
 use Rattle.mx_app_step.specs.Failure.{PrintsFront}
 use Rattle.mx_app_step.specs.Traces.{transition_of}
-use Rattle.mx_app_step.proofs.FrontLemmas.{front_after, front_more}
+use Rattle.mx_app_step.proofs.FrontLemmas.{front_after, front_all}
 use Rattle.mx_app_step.proofs.RecordLemmas.{after_both}
 use Rattle.mx_look_page.specs.Rows.{row_text}
 use Rattle.mx_look_page.specs.Shown.{ShownWorld}
-use Rattle.mx_app_page.specs.Pages.{shown_in, rows_text}
+use Rattle.mx_app_page.specs.Pages.{shown_in, rows_text, AreRowsBegun}
 
 -- the row of a record that is made in a world, and has this number
 abbrev row_in : World → ℕ → Record → List ℕ
@@ -38,20 +38,10 @@ row_is v u n y x p q is before after made =
     ap (λ (t : Transition). row_text t p q) is ∙ ap (λ (s : ShownWorld). row_text (transition_of v n y) s q) before
     ∙ ap (λ (s : ShownWorld). row_text (transition_of v n y) (shown_in v) s) (after ∙ ap shown_in made)
 
--- the rows of the first records are a front of those of all
-some_rows : (w : World) (n : ℕ) (xs : List Record) (i : ℕ) → (rest : List ℕ) × (rows_text w n xs ≡ rows_text w n (take i xs) ++ rest)
-some_rows w n xs zero = (rows_text w n xs, refl)
-some_rows w n [] (suc i) = ([], refl)
-some_rows w n (x ∷ xs) (suc i) =
-    let u = world_after_events w (events_of x.actor x.event) in
-    let h = some_rows u (n + 1) xs i in
-    (h.0, ap (λ (t : List ℕ). row_in w n x ++ t) h.1 ∙ sym (append_assoc (row_in w n x) (rows_text u (n + 1) (take i xs)) h.0))
-
-pub front_rows : (w : World) (records : List Record) (above i : ℕ) (a b : Option (List ℕ)) → Appends a b (rows_text w (above + 1) (take i records))
-    → PrintsFront (λ t. Appends a b t) (rows_text w (above + 1) records)
-front_rows w records above i a b printed =
-    let some = some_rows w (above + 1) records i in
-    (rows_text w (above + 1) (take i records), some.0, some.1, printed)
+-- those of the first records, of which none is refused
+pub some_begun : (w : World) (records : List Record) (above i : ℕ) (a b : Option (List ℕ)) → AreAccepted w (events_of_history (take i records)) → Appends a b (rows_text w (above + 1) (take i records))
+    → AreRowsBegun w above records (λ t. Appends a b t)
+some_begun w records above i a b accepted printed = (i, accepted, front_all (λ t. Appends a b t) (rows_text w (above + 1) (take i records)) printed)
 
 -- ---- one row more
 
@@ -70,14 +60,11 @@ module _ (w v u : World) (records : List Record) (above i n : ℕ) (d : Record) 
   pub next_rows : (a b c : Option (List ℕ)) → Appends a b so_many → Appends b c (row_text x p q) → Appends a c (rows_text w (above + 1) (take (i + 1) records))
   next_rows a b c so_far more = subst (λ (t : List ℕ). Appends a c t) one_more (Appends-trans a b c so_many (row_text x p q) so_far more)
 
-  -- a front of it is a front of those of all records
-  pub next_front : (a b c : Option (List ℕ)) → Appends a b so_many → PrintsFront (λ t. Appends b c t) (row_text x p q)
-      → PrintsFront (λ t. Appends a c t) (rows_text w (above + 1) records)
-  next_front a b c so_far more =
-      let some = some_rows w (above + 1) records (i + 1) in
-      subst (λ (t : List ℕ). PrintsFront (λ s. Appends a c s) t) (sym some.1)
-      (front_more _ (rows_text w (above + 1) (take (i + 1) records)) some.0
-      (subst (λ (t : List ℕ). PrintsFront (λ s. Appends a c s) t) one_more (front_after a b c so_many (row_text x p q) so_far more)))
+  -- or a front of it
+  pub next_begun : (a b c : Option (List ℕ)) → AreAccepted w (events_of_history (take (i + 1) records)) → Appends a b so_many → PrintsFront (λ t. Appends b c t) (row_text x p q)
+      → AreRowsBegun w above records (λ t. Appends a c t)
+  next_begun a b c accepted so_far more =
+      (i + 1, accepted, subst (λ (t : List ℕ). PrintsFront (λ s. Appends a c s) t) one_more (front_after a b c so_many (row_text x p q) so_far more))
 
 -- ---- all of them
 

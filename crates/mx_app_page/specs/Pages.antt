@@ -53,11 +53,14 @@ front_text r w = FRONT.now ++ head_text r w.services (shown_in w)
 abbrev pub back_text : ℕ → Option (List ℕ) → List ℕ
 back_text count refused = tail_text count refused ++ BACK.now
 
--- THE PAGE of records that are accepted, of which some stand above the first row; and the line of the record that is
--- refused after them, if one is
+-- the page of records that are accepted, of which some stand above the first row, but for what stands below the rows
+abbrev pub page_top : Run → World → List Record → List Record → List ℕ
+page_top r w above records = let v = world_after_events w (events_of_history above) in
+    front_text r v ++ rows_text v (length above + 1) records
+
+-- THE PAGE of them; and the line of the record that is refused after them, if one is
 abbrev pub page_text : Run → World → List Record → List Record → Option (List ℕ) → List ℕ
-page_text r w above records refused = let v = world_after_events w (events_of_history above) in
-    front_text r v ++ rows_text v (length above + 1) records ++ back_text (length records) refused
+page_text r w above records refused = page_top r w above records ++ back_text (length records) refused
 
 -- the same if this many records are to stand above the first row. If the refused one is among those, the page shows the
 -- machine at boot.
@@ -81,11 +84,17 @@ IsPagePrinted run w records first replayed.Refused Prints =
     (n : ℕ) × (r : Refusal) × IsRefusedAt w records n r
     × Prints (page_from run first w (take (n - 1) records) (Some (refused_line w.table.rules n r)))
 
--- a front of the page of all records is printed, or of what is printed up to one that is refused
+-- of the page of some first records, of which none is refused, a front is printed, that ends above the last line
+abbrev pub IsTopBegun : (ℕ → Run) → World → List Record → ℕ → (List ℕ → Type 0) → Type 0
+IsTopBegun run w records first Prints =
+    (n : ℕ) × (let above = take first records in let rows = take n (drop first records) in
+    AreAccepted w (events_of_history (above ++ rows)) × PrintsFront Prints (page_top (run (length above)) w above rows))
+
+-- WHAT IS PRINTED BEFORE A FAILURE: nothing; or a front that ends above the last line, or one of the whole page
 abbrev pub IsPageBegun : (ℕ → Run) → World → List Record → ℕ → (List ℕ → Type 0) → Type 0
 IsPageBegun run w records first Prints =
-    PrintsFront Prints (page_from run first w records None)
-    ⊎ IsPagePrinted run w records first replayed.Refused (PrintsFront Prints)
+    Prints [] ⊎ (IsTopBegun run w records first Prints
+    ⊎ ((how : Replayed) × IsPagePrinted run w records first how (PrintsFront Prints)))
 
 -- ---- parts of it
 
@@ -95,6 +104,12 @@ AreRowsPrinted w above records None Prints =
     AreAccepted w (events_of_history records) × Prints (rows_text w (above + 1) records)
 AreRowsPrinted w above records (Some p) Prints =
     IsRefusedAt w records (p.0 + 1) p.1 × Prints (rows_text w (above + 1) (take p.0 records))
+
+-- a front of the rows of some first records is printed, of which none is refused
+abbrev pub AreRowsBegun : World → ℕ → List Record → (List ℕ → Type 0) → Type 0
+AreRowsBegun w above records Prints =
+    (n : ℕ) × AreAccepted w (events_of_history (take n records))
+    × PrintsFront Prints (rows_text w (above + 1) (take n records))
 
 -- the page from a world on, above whose records stand this many; or that of those before the first that is refused
 abbrev pub IsMadePrinted : Rules → Run → World → ℕ → List Record → Replayed → (List ℕ → Type 0) → Type 0
@@ -109,5 +124,6 @@ IsMadePrinted rules r w above records replayed.Refused Prints =
 -- a front of it
 abbrev pub IsMadeBegun : Rules → Run → World → ℕ → List Record → (List ℕ → Type 0) → Type 0
 IsMadeBegun rules r w above records Prints =
-    PrintsFront Prints (front_text r w ++ rows_text w (above + 1) records ++ back_text (length records) None)
-    ⊎ IsMadePrinted rules r w above records replayed.Refused (PrintsFront Prints)
+    ((n : ℕ) × AreAccepted w (events_of_history (take n records))
+    × PrintsFront Prints (front_text r w ++ rows_text w (above + 1) (take n records)))
+    ⊎ ((how : Replayed) × IsMadePrinted rules r w above records how (PrintsFront Prints))

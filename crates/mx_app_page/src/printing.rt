@@ -16,7 +16,7 @@ ghost use Rattle.mx_machine.specs.World.{actors};
 ghost use Rattle.mx_look.specs.Glances.{glance_of};
 ghost use Rattle.mx_look_page.specs.Heads.{run_of};
 ghost use Rattle.mx_look_page.specs.Rows.{row_text};
-ghost use Rattle.mx_app_page.specs.Pages.{shown_in, rules_number, run_of_files, refused_line, front_text, back_text, rows_text, AreRowsPrinted, IsMadeBegun, IsMadePrinted, IsPageBegun, IsPagePrinted};
+ghost use Rattle.mx_app_page.specs.Pages.{shown_in, rules_number, run_of_files, refused_line, front_text, back_text, AreRowsBegun, AreRowsPrinted, IsMadeBegun, IsMadePrinted, IsPageBegun, IsPagePrinted};
 
 use crate::fixed::{BACK, FRONT};
 use mx_app_step::{
@@ -117,9 +117,8 @@ fn print_rows<W: Write>(
     requires few { above + length records.now < 2 ^ 32 }
     requires actors { All (λ (x : Noted). x.actor < actors (world_of machine.old)) records.now }
     ensures err { IfErr result IsWanting }
-    ensures front { IfErr result (λ _. PrintsFront
-        (λ front. Appends (W.contents out.old) (W.contents out.new) front)
-        (rows_text (world_of machine.old) (above + 1) records.now)) }
+    ensures begun { IfErr result (λ _. AreRowsBegun (world_of machine.old) above records.now
+        (λ text. Appends (W.contents out.old) (W.contents out.new) text)) }
     ensures printed { IfOk result (λ refused.
         AreRowsPrinted (world_of machine.old) above records.now refused (λ text.
         Appends (W.contents out.old) (W.contents out.new) text)) }

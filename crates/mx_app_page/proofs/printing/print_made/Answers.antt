@@ -32,7 +32,7 @@ returns-in_err-print_rows-clause-begun g c =
     let text = c.as_slice.ensures.value ∙ c.in_ok-front.ensures in
     let headed = subst (λ (t : List ℕ). Appends x y t) text c.in_ok-print_text.ensures.bytes in
     err_always c.from_residual.result _
-    (rows_begun c.args.rules (run_of c.args.terms) w c.args.terms.first c.args.records.now x y z headed c.in_err-print_rows.ensures.front)
+    (rows_begun c.args.rules (run_of c.args.terms) w c.args.terms.first c.args.records.now x y z headed c.in_err-print_rows.ensures.begun)
 
 pub returns-in_err-print_back-in-None-clause-begun : goal.returns-in_err-print_back-in-None-clause-begun
 returns-in_err-print_back-in-None-clause-begun g c =

@@ -1,13 +1,14 @@
 use Rattle.std.proofs.Common.{◌∙◌, ◌<◌, List, ℕ, Some, inl, inr, subst}
-use Rattle.std.proofs.KnownBytes.{Appends-trans}
+use Rattle.std.proofs.KnownBytes.{Appends-nil, Appends-trans}
 use Rattle.std.proofs.lemmas.Result.{IfErr-weaker, IfOk-weaker}
 use Rattle.std.specs.Io.KnownBytes.{Appends}
 use Rattle.mx_machine.specs.World.{actors}
 use Rattle.mx_machine.specs.declared.history.Record.{Record}
 use Rattle.mx_look_page.specs.Heads.{run_of}
 use Rattle.mx_app_step.specs.Failure.{PrintsFront}
+use Rattle.mx_app_step.specs.declared.records.Replayed.TheVariants as replayed
 use Rattle.mx_app_step.specs.Machine.{world_of}
-use Rattle.mx_app_step.proofs.FrontLemmas.{err_always, front_after, front_more, front_none}
+use Rattle.mx_app_step.proofs.FrontLemmas.{err_always, front_after, front_more}
 use Rattle.mx_app_step.proofs.TraceLemmas.{front_by_actors}
 use Rattle.mx_app_page.specs.Pages.{front_text, back_text, refused_line}
 use Rattle.mx_app_page.proofs.AboveLemmas.{front_of_rows, page_at_boot, page_of_rows}
@@ -19,7 +20,7 @@ perform_records-requires g c =
     front_by_actors (λ (x : Record). x.actor < actors (world_of c.args.machine.now)) c.args.records.now c.first_records-above.result.now c.args.terms.first c.first_records-above.ensures.first c.requires.actors
 
 pub returns-in_err-at_boot-clause-begun : goal.returns-in_err-at_boot-clause-begun
-returns-in_err-at_boot-clause-begun g c = err_always c.from_residual.result _ (inl (front_none (g.W.Write.contents c.args.out.now) _))
+returns-in_err-at_boot-clause-begun g c = err_always c.from_residual.result _ (inl (Appends-nil (g.W.Write.contents c.args.out.now)))
 
 pub returns-in-Ok-clause-printed : goal.returns-in-Ok-clause-printed
 returns-in-Ok-clause-printed g c =
@@ -47,9 +48,12 @@ returns-in_err-print_text-in-Err-clause-begun g c =
     let head = front_text (with_first (run_of c.args.terms) 0) w in
     let text = c.as_slice.ensures.value ∙ c.in_ok-at_boot.ensures in
     err_always c.from_residual-in_err-print_text-in-Err.result _
-    (inr (page_at_boot (with_first (run_of c.args.terms)) w c.args.records.now c.first_records-above.result.now c.args.terms.first n r c.rules.result c.first_records-above.ensures.first c.in-Err.ensures.few c.in-Err.ensures.err c.rules.ensures (λ (t : List ℕ). PrintsFront (λ s. Appends x y s) t)
-    (front_more (λ s. Appends x y s) head (back_text 0 (Some (refused_line c.rules.result n r)))
-    (subst (λ (t : List ℕ). PrintsFront (λ s. Appends x y s) t) text c.in_err-print_text-in-Err.ensures.front))))
+    (inr (inr (
+      replayed.Refused,
+      page_at_boot (with_first (run_of c.args.terms)) w c.args.records.now c.first_records-above.result.now c.args.terms.first n r c.rules.result c.first_records-above.ensures.first c.in-Err.ensures.few c.in-Err.ensures.err c.rules.ensures (λ (t : List ℕ). PrintsFront (λ s. Appends x y s) t)
+          (front_more (λ s. Appends x y s) head (back_text 0 (Some (refused_line c.rules.result n r)))
+          (subst (λ (t : List ℕ). PrintsFront (λ s. Appends x y s) t) text c.in_err-print_text-in-Err.ensures.front)),
+    )))
 
 pub returns-in_err-print_refused-in-Err-clause-begun : goal.returns-in_err-print_refused-in-Err-clause-begun
 returns-in_err-print_refused-in-Err-clause-begun g c =
@@ -62,9 +66,12 @@ returns-in_err-print_refused-in-Err-clause-begun g c =
     let head = front_text (with_first (run_of c.args.terms) 0) w in
     let text = c.as_slice.ensures.value ∙ c.in_ok-at_boot.ensures in
     err_always c.from_residual-in_err-print_refused-in-Err.result _
-    (inr (page_at_boot (with_first (run_of c.args.terms)) w c.args.records.now c.first_records-above.result.now c.args.terms.first n r c.rules.result c.first_records-above.ensures.first c.in-Err.ensures.few c.in-Err.ensures.err c.rules.ensures (λ (t : List ℕ). PrintsFront (λ s. Appends x z s) t)
-    (front_after x y z head (back_text 0 (Some (refused_line c.rules.result n r)))
-    (subst (λ (t : List ℕ). Appends x y t) text c.in_ok-print_text-in-Err.ensures.bytes) c.in_err-print_refused-in-Err.ensures.front)))
+    (inr (inr (
+      replayed.Refused,
+      page_at_boot (with_first (run_of c.args.terms)) w c.args.records.now c.first_records-above.result.now c.args.terms.first n r c.rules.result c.first_records-above.ensures.first c.in-Err.ensures.few c.in-Err.ensures.err c.rules.ensures (λ (t : List ℕ). PrintsFront (λ s. Appends x z s) t)
+          (front_after x y z head (back_text 0 (Some (refused_line c.rules.result n r)))
+          (subst (λ (t : List ℕ). Appends x y t) text c.in_ok-print_text-in-Err.ensures.bytes) c.in_err-print_refused-in-Err.ensures.front),
+    )))
 
 pub returns-in-Err-clause-printed : goal.returns-in-Err-clause-printed
 returns-in-Err-clause-printed g c =

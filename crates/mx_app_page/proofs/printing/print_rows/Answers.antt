@@ -5,7 +5,7 @@ use Rattle.mx_look.specs.declared.transition.Transition.{Transition}
 use Rattle.mx_app_step.specs.Machine.{world_of}
 use Rattle.mx_app_step.proofs.FrontLemmas.{err_always}
 use Rattle.mx_app_step.proofs.RecordLemmas.{is_actor_still, next_accepted, next_world, refused_at}
-use Rattle.mx_app_page.proofs.PageLemmas.{front_rows, next_front, next_rows}
+use Rattle.mx_app_page.proofs.PageLemmas.{next_begun, next_rows, some_begun}
 use Rattle.mx_app_page.proofs.printing.print_rows.Goals as goal
 
 pub look_record-requires : goal.look_record-requires
@@ -38,21 +38,22 @@ loop-index-preserved g c =
           (g.W.Write.contents c.args.out.now) (g.W.Write.contents c.loop-index.out) (g.W.Write.contents c.print_row.new.out) inv.printed c.in_ok-print_row.ensures.bytes;
     }
 
-pub returns-in_err-show-clause-front : goal.returns-in_err-show-clause-front
-returns-in_err-show-clause-front g c =
+pub returns-in_err-show-clause-begun : goal.returns-in_err-show-clause-begun
+returns-in_err-show-clause-begun g c =
     err_always c.from_residual-in_err-show.result _
-    (front_rows (world_of c.args.machine.now) c.args.records.now c.args.above c.loop-index.index (g.W.Write.contents c.args.out.now) (g.W.Write.contents c.loop-index.out) c.loop-index.invariant.printed)
+    (some_begun (world_of c.args.machine.now) c.args.records.now c.args.above c.loop-index.index (g.W.Write.contents c.args.out.now) (g.W.Write.contents c.loop-index.out) c.loop-index.invariant.accepted c.loop-index.invariant.printed)
 
-pub returns-in_err-print_row-clause-front : goal.returns-in_err-print_row-clause-front
-returns-in_err-print_row-clause-front g c =
+pub returns-in_err-print_row-clause-begun : goal.returns-in_err-print_row-clause-begun
+returns-in_err-print_row-clause-begun g c =
     let inv = c.loop-index.invariant in
     let w = world_of c.args.machine.now in
     let v = world_of c.loop-index.machine in
     let u = world_of c.look_record.new.machine in
     let i = c.loop-index.index in
+    let done = c.in_default.ensures.ok in
     err_always c.from_residual-in_err-print_row.result _
-    (next_front w v u c.args.records.now c.args.above i (c.args.above + i + 1) _ c.look_record.new.transition c.loop-index.before c.show.new.shown c.loop-index-test.true refl inv.world c.in_default.ensures.transition inv.shown (search rules) c.in_default.ensures.ok.1
-    (g.W.Write.contents c.args.out.now) (g.W.Write.contents c.loop-index.out) (g.W.Write.contents c.print_row.new.out) inv.printed c.in_err-print_row.ensures.front)
+    (next_begun w v u c.args.records.now c.args.above i (c.args.above + i + 1) _ c.look_record.new.transition c.loop-index.before c.show.new.shown c.loop-index-test.true refl inv.world c.in_default.ensures.transition inv.shown (search rules) done.1
+    (g.W.Write.contents c.args.out.now) (g.W.Write.contents c.loop-index.out) (g.W.Write.contents c.print_row.new.out) (next_accepted w v c.args.records.now i _ c.loop-index-test.true inv.accepted inv.world done.0) inv.printed c.in_err-print_row.ensures.front)
 
 pub show-requires : goal.show-requires
 show-requires g c = ap (λ (x : Transition). x.after) c.in_default.ensures.transition ∙ ap glance_of (sym c.in_default.ensures.ok.1)
