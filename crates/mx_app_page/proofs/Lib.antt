@@ -2,3 +2,4 @@ mod PageLemmas
 mod MadeLemmas
 mod AboveLemmas
 mod PageStart
+mod ReadingLemmas

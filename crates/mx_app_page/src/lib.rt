@@ -10,5 +10,7 @@
 
 mod fixed;
 mod printing;
+mod reading;
 
 pub use printing::page;
+pub use reading::rows_tell_enough;
