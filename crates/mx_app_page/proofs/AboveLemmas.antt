@@ -6,8 +6,9 @@ use Rattle.mx_machine.specs.declared.events.Event.{Event}
 use Rattle.mx_machine.specs.declared.events.Refusal.{Refusal}
 use Rattle.mx_machine.specs.declared.history.Record.{Record}
 use Rattle.mx_machine.specs.History.{AreAccepted, world_after_events, events_of, events_of_history}
+use Rattle.mx_machine.specs.Move.{world_after_event}
 use Rattle.mx_machine.specs.World.{World}
-use Rattle.mx_walk.proofs.Made.{accepted_both, after_both}
+use Rattle.mx_app_step.proofs.RecordLemmas.{after_both}
 use Rattle.mx_app_step.specs.Records.{IsFirstRefusal, IsRefusedAt}
 use Rattle.mx_proc.specs.declared.windows.Rules.{Rules}
 use Rattle.mx_look_page.specs.Heads.{Run}
@@ -21,6 +22,10 @@ events_both [] ys = refl
 events_both (x ∷ xs) ys =
     ap (λ (es : List (ℕ × Event)). events_of x.actor x.event ++ es) (events_both xs ys)
     ∙ sym (append_assoc (events_of x.actor x.event) (events_of_history xs) (events_of_history ys))
+
+accepted_both : (w : World) (xs ys : List (ℕ × Event)) → AreAccepted w xs → AreAccepted (world_after_events w xs) ys → AreAccepted w (xs ++ ys)
+accepted_both w [] ys a h = h
+accepted_both w (x ∷ xs) ys a h = (a.0, accepted_both (world_after_event w x.0 x.1) xs ys a.1 h)
 
 -- what is after as many as the first records that are there
 drop_taken : (k : ℕ) (xs : List Record) → drop (length (take k xs)) xs ≡ drop k xs
@@ -153,12 +158,14 @@ module _ (run : ℕ → Run) (w v : World) (records : List Record) (first : ℕ)
       let u = world_after_events w (events_of_history above) in
       inr (inl (
         n,
-        subst (λ (es : List (ℕ × Event)). AreAccepted w es) (sym (events_both above some))
-            (accepted_both w (events_of_history above) (events_of_history some) accepted
-            (subst (λ (z : World). AreAccepted z (events_of_history some)) world
-            (subst (λ (xs : List Record). AreAccepted v (events_of_history xs)) rows h))),
-        subst (λ (z : World). PrintsFront Prints (front_text (run (length above)) z ++ rows_text z (length above + 1) some)) world
-            (subst (λ (xs : List Record). PrintsFront Prints (front_text (run (length above)) v ++ rows_text v (length above + 1) xs)) rows begun),
+        (
+          subst (λ (es : List (ℕ × Event)). AreAccepted w es) (sym (events_both above some))
+              (accepted_both w (events_of_history above) (events_of_history some) accepted
+              (subst (λ (z : World). AreAccepted z (events_of_history some)) world
+              (subst (λ (xs : List Record). AreAccepted v (events_of_history xs)) rows h))),
+          subst (λ (z : World). PrintsFront Prints (front_text (run (length above)) z ++ rows_text z (length above + 1) some)) world
+              (subst (λ (xs : List Record). PrintsFront Prints (front_text (run (length above)) v ++ rows_text v (length above + 1) xs)) rows begun),
+        ),
       ))
   above_begun rules Prints same (inr (how, h)) = inr (inr (how, above_printed rules (PrintsFront Prints) how same h))
 

@@ -1,5 +1,5 @@
 -- The rows of records, one more, and what is printed of them.
-use Rattle.std.proofs.Common.{◌≡◌, ◌∙◌, ◌<◌, ◌≤◌, ℕ, zero, suc, ◌+◌, List, [], ◌∷◌, ◌++◌, length, take, get_or, append_assoc, Option, refl, ap, sym, subst, arith}
+use Rattle.std.proofs.Common.{◌≡◌, ◌∙◌, ◌<◌, ◌≤◌, ℕ, ◌+◌, List, [], ◌∷◌, ◌++◌, length, take, get_or, append_assoc, Option, ap, sym, subst, arith}
 use Rattle.std.proofs.KnownBytes.{Appends-trans}
 use Rattle.std.proofs.lemmas.List.{append-nil, take_more, take_all, length-take-le}
 use Rattle.std.specs.Io.KnownBytes.{Appends}
@@ -48,7 +48,7 @@ some_begun w records above i a b accepted printed = (i, accepted, front_all (λ 
 module _ (w v u : World) (records : List Record) (above i n : ℕ) (d : Record) (x : Transition) (p q : ShownWorld) (within : i < length records) (number : n ≡ above + i + 1)
     (world : v ≡ world_after_events w (events_of_history (take i records))) (is : x ≡ transition_of v n (get_or records i d)) (before : p ≡ shown_in v) (after : q ≡ shown_in u)
     (made : u ≡ world_after_events v (events_of (get_or records i d).actor (get_or records i d).event)) where
-  so_many : List ℕ
+  abbrev so_many : List ℕ
   so_many = rows_text w (above + 1) (take i records)
 
   one_more : so_many ++ row_text x p q ≡ rows_text w (above + 1) (take (i + 1) records)

@@ -1,13 +1,16 @@
 -- The page of a history whose machine was started.
-use Rattle.std.proofs.Common.{◌≡◌, ℕ, List, take, subst}
+use Rattle.std.proofs.Common.{◌≡◌, ◌∙◌, ◌++◌, ℕ, List, ap, take, subst}
 use Rattle.mx_machine.specs.Boot.{world_at_boot}
 use Rattle.mx_machine.specs.declared.history.Record.{Record}
 use Rattle.mx_machine.specs.World.{World}
-use Rattle.mx_look_page.specs.Heads.{Run}
+use Rattle.mx_look_page.specs.Heads.{Run, head_text}
+use Rattle.mx_look_page.specs.Shown.{ShownWorld}
+use Rattle.mx_machine.specs.Service.{Service as Served}
 use Rattle.mx_app_step.specs.Config.{Config}
 use Rattle.mx_app_step.specs.Service.{Service}
 use Rattle.mx_app_step.specs.declared.records.Replayed.{Replayed}
-use Rattle.mx_app_page.specs.Pages.{run_of_files, IsPageBegun, IsPagePrinted}
+use Rattle.mx_app_page.specs.Pages.{front_text, run_of_files, shown_in, IsPageBegun, IsPagePrinted}
+use Rattle.mx_app_page.specs.declared.fixed.TheConstants.{FRONT}
 
 -- a run, with any number of records above the first row
 abbrev pub with_first : Run → ℕ → Run
@@ -33,3 +36,9 @@ module _ (Prints : List ℕ → Type 0) (config log : List ℕ) (c d : Config) (
       (subst (λ (rs : List Record). IsPageBegun (runs d) w rs n Prints) same
       (subst (λ m. IsPageBegun (runs d) w slice m Prints) many
       (subst (λ (q : Run). IsPageBegun (with_first q) w slice first Prints) run h))))
+
+-- the text above the rows, from its parts
+pub front_is : (r : Run) (w : World) (vs : List Served) (s : ShownWorld) (half text : List ℕ) → half ≡ FRONT.now → text ≡ half ++ head_text r vs s → vs ≡ w.services → s ≡ shown_in w → text ≡ front_text r w
+front_is r w vs s half text fixed is same shown =
+    is ∙ ap (λ (t : List ℕ). t ++ head_text r vs s) fixed ∙ ap (λ (us : List Served). FRONT.now ++ head_text r us s) same
+    ∙ ap (λ (p : ShownWorld). FRONT.now ++ head_text r w.services p) shown

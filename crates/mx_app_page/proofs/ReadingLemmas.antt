@@ -1,5 +1,5 @@
 -- What is known after rows is what is shown.
-use Rattle.std.proofs.Common.{◌≡◌, ◌∙◌, ◌<◌, ℕ, ◌+◌, Bool, true, false, cond, ◌||◌, ◌==◌, is_some, List, [], ◌∷◌, Option, Some, None, bytes_eq, get_or, slice_get, refl, ap, sym, subst, arith}
+use Rattle.std.proofs.Common.{◌≡◌, ◌∙◌, ◌<◌, ℕ, ◌+◌, Bool, true, false, cond, not, ◌||◌, ◌==◌, is_some, List, [], ◌∷◌, Option, Some, None, bytes_eq, get_or, slice_get, refl, ap, sym, arith}
 use Rattle.std.specs.Prelude.{unwrap_or}
 use Rattle.std.specs.Option.{option_map}
 use Rattle.std.proofs.lemmas.Bool.{eqb-true, lt-ltb, not-false, or_parts}

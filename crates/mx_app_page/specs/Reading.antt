@@ -29,7 +29,7 @@ tells_waiting x p q = told_order p.waiting q.waiting
 abbrev pub known_after : {X : Type 0} → (Transition → ShownWorld → ShownWorld → Option X) → World → ℕ → List Record → X → X
 known_after {X} tells w n [] known = known
 known_after {X} tells w n (x ∷ xs) known = let v = world_after_events w (events_of x.actor x.event) in
-    known_after {X} tells v (n + 1) xs (unwrap_or (tells (transition_of w n x) (shown_in w) (shown_in v)) known)
+    known_after tells v (n + 1) xs (unwrap_or (tells (transition_of w n x) (shown_in w) (shown_in v)) known)
 
 -- ROWS TELL ENOUGH: whoever knows what is shown of a world, and reads the rows of records from there on, knows what is
 -- shown after them

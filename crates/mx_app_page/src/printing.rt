@@ -61,6 +61,13 @@ fn rules_number(rules: Rules) -> u32
     }
 }
 
+/// Appends one half of the fixed part.
+fn push_half(out: &mut Vec<u8>, half: &str) -> Result<(), AllocError>
+    ensures { OnOk result (out.new.items ≡ out.old.items ++ half.now) }
+{
+    out.extend_from_slice(half.as_bytes())
+}
+
 /// What stands above the rows: the fixed part, and the line for the run, which shows the machine as it is.
 #[tactic(auto, unfolding(mx_machine::specs::Machine::world_of))]
 fn front_text(alloc: Global, machine: &Machine, terms: RunTerms<'_>) -> Result<Vec<u8>, AllocError>
@@ -72,7 +79,7 @@ fn front_text(alloc: Global, machine: &Machine, terms: RunTerms<'_>) -> Result<V
     let mut items = Vec::new(alloc);
     let kernel = machine.kernel();
     kernel.facts();
-    text.extend_from_slice(FRONT.as_bytes())?;
+    push_half(&mut text, FRONT)?;
     push_head(
         &mut text,
         &mut scratch,
@@ -141,6 +148,17 @@ fn print_rows<W: Write>(
     Ok(None)
 }
 
+/// What stands below the rows.
+fn back_text(alloc: Global, rows: u32, refused: Option<&[u8]>) -> Result<Vec<u8>, AllocError>
+    ensures { IfOk result (λ text. text.items
+        ≡ back_text rows (option_map (λ s. s.now) refused.entry)) }
+{
+    let mut text = Vec::new(alloc);
+    push_tail(&mut text, rows, refused)?;
+    push_half(&mut text, BACK)?;
+    Ok(text)
+}
+
 /// Prints what stands below the rows.
 fn print_back<W: Write>(
     alloc: Global,
@@ -155,10 +173,25 @@ fn print_back<W: Write>(
     ensures bytes { OnOk result (Appends (W.contents out.old) (W.contents out.new)
         (back_text rows (option_map (λ s. s.now) refused.entry))) }
 {
-    let mut text = Vec::new(alloc);
-    push_tail(&mut text, rows, refused)?;
-    text.extend_from_slice(BACK.as_bytes())?;
+    let text = back_text(alloc, rows, refused)?;
     print_text(text.as_slice(), out)
+}
+
+/// The line of the record of this number, which is refused, without its end.
+fn refused_line(
+    alloc: Global,
+    rules: Rules,
+    number: usize,
+    refusal: Refusal,
+) -> Result<Vec<u8>, AllocError>
+    requires { number < 2 ^ 32 }
+    ensures { IfOk result (λ line. line.items ≡ refused_line rules number refusal) }
+{
+    let line = refusal_line(alloc, lines_above(rules) + number, refusal)?;
+    let shown = line.len().saturating_sub(1);
+    let mut text = Vec::new(alloc);
+    text.extend_from_slice(&line.as_bytes()[..shown])?;
+    Ok(text)
 }
 
 /// Prints what stands below the rows, and that the record of this number is refused.
@@ -178,9 +211,8 @@ fn print_refused<W: Write>(
     ensures bytes { OnOk result (Appends (W.contents out.old) (W.contents out.new)
         (back_text rows (Some (refused_line rules number refusal)))) }
 {
-    let line = refusal_line(alloc, lines_above(rules) + number, refusal)?;
-    let shown = line.len().saturating_sub(1);
-    print_back(alloc, rows, Some(&line.as_bytes()[..shown]), out)
+    let line = refused_line(alloc, rules, number, refusal)?;
+    print_back(alloc, rows, Some(line.as_slice()), out)
 }
 
 /// Prints the page of a history's part, of which `terms.first` records are made. `records` are the others, up to the

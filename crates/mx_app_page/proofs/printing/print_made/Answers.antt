@@ -19,7 +19,7 @@ returns-in_err-print_text-clause-begun g c =
     let x = g.W.Write.contents c.args.out.now in
     let y = g.W.Write.contents c.print_text.new.out in
     let text = c.as_slice.ensures.value ∙ c.in_ok-front.ensures in
-    err_always c.from_residual.result _
+    err_always c.from_residual-in_err-print_text.result _
     (head_begun c.args.rules (run_of c.args.terms) w c.args.terms.first c.args.records.now x y
     (subst (λ (t : List ℕ). PrintsFront (λ s. Appends x y s) t) text c.in_err-print_text.ensures.front))
 
@@ -31,7 +31,7 @@ returns-in_err-print_rows-clause-begun g c =
     let z = g.W.Write.contents c.print_rows.new.out in
     let text = c.as_slice.ensures.value ∙ c.in_ok-front.ensures in
     let headed = subst (λ (t : List ℕ). Appends x y t) text c.in_ok-print_text.ensures.bytes in
-    err_always c.from_residual.result _
+    err_always c.from_residual-in_err-print_rows.result _
     (rows_begun c.args.rules (run_of c.args.terms) w c.args.terms.first c.args.records.now x y z headed c.in_err-print_rows.ensures.begun)
 
 pub returns-in_err-print_back-in-None-clause-begun : goal.returns-in_err-print_back-in-None-clause-begun
@@ -72,8 +72,8 @@ returns-in-None-clause-printed g c =
     let rows = subst (λ (o : Option (ℕ × Refusal)). AreRowsPrinted w c.args.terms.first c.args.records.now o (λ t. Appends y z t)) c.in-None.is c.in_ok-print_rows.ensures.printed in
     whole_printed c.args.rules (run_of c.args.terms) w c.args.terms.first c.args.records.now x y z headed u rows c.in_ok-print_back-in-None.ensures.bytes
 
-pub returns-in-Some-clause-printed : goal.returns-in-Some-clause-printed
-returns-in-Some-clause-printed g c =
+pub returns-clause-printed : goal.returns-clause-printed
+returns-clause-printed g c =
     let w = world_of c.args.machine.now in
     let x = g.W.Write.contents c.args.out.now in
     let y = g.W.Write.contents c.print_text.new.out in

@@ -1,4 +1,4 @@
-use Rattle.std.proofs.Common.{◌∙◌, ◌+◌, ap, refl, sym, take}
+use Rattle.std.proofs.Common.{◌∙◌, ◌+◌, ap, refl, rules, sym, take}
 use Rattle.mx_machine.specs.History.{events_of_history}
 use Rattle.mx_look.specs.Glances.{glance_of}
 use Rattle.mx_look.specs.declared.transition.Transition.{Transition}

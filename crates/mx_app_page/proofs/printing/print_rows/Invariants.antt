@@ -1,4 +1,4 @@
-use Rattle.std.proofs.Common.{◌≡◌, take}
+use Rattle.std.proofs.Common.{◌≡◌, ◌+◌, take}
 use Rattle.std.specs.Io.KnownBytes.{Appends}
 use Rattle.mx_app_step.specs.Machine.{world_of}
 use Rattle.mx_machine.specs.History.{AreAccepted, world_after_events, events_of_history}
