@@ -71,7 +71,8 @@ fn push_half(out: &mut Vec<u8>, half: &str) -> Result<(), AllocError>
 /// What stands above the rows: the fixed part, and the line for the run, which shows the machine as it is.
 #[tactic(auto, unfolding(mx_machine::specs::Machine::world_of))]
 fn front_text(alloc: Global, machine: &Machine, terms: RunTerms<'_>) -> Result<Vec<u8>, AllocError>
-    ensures { IfOk result (λ text. text.items ≡ front_text (run_of terms.entry) (world_of machine.now)) }
+    ensures { IfOk result (λ text. text.items
+        ≡ front_text (run_of terms.entry) (world_of machine.now)) }
 {
     let shown = shown_in(alloc, machine)?;
     let mut text = Vec::new(alloc);
@@ -232,8 +233,8 @@ fn print_made<W: Write>(
         (world_of machine.old) terms.entry.first records.now (λ text.
         Appends (W.contents out.old) (W.contents out.new) text)) }
     ensures printed { IfOk result (λ replayed.
-        IsMadePrinted rules (run_of terms.entry) (world_of machine.old) terms.entry.first records.now
-        replayed (λ text. Appends (W.contents out.old) (W.contents out.new) text)) }
+        IsMadePrinted rules (run_of terms.entry) (world_of machine.old) terms.entry.first
+        records.now replayed (λ text. Appends (W.contents out.old) (W.contents out.new) text)) }
 {
     let front = front_text(alloc, machine, terms)?;
     print_text(front.as_slice(), out)?;
@@ -275,8 +276,8 @@ fn print_page<W: Write>(
         records.now terms.entry.first (λ text.
         Appends (W.contents out.old) (W.contents out.new) text)) }
     ensures printed { IfOk result (λ replayed.
-        IsPagePrinted (λ first. record (run_of terms.entry) { first = first }) (world_of machine.old)
-        records.now terms.entry.first replayed (λ text.
+        IsPagePrinted (λ first. record (run_of terms.entry) { first = first })
+        (world_of machine.old) records.now terms.entry.first replayed (λ text.
         Appends (W.contents out.old) (W.contents out.new) text)) }
 {
     let rules = machine.rules();
