@@ -6,6 +6,8 @@ import time
 
 CHROMIUM, DRIVER = "/usr/bin/chromium", "/usr/bin/chromedriver"
 FLAGS = "--headless=new", "--no-sandbox", "--disable-dev-shm-usage", "--disable-gpu"
+# How often a session is asked for.
+TRIES = 4
 FRAMES = "const f = arguments[0]; requestAnimationFrame(() => requestAnimationFrame(() => f()))"
 
 
@@ -17,6 +19,19 @@ def lacking():
     except ImportError:
         words.append("python3-selenium")
     return words
+
+
+def begun(start):
+    """A session. The driver gives up if Chromium hasn't begun within a minute, as on a machine with much else to do: then
+    it is asked again."""
+    from selenium.common.exceptions import SessionNotCreatedException
+
+    for _ in range(TRIES - 1):
+        try:
+            return start()
+        except SessionNotCreatedException:
+            pass
+    return start()
 
 
 class Browser:
@@ -31,7 +46,7 @@ class Browser:
         for it in FLAGS:
             options.add_argument(it)
         options.set_capability("goog:loggingPrefs", {"browser": "ALL", "performance": "ALL"})
-        self.driver = webdriver.Chrome(service=Service(DRIVER), options=options)
+        self.driver = begun(lambda: webdriver.Chrome(service=Service(DRIVER), options=options))
         self.size(1280, 1000)
         self.scheme("light")
 
