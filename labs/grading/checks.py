@@ -1,8 +1,8 @@
 """What a lab checks: each row of its `points.json` is made, run and compared with what is wanted.
 
 A row has a `name`, `points`, what to `do` (a function `do_..` of Check), and `draws`: the function that draws its cases, in
-the file of `drawn` that `points.json` names. `needs` are the parts of the lab's main work without which no answer should
-have these points. The rest are words of that `do`.
+the file of `drawn` that `points.json` names. `signs` says what a client writes, or of each of the grader's programs what
+that one writes. The rest are words of that `do`.
 """
 import importlib
 import json
@@ -63,12 +63,20 @@ class Check:
         self.lab, self.row, self.student, self.room = lab, row, student, student.room
         self.number = number
         self.config, self.log = None, f"{number}.log"
+        self.services = set()  # the programs of the case that is run
         self.pasted = None  # what was run last, as a command
         self.place = "end"  # the position of `mx look` that shows why the points are lost
         self.shows = "| tail -n 30"  # of `mx trace`, what leads to it
 
     def has_history(self):
         return self.config is not None and os.path.exists(os.path.join(self.room, self.log))
+
+    def signs(self):
+        """What the clients write that are in the case: nothing is said of a program that isn't."""
+        signs = self.row.get("signs")
+        if isinstance(signs, dict):
+            return "; ".join(it for program, it in signs.items() if program in self.services)
+        return signs
 
     def cases(self):
         source = drawn.source_of(self.student.seed, self.row["name"])
@@ -158,9 +166,11 @@ class Check:
         """Writes a case's configuration into the room, and makes or copies the programs that it names. What is drawn for a
         service is written over the data of a copy of its program."""
         lines = []
+        self.services = set()
         for line in case["config"]:
             words = line.split()
             if words[0] == "service":
+                self.services.add(words[2])
                 words[2] = self.program_of(words[1], words[2], case.get("set", {}).get(words[1]))
             lines.append(" ".join(words))
         self.config = self.write("config", lines)
@@ -194,7 +204,7 @@ class Check:
             if "fault" not in case:
                 self.compare(case, printed)
                 continue
-            self.compare({**case, "name": f"{case['name']}: without the fault"}, printed)
+            self.compare({**case, "name": f"{case['name']}: first, the run without a kill"}, printed)
             sweep = ["sweep", config, self.log, self.write("fault", case["fault"]), *bound]
             found = self.compare_sweep(case, sweep)
             for share in case["looks"]:
@@ -240,8 +250,8 @@ class Check:
         for number in range(min(self.row["runs"], self.student.runs)):
             case = cases[number % len(cases)]
             config = self.machine(case)
-            printed = self.run_by_threads(config)
-            self.compare({**case, "name": f"run {number + 1}, {case['name']}"}, printed)
+            printed, trace = self.run_by_threads(config)
+            self.compare({**case, "name": f"run {number + 1}, {case['name']}"}, printed, trace)
             if self.mx("replay", config, self.log) != printed:
                 raise Lost("the replay of the history prints another report")
 
@@ -250,9 +260,10 @@ class Check:
         again and again fills the history. What fills it each time is the program."""
         for _ in range(MOST_FULL):
             printed = self.mx("run", config, self.log, "--ticks", "0")
-            if not self.is_full(self.trace()):
+            trace = self.trace()
+            if not self.is_full(trace):
                 break
-        return printed
+        return printed, trace
 
     def is_full(self, trace):
         """Whether a history has no room for the two records of a turn."""
@@ -270,23 +281,26 @@ class Check:
             raise Lost(f"{self.row['file']}: the answer of {', '.join(f'`{it}`' for it in wrong)}",
                        came="; ".join(f"{it} {given[it]}" if it in given else f"no line `{it}`" for it in wrong))
 
-    def compare(self, case, printed):
+    def compare(self, case, printed, trace=None):
         """The report's states, the console and the history, as far as the case names them."""
         want = case.get("want", {})
         lines = printed.split("\n")
         at = next((i for i, it in enumerate(lines) if re.match(r"console \d+$", it)), None)
         if at is None:
             raise Lost(told(case), "a report", printed)
-        trace = self.trace()
+        trace = trace or self.trace()
         rows = [it.split() for it in lines[:at - 1]]
         states = {words[1]: " ".join(words[3:-2]) for words in rows}
-        ending = ended({words[1] + after_ends(int(words[2])): states[words[1]] for words in rows})
+        named = {words[2]: words[1] for words in rows}
+        ending = ended({words[1] + after_ends(int(words[2])): " ".join(named.get(it, it) for it in words[3:-2]) for words in rows})
         ending = f"the history was full, {ending}" if self.is_full(trace) else ending
-        self.compare_console(case, "\n".join(lines[at + 1:]), trace, ending)
+        found = facts.events(trace)
         try:
-            self.compare_history(case, trace)
+            self.compare_said(case, found)
+            self.compare_console(case, "\n".join(lines[at + 1:]), trace, ending)
+            self.compare_history(case, found)
         except Lost as it:
-            it.came = f"{it.came}; {ending}"
+            it.came = it.came if ending in (it.came or "") else f"{it.came}; {ending}"
             raise
         self.show_at("end")
         for name, state in want.get("states", {}).items():
@@ -314,10 +328,9 @@ class Check:
         self.place = place
         self.shows = "| tail -n 30" if place == "end" else f"--from {max(1, int(place) - 9)} --to {place}"
 
-    def compare_history(self, case, trace):
-        """What was said in the run: by models, by facts, by who asked whom for what, by reports, and by memory."""
-        found, want = facts.events(trace), case.get("want", {})
-        self.compare_said(case, found)
+    def compare_history(self, case, found):
+        """What was said in the run: by facts, by who asked whom for what, and by reports."""
+        want = case.get("want", {})
         facts.require(told(case), case.get("facts", []), found)
         for pair, wanted in want.get("asks", {}).items():
             who, whom = pair.split()
@@ -332,7 +345,8 @@ class Check:
             models.compare_steps(told(case), want["steps"], found)
 
     def compare_said(self, case, found):
-        """What holds of a run whatever becomes of others: by models, and by memory."""
+        """What holds of a run whatever becomes of others: by models, and by memory. They say most of what is wrong, so they
+        come before the console."""
         for name, service in case.get("models", []):
             models.MODELS[name](told(case), service).follow(found)
         self.compare_memory(case, [(it, row) for it in found for row in case.get("memory", []) if facts.fits(it, row["at"])])
@@ -367,6 +381,8 @@ class Check:
     def bytes_at(self, places):
         """The bytes at places of the history, one after the other. A place is a record, a slot, an address and how many."""
         words = "".join("goto {}\nmem {} {} {}\n".format(*it) for it in places)
+        if not words:
+            return b""
         printed = run([MX, "look", self.config, self.log], self.room, self.student.bounds, given=words)
         return memory_of(printed.splitlines())
 

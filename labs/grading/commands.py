@@ -1,7 +1,7 @@
 """Commands of the grader's own: each is bounded, and what it prints can be shown to anybody."""
 import contextlib
 import os
-import resource
+import select
 import signal
 import subprocess
 import tempfile
@@ -9,6 +9,7 @@ import tempfile
 MOST_OUTPUT = 1 << 22  # of what a command prints
 SHOWN = 300  # characters of a text that is shown
 MEMORY = 1 << 30  # of a compiler
+NOT_RUN = (126, 127)  # the shell's status if there is no such command
 # What would change what gcc reads.
 NOT_PASSED = ("CPATH", "C_INCLUDE_PATH", "COMPILER_PATH", "GCC_EXEC_PREFIX", "DEPENDENCIES_OUTPUT", "SUNPRO_DEPENDENCIES")
 
@@ -59,17 +60,20 @@ class Lost(Exception):
 
 
 class Bounds:
-    """What a command may use at most: seconds, and bytes of a file and of memory."""
+    """What a command may use at most: seconds, and bytes of a file and of memory. A processor's second lasts longer than a
+    second if others run too."""
 
-    def __init__(self, seconds, file=64 << 20, memory=resource.RLIM_INFINITY):
+    def __init__(self, seconds, file=64 << 20, memory=None):
         self.seconds, self.file, self.memory = seconds, file, memory
 
-    def take(self):
-        """Bounds the process that calls it. A processor's second lasts longer than a second if others run too."""
-        resource.setrlimit(resource.RLIMIT_CPU, (self.seconds, self.seconds))
-        resource.setrlimit(resource.RLIMIT_FSIZE, (self.file, self.file))
-        resource.setrlimit(resource.RLIMIT_AS, (self.memory, self.memory))
-        resource.setrlimit(resource.RLIMIT_CORE, (0, 0))
+    def words(self, command):
+        """The words of a command that is bounded. A shell takes the bounds and becomes the command: it begins in a fifth of
+        the time of a copy of this process, which would do the same."""
+        bounds = {"c": 0, "t": self.seconds, "f": self.file // 512}
+        if self.memory:
+            bounds["v"] = self.memory // 1024
+        script = "".join(f"ulimit -{name} {most} && " for name, most in bounds.items())
+        return ["/bin/sh", "-c", script + 'exec "$@"', "sh", *command]
 
 
 def printable(text):
@@ -95,15 +99,17 @@ def run(words, folder, bounds, status=(0,), given=None):
         text.seek(0)
         INTERRUPTS.check()
         try:
-            made = subprocess.Popen(words, cwd=folder, stdin=text, stdout=out, stderr=errors, env=surroundings(),
-                                    preexec_fn=bounds.take, start_new_session=True)
+            made = subprocess.Popen(bounds.words(words), cwd=folder, stdin=text, stdout=out, stderr=errors,
+                                    env=surroundings(), start_new_session=True)
         except OSError as it:
-            raise Lost(f"{words[0]} can't be run: {it.strerror}") from None
+            raise Lost(f"/bin/sh can't be run: {it.strerror}") from None
         ended = wait(made, bounds)
         INTERRUPTS.check()
         printed, said = (read_back(it) for it in (out, errors))
     if ended is None or -ended in (signal.SIGXCPU, signal.SIGKILL):
         raise Lost(f"it didn't end within {bounds.seconds} seconds")
+    if ended in NOT_RUN:
+        raise Lost(f"{words[0]} can't be run", came=said)
     if ended not in status:
         raise Lost(f"status {ended}", came=said or printed)
     return printed
@@ -116,13 +122,24 @@ def wait(made, bounds):
             os.killpg(made.pid, signal.SIGKILL)
 
     with INTERRUPTS.stopping(stop):
-        try:
-            # Others may have the processors: its own seconds are bounded by the system.
-            return made.wait(timeout=3 * bounds.seconds)
-        except subprocess.TimeoutExpired:
+        # Others may have the processors: its own seconds are bounded by the system.
+        has_ended = ends_within(made.pid, 3 * bounds.seconds)
+        if not has_ended:
             stop()
-            made.wait()
-            return None
+        status = made.wait()
+        return status if has_ended else None
+
+
+def ends_within(pid, seconds):
+    """Whether a process ends within so many seconds. `Popen.wait` with a bound would sleep between its questions, up to a
+    twentieth of a second: as long as most commands take."""
+    file = os.pidfd_open(pid)
+    try:
+        poll = select.poll()
+        poll.register(file, select.POLLIN)
+        return bool(poll.poll(1000 * seconds))
+    finally:
+        os.close(file)
 
 
 def read_back(file):

@@ -6,18 +6,20 @@ An event of a history is a line of words:
     call WHO NAME W .. answer R W ..          a kernel call and its result
     try WHO SEND WHOM                         a trap that wasn't a kernel call, as it began; WHOM is `any` too
     trap WHO SEND WHOM result R               its result, if that was known at once
+    spent WHO STEPS                           it made so many steps without a trap, to the end of its quantum
     console WHO 0xHH                          a byte was written
     line N WHO                                an interrupt of a line that somebody has taken
     tick N                                    the uptime
 
-A fact is one of these, where EVENT is such a line in which `*` stands for any word, `A|B` for one of two, and `..` at
-its end for any words:
+A fact is one of these, where EVENT is such a line in which after the first word `*` stands for any word, `A|B` for one of
+two, and `..` at its end for any words:
 
     N EVENT          there are N of these; N+ at least N
     in order: EVENT; EVENT ..                 each comes after the one before it
     each EVENT: after EVENT; no EVENT since   each of the first comes after one of the second, without the third between
 """
 import collections
+import functools
 import re
 
 from .commands import Lost
@@ -25,12 +27,15 @@ from .commands import Lost
 Event = collections.namedtuple("Event", "record words who")
 CALL = re.compile(r"(\d+) \d+ back \d+: (\S+) (\d+) trap SENDREC SYSTEM, (\S+)(.*)")
 TRAP = re.compile(r"(\d+) \d+ back \d+: (\S+) (\d+) trap (SEND|RECEIVE|SENDREC|NOTIFY)(?: (\S+)(?: (\d+))?)?$")
+SPENT = re.compile(r"(\d+) \d+ back (\d+): (\S+) (\d+) spent$")
 ANSWER = re.compile(r"(\d+)   answer (-?\d+)(?: [A-Z]+)?(.*)")
 SAID = re.compile(r"(\d+)   (message|notify) (\S+)(?: (\d+))? to (\S+) (\d+) type (\d+)(?: words(.*))?")
 STATE = re.compile(r"(\d+)   (\S+) (\d+): (.*?) -> (.*?)(?:, result (-?\d+).*)?$")
 CONSOLE = re.compile(r"(\d+)   console (0x\w+)")
 LINE = re.compile(r"(\d+) \d+ line (\d+): (\S+) (\d+)")
 TICK = re.compile(r"(\d+) \d+ tick: uptime (\d+)")
+COUNTED = re.compile(r"(\d+)(\+?) (.*)")
+EACH = re.compile(r"each (.*): after (.*); no (.*) since")
 
 
 def signed(word):
@@ -49,11 +54,24 @@ def events(trace):
 
 def read(line, found, last):
     """Adds the event of a line, if it is one. Gives the trap whose result may follow."""
-    if it := CALL.match(line):
+    if line.startswith("   ", line.find(" ")):
+        read_more(line, found, last)
+    elif it := CALL.match(line):
         return it[1], it[2], it[3], ["call", it[2], it[4], *it[5].split(), "answer"]
-    if it := TRAP.match(line):
+    elif it := TRAP.match(line):
         found.append(Event(int(it[1]), ["try", it[2], it[4], it[5] or "any"], (it[3], it[6])))
         return it[1], it[2], it[3], ["trap", it[2], it[4], it[5] or "any", "result"]
+    elif it := SPENT.match(line):
+        found.append(Event(int(it[1]), ["spent", it[3], it[2]], (it[4],)))
+    elif it := LINE.match(line):
+        found.append(Event(int(it[1]), ["line", it[2], it[3]], (it[4],)))
+    elif it := TICK.match(line):
+        found.append(Event(int(it[1]), ["tick", it[2]], ()))
+    return last
+
+
+def read_more(line, found, last):
+    """Adds the event of a line that says more of a record, after its trap `last`."""
     if (it := ANSWER.match(line)) and last:
         found.append(Event(int(it[1]), [*last[3], it[2], *it[3].split()], (last[2],)))
     elif it := SAID.match(line):
@@ -66,25 +84,27 @@ def read(line, found, last):
             found.append(Event(int(it[1]), ["down", it[2], *it[5].split()[1:]], (it[3],)))
     elif (it := CONSOLE.match(line)) and last:
         found.append(Event(int(it[1]), ["console", last[1], it[2]], (last[2],)))
-    elif it := LINE.match(line):
-        found.append(Event(int(it[1]), ["line", it[2], it[3]], (it[4],)))
-    elif it := TICK.match(line):
-        found.append(Event(int(it[1]), ["tick", it[2]], ()))
-    return last
+
+
+@functools.cache
+def wanted_by(pattern):
+    """The first word of a pattern's events, how many words they have, or have at least, and which words at which places."""
+    words = pattern.split()
+    is_open = words[-1] == ".."
+    words = words[:-1] if is_open else words
+    return words[0], len(words), is_open, [(at, it.split("|")) for at, it in enumerate(words) if at and it != "*"]
 
 
 def fits(event, pattern):
     """Whether an event is one of a pattern's."""
-    wanted = pattern.split()
+    kind, count, is_open, wanted = wanted_by(pattern)
     words = event.words
-    if wanted[-1] == "..":
-        wanted, words = wanted[:-1], words[:len(wanted) - 1]
-    return len(words) == len(wanted) and all(map(is_one, wanted, words))
-
-
-def is_one(pattern, word):
-    """Whether a word is one that a pattern's word stands for."""
-    return pattern in ("*", word) or ("|" in pattern and word in pattern.split("|"))
+    if words[0] != kind or (len(words) != count and not (is_open and len(words) > count)):
+        return False
+    for at, those in wanted:
+        if words[at] not in those:
+            return False
+    return True
 
 
 def missing(fact, found):
@@ -92,9 +112,10 @@ def missing(fact, found):
     if fact.startswith("in order: "):
         return missing_order(fact.removeprefix("in order: ").split("; "), found)
     if fact.startswith("each "):
-        return missing_each(*re.fullmatch(r"each (.*): after (.*); no (.*) since", fact).groups(), found)
-    count, more, pattern = re.fullmatch(r"(\d+)(\+?) (.*)", fact).groups()
-    there = [it for it in found if fits(it, pattern)]
+        return missing_each(*EACH.fullmatch(fact).groups(), found)
+    count, more, pattern = COUNTED.fullmatch(fact).groups()
+    kind = wanted_by(pattern)[0]
+    there = [it for it in found if it.words[0] == kind and fits(it, pattern)]
     if len(there) == int(count) or (more and len(there) > int(count)):
         return None
     alike = [" ".join(it.words) for it in found if it.words[:2] == pattern.split()[:2]]
@@ -113,7 +134,8 @@ def missing_order(patterns, found):
 
 def missing_each(pattern, before, end, found):
     is_open = False
-    for it in found:
+    kinds = {wanted_by(it)[0] for it in (pattern, before, end)}
+    for it in (it for it in found if it.words[0] in kinds):
         if fits(it, before):
             is_open = True
         elif fits(it, end):

@@ -30,14 +30,16 @@ COMPILER = Bounds(5, file=8 << 20, memory=MEMORY)
 
 
 class Kit:
-    """What a program in C is made of besides a student's text: copied and compiled once, for all students."""
+    """What a program in C is made of besides a student's text: copied and compiled once, for all students. So is a program
+    of the same texts as one that was made before."""
 
     def __init__(self, keep):
-        texts = hashlib.sha256()
+        texts = hashlib.sha256(repr((CFLAGS, LDFLAGS, PLACE)).encode())
         for it in OF_KIT:
             with open(os.path.join(KIT, it), "rb") as file:
                 texts.update(file.read())
         self.folder = os.path.join(keep, f"kit-{texts.hexdigest()[:8]}")
+        self.programs = f"{self.folder}-programs"
 
     def make(self):
         """Makes the folder under another name first, so that nobody sees half of it; another grader may be faster."""
@@ -66,6 +68,20 @@ class Kit:
             shutil.copytree(self.folder, os.path.join(room, "kit"))
         with open(os.path.join(room, "kit", "flags"), encoding="utf-8") as it:
             return it.read().split()[-1]
+
+    def give(self, key, out):
+        """Gives the program that was made of the same texts, if there is one. Answers whether there is."""
+        try:
+            shutil.copy(os.path.join(self.programs, key), out)
+        except FileNotFoundError:
+            return False
+        return True
+
+    def take(self, key, out):
+        """Keeps a program that was made. Another grader may keep the same one just now."""
+        os.makedirs(self.programs, exist_ok=True)
+        with tempfile.TemporaryDirectory(dir=self.programs) as top:
+            os.rename(shutil.copy(out, top), os.path.join(self.programs, key))
 
 
 class Student:
@@ -130,11 +146,11 @@ class Student:
             self.write(f"{name}.s", self.read(f"{name}.s"))
             self.run([MX, "as", f"{name}.s", f"{name}.out", "--explain"], self.bounds)
         elif os.path.lexists(os.path.join(self.folder, f"{name}.c")):
-            system = self.kit.copy(self.room)
-            self.copy_texts(name)
-            self.refuse(name, system)
-            self.compile(name)
-            self.link(name)
+            texts = self.texts(name)
+            key = hashlib.sha256(repr(sorted(texts.items())).encode()).hexdigest()
+            if not self.kit.give(key, out):
+                self.make_of(name, texts)
+                self.kit.take(key, out)
         else:
             raise Lost(f"neither {name}.s nor {name}.c is there")
         return out
@@ -143,16 +159,33 @@ class Student:
         with open(os.path.join(self.room, name), "wb") as it:
             it.write(data)
 
-    def copy_texts(self, name):
-        """Copies NAME.c and the student's headers into the room, if each has only what may be there."""
+    def texts(self, name):
+        """The texts that a program in C is made of besides the kit: NAME.c, the lab's headers and the student's."""
+        texts = {}
         for it in self.lab.headers():
-            shutil.copy(it, self.room)
-        given = {*map(os.path.basename, self.lab.headers()), *HEADERS}
+            with open(it, "rb") as file:
+                texts[os.path.basename(it)] = file.read()
+        given = {*texts, *HEADERS}
         headers = [it for it in sorted(os.listdir(self.folder)) if re.fullmatch(r"\w+\.h", it) and it not in given]
         if len(headers) > MOST_HEADERS:
             raise Lost(f"there are {len(headers)} headers; {MOST_HEADERS} are allowed")
-        for it in [f"{name}.c", *headers]:
-            text = sources.refuse_characters(it, self.read(it).decode("utf-8", "replace"))
+        return texts | {it: self.read(it) for it in [f"{name}.c", *headers]}
+
+    def make_of(self, name, texts):
+        """Makes a program in C of its texts."""
+        system = self.kit.copy(self.room)
+        self.copy_texts(texts)
+        self.refuse(name, system)
+        self.compile(name)
+        self.link(name)
+
+    def copy_texts(self, texts):
+        """Copies texts into the room, if each of the student's has only what may be there."""
+        for it in self.lab.headers():
+            shutil.copy(it, self.room)
+        given = {*map(os.path.basename, self.lab.headers())}
+        for it in (it for it in texts if it not in given):
+            text = sources.refuse_characters(it, texts[it].decode("utf-8", "replace"))
             self.write("veiled.c", sources.veiled(sources.joined(text)).encode())
             bare = run(["gcc", "-fpreprocessed", "-std=c11", "-w", "-E", "-P", "veiled.c"], self.room, COMPILER)
             os.remove(os.path.join(self.room, "veiled.c"))
@@ -161,9 +194,10 @@ class Student:
 
     def refuse(self, name, system):
         """Refuses a text that reads another file or isn't C, as gcc sees it."""
-        files, made = (self.run(["gcc", "@kit/flags", it, f"{name}.c"]) for it in ("-M", "-E"))
+        made = self.run(["gcc", "@kit/flags", "-E", "-MD", "-MF", f"{name}.files", f"{name}.c"])
         self.pasted = None  # what is refused now no command shows
-        sources.refuse_files(f"{name}.c", files, system)
+        with open(os.path.join(self.room, f"{name}.files"), encoding="utf-8", errors="replace") as it:
+            sources.refuse_files(f"{name}.c", it.read(), system)
         sources.refuse_made(f"{name}.c", made, system)
 
     def compile(self, name):

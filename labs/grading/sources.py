@@ -80,7 +80,7 @@ def refuse_forbidden(name, text):
 
 
 def refuse_files(name, rule, system):
-    """Refuses the files that gcc would read (`-M`), but those of the room, of its kit, and gcc's own headers."""
+    """Refuses the files that gcc would read (`-MD`), but those of the room, of its kit, and gcc's own headers."""
     for file in rule.replace("\\\n", " ").split(":", 1)[1].split():
         is_own = re.fullmatch(r"(kit/)?\w+\.[ch]", file)
         if not is_own and os.path.dirname(os.path.normpath(file)) != os.path.normpath(system):

@@ -12,7 +12,7 @@ WHOLE = ("run", "signs", "look", "trace")  # these aren't cut
 
 def lost(check, it):
     """A check that lost its points: why, and which commands show the place. They are to be pasted in the room."""
-    told = {"why": it.why, "run": check.pasted, "wanted": it.wanted, "came": it.came, "signs": check.row.get("signs")}
+    told = {"why": it.why, "run": check.pasted, "wanted": it.wanted, "came": it.came, "signs": check.signs()}
     if check.has_history():
         shows = "ps" if check.place == "end" else "why"
         told["look"] = f"printf 'goto {check.place}\\n{shows}\\n' | mx look {check.config} {check.log}"

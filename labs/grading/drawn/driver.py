@@ -68,6 +68,8 @@ def releases(draw):
     yield button_case("two presses", f"{wait} b 8 t 8 t 8 t 8 t 8 b 8 t 8 t 8 t 9")
     yield button_case("the first tick at once", f"{wait} b t 8 t 8 t 9")
     yield button_case("a bounce, and the next tick at once", f"{wait} b 8 t 8 b t 8 t 8 t 9")
+    some = [f"b{' 8 t' * draw.randint(3, 6)} {draw.randint(8, 12)}" for _ in range(draw.randint(2, 4))]
+    yield button_case("some presses", f"{wait} {' '.join(some)} 9")
 
 
 def both_lines(draw):

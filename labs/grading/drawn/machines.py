@@ -19,6 +19,11 @@ def machine(cpus, *services, log=20_000):
     return [f"cpus {cpus}", f"log {log}", *services]
 
 
+def on(cpus):
+    """So many processors, in words."""
+    return ("on one processor", "on two processors", "on three processors", "on four processors")[cpus - 1]
+
+
 def bystanders(draw, least=0):
     """Processes that do nothing for anybody, for the slots behind the others: how many, and their plans. So a process can't
     tell by who is there whether its machine is the one that is handed out."""

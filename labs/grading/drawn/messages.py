@@ -1,5 +1,5 @@
 """Lab 2: a server's clients; a pair of which one may be a stranger with another number; and all in one machine."""
-from .machines import ASK, POKE, TAKE, TELL, WORK, bystanders, machine, plan, requests, served, service
+from .machines import ASK, POKE, TAKE, TELL, WORK, bystanders, machine, on, plan, requests, served, service
 
 ADD, READ = 1, 2
 SERVER = service("server", "server.out", send="fffe", calls="1", level=4)
@@ -30,7 +30,7 @@ def one_adder(draw):
 def two_adders(draw):
     for cpus in (1, 3):
         actors = [(it, additions(draw, draw.randint(4, 6)), 7, 0) for it in ("asker", "second")]
-        yield totals(draw, f"two clients, {cpus} processors", actors, cpus=cpus)
+        yield totals(draw, f"two clients {on(cpus)}", actors, cpus=cpus)
 
 
 def strange_requests(draw):
@@ -64,8 +64,8 @@ def pair_case(draw, name, cpus, levels, other=None, number=0):
     digit = f"0x{ord('0') + sum(mine.values()):02x}"
     facts = [] if other else [("1+ trap left|right * * result -101", "left or right gets ELOCKED")]
     for slot, it in zip(PAIR, names):
-        facts.append(f"1 message {it} to {partner[it]} type 1 words {mine[slot]} ..")
-        facts.append(f"1 message {it} to {partner[it]} ..")
+        taken = f"{partner[it]} takes one message of {it}, of type 1 with p[0] {mine[slot]}, and no other"
+        facts += [(f"1 message {it} to {partner[it]} type 1 words {mine[slot]} ..", taken), (f"1 message {it} to {partner[it]} ..", taken)]
         if it != "stranger":
             facts += [f"in order: message {partner[it]} to {it} ..; console {it} {digit}", f"1 console {it} *"]
     lines = [service(it, f"{it}.out", send=("2", "1")[i], level=levels[i]) for i, it in enumerate(names)]
@@ -77,8 +77,8 @@ def pair_case(draw, name, cpus, levels, other=None, number=0):
 
 
 def with_strangers(draw, cpus):
-    """A partner whose number is another one, in each place. It is first or second."""
-    for other, numbers in (("right", [1, 4, 5, 6, 7]), ("left", [1, 4, 5, 6])):
+    """A partner whose number is mostly another one, in each place. It is first or second."""
+    for other, numbers in (("right", [1, 3, 4, 5, 6, 7]), ("left", [1, 2, 4, 5, 6])):
         for levels in ((7, 7), (8, 7)):
             number = draw.choice(numbers)
             yield pair_case(draw, f"a stranger with {number} in the place of {other}", cpus, levels, other, number)
@@ -95,7 +95,7 @@ def right_first(draw):
 
 
 def pair_of_two(draw):
-    yield pair_case(draw, "two processors", 2, (7, 7))
+    yield pair_case(draw, on(2), 2, (7, 7))
     yield from with_strangers(draw, 2)
 
 

@@ -1,12 +1,15 @@
 """Lab 6: a name server, a queue, consumers and producers; and adders with a board."""
-from .machines import ASK, POKE, TELL, WORK, machine, plan, requests, served, service
+from .machines import ASK, POKE, TELL, WORK, machine, on, plan, requests, served, service
 
 REGISTER, LOOKUP = 1, 2
 PUT, GET, TRY, END = 1, 2, 3, 4
 ITEMS = 12
-FULL, EMPTY = (7, 8), (8, 7)  # levels of producers and consumers on one processor, and how the queue is most of the time
+# Levels of producers and consumers on one processor, and how the queue is most of the time. Its own level is between: so
+# who comes first looks it up before it has its name.
+FULL, EMPTY, BETWEEN = (7, 9), (9, 7), 8
 LARGEST = 10_000_000  # of an item, so that no sum of a machine is below 0
 MUCH = 40_000  # records of a history
+CONSUMERS = [("consumer", "waits"), ("consumer", "polls")]
 CROWD = 27  # clients: with the others of their machine nearly as many as there are slots
 
 
@@ -19,18 +22,27 @@ def all_but(slot):
 
 
 def looked_up(draw):
+    """Two machines of that kind. Who comes when and in which slot is drawn too: so no answer is known by who asks."""
+    for _ in range(2):
+        yield early_lookups(draw)
+
+
+def early_lookups(draw):
     """Names that are looked up before anybody has them, by several; a name that another one takes, and its successor after
     it; what there is not; a process that ends while it waits."""
     name, other = draw.sample([0, 3, 4, 5, 6, 7], 2)
-    first = [(ASK, 0, LOOKUP, name), (ASK, 0, draw.randint(5, 99), 0), (ASK, 0, LOOKUP, draw.randint(8, 99)),
-             (ASK, 0, REGISTER, -draw.randint(1, 9))]
-    actors = [("first", first, 4, 0), ("second", [(ASK, 0, LOOKUP, name)], 5, 0), ("hasty", [(TELL, 0, LOOKUP, name)], 5, 0),
-              ("third", [(ASK, 0, LOOKUP, name), (ASK, 0, LOOKUP, other)], 6, 0), ("queue", [(ASK, 0, LOOKUP, 1)], 6, 0),
-              ("judge", [(ASK, 0, LOOKUP, 2)], 6, 0),
-              ("owner", [(POKE, 0), (WORK, draw.randint(2, 5)), (ASK, 0, REGISTER, other), (ASK, 0, REGISTER, name)], 8, 0),
-              ("heir", [(ASK, 0, REGISTER, name), (ASK, 0, LOOKUP, name), (ASK, 0, LOOKUP, other)], 9, draw.randint(1, 2))]
-    yield served(draw, "names that are looked up before anybody has them, or never has", actors, "names",
-                 server=service("names", "names.out", "fffe", "1", 3))
+    wrong = [(ASK, 0, draw.randint(5, 99), 0), (ASK, 0, LOOKUP, draw.randint(8, 99)), (ASK, 0, REGISTER, -draw.randint(1, 9))]
+    before = draw.randint(0, len(wrong))
+    waiting = {"first": [*wrong[:before], (ASK, 0, LOOKUP, name), *wrong[before:]], "second": [(ASK, 0, LOOKUP, name)],
+               "hasty": [(TELL, 0, LOOKUP, name)], "third": [(ASK, 0, LOOKUP, name), (ASK, 0, LOOKUP, other)],
+               "queue": [(ASK, 0, LOOKUP, 1)], "judge": [(ASK, 0, LOOKUP, 2)]}
+    waiting |= {f"more{i}": [(ASK, 0, LOOKUP, draw.choice([name, other]))] for i in range(draw.randint(0, 1))}
+    actors = [(it, steps, draw.randint(4, 7), 0) for it, steps in waiting.items()]
+    actors += [("owner", [(POKE, 0), (WORK, draw.randint(2, 5)), (ASK, 0, REGISTER, other), (ASK, 0, REGISTER, name)], 8, 0),
+               ("heir", [(ASK, 0, REGISTER, name), (ASK, 0, LOOKUP, name), (ASK, 0, LOOKUP, other)], 9, draw.randint(1, 2))]
+    draw.shuffle(actors)
+    return served(draw, "names that are looked up before anybody has them, or never has", actors, "names",
+                  server=service("names", "names.out", "fffe", "1", 3))
 
 
 def crowd_looked_up(draw):
@@ -43,8 +55,9 @@ def crowd_looked_up(draw):
                  server=service("names", "names.out", "fffffffe", "1", 3))
 
 
-def queue_case(name, *actors, restarts=0):
-    """The queue and clients: of each its name, plan and level."""
+def queue_case(draw, name, *actors, restarts=0):
+    """The queue and clients, in slots that are drawn: of each its name, plan and level."""
+    actors = draw.sample(actors, len(actors))
     names = service("names", "good_names.out", all_but(0), "1", 2)
     queue = service("queue", "queue.out", "fffffffd", "1", 3)
     lines = [service(it, "actor.out", "3", "1", level, restarts) for it, _, level in actors]
@@ -57,34 +70,40 @@ def drawn_items(draw, count):
     return draw.sample(range(1, 1 << 32), count)
 
 
-def consumers_wait(name, items, *others):
-    """Consumers that wait before a producer comes, who brings less than they want."""
+def consumers_wait(draw, name, *others):
+    """Consumers that wait before a producer comes, who brings less than they want. Who comes first is drawn."""
+    wanted = [draw.randint(1, 3) for _ in range(draw.randint(2, 4))]
+    items = drawn_items(draw, draw.randint(2, sum(wanted) - 1) if sum(wanted) > 2 else 1)
     put = [(WORK, 6), *[(ASK, 1, PUT, it) for it in items], (ASK, 1, END), (ASK, 1, END)]
-    return queue_case(name, *others, ("first", [(ASK, 1, GET)] * 2, 5), ("second", [(ASK, 1, GET)] * 2, 6), ("putter", put, 8))
+    getters = [(f"getter{i}", [(ASK, 1, GET)] * it, draw.randint(5, 7)) for i, it in enumerate(wanted)]
+    return queue_case(draw, name, *others, *getters, ("putter", put, 8))
 
 
 def queued(draw):
-    """Room, order and end; and two consumers that wait."""
-    items = drawn_items(draw, 12)
-    filler = [(POKE, 1), (ASK, 1, TRY), (ASK, 1, draw.randint(5, 99)), *[(ASK, 1, PUT, it) for it in items[:9]], (ASK, 1, END)]
-    taker = [(ASK, 1, (GET, TRY)[i % 2]) for i in range(7)] + [(ASK, 1, END)] + [(ASK, 1, GET)] * 4 + [(ASK, 1, TRY)]
-    yield queue_case("a producer that fills the queue, and a consumer", ("filler", filler, 5), ("taker", taker, 7))
-    yield consumers_wait("two consumers wait", items[9:])
+    """Room, order and end; and consumers that wait. How many items there are is drawn too."""
+    count, before = draw.randint(9, 12), draw.randint(4, 7)
+    filler = [(POKE, 1), (ASK, 1, TRY), (ASK, 1, draw.randint(5, 99))]
+    draw.shuffle(filler)
+    filler += [*[(ASK, 1, PUT, it) for it in drawn_items(draw, count)], (ASK, 1, END)]
+    taker = [(ASK, 1, draw.choice([GET, TRY])) for _ in range(before)] + [(ASK, 1, END)]
+    taker += [(ASK, 1, GET)] * (count - before + 1) + [(ASK, 1, TRY)]
+    yield queue_case(draw, "a producer that fills the queue, and a consumer", ("filler", filler, 5), ("taker", taker, 7))
+    yield consumers_wait(draw, "consumers wait")
 
 
 def crowd_queued(draw):
     """A consumer and a producer that die while they wait; a crowd that waits, and its successors after it. By a queue that
     does the rest too."""
     yield from queued(draw)
-    items = drawn_items(draw, 14)
-    yield consumers_wait("three consumers wait, and one of them dies", items[:3], ("hasty", [(TELL, 1, GET)], 4))
-    full = [(ASK, 1, PUT, it) for it in items[3:11]]
-    yield queue_case("three producers wait for room, and one of them dies", ("filler", full, 4),
-                     ("first", [(ASK, 1, PUT, items[11])], 5), ("hasty", [(TELL, 1, PUT, items[12])], 6),
-                     ("second", [(ASK, 1, PUT, items[13])], 7), ("taker", [(ASK, 1, GET)] * 11 + [(ASK, 1, TRY)], 8))
+    items, levels = drawn_items(draw, 11), draw.sample([5, 6, 7], 3)
+    yield consumers_wait(draw, "consumers wait, and the first of them dies", ("hasty", [(TELL, 1, GET)], 4))
+    full = [(ASK, 1, PUT, it) for it in items[3:]]
+    yield queue_case(draw, "three producers wait for room, and one of them dies", ("filler", full, 4),
+                     ("first", [(ASK, 1, PUT, items[0])], levels[0]), ("hasty", [(TELL, 1, PUT, items[1])], levels[1]),
+                     ("second", [(ASK, 1, PUT, items[2])], levels[2]), ("taker", [(ASK, 1, GET)] * 11 + [(ASK, 1, TRY)], 8))
     crowd = [(f"client{i}", [(ASK, 1, GET)], draw.randint(4, 7)) for i in range(CROWD)]
     put = [(ASK, 1, PUT, draw.randint(1, 1000)) for _ in range(CROWD)]
-    yield queue_case(f"{CROWD} consumers wait, each end and is replaced", *crowd, ("putter", put, 8), restarts=1)
+    yield queue_case(draw, f"{CROWD} consumers wait, each end and is replaced", *crowd, ("putter", put, 8), restarts=1)
 
 
 def asked(who, kinds):
@@ -98,20 +117,21 @@ def patient(draw):
     judge = service("judge", "judge.out", all_but(2), "11", 5)
     yield {"name": "two consumers and no producer",
            "config": machine(1, names, service("queue", "good_queue.out", all_but(1), "1", 4), judge, waits, polls),
-           "facts": [looks_up(it, "queue", 1) for it in ("waits", "polls")],
+           "facts": [looks_up(it, "queue", 1) for it in ("waits", "polls")], "models": CONSUMERS,
            "want": {"console": "", "asks": asked("waits", [GET]) | asked("polls", [TRY] * 20 + [GET]),
                     "states": {"waits": "awaiting 1", "polls": "awaiting 1"}}}
     patience = draw.randint(5, 19)
     slow = machine(1, names, service("queue", "slow_queue.out", all_but(1), "1", 4), judge)
     made = {"patience": [patience], "items": [draw.randint(1, LARGEST) for _ in range(2)]}
     yield {"name": f"a queue with an item after {patience} answers NOTHING, and then one for a GET", "config": [*slow, polls],
-           "set": {"queue": made}, "facts": reports("polls"),
+           "set": {"queue": made}, "facts": reports("polls"), "models": CONSUMERS,
            "want": {"asks": asked("polls", [TRY] * (patience + 1 + 20) + [GET, TRY]), "states": {"polls": "down exit"},
                     "taken": ["queue", "judge"]}}
     yield six(draw, 1, given=("names", "queue")) | {"name": "with a name server and a queue of the grader"}
     for name, line, kind, answers in (("waits", waits, GET, draw.randint(0, 1)), ("polls", polls, TRY, draw.randint(1, 4))):
         yield {"name": f"a queue that ends at a request, after {answers} answers", "config": [*slow, line],
                "set": {"queue": made | {"answers": [answers]}}, "facts": [looks_up(name, "queue", 1), f"0 message {name} to judge .."],
+               "models": CONSUMERS,
                "want": {"asks": asked(name, [kind] * (answers + 1)), "states": {name: "down exit"}}}
 
 
@@ -143,7 +163,7 @@ def six(draw, cpus, levels=(7, 7), given=(), **want):
     items = [[draw.randint(1, LARGEST if given else 1000) for _ in range(ITEMS)] for _ in range(2)]
     names, queue = (f"good_{it}.out" if it in given else f"{it}.out" for it in ("names", "queue"))
     makes, takes = levels or (0, 0)
-    rows = [("queue", queue, 4, "1"), ("judge", "judge.out", 5, "11"), ("ann", "maker.out", makes, "1"),
+    rows = [("queue", queue, BETWEEN if levels in (FULL, EMPTY) else 4, "1"), ("judge", "judge.out", 5, "11"), ("ann", "maker.out", makes, "1"),
             ("ben", "maker.out", makes, "1"), ("waits", "waits.out", takes, "3"), ("polls", "polls.out", takes, "3")]
     if not levels:
         rows = [(name, program, draw.choice([5, 7, 8]), calls) for name, program, _, calls in rows]
@@ -154,7 +174,7 @@ def six(draw, cpus, levels=(7, 7), given=(), **want):
                      *[called(name, program, level, calls, all_but(slot) if slot in servers else to_servers)
                        for slot, (name, program, level, calls) in enumerate(rows, 1)])
     return {"config": config, "set": {it: {"items": items[i]} for i, it in enumerate(("ann", "ben"))},
-            "models": [("names", "names"), ("queue", "queue")],
+            "models": [("names in any order", "names"), ("queue", "queue"), *CONSUMERS],
             "facts": ["1+ message waits to queue type 2 ..", "1+ message polls to queue type 3 ..", *reports("waits"),
                       *reports("polls")],
             "want": {"starts": f"24 items, sum {sum(map(sum, items))}\n", "taken": ["queue", "judge"],
@@ -165,26 +185,26 @@ def by_turns(draw):
     """Here `polls` is followed too."""
     for name, cpus, levels in (("on one processor, where producers come first", 1, FULL),
                                ("on one processor, where consumers come first", 1, EMPTY),
-                               ("on four processors", 4, (7, 7))):
+                               (on(4), 4, (7, 7))):
         case = six(draw, cpus, levels)
         yield case | {"name": name, "models": [*case["models"], ("polls", "polls")]}
 
 
 def in_other_slots(draw):
     """On one processor, where producers come first, the queue gets full."""
-    yield six(draw, 2, levels=None) | {"name": "on two processors"}
+    yield six(draw, 2, levels=None) | {"name": on(2)}
     yield six(draw, 1, FULL) | {"name": "on one processor, where producers come first"}
 
 
 def with_reports(draw):
-    yield six(draw, 1, FULL, steps="judge") | {"name": "on one processor"}
-    yield six(draw, 4, steps="judge") | {"name": "on four processors"}
+    yield six(draw, 1, FULL, steps="judge") | {"name": on(1)}
+    yield six(draw, 4, steps="judge") | {"name": on(4)}
 
 
 def by_threads(draw):
     """The runs are of these machines by turns. On one processor, where producers come first, the queue gets full."""
-    yield six(draw, 4) | {"name": "on four processors"}
-    yield six(draw, 1, FULL) | {"name": "on one processor"}
+    yield six(draw, 4) | {"name": on(4)}
+    yield six(draw, 1, FULL) | {"name": on(1)}
 
 
 ADDERS = ("ann", "ben", "cleo")
@@ -200,7 +220,7 @@ def added(draw, cpus):
     an adder asks again and again for its copy."""
     first = draw.randint(10, 9000)
     lines = [service(it, "adder.out", calls="21") for it in ADDERS]
-    return {"name": f"on {cpus} processors", "set": {"board": {"count": [first]}},
+    return {"name": on(cpus), "set": {"board": {"count": [first]}},
             "config": machine(cpus, service("board", "counter.out", "e", "111", 4), *lines, log=MUCH),
             "models": [("adder", it) for it in ADDERS],
             "want": {"console": str(first + 9), "counted": first, "states": {it: "down exit" for it in ("board", *ADDERS)}},

@@ -1,5 +1,5 @@
 """Lab 5: stores and savers with bytes of their own, a thief, and a store that dies."""
-from .machines import TELL, bystanders, deaths, killed, looked, machine, plan, service
+from .machines import TELL, bystanders, deaths, killed, looked, machine, on, plan, service
 
 PUT, GET = 1, 2
 BLOCKS, BYTES = 8, 64
@@ -13,18 +13,24 @@ OF_STORE = [("store", "store")]
 OF_SAVER = [("windows", "saver"), ("asker", "saver")]
 
 
-def prober(draw):
-    """A client that stores bytes of its own in all blocks, beside one that doesn't wait for its answer; one that computes
-    while it is served."""
-    others, plans = bystanders(draw, 1)
-    lines = [service("hasty", "actor.out", calls="1", level=6), service("prober", "prober.out", calls="191")]
-    plans["hasty"] = plan((TELL, 0, draw.choice([PUT, GET]), draw.randint(8, 99)))
-    plans["prober"] = {"seed": [draw.randint(1, 1 << 30), draw.randint(0, 7), draw.randint(0, 7)]}
-    yield {"name": "a client that tries the store", "config": machine(1, STORE, *others, *lines), "set": plans,
-           "models": OF_STORE, "want": {"console": "." * 31}}
-    line = service("hurried", "hurried.out", calls="191")
-    yield {"name": "a client that runs on another processor while it is served", "config": machine(2, STORE, line),
-           "set": {"hurried": {"work": [draw.randint(12, 20)]}}, "models": OF_STORE, "want": {"console": ".."}}
+def probed(draw, name, mistakes, *more, **plans):
+    """A client that stores bytes of its own in all blocks, and makes mistakes or none; beside it more services."""
+    others, drawn = bystanders(draw, 1)
+    drawn["prober"] = {"seed": [draw.randint(1, 1 << 30), draw.randint(0, 7), draw.randint(0, 7)], "mistakes": [mistakes]}
+    line = service("prober", "prober.out", calls="191")
+    return {"name": name, "config": machine(1, STORE, *others, *more, line), "set": drawn | plans, "models": OF_STORE,
+            "want": {"console": "." * (31 if mistakes else 22)}}
+
+
+def blocks(draw):
+    yield probed(draw, "a client that stores and gets back", 0)
+
+
+def mistakes(draw):
+    """A client whose requests are wrong too, beside one that doesn't wait for its answer."""
+    hasty = service("hasty", "actor.out", calls="1", level=6)
+    step = (TELL, 0, draw.choice([PUT, GET]), draw.randint(8, 99))
+    yield probed(draw, "a client that makes mistakes, and one that ends before it has its answer", 1, hasty, hasty=plan(step))
 
 
 def letters(draw, count):
@@ -43,14 +49,19 @@ def ends(data):
 SAVED = ["in order: message saver to store type 1 words 3 * ..; call store VIRCOPY 1 * * * 64 answer 0 ..; "
          "message store to saver type 0 ..; message saver to store type 2 words 3 * ..; "
          "call store VIRCOPY * * 1 * 64 answer 0 ..; message store to saver type 0 ..; console saver *"]
-FILLED = [{"at": f"message saver to store type {it} words 3 * ..", "slot": 1, "program": "saver",
-           "arrays": {"plain": letter * BYTES, "secret": "z" * BYTES}} for it, letter in ((PUT, "a"), (GET, "\0"))]
+
+
+def filled(zeros=None):
+    """What a saver has in its memory at its requests. Whether there are zeros at the GET isn't looked at everywhere: who
+    forgets them loses no more than these points."""
+    return [{"at": f"message saver to store type {it} words 3 * ..", "slot": 1, "program": "saver",
+             "arrays": {"plain": text, "secret": "z" * BYTES}} for it, text in ((PUT, "a" * BYTES), (GET, zeros))]
 
 
 def saving(name, cpus, store, values, console="aa", **more):
     """A case of a saver and a store: what is drawn for each service, and what the saver writes in the end."""
     others = [service(it, "actor.out", send="0", calls="1") for it in values if it != "store"]
-    return {"name": name, "config": machine(cpus, store, SAVER, *others), "set": values, "facts": SAVED, "memory": FILLED,
+    return {"name": name, "config": machine(cpus, store, SAVER, *others), "set": values, "facts": SAVED, "memory": filled(),
             "models": OF_SAVER + (OF_STORE if store == STORE else []),
             "want": {"console": console, "states": {"saver": "down exit"}}, **more}
 
@@ -74,18 +85,20 @@ def ended_once(draw, cpus):
     more for that one, and nobody writes what no store gave."""
     _, plans = bystanders(draw, 1)
     data = letters(draw, BYTES)
-    case = saving(f"a store that ends at the first request, {cpus} processors", cpus, KEEPER,
+    case = saving(f"a store that ends at the first request, {on(cpus)}", cpus, KEEPER,
                   {**plans, "store": kept(data, [0])})
     return case | {"facts": [], "want": {"consoles": ["", "\0\0", ends(data)]}}
 
 
 def saved(draw, cpus):
     _, plans = bystanders(draw, 1)
-    yield saving(f"{cpus} processors", cpus, STORE, plans)
+    zeros = filled("\0" * BYTES)
+    yield saving(on(cpus), cpus, STORE, plans, memory=zeros)
     # A store that gives other bytes back than it got, and a saver with other bytes.
     data = letters(draw, BYTES)
-    yield saving(f"a store with bytes of its own, {cpus} processors", cpus, KEEPER, {**plans, "store": kept(data)}, ends(data))
-    yield lodged(draw, f"a client with bytes of its own, {cpus} processors", cpus)
+    yield saving(f"a store with bytes of its own, {on(cpus)}", cpus, KEEPER, {**plans, "store": kept(data)}, ends(data),
+                 memory=zeros)
+    yield lodged(draw, f"a client with bytes of its own, {on(cpus)}", cpus)
     yield ended_once(draw, cpus)
 
 
@@ -94,7 +107,11 @@ def saved_on_one(draw):
 
 
 def saved_on_two(draw):
+    """Here a client also goes on while it is served: then it can't be copied from or to."""
     yield from saved(draw, 2)
+    line = service("hurried", "hurried.out", calls="191")
+    yield {"name": "a client that runs on another processor while it is served", "config": machine(2, STORE, line),
+           "set": {"hurried": {"work": [draw.randint(12, 20)]}}, "models": OF_STORE, "want": {"console": ".."}}
 
 
 def thieves(draw):

@@ -5,9 +5,10 @@ from .common import GENERATION, numbers
 from .driver import Button
 from .memory import compare_arrays
 from .partners import Asker, Exchange
-from .reports import Polls, compare_steps, compare_taken
-from .servers import Names, Queue, Totals
+from .reports import Consumer, Polls, compare_steps, compare_taken
+from .servers import Names, NamesInAnyOrder, Queue, Totals
 from .windows import Stored, Windows
 
 MODELS = {"windows": Windows, "store": Stored, "asker": Asker, "exchange": Exchange, "totals": Totals, "names": Names,
-          "queue": Queue, "button": Button, "polls": Polls, "adder": Adder}
+          "names in any order": NamesInAnyOrder, "queue": Queue, "button": Button, "consumer": Consumer, "polls": Polls,
+          "adder": Adder}

@@ -13,20 +13,28 @@ class Adder:
         self.name, self.adder = name, adder
         self.holds = False
         self.read = None  # the read in this hold that isn't written yet
+        self.steps = ((f"message board to {adder} type 0 words 0 *", self.lock),
+                      (f"call {adder} VIRCOPY 0 * * * 4 answer 0 ..", self.note),
+                      (f"call {adder} VIRCOPY * * 0 * 4 answer 0 ..", self.write),
+                      (f"message {adder} to board type {self.UNLOCK} ..", self.unlock))
 
     def follow(self, found):
         for it in found:
-            if facts.fits(it, f"message board to {self.adder} type 0 words 0 *"):
-                self.holds = True
-            elif facts.fits(it, f"message {self.adder} to board type {self.UNLOCK} .."):
-                self.unlock(it)
-            elif facts.fits(it, f"call {self.adder} VIRCOPY 0 * * * 4 answer 0 .."):
-                self.need(self.holds, it, "holds the lock at each read of the count")
-                self.read = it
-            elif facts.fits(it, f"call {self.adder} VIRCOPY * * 0 * 4 answer 0 .."):
-                self.need(self.holds, it, "holds the lock at each write of the count")
-                self.need(self.read, it, "reads the count before each write, in the same hold of the lock")
-                self.read = None
+            step = next((step for pattern, step in self.steps if facts.fits(it, pattern)), None)
+            if step:
+                step(it)
+
+    def lock(self, _):
+        self.holds = True
+
+    def note(self, event):
+        self.need(self.holds, event, "holds the lock at each read of the count")
+        self.read = event
+
+    def write(self, event):
+        self.need(self.holds, event, "holds the lock at each write of the count")
+        self.need(self.read, event, "reads the count before each write, in the same hold of the lock")
+        self.read = None
 
     def unlock(self, event):
         """The lock is given back when what was read is written."""

@@ -4,12 +4,20 @@ from ..commands import Lost
 NOTIFICATION = 4096
 BAD_REQUEST, EINVAL = -107, -22
 GENERATION = 1024  # from an endpoint to that of the next process in its slot
+QUANTUM = 20_000  # steps, of each service of a drawn machine
 
 
 def wrong(name, event, wanted, came):
     lost = Lost(name, wanted, came)
     lost.record = event.record if event else None
     return lost
+
+
+def refuse_counting(name, event):
+    """Who makes a whole quantum of steps without a trap waits by counting."""
+    if event.words[0] == "spent" and int(event.words[2]) >= QUANTUM:
+        who = event.words[1]
+        raise wrong(name, event, f"{who} makes a trap within {QUANTUM} steps", said(event))
 
 
 def numbers(event):

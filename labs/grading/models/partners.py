@@ -1,5 +1,5 @@
 """Processes that send to others: one of lab 2's pair, and who asks the process of slot 0 in labs 4 and 5."""
-from .common import GENERATION, said, wrong
+from .common import GENERATION, refuse_counting, said, wrong
 
 ELOCKED = -101
 SENDS = ("SEND", "SENDREC")
@@ -22,6 +22,10 @@ class Exchange:
                 self.locked += 1
             elif words[0] == "message" and words[3] == self.who:
                 self.has_received = True
+            elif words[:2] == ["spent", self.who]:
+                refuse_counting(self.name, it)
+            elif words[:2] == ["call", self.who] and words[2] != "DEVIO":
+                raise wrong(self.name, it, f"{self.who} makes no kernel call but DEVIO and EXIT", said(it))
 
     def begin(self, event, trap):
         if trap == "RECEIVE" and self.sends == 0:
@@ -54,5 +58,9 @@ class Asker:
     def compare(self, event):
         whom = event.who[1]
         if whom is not None and int(whom) % GENERATION == 0 and whom not in self.known:
-            wanted = f"{event.words[2]} with {' or '.join(sorted(self.known, key=int))}, which WHOIS told"
-            raise wrong(self.name, event, wanted, f"{event.words[2]} with {whom}")
+            raise wrong(self.name, event, f"{event.words[2]} with {self.allowed()}", f"{event.words[2]} with {whom}")
+
+    def allowed(self):
+        """The endpoints that may be used, in words."""
+        told = sorted(self.known - {"0"}, key=int)
+        return "0, the first endpoint; WHOIS told none" if not told else f"0 or {' or '.join(told)}, which WHOIS told"

@@ -1,5 +1,24 @@
 """What lab 6's consumers ask for, and what they report: what they took, and the steps that TIMES answered."""
-from .common import numbers, said, wrong
+from .common import numbers, refuse_counting, said, wrong
+
+
+class Consumer:
+    """Either of lab 6's consumers waits by asking, and not by counting or by kernel calls."""
+
+    MOST_CALLS = 9  # of the kernel; it needs one
+
+    def __init__(self, name, consumer):
+        self.name, self.consumer = name, consumer
+
+    def follow(self, found):
+        calls = 0
+        for it in found:
+            if it.words[:2] == ["spent", self.consumer]:
+                refuse_counting(self.name, it)
+            elif it.words[:2] == ["call", self.consumer]:
+                calls += 1
+                if calls > self.MOST_CALLS:
+                    raise wrong(self.name, it, f"at most {self.MOST_CALLS} kernel calls of {self.consumer}", said(it))
 
 
 class Polls:

@@ -1,5 +1,5 @@
 """Servers that answer requests: lab 2's total, lab 6's names and queue."""
-from .common import BAD_REQUEST, EINVAL, NOTIFICATION, numbers, said, wrong
+from .common import BAD_REQUEST, EINVAL, NOTIFICATION, numbers, refuse_counting, said, wrong
 
 
 def told(event):
@@ -12,6 +12,8 @@ def shown(answer):
 
 class Served:
     """A server's requests and answers. Each model says which answers are due when a request is taken."""
+
+    is_strict = False  # whether each answer that is due has to be sent before the next RECEIVE, and nothing else is done
 
     def __init__(self, name, server):
         self.name, self.server = name, server
@@ -28,13 +30,29 @@ class Served:
                 self.notified.add(it.who[0])
             elif it.words[:3] == ["try", self.server, "SEND"] and it.who[1] in self.notified:
                 raise wrong(self.name, it, f"no answer to the notification of {it.words[3]}", said(it))
-            elif it.words[:3] == ["try", self.server, "RECEIVE"] and it.words[3] not in ("any", "names"):
-                raise wrong(self.name, it, f"{self.server} receives from any, since it serves whoever comes", said(it))
+            elif it.words[:3] == ["try", self.server, "RECEIVE"]:
+                self.receive(it)
+            elif it.words[1] == self.server and it.words[0] in ("call", "try", "spent"):
+                self.refuse(it)
             elif it.words[0] == "message" and self.others(it) == {self.server}:
                 (self.take if it.words[3] == self.server else self.compare)(it)
         for who, (request, answer) in self.due.items():
             if who not in self.dead:
                 raise wrong(self.name, request, f"{told(request)}: an answer {shown(answer)}", "no answer")
+
+    def receive(self, event):
+        if event.words[3] not in ("any", "names"):
+            raise wrong(self.name, event, f"{self.server} receives from any, since it serves whoever comes", said(event))
+        late = next((it for who, it in self.due.items() if who not in self.dead), None)
+        if late and self.is_strict:
+            request, answer = late
+            raise wrong(self.name, event, f"{told(request)}: an answer {shown(answer)} before the next RECEIVE", said(event))
+
+    def refuse(self, event):
+        """What a server has no need of."""
+        refuse_counting(self.name, event)
+        if self.is_strict and (event.words[0] == "call" or event.words[2] == "NOTIFY"):
+            raise wrong(self.name, event, f"{self.server} makes no kernel call and notifies nobody", said(event))
 
     def others(self, event):
         """The servers that a message is from or to: what a server says to the name server is no answer of its own."""
@@ -86,6 +104,8 @@ class Names(Served):
     """Lab 6's name server: who waits longest for a name is answered first."""
 
     REGISTER, LOOKUP, MOST = 1, 2, 8
+    is_strict = True
+    is_in_order = True
 
     def __init__(self, name, server):
         super().__init__(name, server)
@@ -116,12 +136,18 @@ class Names(Served):
     def compare(self, event):
         who = event.who[1]
         self.turn = [it for it in self.turn if it not in self.dead]
-        if who in self.turn:
+        if who in self.turn and self.is_in_order:
             if self.turn[0] != who:
                 first = told(self.due[self.turn[0]][0])
                 raise wrong(self.name, event, f"the answer {first} comes first, since it waits longer", said(event))
             self.turn.remove(who)
         super().compare(event)
+
+
+class NamesInAnyOrder(Names):
+    """The same where services need the name server: there a wrong order costs no more points."""
+
+    is_in_order = False
 
 
 class Queue(Served):
@@ -130,6 +156,7 @@ class Queue(Served):
     PUT, GET, TRY, END = 1, 2, 3, 4
     NOTHING, ENDED = 1, 2
     ROOM, PRODUCERS = 8, 2
+    is_strict = True
 
     def __init__(self, name, server):
         super().__init__(name, server)
