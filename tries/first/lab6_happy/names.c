@@ -1,0 +1,16 @@
+#include "mx.h"
+#include "services.h"
+static int owner[8], w[32], wn[32], n;
+int main(void)
+{
+    message m; int i, t;
+    for (;;) {
+        receive(ANY, &m);
+        int who = m.m_source, name = m.p[0]; t = m.m_type; m.m_type = 0;
+        if (t == REGISTER) {
+            owner[name] = who; send(who, &m);
+            for (i = 0; i < n; i++) if (wn[i] == name) { wn[i] = -1; m.p[0] = who; send(w[i], &m); }
+        } else if (owner[name]) { m.p[0] = owner[name]; send(who, &m); }
+        else { w[n] = who; wn[n++] = name; }
+    }
+}

@@ -1,0 +1,8 @@
+; The length of the text at `input`, which ends with a zero byte: in EAX.
+.sep
+.data
+input:  .ascii "hello\0"
+        .space 58
+.text
+        mov eax, 0
+        int 33
