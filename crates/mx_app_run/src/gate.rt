@@ -2,9 +2,10 @@
 //!
 //! # How a loop waits
 //!
-//! A processor that finds nothing ready yields, and from the seventeenth time in a row on it sleeps
-//! a millisecond too. The respawner sleeps a millisecond after each round, unless a death wakes it. So an idle loop
-//! costs little.
+//! A processor that finds nothing ready yields, and from the seventeenth time in a row on it sleeps a millisecond too.
+//! The respawner sleeps a millisecond after each round, unless a death wakes it. So an idle loop costs little. While a
+//! death isn't served, a processor waits for the respawner's round before its next turn, for some tens of milliseconds
+//! at most (`respawns`). No other wait depends on another loop, and none has no end.
 //!
 //! # When a loop ends
 //!
@@ -30,8 +31,7 @@ const LOOPS: usize = 10;
 /// How often a processor that finds nothing ready only yields, before it sleeps too.
 const YIELDS: u32 = 16;
 
-/// How many milliseconds a loop sleeps at a time. Only the respawner is woken by others, and it comes without that too:
-/// no loop depends on another.
+/// How many milliseconds a loop sleeps at a time. Only the respawner is woken by others, and it comes without that too.
 const NAP: u64 = 1;
 
 /// How many records a turn needs: a take, and its return.

@@ -19,9 +19,9 @@ use Rattle.mx_cpus.specs.declared.locked.HowFar.{HowFar}
 use Rattle.mx_cpus.specs.declared.side.FreeSide.{FreeSide}
 use Rattle.mx_cpus.specs.Seats.{SeatView, record_of}
 use Rattle.mx_cpus.specs.Calls.{Follows, IsAnsweredCall, IsRefusedCall, IsRestCall}
-use Rattle.mx_cpus.specs.CallEnds.{IsCallTo, goes_on_after}
+use Rattle.mx_cpus.specs.CallEnds.{IsCallTo, IsEventTo, goes_on_after}
 use Rattle.mx_cpus.specs.Courses.{IsAsked, IsTriedEvent}
-use Rattle.mx_cpus.specs.Gates.{GateCall, asked_call, seen_call}
+use Rattle.mx_cpus.specs.Gates.{GateCall, asked_call, due_call, seen_call}
 use Rattle.mx_cpus.specs.Outsiders.{AreAsked, AreLooks, AreMade, AreSomeOf, HasBrokenOff, HasMadeAll, HasMadeCalls, IsAskedToEnd, IsEarly, IsEnough, IsLast, IsLook, IsMade, IsOutsiderRun, IsStopped, IsWaited, IsWaiting, event_of_call, is_resting}
 use Rattle.mx_cpus.proofs.LoopLemmas.{follows_self, follows_trans, map_both, seen_by}
 
@@ -184,13 +184,13 @@ module _ (boot : World) (WasCalled : GateCall → Type 0) where
 
   call_made : (x : OutsideCall) (s t : SeatView) → IsMade boot WasCalled x s t → HasMadeCalls (x ∷ []) s t
   call_made (calls.Line l) s t h = call_tried boot (calls.Line l) (events.Line l) s t refl h
-  call_made (calls.Kill e) s t h = call_tried boot (calls.Kill e) (events.Kill e) s t refl h
+  call_made (calls.Kill e) s t h = call_tried boot (calls.Kill e) (events.Kill e) s t refl h.0
   call_made calls.Tick s t h = call_tried boot calls.Tick events.Tick s t refl h
   call_made (calls.Wait n) s t h = only_saw (calls.Wait n ∷ []) s t (saw_waiting n s t (IsEnough boot n) h)
 
   saw_last : (x : OutsideCall) (s t : SeatView) → IsLast boot WasCalled x s t → OnlySaw s t
   saw_last (calls.Line l) s t h = saw_refused boot s t (events.Line l) LogFull h
-  saw_last (calls.Kill e) s t h = saw_refused boot s t (events.Kill e) LogFull h
+  saw_last (calls.Kill e) s t h = saw_refused boot s t (events.Kill e) LogFull h.0
   saw_last calls.Tick s t h = saw_refused boot s t events.Tick LogFull h
   saw_last (calls.Wait n) s t h = saw_waiting n s t (λ first last. IsEarly boot WasCalled n first last false) h
 
@@ -199,6 +199,12 @@ module _ (boot : World) (WasCalled : GateCall → Type 0) where
   calls_made (x ∷ xs) s t own more =
       let first = call_made x s more.0 more.1 in
       calls_both (x ∷ []) xs s more.0 t first (calls_made xs more.0 t first.follows.own more.2)
+
+  -- a kill, by how it ended, and what the gate was told after it
+  pub killed : (e a : ℕ) (s t : SeatView) (end : CallEnd) → IsEventTo boot (events.Kill e) s t end → a ≡ s.actor → WasCalled (due_call a) → IsCallTo boot WasCalled (calls.Kill e) s t end
+  killed e a s t Made h who told = (h, subst (λ i. WasCalled (due_call i)) who told)
+  killed e a s t Full h who told = (h, subst (λ i. WasCalled (due_call i)) who told)
+  killed e a s t Stopped h who told = absurd h
 
   -- ---- questions after the last call
 

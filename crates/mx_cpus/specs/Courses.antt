@@ -8,8 +8,8 @@ use Rattle.mx_machine.specs.declared.events.Refusal.TheVariants.{LogFull}
 use Rattle.mx_machine.specs.Held.{held_run}
 use Rattle.mx_machine.specs.World.{World}
 use Rattle.mx_cpus.specs.Seats.{SeatView, LoanView}
-use Rattle.mx_cpus.specs.Calls.{IsAnsweredCall, IsGiveCall, IsRefusedCall, IsRestCall, IsTakeCall}
-use Rattle.mx_cpus.specs.Gates.{GateCall, held_call, given_call, asked_call, ended_call, seen_call}
+use Rattle.mx_cpus.specs.Calls.{EndsDead, IsAnsweredCall, IsGiveCall, IsRefusedCall, IsRestCall, IsTakeCall}
+use Rattle.mx_cpus.specs.Gates.{GateCall, held_call, given_call, due_call, asked_call, ended_call, seen_call}
 
 -- ---- a question
 
@@ -33,7 +33,8 @@ abbrev pub longest_run : ℕ
 longest_run = 2 ^ 32 - 1
 
 -- A TURN, which n accepted takes came before: a take, the gate's `held`, a run until the budget is spent or the process
--- stops, the return of what was run, and the gate's `given`; and it was shown how many records the seat has seen then.
+-- stops, the return of what was run, and the gate's `given`. The gate was told that a slot is due if the process that
+-- came back is dead then; and it was shown how many records the seat has seen.
 pub record IsTurn (boot : World) (WasCalled : GateCall → Type 0) (n : ℕ) (s t : SeatView) : Type 0 where
   pub taken : SeatView
   pub lent : LoanView
@@ -43,6 +44,9 @@ pub record IsTurn (boot : World) (WasCalled : GateCall → Type 0) (n : ℕ) (s 
   pub runs : back.out ≡ (held_run longest_run lent.out).1
   pub gives : IsGiveCall boot taken t back
   pub given : WasCalled (given_call s.actor)
+  pub died : Bool
+  pub dies : EndsDead boot t died
+  pub due : died ≡ true → WasCalled (due_call s.actor)
   pub seen : WasCalled (seen_call s.actor (length t.seen))
 
 -- A take was refused, and not for a full history; so the gate was asked. A processor has no work of its own.

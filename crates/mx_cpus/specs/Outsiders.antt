@@ -14,7 +14,7 @@ use Rattle.mx_cpus.specs.declared.outside.Role.TheVariants as roles
 use Rattle.mx_cpus.specs.Seats.{SeatView, record_of}
 use Rattle.mx_cpus.specs.Calls.{Follows, IsRefusedCall, IsRestCall, world_after}
 use Rattle.mx_cpus.specs.Courses.{IsAsked, IsProcessorRun, IsRespawnerRun, IsTriedEvent}
-use Rattle.mx_cpus.specs.Gates.{GateCall, asked_call, ended_call, seen_call}
+use Rattle.mx_cpus.specs.Gates.{GateCall, asked_call, due_call, ended_call, seen_call}
 use Rattle.mx_cpus.specs.Loops.{HasMadeTurns, HasTickedAndRespawned}
 
 -- ---- a wait
@@ -74,17 +74,19 @@ event_of_call (calls.Kill e) = Some (events.Kill e)
 event_of_call calls.Tick = Some events.Tick
 event_of_call (calls.Wait n) = None
 
--- A CALL: its event was accepted, or refused, and not for a full history; or its wait ended
+-- A CALL: its event was accepted, or refused, and not for a full history; or its wait ended. After a kill the gate was
+-- told that a slot may be due
 abbrev pub IsMade : World → (GateCall → Type 0) → OutsideCall → SeatView → SeatView → Type 0
 IsMade boot WasCalled (calls.Line l) s t = IsTriedEvent boot (events.Line l) s t
-IsMade boot WasCalled (calls.Kill e) s t = IsTriedEvent boot (events.Kill e) s t
+IsMade boot WasCalled (calls.Kill e) s t = IsTriedEvent boot (events.Kill e) s t × WasCalled (due_call s.actor)
 IsMade boot WasCalled calls.Tick s t = IsTriedEvent boot events.Tick s t
 IsMade boot WasCalled (calls.Wait n) s t = IsWaited boot WasCalled n s t
 
 -- a call that ends the loop: its event found the history full; or the gate ended the loop while it waited
 abbrev pub IsLast : World → (GateCall → Type 0) → OutsideCall → SeatView → SeatView → Type 0
 IsLast boot WasCalled (calls.Line l) s t = IsRefusedCall boot s t (events.Line l) LogFull
-IsLast boot WasCalled (calls.Kill e) s t = IsRefusedCall boot s t (events.Kill e) LogFull
+IsLast boot WasCalled (calls.Kill e) s t =
+    IsRefusedCall boot s t (events.Kill e) LogFull × WasCalled (due_call s.actor)
 IsLast boot WasCalled calls.Tick s t = IsRefusedCall boot s t events.Tick LogFull
 IsLast boot WasCalled (calls.Wait n) s t = IsStopped boot WasCalled n s t
 

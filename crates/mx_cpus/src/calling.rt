@@ -4,8 +4,7 @@ ghost use Rattle.std.specs.Prelude.{◌≡◌, ℕ, true, false, IfNone, IfSome,
 ghost use Rattle.mx_machine.specs.KernelState.{is_for_all};
 ghost use Rattle.mx_cpus.specs.CallEnds.{IsCallTo, IsEventTo, IsWaitTo, goes_on_after};
 ghost use Rattle.mx_cpus.specs.Calls.{IsRestCall};
-ghost use Rattle.mx_cpus.specs.Gates.{asked_call, due_call, seen_call, unwatched};
-ghost use Rattle.mx_cpus.specs.declared.outside.OutsideCall.TheVariants as outside_calls;
+ghost use Rattle.mx_cpus.specs.Gates.{asked_call, seen_call, unwatched};
 ghost use Rattle.mx_cpus.specs.Outsiders.{HasMadeCalls, IsAskedToEnd, IsOutsiderRun, IsOutsiderRunTo};
 
 use crate::gate::{Gate, Unwatched, WatchingGate};
@@ -118,8 +117,6 @@ fn make_call<M: Naming, G: WatchingGate, R: Wait>(
     requires goes_on { side.goes_on ≡ true }
     ensures made { IsCallTo M.boot (G.was_called context.now.door.gate.now) call
         seat result.0 result.2 }
-    ensures killed { (endpoint : ℕ) → call ≡ outside_calls.Kill endpoint
-        → G.was_called context.now.door.gate.now (due_call seat.actor) }
     ensures actor { result.1.actor ≡ seat.actor }
     ensures goes_on { result.1.goes_on ≡ goes_on_after result.2 }
 {

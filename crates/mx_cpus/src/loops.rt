@@ -2,9 +2,9 @@
 
 ghost use Rattle.std.specs.Prelude.{◌≡◌, ◌<◌, ◌+◌, ℕ, Bool, true, false, None, if◌then◌else◌, length, nat_lt, IfErr, OnOk};
 ghost use Rattle.mx_machine.specs.declared.events.Event.TheVariants as events;
-ghost use Rattle.mx_cpus.specs.Calls.{EndsDead, IsRefusedCall};
+ghost use Rattle.mx_cpus.specs.Calls.{IsRefusedCall};
 ghost use Rattle.mx_cpus.specs.Courses.{IsLastRound, IsLastTurn, IsOneMoreBy, IsProcessorRun, IsRespawnerRun, IsRoundAsked, IsTurn, turn_number};
-ghost use Rattle.mx_cpus.specs.Gates.{due_call, unwatched};
+ghost use Rattle.mx_cpus.specs.Gates.{unwatched};
 ghost use Rattle.mx_cpus.specs.Loops.{HasMadeTurns, HasTickedAndRespawned};
 ghost use Rattle.mx_cpus.specs.Progresses.{IsRoundTo, IsSweepTo};
 
@@ -16,7 +16,8 @@ use mx_machine::{Held, Refusal};
 use std::sync::Wait;
 
 /// A take, and if it isn't refused, a run of the loan until its budget is spent or it stops, and its return. The gate
-/// is called with a loan before it runs, and after it came back, and if its process is dead then. Answers whether the take was refused, and why.
+/// is called with a loan before it runs, and after it came back, and if its process is dead then. Answers whether the
+/// take was refused, and why.
 fn make_turn<M: Naming, G: WatchingGate, R: Wait>(
     context: &LoopContext<'_, M, G, R>,
     seat: ActorSeat,
@@ -29,8 +30,6 @@ fn make_turn<M: Naming, G: WatchingGate, R: Wait>(
         → IsTurn M.boot (G.was_called context.now.door.gate.now) n seat result.0) }
     ensures counted { OnOk result.2 ((result.1.actor ≡ side.actor)
         × (result.1.turn ≡ turn_number (side.turn + 1)) × (result.1.goes_on ≡ true)) }
-    ensures died { OnOk result.2 ((died : Bool) × EndsDead M.boot result.0 died
-        × (died ≡ true → G.was_called context.now.door.gate.now (due_call seat.actor))) }
     ensures refused { IfErr result.2 (λ r. IsRefusedCall M.boot seat result.0 events.Take r) }
     ensures same { IfErr result.2 (λ _. result.1 ≡ side) }
 {

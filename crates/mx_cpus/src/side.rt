@@ -173,8 +173,8 @@ impl FreeSide {
 }
 
 impl HoldingSide {
-    /// Reports to the gate that the loan was given back, and whether a slot is due, since the process is dead, and shows
-    /// it how many records the seat has seen that came back for it.
+    /// Reports to the gate that the loan was given back, and that a slot is due if the process is dead, and shows it how
+    /// many records the seat has seen that came back for it.
     pub(crate) fn report_return<G: WatchingGate>(
         self,
         door: &Door<'_, G>,

@@ -24,6 +24,9 @@ returns-in-Ok-clause-turn g c = λ n number.
       runs = ap (λ r. r.1) (sym c.run-stop.ensures.ran);
       gives = c.give_counted-back.ensures.given;
       given = subst (λ i. called (given_call i)) who c.report_return-side.ensures.called;
+      died = back.1.has_died;
+      dies = c.give_counted-back.ensures.died;
+      due = λ dead. subst (λ i. called (due_call i)) who (c.report_return-side.ensures.due dead);
       seen = seen_by called back.0 c.report_loan-holding.result.actor c.args.seat.actor back.1.records who c.give_counted-back.ensures.records c.report_return-side.ensures.seen;
     }
 
@@ -33,15 +36,6 @@ returns-in-Ok-clause-counted g c = (
   c.report_return-side.ensures.turn ∙ ap (λ k. turn_number (k + 1)) c.report_loan-holding.ensures.side.1,
   c.report_return-side.ensures.goes_on,
 )
-
-pub returns-in-Ok-clause-died : goal.returns-in-Ok-clause-died
-returns-in-Ok-clause-died g c =
-    let called = g.G.WatchingGate.was_called c.args.context.now.door.gate.now in
-    let who : c.report_loan-holding.result.actor ≡ c.args.seat.actor = c.report_loan-holding.ensures.side.0 ∙ c.requires.actor in (
-      c.give_counted-back.result.1.has_died,
-      c.give_counted-back.ensures.died,
-      λ dead. subst (λ i. called (due_call i)) who (c.report_return-side.ensures.due dead),
-    )
 
 pub returns-in-Err-clause-refused : goal.returns-in-Err-clause-refused
 returns-in-Err-clause-refused g c =
