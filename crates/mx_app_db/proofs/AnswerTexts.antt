@@ -6,7 +6,7 @@ use Rattle.std.specs.Option.{option_map}
 use Rattle.mx_exec.specs.declared.image.Image.{Image}
 use Rattle.mx_app_db.specs.declared.looks.Look.{Look}
 use Rattle.mx_app_db.specs.declared.script.DebugLine.{DebugLine}
-use Rattle.mx_app_db.specs.declared.script.DebugLine.TheVariants.{Plain, Break, Clear, Go, Show}
+use Rattle.mx_app_db.specs.declared.script.DebugLine.TheVariants.{Plain, Break, Clear, Go, Print}
 use Rattle.mx_boot.specs.declared.place.CodePlace.{CodePlace}
 use Rattle.mx_boot.specs.declared.scripts.ScriptLine.{ScriptLine}
 use Rattle.mx_machine.specs.declared.events.Refusal.{Refusal}
@@ -97,7 +97,7 @@ pub go_answer : (other : ℕ) (d : DebuggedWorld) (c k : ℕ) → debug_line_tex
 unfolding debug_line_text
 go_answer other d c k = refl
 
-pub look_answer : (other : ℕ) (d : DebuggedWorld) (l : Look) → debug_line_text other d (Show l) ≡ look_text d.world l
+pub look_answer : (other : ℕ) (d : DebuggedWorld) (l : Look) → debug_line_text other d (Print l) ≡ look_text d.world l
 unfolding debug_line_text
 look_answer other d l = refl
 

@@ -2,7 +2,7 @@
 use Rattle.std.proofs.Common.{◌≡◌, ◌∙◌, ℕ, List, Result, Ok, Err, OnOk, sym, ap, refl}
 use Rattle.mx_app_db.specs.declared.looks.Look.{Look}
 use Rattle.mx_app_db.specs.declared.script.DebugLine.{DebugLine}
-use Rattle.mx_app_db.specs.declared.script.DebugLine.TheVariants.{Plain, Break, Clear, Go, Show}
+use Rattle.mx_app_db.specs.declared.script.DebugLine.TheVariants.{Plain, Break, Clear, Go, Print}
 use Rattle.mx_boot.specs.declared.place.CodePlace.{CodePlace}
 use Rattle.mx_boot.specs.declared.scripts.ScriptLine.{ScriptLine}
 use Rattle.mx_machine.specs.History.{BootAndHistory, replay}
@@ -40,7 +40,7 @@ pub gone_made : (other : ℕ) (w u : World) (points : List Breakpoint) (c k : �
 unfolding debug_line_made
 gone_made other w u points c k h = ap (λ (v : World). both v points) h
 
-pub shown_made : (other : ℕ) (d : DebuggedWorld) (l : Look) → debug_line_made other d (Show l) ≡ d
+pub shown_made : (other : ℕ) (d : DebuggedWorld) (l : Look) → debug_line_made other d (Print l) ≡ d
 unfolding debug_line_made
 shown_made other d l = refl
 

@@ -1,6 +1,5 @@
 -- What is printed where a debugger's script drives a machine.
-use Rattle.std.proofs.Common.{◌≡◌, ◌∙◌, ℕ, ◌+◌, false, List, [], ◌∷◌, ◌++◌, Option, ap, refl, subst}
-use Rattle.std.specs.Io.KnownBytes.{Appends}
+use Rattle.std.proofs.Common.{◌≡◌, ◌∙◌, ℕ, ◌+◌, false, List, [], ◌∷◌, ◌++◌, ap, refl, subst}
 use Rattle.mx_app_step.specs.Config.{Config}
 use Rattle.mx_app_step.specs.Service.{Service}
 use Rattle.mx_app_db.specs.declared.script.DebugLine.{DebugLine}
@@ -32,18 +31,18 @@ told_all : (other n : ℕ) (ls : List DebugLine) (d : Driven DebugPerformer) →
 told_all other n [] d = refl
 told_all other n (l ∷ ls) d = ap (λ (t : List ℕ). debug_line_text other (debugged d) l ++ t) (told_all other (n + 1) ls (debug_does other d l))
 
-pub debug_reported : (x z : Option (List ℕ)) (d : Driven DebugPerformer) (other : ℕ) (ls : List DebugLine)
-    → (let e = lines_done (debug_does other) d ls in Appends x z (lines_text (debug_does other) (debug_prints other) false 1 d ls ++ report_text e.world.table e.world.services))
-    → Appends x z (text_of other (debugged d) ls)
-debug_reported x z d other ls h =
-    subst (λ (t : List ℕ). Appends x z t)
+pub debug_reported : (Prints : List ℕ → Type 0) (d : Driven DebugPerformer) (other : ℕ) (ls : List DebugLine)
+    → (let e = lines_done (debug_does other) d ls in Prints (lines_text (debug_does other) (debug_prints other) false 1 d ls ++ report_text e.world.table e.world.services))
+    → Prints (text_of other (debugged d) ls)
+debug_reported Prints d other ls h =
+    subst Prints
     (ap (λ (e : DebuggedWorld). lines_text (debug_does other) (debug_prints other) false 1 d ls ++ report_on e) (made_all other ls d)
     ∙ ap (λ (t : List ℕ). t ++ report_on (debug_lines_made other (debugged d) ls)) (told_all other 1 ls d)) h
 
-pub booted_printed : (x z : Option (List ℕ)) (c : Config) (vs : List Service) (w : World) (other : ℕ) (said lines : List DebugLine)
-    → w ≡ world_at_boot c vs → other ≡ c.cpus → lines ≡ said → Appends x z (text_of other (both w []) lines) → Appends x z (text_of c.cpus (both (world_at_boot c vs) []) said)
-booted_printed x z c vs w other said lines booting o ls h =
+pub booted_printed : (Prints : List ℕ → Type 0) (c : Config) (vs : List Service) (w : World) (other : ℕ) (said lines : List DebugLine)
+    → w ≡ world_at_boot c vs → other ≡ c.cpus → lines ≡ said → Prints (text_of other (both w []) lines) → Prints (text_of c.cpus (both (world_at_boot c vs) []) said)
+booted_printed Prints c vs w other said lines booting o ls h =
     let same : text_of other (both w []) lines ≡ text_of c.cpus (both (world_at_boot c vs) []) said =
     ap (λ (v : World). text_of other (both v []) lines) booting
     ∙ ap (λ n. text_of n (both (world_at_boot c vs) []) lines) o ∙ ap (text_of c.cpus (both (world_at_boot c vs) [])) ls in
-    subst (λ (t : List ℕ). Appends x z t) same h
+    subst Prints same h

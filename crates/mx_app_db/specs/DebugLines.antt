@@ -1,7 +1,7 @@
 -- What each line of a debugger's script does to a machine and to the debugger's breakpoints (our own).
 use Rattle.std.specs.Prelude.{ℕ, List, [], ◌∷◌, Option, Some, None}
 use Rattle.mx_app_db.specs.declared.script.DebugLine.{DebugLine}
-use Rattle.mx_app_db.specs.declared.script.DebugLine.TheVariants.{Plain, Break, Clear, Go, Show}
+use Rattle.mx_app_db.specs.declared.script.DebugLine.TheVariants.{Plain, Break, Clear, Go, Print}
 use Rattle.mx_machine.specs.History.{BootAndHistory, world_after_events}
 use Rattle.mx_machine.specs.Steps.{steps_of}
 use Rattle.mx_machine.specs.World.{World, HeldProcess, held_by}
@@ -29,7 +29,7 @@ debug_line_made other d (Break s place) =
 debug_line_made other d (Clear s place) =
     record d { points = (breakpoints_after_clear d.points (place_found d.world.services s place)).1 }
 debug_line_made other d (Go c k) = record d { world = world_after_go d.world d.points c k (held_by d.world c) }
-debug_line_made other d (Show l) = d
+debug_line_made other d (Print l) = d
 
 -- what is kept after it: only a line of any script leaves something
 abbrev pub debug_line_kept : BootAndHistory → World → ℕ → DebugLine → BootAndHistory
@@ -37,7 +37,7 @@ debug_line_kept k w other (Plain l) = kept_by k w (event_of_line other l)
 debug_line_kept k w other (Break s place) = k
 debug_line_kept k w other (Clear s place) = k
 debug_line_kept k w other (Go c n) = k
-debug_line_kept k w other (Show l) = k
+debug_line_kept k w other (Print l) = k
 
 -- what lines in a row do
 abbrev pub debug_lines_made : ℕ → DebuggedWorld → List DebugLine → DebuggedWorld

@@ -14,7 +14,7 @@ use Rattle.mx_boot.specs.Script.{actor_and_count, count_field, script_line_of}
 use Rattle.mx_boot.specs.EventKinds.{event_kind_of}
 use Rattle.mx_app_db.specs.Looks.{look_of, look_words}
 use Rattle.mx_app_db.specs.declared.script.DebugLine.{DebugLine}
-use Rattle.mx_app_db.specs.declared.script.DebugLine.TheVariants.{Plain, Break, Clear, Go, Show}
+use Rattle.mx_app_db.specs.declared.script.DebugLine.TheVariants.{Plain, Break, Clear, Go, Print}
 
 abbrev pub slot_and_place : List (List ℕ) → Option (ℕ × CodePlace)
 slot_and_place fs = do
@@ -41,7 +41,7 @@ go_asked fs = do
 unfoldable pub look_asked : List ℕ → List (List ℕ) → Option DebugLine
 look_asked word fs = do
   l ← look_of word fs
-  Some (Show l)
+  Some (Print l)
 
 -- the line that begins with a word of the debugger's own and goes on with these fields
 unfoldable pub own_line_of : List ℕ → List (List ℕ) → Option DebugLine

@@ -1,7 +1,7 @@
 -- What `mx db` prints for each line of a debugger's script (our own).
 use Rattle.std.specs.Prelude.{ℕ, zero, suc, List, [], ◌∷◌, ◌++◌, codes, Option, Some, None}
 use Rattle.mx_app_db.specs.declared.script.DebugLine.{DebugLine}
-use Rattle.mx_app_db.specs.declared.script.DebugLine.TheVariants.{Plain, Break, Clear, Go, Show}
+use Rattle.mx_app_db.specs.declared.script.DebugLine.TheVariants.{Plain, Break, Clear, Go, Print}
 use Rattle.mx_machine.specs.declared.events.Refusal.TheVariants.{AtStop, CpuEmpty}
 use Rattle.mx_machine.specs.World.{HeldProcess, held_by}
 use Rattle.mx_app_step.specs.Lines.{line_made}
@@ -44,7 +44,7 @@ debug_line_text other d (Break s place) =
 debug_line_text other d (Clear s place) =
     done_line (breakpoints_after_clear d.points (place_found d.world.services s place)).0
 debug_line_text other d (Go c k) = go_text d.points k (held_by d.world c)
-debug_line_text other d (Show l) = look_text d.world l
+debug_line_text other d (Print l) = look_text d.world l
 
 -- what lines in a row print
 abbrev pub debug_lines_text : ℕ → DebuggedWorld → List DebugLine → List ℕ

@@ -2,6 +2,7 @@
 
 ghost use Rattle.std.specs.Prelude.{◌≡◌, ◌++◌, List, [], IfErr, OnOk};
 ghost use Rattle.std.specs.Io.KnownBytes.{Appends};
+ghost use Rattle.mx_app_step.specs.Failure.{PrintsFront};
 ghost use Rattle.mx_app_step.specs.Report.{report_text};
 ghost use Rattle.mx_app_step.specs.Service.{Service};
 ghost use Rattle.mx_app_db.specs.declared.script.DebugLine.{DebugLine as Line};
@@ -23,8 +24,8 @@ use std::alloc::Global;
 use std::io::Write;
 
 /// Boots a machine from the file named `config`, performs the lines of the debugger's script in the file
-/// named `script`, prints the answer to each line, and then the report. After a failure it promises nothing
-/// about what it has written to `out`.
+/// named `script`, prints the answer to each line, and then the report. Before a failure a front of this text is
+/// printed; nothing, if no machine is started.
 pub fn db<R: Reader, W: Write>(
     alloc: Global,
     reader: &mut R,
@@ -42,7 +43,12 @@ pub fn db<R: Reader, W: Write>(
         ++ report_text e.world.table e.world.services))) }
     ensures fault { IfErr result (λ f. (qs : List Asked)
         × (R.asked reader.new ≡ R.asked reader.old ++ qs)
-        × IsTold IsDebugScript TellsDebugScript config.now script.now qs f) }
+        × IsTold IsDebugScript TellsDebugScript config.now script.now qs
+        (λ text. Appends (W.contents out.old) (W.contents out.new) text)
+        (λ c vs said. let d : DebuggedWorld = record { world = world_at_boot c vs; points = [] } in
+        let e = debug_lines_made c.cpus d said in
+        PrintsFront (λ text. Appends (W.contents out.old) (W.contents out.new) text)
+        (debug_lines_text c.cpus d said ++ report_text e.world.table e.world.services)) f) }
 {
     let mut started = start::<DebugScript, R>(alloc, reader, config, script)?;
     let mut performer = DebugPerformer {

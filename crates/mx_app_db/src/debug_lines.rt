@@ -86,7 +86,7 @@ fn perform_debug_line(
             )
         }
         DebugLine::Go(cpu, steps) => perform_go(machine, debugger, *cpu, *steps, text),
-        DebugLine::Show(look) => push_look(text, machine, look),
+        DebugLine::Print(look) => push_look(text, machine, look),
     }
 }
 

@@ -28,7 +28,7 @@ pub enum DebugLine {
     /// On a processor at most a number of steps, up to a breakpoint.
     Go(u8, u32),
     /// A line that changes nothing.
-    Show(Look),
+    Print(Look),
 }
 
 /// The slot and the place that are a line's two fields.
@@ -69,7 +69,7 @@ fn go_asked(line: &[u8]) -> Option<DebugLine>
 fn look_asked(word: &[u8], line: &[u8]) -> Option<DebugLine>
     ensures { result ≡ look_asked word.now (fields line.now) }
 {
-    Some(DebugLine::Show(look_of(word, line)?))
+    Some(DebugLine::Print(look_of(word, line)?))
 }
 
 /// The line that begins with a word of the debugger's own and goes on like this.

@@ -1,15 +1,16 @@
 -- From what is seen of records to the picture of a history.
-use Rattle.std.proofs.Common.{◌≡◌, ◌∙◌, ◌≤◌, ℕ, zero, suc, ◌+◌, ◌-◌, List, [], ◌∷◌, length, take, Option, Some, None, refl, ap, sym, subst, arith}
+use Rattle.std.proofs.Common.{◌≡◌, ◌⊎◌, ◌∙◌, ◌≤◌, ℕ, zero, suc, ◌+◌, ◌-◌, List, [], ◌∷◌, length, take, Option, Some, None, inl, inr, refl, ap, sym, subst, arith}
 use Rattle.std.specs.Prelude.{max}
 use Rattle.mx_machine.specs.declared.events.Refusal.{Refusal}
 use Rattle.mx_machine.specs.declared.history.Record.{Record}
 use Rattle.mx_machine.specs.Boot.{world_at_boot}
 use Rattle.mx_machine.specs.World.{World}
 use Rattle.mx_app_step.specs.Config.{Config}
+use Rattle.mx_app_step.specs.Failure.{PrintsFront}
 use Rattle.mx_app_step.specs.Service.{Service}
 use Rattle.mx_app_step.specs.declared.records.Replayed.{Replayed}
 use Rattle.mx_app_step.specs.declared.records.Replayed.TheVariants as replayed
-use Rattle.mx_app_draw.specs.Scenes.{AreMade, IsDrawing, IsDrawingPrinted, last_drawn, refused_line, replayed_by}
+use Rattle.mx_app_draw.specs.Scenes.{AreMade, IsDrawing, IsDrawingBegun, IsDrawingPrinted, last_drawn, refused_line, replayed_by}
 
 -- ---- how many records are made
 
@@ -49,3 +50,10 @@ drawing_printed Prints c vs records slice w cpus total from to k how last same b
     (subst (λ (n : ℕ). IsDrawing w n (length records) (take (last_drawn from to) records) from how Prints) as_many
     (subst (λ (n : ℕ). IsDrawing w cpus n (take (last_drawn from to) records) from how Prints) whole
     (subst (λ (rs : List Record). IsDrawing w cpus total rs from how Prints) front h)))
+
+pub drawing_begun : (Prints : List ℕ → Type 0) (c : Config) (vs : List Service) (records slice : List Record) (w : World) (cpus total from to k : ℕ)
+    → k ≡ last_drawn from to → slice ≡ take k records → w ≡ world_at_boot c vs → cpus ≡ c.cpus → total ≡ length records
+    → Prints [] ⊎ ((how : Replayed) × IsDrawing w cpus total slice from how (PrintsFront Prints)) → IsDrawingBegun (world_at_boot c vs) c.cpus records from to Prints
+drawing_begun Prints c vs records slice w cpus total from to k last same boot as_many whole (inl none) = inl none
+drawing_begun Prints c vs records slice w cpus total from to k last same boot as_many whole (inr p) =
+    inr (p.0, drawing_printed (PrintsFront Prints) c vs records slice w cpus total from to k p.0 last same boot as_many whole p.1)

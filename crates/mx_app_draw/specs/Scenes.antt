@@ -1,9 +1,10 @@
 -- What is drawn of a history (our own).
-use Rattle.std.specs.Prelude.{◌≡◌, ℕ, ◌+◌, ◌-◌, min, max, nat_lt, if◌then◌else◌, List, [], ◌∷◌, ◌++◌, length, take, Option, Some, None}
+use Rattle.std.specs.Prelude.{◌≡◌, ◌⊎◌, ℕ, ◌+◌, ◌-◌, min, max, nat_lt, if◌then◌else◌, List, [], ◌∷◌, ◌++◌, length, take, Option, Some, None}
 use Rattle.mx_machine.specs.declared.events.Refusal.{Refusal}
 use Rattle.mx_machine.specs.declared.history.Record.{Record}
 use Rattle.mx_machine.specs.History.{AreAccepted, world_after_events, events_of, events_of_history}
 use Rattle.mx_machine.specs.World.{World}
+use Rattle.mx_app_step.specs.Failure.{PrintsFront}
 use Rattle.mx_app_step.specs.Log.{lines_above}
 use Rattle.mx_app_step.specs.Glances.{glance_of}
 use Rattle.mx_app_step.specs.Transition.{Transition}
@@ -89,3 +90,8 @@ IsDrawing w cpus total records from how Prints =
 abbrev pub IsDrawingPrinted : World → ℕ → List Record → ℕ → ℕ → Replayed → (List ℕ → Type 0) → Type 0
 IsDrawingPrinted w cpus records from to how Prints =
     IsDrawing w cpus (length records) (take (last_drawn from to) records) from how Prints
+
+-- a front of a picture is printed; nothing, if memory is out for it
+abbrev pub IsDrawingBegun : World → ℕ → List Record → ℕ → ℕ → (List ℕ → Type 0) → Type 0
+IsDrawingBegun w cpus records from to Prints =
+    Prints [] ⊎ ((how : Replayed) × IsDrawingPrinted w cpus records from to how (PrintsFront Prints))

@@ -45,10 +45,6 @@ grown_either before after ps (inr e) = (ps, e)
 pub grown_more : (before now after : List Part) → HasGrown before now → HasGrown now after → HasGrown before after
 grown_more before now after a b = (a.0 ++ b.0, b.1 ∙ ap (λ (xs : List Part). xs ++ b.0) a.1 ∙ append_assoc before a.0 b.0)
 
-pub err_always : {A E : Type 0} (r : Result A E) (X : Type 0) → X → IfErr r (λ (e : E). X)
-err_always (Ok a) X h = tt
-err_always (Err e) X h = h
-
 pub ok_always : {A E : Type 0} (r : Result A E) (X : Type 0) → X → OnOk r X
 ok_always (Ok a) X h = h
 ok_always (Err e) X h = tt

@@ -4,7 +4,8 @@ use Rattle.std.proofs.KnownBytes.{Appends-nil, Appends-trans}
 use Rattle.std.proofs.lemmas.List.{append-nil}
 use Rattle.std.specs.Io.KnownBytes.{Appends}
 use Rattle.mx_app_look.specs.declared.sight.Sight.{Sight}
-use Rattle.mx_app_look.specs.Sessions.{IsAnswered, IsSession, IsWhole, end_text, ends, is_nothing, is_over, prompt_text}
+use Rattle.mx_app_failure.specs.declared.failure.Failure.{Failure}
+use Rattle.mx_app_look.specs.Sessions.{IsAnswered, IsCutOff, IsSession, IsWhole, end_text, ends, is_nothing, is_over, prompt_text}
 use Rattle.mx_app_look.specs.Shows.{IsShown}
 use Rattle.mx_walk.specs.Parts.{HasGrown}
 use Rattle.mx_walk.specs.declared.progress.Part.{Part}
@@ -99,6 +100,25 @@ module _ (asks : Bool) where
         ),
       )
 
+  -- and a session that is cut off after these lines and more
+  cut_after : (s u : Sight) (xs ys : List (Option (List ℕ))) (f : Failure) (text rest : List ℕ) (ps : List Part) → Leads s xs text ps u → IsCutOff asks u ys f rest → IsCutOff asks s (xs ++ ys) f (text ++ rest)
+  cut_after s u [] ys f text rest ps h g =
+      subst (λ t. IsCutOff asks s ys f (t ++ rest)) (sym h.0) (subst (λ (v : Sight). IsCutOff asks v ys f rest) h.2 g)
+  cut_after s u (None ∷ xs) ys f text rest ps h g = absurd h
+  cut_after s u (Some l ∷ xs) ys f text rest ps h g =
+      let p = h.1 in
+      inr (
+        h.0,
+        (
+          p.0,
+          p.1,
+          p.2 ++ rest,
+          p.5,
+          cut_after p.0 u xs ys f p.2 rest p.4 p.7 g,
+          ap (λ t. t ++ rest) p.8 ∙ append_assoc (p.1 ++ prompt_text asks p.0.walker) p.2 rest,
+        ),
+      )
+
   -- it is over with what comes after them
   over_after : (s u : Sight) (xs ys : List (Option (List ℕ))) (text : List ℕ) (ps : List Part) → Leads s xs text ps u → is_over (xs ++ ys) ≡ is_over ys
   over_after s u [] ys text ps h = refl
@@ -120,9 +140,20 @@ module _ (asks : Bool) where
   pub nothing_yet : (s : Sight) (given : List (Option (List ℕ))) (shown : List Part) (out : Option (List ℕ)) → SoFar s s 0 given given shown shown out out
   nothing_yet s given shown out = record { typed = []; text = []; parts = []; lines = sym (append-nil given); walked = sym (append-nil shown); printed = Appends-nil out; leads = (refl, refl, refl); count = refl }
 
-  -- what was given, where an answer fails
-  pub given_more : (s now : Sight) (n : ℕ) (given g h : List (Option (List ℕ))) (shown later : List Part) (out o : Option (List ℕ)) (x : Option (List ℕ)) → SoFar s now n given g shown later out o → h ≡ g ++ x ∷ [] → (typed : List (Option (List ℕ))) × (h ≡ given ++ typed)
-  given_more s now n given g h shown later out o x f more = (f.typed ++ x ∷ [], more_lines given g h f.typed x f.lines more)
+  -- it is cut off: after a line more, or before one
+  abbrev pub Cut : Sight → List (Option (List ℕ)) → List (Option (List ℕ)) → Option (List ℕ) → Option (List ℕ) → Failure → Type 0
+  Cut s given given_now out out_now f =
+      (typed : List (Option (List ℕ))) × (text : List ℕ) × (given_now ≡ given ++ typed) × IsCutOff asks s typed f text × Appends out out_now text
+
+  pub cut : (s now : Sight) (n : ℕ) (given g h : List (Option (List ℕ))) (shown later : List Part) (out o p : Option (List ℕ)) (more : List (Option (List ℕ))) (f : Failure) (rest : List ℕ) → SoFar s now n given g shown later out o
+      → h ≡ g ++ more → IsCutOff asks now more f rest → Appends o p rest → Cut s given h out p f
+  cut s now n given g h shown later out o p more f rest so_far lines is printed = (
+    so_far.typed ++ more,
+    so_far.text ++ rest,
+    lines ∙ ap (λ (xs : List (Option (List ℕ))). xs ++ more) so_far.lines ∙ append_assoc given so_far.typed more,
+    cut_after s now so_far.typed more f so_far.text rest so_far.parts so_far.leads is,
+    Appends-trans out o p so_far.text rest so_far.printed printed,
+  )
 
   -- and what was shown
   pub shown_more : (s now : Sight) (n : ℕ) (given g : List (Option (List ℕ))) (shown later last : List Part) (out o : Option (List ℕ)) → SoFar s now n given g shown later out o → HasGrown later last → HasGrown shown last

@@ -8,7 +8,7 @@ use Rattle.mx_app_failure.specs.declared.failure.Failure.{Failure}
 use Rattle.mx_app_step.specs.Asked.{Asked}
 use Rattle.mx_app_step.specs.Config.{Config}
 use Rattle.mx_app_step.specs.Course.{IsSaved, TellsSaved}
-use Rattle.mx_app_step.specs.Failure.{IsUntyped, IsWanting}
+use Rattle.mx_app_step.specs.Failure.{IsUntyped, IsWanting, PrintsFront}
 use Rattle.mx_app_step.specs.Service.{Service}
 use Rattle.mx_app_step.specs.Setup.{IsNotStarted, IsStart}
 use Rattle.mx_machine.specs.Boot.{world_at_boot}
@@ -93,15 +93,47 @@ pub record IsBegun (w : World) (xs : List Record) (k : Walk) : Type 0 where
   pub here : k.here ≡ first
   pub last : IsLast w xs k.last
 
--- a session can't go on: no line can be typed, its answer can't be printed, or memory is out
-abbrev pub IsCutOff : Failure → Type 0
-IsCutOff f = IsUntyped f ⊎ IsWanting f
+-- ---- A SESSION THAT FAILS
 
--- a session has failed for this, after this was shown: no machine was started, and nothing was; or one was, its first
--- walk was shown up to the last position, and then later ones, and it can't go on
-abbrev pub HasFailed : List ℕ → List ℕ → List Asked → List Part → Failure → Type 0
-HasFailed config log qs ps f =
+-- a front of the answer to a line, and of what asks for the next; nothing, if memory is out for it
+abbrev pub IsAnswerBegun : Bool → Sight → List ℕ → List ℕ → Type 0
+IsAnswerBegun asks s line text =
+    (text ≡ [])
+    ⊎ ((ends line ≡ false) × ((u : Sight) × (answer : List ℕ) × (rest : List ℕ) × IsAnswered s line u answer
+    × (answer ++ prompt_text asks u.walker ≡ text ++ rest)))
+
+-- what is printed of a session that fails for this after these lines: the answers to all of them, if no next line can
+-- be typed; else the answers to those before the last one, and a front of its own
+abbrev pub IsCutOff : Bool → Sight → List (Option (List ℕ)) → Failure → List ℕ → Type 0
+IsCutOff asks s [] f text = IsUntyped f × (text ≡ [])
+IsCutOff asks s (None ∷ xs) f text = (xs ≡ []) × IsWanting f × ((rest : List ℕ) × (end_text asks ≡ text ++ rest))
+IsCutOff asks s (Some l ∷ xs) f text =
+    ((xs ≡ []) × IsWanting f × IsAnswerBegun asks s l text)
+    ⊎ ((ends l ≡ false) × ((u : Sight) × (answer : List ℕ) × (rest : List ℕ) × IsAnswered s l u answer
+    × IsCutOff asks u xs f rest × (text ≡ (answer ++ prompt_text asks u.walker) ++ rest)))
+
+-- no session has begun, for this, after this was shown: no machine was started, and nothing was; or one was, and memory
+-- is out for its first walk, which was shown up to the last position
+abbrev pub HasNotBegun : List ℕ → List ℕ → List Asked → List Part → Failure → Type 0
+HasNotBegun config log qs ps f =
     ((ps ≡ []) × IsNotStarted IsSaved TellsSaved config log qs f)
     ⊎ ((c : Config) × (vs : List Service) × (records : List Record) × (last : Position)
     × IsStart IsSaved config log qs c vs records
-    × IsLast (world_at_boot c vs) records last × HasGrown (walk_shown records last) ps × IsCutOff f)
+    × IsLast (world_at_boot c vs) records last × HasGrown (walk_shown records last) ps × IsWanting f)
+
+-- a session that has begun fails for this: of what it begins with a front is printed, and no line is typed; or it is
+-- cut off after these lines
+abbrev pub HasEnded : Bool → Walk → List (Option (List ℕ)) → (List ℕ → Type 0) → Failure → Type 0
+HasEnded asks k typed Prints f =
+    ((typed ≡ []) × PrintsFront Prints (begun_text asks k) × IsWanting f)
+    ⊎ ((text : List ℕ) × IsCutOff asks (sight_at k) typed f text × Prints (begun_text asks k ++ text))
+
+-- A SESSION HAS FAILED for this, after these lines were typed and this was shown: it hasn't begun, and nothing is typed
+-- or printed; or it has, its first walk was shown up to the last position, and then later ones
+abbrev pub HasFailed : Bool → List ℕ → List ℕ → List Asked → List (Option (List ℕ)) → List Part → (List ℕ → Type 0)
+    → Failure → Type 0
+HasFailed asks config log qs typed ps Prints f =
+    ((typed ≡ []) × Prints [] × HasNotBegun config log qs ps f)
+    ⊎ ((c : Config) × (vs : List Service) × (records : List Record) × (k : Walk)
+    × IsStart IsSaved config log qs c vs records × IsBegun (world_at_boot c vs) records k
+    × HasGrown (walk_shown k.records k.last) ps × HasEnded asks k typed Prints f)

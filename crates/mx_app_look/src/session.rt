@@ -5,7 +5,7 @@ ghost use Rattle.std.specs.Io.KnownBytes.{Appends};
 ghost use Rattle.mx_app_step.specs.Asked.{Asked};
 ghost use Rattle.mx_app_step.specs.Config.{Config as Configured};
 ghost use Rattle.mx_app_step.specs.Course.{IsSaved};
-ghost use Rattle.mx_app_step.specs.Failure.{IsUntyped, IsWanting};
+ghost use Rattle.mx_app_step.specs.Failure.{IsUntyped, IsWanting, PrintsFront};
 ghost use Rattle.mx_app_step.specs.Service.{Service};
 ghost use Rattle.mx_app_step.specs.Setup.{IsStart};
 ghost use Rattle.mx_machine.specs.Boot.{world_at_boot};
@@ -13,7 +13,7 @@ ghost use Rattle.mx_machine.specs.declared.history.Record.{Record as Noted};
 ghost use Rattle.mx_walk.specs.declared.progress.Part.{Part as Parts};
 ghost use Rattle.mx_walk.specs.Parts.{HasGrown, walk_shown};
 ghost use Rattle.mx_walk.specs.Walks.{Walk};
-ghost use Rattle.mx_app_look.specs.Sessions.{HasFailed, IsAnswered, IsBegun, IsCutOff, IsSession, IsWhole, begun_text, end_text, ends, prompt_text, sight_at};
+ghost use Rattle.mx_app_look.specs.Sessions.{HasFailed, HasNotBegun, IsAnswerBegun, IsAnswered, IsBegun, IsCutOff, IsSession, IsWhole, begun_text, end_text, ends, prompt_text, sight_at};
 ghost use Rattle.mx_app_look.specs.Shows.{IsShown};
 
 use crate::answering::{answer_line, push_prompt};
@@ -35,6 +35,9 @@ fn begin<W: Write>(
     out: &mut W,
 ) -> Result<(), Failure>
     ensures err { IfErr result IsWanting }
+    ensures front { IfErr result (λ _. PrintsFront
+        (λ front. Appends (W.contents out.old) (W.contents out.new) front)
+        (begun_text asks walker.old)) }
     ensures same { walker.new ≡ walker.old }
     ensures printed { OnOk result (Appends (W.contents out.old) (W.contents out.new)
         (begun_text asks walker.old)) }
@@ -48,6 +51,8 @@ fn begin<W: Write>(
 /// Ends the line of the prompt at the end of the input.
 fn print_end<W: Write>(asks: bool, out: &mut W) -> Result<(), Failure>
     ensures err { IfErr result IsWanting }
+    ensures front { IfErr result (λ _. PrintsFront
+        (λ front. Appends (W.contents out.old) (W.contents out.new) front) (end_text asks)) }
     ensures printed { OnOk result (Appends (W.contents out.old) (W.contents out.new)
         (end_text asks)) }
 {
@@ -87,6 +92,9 @@ fn reply<P: Progress, W: Write>(
     out: &mut W,
 ) -> Result<Option<Sight>, Failure>
     ensures err { IfErr result IsWanting }
+    ensures begun { IfErr result (λ _. (text : List ℕ)
+        × IsAnswerBegun session.asks session.sight line.now text
+        × Appends (W.contents out.old) (W.contents out.new) text) }
     ensures answered { IfOk result (λ next. MatchOption next
         ((ends line.now ≡ true) × (P.shown progress.new ≡ P.shown progress.old)
         × (W.contents out.new ≡ W.contents out.old))
@@ -115,8 +123,10 @@ fn converse<L: LineReader, P: Progress, W: Write>(
     progress: &mut P,
     out: &mut W,
 ) -> Result<(), Failure>
-    ensures err { IfErr result (λ f. IsCutOff f × ((typed : List (Option (List ℕ)))
-        × (L.given lines.new ≡ L.given lines.old ++ typed))
+    ensures err { IfErr result (λ f. ((typed : List (Option (List ℕ))) × (text : List ℕ)
+        × (L.given lines.new ≡ L.given lines.old ++ typed)
+        × IsCutOff session.asks session.sight typed f text
+        × Appends (W.contents out.old) (W.contents out.new) text)
         × HasGrown (P.shown progress.old) (P.shown progress.new)) }
     ensures printed { OnOk result ((typed : List (Option (List ℕ))) × (text : List ℕ)
         × (ps : List Parts) × (L.given lines.new ≡ L.given lines.old ++ typed) × IsWhole typed
@@ -164,7 +174,7 @@ fn start_walker<R: Reader, P: Progress>(
     ensures fault { IfErr result (λ f. (qs : List Asked) × (ps : List Parts)
         × (R.asked reader.new ≡ R.asked reader.old ++ qs)
         × (P.shown progress.new ≡ P.shown progress.old ++ ps)
-        × HasFailed wanted.entry.config.now wanted.entry.log.now qs ps f) }
+        × HasNotBegun wanted.entry.config.now wanted.entry.log.now qs ps f) }
 {
     let Started {
         machine,
@@ -181,7 +191,8 @@ fn start_walker<R: Reader, P: Progress>(
 /// back in the history, and to show what is there. It takes lines up to `quit` or to the end of the input, and
 /// none after that, and writes no file. A session's text is a function of the configuration, the programs, the
 /// history and the lines. At the beginning it walks the history once. `progress` is shown each record of that
-/// walk and of each later one.
+/// walk and of each later one. Each line is answered before the next is read: if the input fails, all answers are
+/// printed, and if the output does, a front of the last one is.
 pub fn look<R: Reader + Drop, F: Drop, W: Write + Drop, L: LineReader, P: Progress>(
     alloc: Global,
     channels: &mut Channels<R, F, W>,
@@ -206,7 +217,8 @@ pub fn look<R: Reader + Drop, F: Drop, W: Write + Drop, L: LineReader, P: Progre
         × (R.asked channels.new.reader ≡ R.asked channels.old.reader ++ qs)
         × (L.given lines.new ≡ L.given lines.old ++ typed)
         × (P.shown progress.new ≡ P.shown progress.old ++ ps)
-        × HasFailed wanted.entry.config.now wanted.entry.log.now qs ps f) }
+        × HasFailed wanted.entry.asks wanted.entry.config.now wanted.entry.log.now qs typed ps
+        (λ text. Appends (W.contents channels.old.out) (W.contents channels.new.out) text) f) }
 {
     let mut walker = start_walker(alloc, &mut channels.reader, progress, wanted)?;
     let asks = wanted.asks;

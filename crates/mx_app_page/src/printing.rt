@@ -9,7 +9,7 @@ ghost use Rattle.mx_app_step.specs.Config.{Config as Configured};
 ghost use Rattle.mx_app_step.specs.Asked.{Asked};
 ghost use Rattle.mx_app_step.specs.Course.{IsSaved, TellsSaved};
 ghost use Rattle.mx_app_step.specs.Setup.{IsStart};
-ghost use Rattle.mx_app_step.specs.Telling.{IsTold, PrintsBefore};
+ghost use Rattle.mx_app_step.specs.Telling.{IsTold};
 ghost use Rattle.mx_machine.specs.declared.history.Record.{Record as Noted};
 ghost use Rattle.mx_machine.specs.Boot.{world_at_boot};
 ghost use Rattle.mx_machine.specs.World.{actors};
@@ -339,14 +339,12 @@ pub fn page<R: Reader, W: Write>(
         Appends (W.contents out.old) (W.contents out.new) text)) }
     ensures fault { IfErr result (λ f. (qs : List Asked)
         × (R.asked reader.new ≡ R.asked reader.old ++ qs)
-        × IsTold IsSaved TellsSaved chosen.entry.config.now chosen.entry.log.now qs f) }
-    ensures begun { IfErr result (λ _. PrintsBefore IsSaved chosen.entry.config.now
-        chosen.entry.log.now (R.asked reader.old) (R.asked reader.new)
+        × IsTold IsSaved TellsSaved chosen.entry.config.now chosen.entry.log.now qs
         (λ text. Appends (W.contents out.old) (W.contents out.new) text)
         (λ c vs records. IsPageBegun
         (λ first. run_of_files chosen.entry.config.now chosen.entry.log.now first c)
         (world_at_boot c vs) (take chosen.entry.to records) (chosen.entry.from - 1)
-        (λ text. Appends (W.contents out.old) (W.contents out.new) text))) }
+        (λ text. Appends (W.contents out.old) (W.contents out.new) text)) f) }
 {
     let mut started = start::<History, R>(alloc, reader, chosen.config, chosen.log)?;
     let terms = terms_of(chosen, &started.config);

@@ -92,13 +92,13 @@ IsNotCalled config (Some name) qs f =
     × IsSetup config before c vs
     × IsCallsFault name q c.others f)
 
--- WHAT REPORTING A RUN DOES: it writes the history's text, whole, then prints the report, and answers how the run ended;
--- or it answers why not all of this was done
+-- WHAT REPORTING A RUN DOES: it writes the history's text, whole, then prints the report, and answers how the run
+-- ended; or it answers why not all of this was done
 abbrev pub ReportsRun : List ℕ → List ℕ → List ℕ → List Written → (List ℕ → Type 0) → RunEnding
     → Result RunEnding Kind → Type 0
 ReportsRun log text report ws Prints ending (Ok answered) =
     (ws ≡ kept log text ∷ []) × Prints report × (answered ≡ ending)
-ReportsRun log text report ws Prints ending (Err f) = IsUnreported log text ws Prints f
+ReportsRun log text report ws Prints ending (Err f) = IsUnreported log text report ws Prints f
 
 -- WHAT A RUN OF WHAT WAS READ COMES TO: it answers that there is no memory for it, and prints nothing; or the run is
 -- reported, with the report on the replay of its history

@@ -1,11 +1,15 @@
 -- What is printed of a text that may not be printed whole.
 use Rattle.std.proofs.Common.{◌≡◌, ◌∙◌, ℕ, zero, suc, ◌+◌, Bool, List, [], ◌∷◌, ◌++◌, Option, Result, Ok, Err, IfErr, OnOk, append_assoc, ap, refl, subst, sym, take}
-use Rattle.std.proofs.KnownBytes.{Appends-nil, Appends-trans}
+use Rattle.std.proofs.KnownBytes.{Appends-trans}
 use Rattle.std.proofs.lemmas.List.{append-nil}
 use Rattle.std.specs.Io.KnownBytes.{Appends}
 use Rattle.mx_app_start.specs.Failure.{PrintsFront}
 use Rattle.mx_app_step.specs.Driving.{lines_text, number_text}
 use Rattle.mx_app_step.specs.Pieces.{IsPrintedBut}
+
+pub err_both : {A E : Type 0} (r : Result A E) (P Q : E → Type 0) → IfErr r P → IfErr r Q → IfErr r (λ e. P e × Q e)
+err_both (Ok a) P Q h g = tt
+err_both (Err e) P Q h g = (h, g)
 
 pub err_always : {A E : Type 0} (r : Result A E) (X : Type 0) → X → IfErr r (λ (e : E). X)
 err_always (Ok a) X h = tt
@@ -19,10 +23,7 @@ pub err_case : {A E : Type 0} (r : Result A E) (x : E) (P : Type 0) → r ≡ Er
 err_case (Ok a) x P is h = absurd cc
 err_case (Err e) x P is h = h
 
--- nothing, and all of it
-pub front_none : (x : Option (List ℕ)) (text : List ℕ) → PrintsFront (λ t. Appends x x t) text
-front_none x text = ([], text, refl, Appends-nil x)
-
+-- all of it
 pub front_all : (Prints : List ℕ → Type 0) (text : List ℕ) → Prints text → PrintsFront Prints text
 front_all Prints text h = (text, [], sym (append-nil text), h)
 
@@ -34,6 +35,10 @@ front_more Prints text more (front, rest, is, h) = (front, rest ++ more, ap (λ 
 pub front_after : (x y z : Option (List ℕ)) (text more : List ℕ) → Appends x y text → PrintsFront (λ t. Appends y z t) more → PrintsFront (λ t. Appends x z t) (text ++ more)
 front_after x y z text more a (front, rest, is, h) =
     (text ++ front, rest, ap (λ t. text ++ t) is ∙ sym (append_assoc text front rest), Appends-trans x y z text front a h)
+
+-- the same, by what is printed after that text
+pub front_behind : (x y z : Option (List ℕ)) (text more : List ℕ) → Appends x y text → PrintsFront (λ t. Appends y z t) more → PrintsFront (λ t. Appends x z (text ++ t)) more
+front_behind x y z text more a (front, rest, is, h) = (front, rest, is, Appends-trans x y z text front a h)
 
 -- ---- of lines in a row
 

@@ -16,7 +16,10 @@ use Rattle.mx_machine.specs.Rules.{Rules}
 use Rattle.mx_machine.specs.World.{World}
 use Rattle.mx_print_answers.specs.declared.said.Said.{Said}
 use Rattle.mx_app_start.specs.Machine.{kept_after, record_of, with_records}
+use Rattle.mx_app_start.specs.Telling.{IsUnsaved}
 use Rattle.mx_app_start.specs.Text.{saved_text}
+use Rattle.mx_app_start.specs.Written.{Written}
+use Rattle.mx_app_failure.specs.declared.failure.Failure.{Failure}
 use Rattle.mx_machine.specs.History.{BootAndHistory}
 use Rattle.mx_app_step.specs.Kept.{event_of_line, history_made, kept_by, lines_kept, text_kept}
 use Rattle.mx_app_step.specs.Lines.{line_made, lines_made}
@@ -38,6 +41,17 @@ script_printed numbered Prints c vs w other said lines booting o ls h =
     let same : lines_made w other lines ≡ lines_made (world_at_boot c vs) c.cpus said =
     ap (λ (v : World). lines_made v other lines) booting ∙ ap (λ n. lines_made (world_at_boot c vs) n lines) o ∙ ap (λ (v : List ScriptLine). lines_made (world_at_boot c vs) c.cpus v) ls in
     subst (λ (u : List Said × World). Prints (answers_text numbered u.0 ++ report_text u.1.table u.1.services)) same h
+
+-- why a history isn't saved, by the lines that were read
+pub script_unsaved : (numbered : Bool) (Prints : List ℕ → Type 0) (ws : List Written) (f : Failure) (name before text : List ℕ) (c : Config) (vs : List Service) (w : World) (other : ℕ) (said lines : List ScriptLine)
+    → w ≡ world_at_boot c vs → other ≡ c.cpus → lines ≡ said → before ≡ text
+    → (let u = lines_made w other lines in IsUnsaved name before (answers_text numbered u.0) (report_text u.1.table u.1.services) ws Prints f)
+    → (let u = lines_made (world_at_boot c vs) c.cpus said in IsUnsaved name text (answers_text numbered u.0) (report_text u.1.table u.1.services) ws Prints f)
+script_unsaved numbered Prints ws f name before text c vs w other said lines booting o ls is h =
+    let same : lines_made w other lines ≡ lines_made (world_at_boot c vs) c.cpus said =
+    ap (λ (v : World). lines_made v other lines) booting ∙ ap (λ n. lines_made (world_at_boot c vs) n lines) o ∙ ap (λ (v : List ScriptLine). lines_made (world_at_boot c vs) c.cpus v) ls in
+    subst (λ (t : List ℕ). (let u = lines_made (world_at_boot c vs) c.cpus said in IsUnsaved name t (answers_text numbered u.0) (report_text u.1.table u.1.services) ws Prints f)) is
+    (subst (λ (u : List Said × World). IsUnsaved name before (answers_text numbered u.0) (report_text u.1.table u.1.services) ws Prints f) same h)
 
 -- ---- a history that is saved
 

@@ -21,8 +21,8 @@ use Rattle.mx_app_start.specs.Service.{Service}
 use Rattle.mx_machine.specs.Boot.{world_at_boot}
 use Rattle.mx_app_step.specs.declared.records.Replayed.{Replayed}
 use Rattle.mx_app_step.specs.Records.{IsRefusedAt, refused_record_line}
-use Rattle.mx_app_step.specs.Traces.{steps_before, transition_of, told_of, trace_text, IsTraceBegun, IsTracePrinted}
-use Rattle.mx_app_step.proofs.FrontLemmas.{front_after, front_more}
+use Rattle.mx_app_step.specs.Traces.{steps_before, transition_of, told_of, trace_text, IsTraceBegun, IsTraceFront, IsTracePrinted}
+use Rattle.mx_app_step.proofs.FrontLemmas.{front_after}
 use Rattle.mx_app_step.proofs.RecordLemmas.{after_both}
 use Rattle.mx_walk.specs.Positions.{HasMade, own_event, steps_in, steps_of}
 use Rattle.mx_walk.proofs.EventsIn.{parts_of}
@@ -105,27 +105,17 @@ trace_begun Prints c vs records slice w from to same e h =
 
 -- ---- a front of it
 
--- the trace of the first records is a front of that of all
-some_traced : (from : ℕ) (w : World) (n : ℕ) (xs : List Record) (i : ℕ) → (rest : List ℕ) × (trace_text from w n xs ≡ trace_text from w n (take i xs) ++ rest)
-some_traced from w n xs zero = (trace_text from w n xs, refl)
-some_traced from w n [] (suc i) = ([], refl)
-some_traced from w n (x ∷ xs) (suc i) =
-    let u = world_after_events w (events_of x.actor x.event) in
-    let first = told_of from (transition_of w n x) in
-    let h = some_traced from u (n + 1) xs i in
-    (h.0, ap (λ t. first ++ t) h.1 ∙ sym (append_assoc first (trace_text from u (n + 1) (take i xs)) h.0))
-
--- and so is that of some, and of a front of one more
+-- the trace of some records, and a front of one more
 pub front_traced : (from : ℕ) (w v : World) (records : List Record) (i n : ℕ) (d : Record) (x : Transition) (a b c : Option (List ℕ))
     → i < length records → n ≡ i + 1 → v ≡ world_after_events w (events_of_history (take i records)) → x ≡ transition_of v n (get_or records i d)
-    → Appends a b (trace_text from w 1 (take i records)) → PrintsFront (λ t. Appends b c t) (told_of from x)
-    → PrintsFront (λ t. Appends a c t) (trace_text from w 1 records)
-front_traced from w v records i n d x a b c within e world is so_far more =
-    let some = some_traced from w 1 records (i + 1) in
-    subst (λ (t : List ℕ). PrintsFront (λ s. Appends a c s) t) (sym some.1)
-    (front_more _ (trace_text from w 1 (take (i + 1) records)) some.0
-    (subst (λ (t : List ℕ). PrintsFront (λ s. Appends a c s) t) (one_more_traced from w v records i n d x within e world is)
-    (front_after a b c (trace_text from w 1 (take i records)) (told_of from x) so_far more)))
+    → AreAccepted w (events_of_history (take (i + 1) records)) → Appends a b (trace_text from w 1 (take i records)) → PrintsFront (λ t. Appends b c t) (told_of from x)
+    → IsTraceFront w records from (λ t. Appends a c t)
+front_traced from w v records i n d x a b c within e world is accepted so_far more = (
+  i + 1,
+  accepted,
+  subst (λ (t : List ℕ). PrintsFront (λ s. Appends a c s) t) (one_more_traced from w v records i n d x within e world is)
+      (front_after a b c (trace_text from w 1 (take i records)) (told_of from x) so_far more),
+)
 
 -- the refusal's line in part, after a trace
 pub line_begun : (w : World) (records : List Record) (from n : ℕ) (r : Refusal) (a b c : Option (List ℕ)) (line : ℕ) → line ≡ lines_above w.table.rules + n

@@ -3,7 +3,7 @@ use Rattle.std.specs.Prelude.{◌≡◌, ◌⊎◌, ℕ, List, [], ◌∷◌, Op
 use Rattle.std.specs.declared.io.ErrorKind.{ErrorKind}
 use Rattle.mx_app_failure.specs.declared.failure.Failure.{Failure}
 use Rattle.mx_app_failure.specs.declared.failure.Failure.TheVariants.{NoMemory}
-use Rattle.mx_app_failure.specs.Failure.{IsWanting, unwritten_of}
+use Rattle.mx_app_failure.specs.Failure.{IsWanting, PrintsFront, unwritten_of}
 use Rattle.mx_app_start.specs.Machine.{kept_after}
 use Rattle.mx_app_start.specs.Text.{saved_text}
 use Rattle.mx_app_start.specs.Written.{Written, kept, unkept}
@@ -52,7 +52,8 @@ IsUnwritten name text ws f =
     ((ws ≡ []) × (f ≡ NoMemory)) ⊎ ((kind : ErrorKind) × (ws ≡ unkept name text kind ∷ []) × (f ≡ unwritten_of kind))
 
 -- why a history isn't written and then reported: the text isn't written, and nothing is printed; or the report wants
--- memory or an output
-abbrev pub IsUnreported : List ℕ → List ℕ → List Written → (List ℕ → Type 0) → Failure → Type 0
-IsUnreported name text ws Prints f =
-    (IsUnwritten name text ws f × Prints []) ⊎ ((ws ≡ kept name text ∷ []) × IsWanting f)
+-- memory or an output, which takes a front of it
+abbrev pub IsUnreported : List ℕ → List ℕ → List ℕ → List Written → (List ℕ → Type 0) → Failure → Type 0
+IsUnreported name text report ws Prints f =
+    (IsUnwritten name text ws f × Prints [])
+    ⊎ ((ws ≡ kept name text ∷ []) × PrintsFront Prints report × IsWanting f)

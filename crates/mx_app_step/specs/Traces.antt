@@ -66,10 +66,16 @@ IsTracePrinted w records from replayed.Refused Prints =
     (n : ℕ) × (r : Refusal) × IsRefusedAt w records n r
     × Prints (trace_text from w 1 (take (n - 1) records) ++ refused_record_line (lines_above w.table.rules + n) r)
 
--- a front of the trace of all records is printed, or of what is printed up to one that is refused
+-- of the trace of some first records, of which none is refused, a front is printed
+abbrev pub IsTraceFront : World → List Record → ℕ → (List ℕ → Type 0) → Type 0
+IsTraceFront w records from Prints =
+    (n : ℕ) × AreAccepted w (events_of_history (take n records))
+    × PrintsFront Prints (trace_text from w 1 (take n records))
+
+-- a front of it is printed, or of what is printed up to one that is refused
 abbrev pub IsTraceBegun : World → List Record → ℕ → (List ℕ → Type 0) → Type 0
 IsTraceBegun w records from Prints =
-    PrintsFront Prints (trace_text from w 1 records) ⊎ IsTracePrinted w records from replayed.Refused (PrintsFront Prints)
+    IsTraceFront w records from Prints ⊎ IsTracePrinted w records from replayed.Refused (PrintsFront Prints)
 
 -- TWO PARTS OF A TRACE JOIN: what is printed from a to b, and then from the record after b to c, is what is printed
 -- from a to c

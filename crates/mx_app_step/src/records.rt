@@ -16,7 +16,7 @@ ghost use Rattle.mx_machine.specs.History.{AreAccepted, world_after_events, even
 ghost use Rattle.mx_machine.specs.World.{actors};
 ghost use Rattle.mx_app_step.specs.Kept.{kept_of};
 ghost use Rattle.mx_app_step.specs.Records.{IsReplayBegun, IsReplayPrinted, IsRefusedAt, refused_record_line};
-ghost use Rattle.mx_app_start.specs.Telling.{IsTold, PrintsBefore};
+ghost use Rattle.mx_app_start.specs.Telling.{IsTold};
 
 use crate::printing::print_report;
 use mx_app_failure::{Failure, print_text};
@@ -133,12 +133,10 @@ pub fn replay<R: Reader, W: Write>(
         Appends (W.contents out.old) (W.contents out.new) text)) }
     ensures fault { IfErr result (λ f. (qs : List Asked)
         × (R.asked reader.new ≡ R.asked reader.old ++ qs)
-        × IsTold IsSaved TellsSaved config.now log.now qs f) }
-    ensures begun { IfErr result (λ _. PrintsBefore IsSaved config.now log.now
-        (R.asked reader.old) (R.asked reader.new)
+        × IsTold IsSaved TellsSaved config.now log.now qs
         (λ text. Appends (W.contents out.old) (W.contents out.new) text)
         (λ c vs records. IsReplayBegun (world_at_boot c vs) records
-        (λ text. Appends (W.contents out.old) (W.contents out.new) text))) }
+        (λ text. Appends (W.contents out.old) (W.contents out.new) text)) f) }
 {
     let mut started = start::<History, R>(alloc, reader, config, log)?;
     let records = started.lines.as_slice();

@@ -72,9 +72,12 @@ fn perform_and_save<R: Drop, F: FileWriter + Drop, W: Write + Drop>(
         (answers_text numbered m.0 ++ report_text m.1.table m.1.services))) }
     ensures unsaved { IfErr result (λ f. (ws : List Written)
         × (F.written channels.new.files ≡ F.written channels.old.files ++ ws)
-        × IsUnsaved log.now (text_kept
+        × (let m = lines_made (world_of started.old.machine) started.old.other
+        started.old.lines.items in
+        IsUnsaved log.now (text_kept
         (lines_kept started.old.machine.kernel (world_of started.old.machine) started.old.other
-        started.old.lines.items)) ws f) }
+        started.old.lines.items)) (answers_text numbered m.0) (report_text m.1.table m.1.services) ws
+        (λ text. Appends (W.contents channels.old.out) (W.contents channels.new.out) text) f)) }
 {
     let lines = Lines {
         lines: started.lines.as_slice(),
@@ -117,18 +120,21 @@ fn step_started<R: Drop, F: FileWriter + Drop, W: Write + Drop>(
         × (SparesProgram started.old.config log.now ws
         (λ text. Appends (W.contents channels.old.out) (W.contents channels.new.out) text) f
         ⊎ ((names_program started.old.config log.now ≡ false)
-        × IsUnsaved log.now (text_kept
+        × (let m = lines_made (world_of started.old.machine) started.old.other
+        started.old.lines.items in
+        IsUnsaved log.now (text_kept
         (lines_kept started.old.machine.kernel (world_of started.old.machine) started.old.other
-        started.old.lines.items)) ws f))) }
+        started.old.lines.items)) (answers_text numbered m.0) (report_text m.1.table m.1.services) ws
+        (λ text. Appends (W.contents channels.old.out) (W.contents channels.new.out) text) f)))) }
 {
     spare_programs(&started.config, log)?;
     perform_and_save(alloc, channels, started, log, numbered)
 }
 
 /// Starts a script's machine, prints the answer to each line of the script, writes the history that the script
-/// made to the file `log`, also if lines were refused, and then prints the report. What is printed before a
-/// failure isn't promised. The program of a service isn't written over: if its file has the name of LOG, nothing
-/// is written or printed.
+/// made to the file `log`, also if lines were refused, and then prints the report. Before a failure a front of this
+/// text is printed: nothing, if no machine is started, and no report before the history is written. The program of a
+/// service isn't written over: if its file has the name of LOG, nothing is written or printed.
 pub fn step_saved<R: Reader + Drop, F: FileWriter + Drop, W: Write + Drop>(
     alloc: Global,
     channels: &mut Channels<R, F, W>,
@@ -148,15 +154,17 @@ pub fn step_saved<R: Reader + Drop, F: FileWriter + Drop, W: Write + Drop>(
     ensures fault { IfErr result (λ f. (qs : List Asked) × (ws : List Written)
         × (R.asked channels.new.reader ≡ R.asked channels.old.reader ++ qs)
         × (F.written channels.new.files ≡ F.written channels.old.files ++ ws)
-        × (((ws ≡ [])
+        × (((ws ≡ []) × Appends (W.contents channels.old.out) (W.contents channels.new.out) []
         × IsNotStarted IsScript TellsScript named.entry.config.now named.entry.script.now qs f)
         ⊎ ((c : Config) × (vs : List Service) × (said : List Line)
         × IsStart IsScript named.entry.config.now named.entry.script.now qs c vs said
         × (SparesProgram c log.now ws
         (λ text. Appends (W.contents channels.old.out) (W.contents channels.new.out) text) f
         ⊎ ((names_program c log.now ≡ false)
-        × IsUnsaved log.now (saved_text c.rules (history_made (world_at_boot c vs) c.cpus said)) ws
-        f))))) }
+        × (let m = lines_made (world_at_boot c vs) c.cpus said in
+        IsUnsaved log.now (saved_text c.rules (history_made (world_at_boot c vs) c.cpus said))
+        (answers_text named.entry.numbered m.0) (report_text m.1.table m.1.services) ws
+        (λ text. Appends (W.contents channels.old.out) (W.contents channels.new.out) text) f)))))) }
 {
     let mut started = start::<Script, R>(alloc, &mut channels.reader, named.config, named.script)?;
     step_started(alloc, channels, &mut started, log, named.numbered)

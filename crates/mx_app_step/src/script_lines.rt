@@ -16,7 +16,7 @@ ghost use Rattle.mx_machine.specs.World.{actors};
 ghost use Rattle.mx_app_step.specs.Kept.{event_of_line, kept_by};
 ghost use Rattle.mx_app_step.specs.Lines.{line_made, lines_made};
 ghost use Rattle.mx_app_step.specs.Numbered.{answers_text};
-ghost use Rattle.mx_app_start.specs.Telling.{IsTold, PrintsBefore};
+ghost use Rattle.mx_app_start.specs.Telling.{IsTold};
 
 use crate::driving_lines::{Lines, Performs, print_lines};
 use crate::stepping::{make_event, make_steps};
@@ -102,13 +102,11 @@ pub fn step<R: Reader, W: io::Write>(
         ++ report_text m.1.table m.1.services))) }
     ensures fault { IfErr result (λ f. (qs : List Asked)
         × (R.asked reader.new ≡ R.asked reader.old ++ qs)
-        × IsTold IsScript TellsScript named.entry.config.now named.entry.script.now qs f) }
-    ensures begun { IfErr result (λ _. PrintsBefore IsScript named.entry.config.now
-        named.entry.script.now (R.asked reader.old) (R.asked reader.new)
+        × IsTold IsScript TellsScript named.entry.config.now named.entry.script.now qs
         (λ text. Appends (W.contents out.old) (W.contents out.new) text)
         (λ c vs said. let m = lines_made (world_at_boot c vs) c.cpus said in
         PrintsFront (λ text. Appends (W.contents out.old) (W.contents out.new) text)
-        (answers_text named.entry.numbered m.0 ++ report_text m.1.table m.1.services))) }
+        (answers_text named.entry.numbered m.0 ++ report_text m.1.table m.1.services)) f) }
 {
     let mut started = start::<Script, R>(alloc, reader, named.config, named.script)?;
     let lines = Lines {

@@ -9,13 +9,13 @@ ghost use Rattle.mx_app_start.specs.Config.{Config};
 ghost use Rattle.mx_app_start.specs.Asked.{Asked};
 ghost use Rattle.mx_app_start.specs.Course.{IsSaved, TellsSaved};
 ghost use Rattle.mx_app_start.specs.Setup.{IsStart};
-ghost use Rattle.mx_app_start.specs.Telling.{IsTold, PrintsBefore};
+ghost use Rattle.mx_app_start.specs.Telling.{IsTold};
 ghost use Rattle.mx_machine.specs.declared.history.Record.{Record as Noted};
 ghost use Rattle.mx_machine.specs.Boot.{world_at_boot};
 ghost use Rattle.mx_machine.specs.History.{AreAccepted, world_after_events, events_of};
 ghost use Rattle.mx_machine.specs.World.{actors};
 ghost use Rattle.mx_app_step.specs.Records.{IsFirstRefusal};
-ghost use Rattle.mx_app_step.specs.Traces.{IsTraceBegun, IsTracePrinted, IsTraced, resting_transition, trace_text, transition_of, told_of};
+ghost use Rattle.mx_app_step.specs.Traces.{IsTraceBegun, IsTraceFront, IsTracePrinted, IsTraced, resting_transition, trace_text, transition_of, told_of};
 
 use crate::records::{Replayed, print_refusal};
 use mx_app_failure::{Failure, print_text};
@@ -103,9 +103,8 @@ fn print_transitions<W: Write>(
     requires few { length records.now < 2 ^ 32 }
     requires actors { All (λ (x : Noted). x.actor < actors (world_of machine.old)) records.now }
     ensures err { IfErr result IsWanting }
-    ensures front { IfErr result (λ _. PrintsFront
-        (λ front. Appends (W.contents out.old) (W.contents out.new) front)
-        (trace_text from (world_of machine.old) 1 records.now)) }
+    ensures front { IfErr result (λ _. IsTraceFront (world_of machine.old) records.now from
+        (λ text. Appends (W.contents out.old) (W.contents out.new) text)) }
     ensures printed { IfOk result (λ refused.
         IsTraced (world_of machine.old) records.now from refused (λ text.
         Appends (W.contents out.old) (W.contents out.new) text)) }
@@ -192,12 +191,10 @@ pub fn trace<R: Reader, W: Write>(
         Appends (W.contents out.old) (W.contents out.new) text)) }
     ensures fault { IfErr result (λ f. (qs : List Asked)
         × (R.asked reader.new ≡ R.asked reader.old ++ qs)
-        × IsTold IsSaved TellsSaved chosen.entry.config.now chosen.entry.log.now qs f) }
-    ensures begun { IfErr result (λ _. PrintsBefore IsSaved chosen.entry.config.now
-        chosen.entry.log.now (R.asked reader.old) (R.asked reader.new)
+        × IsTold IsSaved TellsSaved chosen.entry.config.now chosen.entry.log.now qs
         (λ text. Appends (W.contents out.old) (W.contents out.new) text)
         (λ c vs records. IsTraceBegun (world_at_boot c vs) (take chosen.entry.to records)
-        chosen.entry.from (λ text. Appends (W.contents out.old) (W.contents out.new) text))) }
+        chosen.entry.from (λ text. Appends (W.contents out.old) (W.contents out.new) text)) f) }
 {
     let mut started = start::<History, R>(alloc, reader, chosen.config, chosen.log)?;
     let records = first_records(started.lines.as_slice(), chosen.to);

@@ -116,10 +116,10 @@ module _ (config : List ℕ) (file : Option (List ℕ)) (log : List ℕ) (ticks 
     by_rules : text_kept k ≡ saved_text c.rules k.history
     by_rules = ap (λ (r : Rules). saved_text r k.history) (ap (λ (w : World). w.table.rules) made.boot ∙ rules_at_boot c vs)
 
-    pub untold : (ws : List Written) (f : Kind) (r : Result Ending Kind) → IsUnreported log (text_kept k) ws Prints f → IsErrAnd r (λ y. y ≡ f) → MakesTurns config file log ticks bound qs ws ps Prints r
+    pub untold : (ws : List Written) (f : Kind) (r : Result Ending Kind) → IsUnreported log (text_kept k) (report_text (replay k).table (replay k).services) ws Prints f → IsErrAnd r (λ y. y ≡ f) → MakesTurns config file log ticks bound qs ws ps Prints r
     untold ws f (Ok u) why h = absurd h
     untold ws f (Err y) why h =
-        inr (inr (c, vs, events, k, ending, begun, other, made, shown, subst (λ t. IsUnreported log t ws Prints y) by_rules (subst (λ z. IsUnreported log (text_kept k) ws Prints z) (sym h) why)))
+        inr (inr (c, vs, events, k, ending, begun, other, made, shown, subst (λ t. IsUnreported log t (report_text (replay k).table (replay k).services) ws Prints y) by_rules (subst (λ z. IsUnreported log (text_kept k) (report_text (replay k).table (replay k).services) ws Prints z) (sym h) why)))
 
     pub written : Prints (report_text (replay k).table (replay k).services) → MakesTurns config file log ticks bound qs (kept log (text_kept k) ∷ []) ps Prints (Ok ending)
     written printed = (c, vs, events, k, begun, other, made, shown, ap (λ t. kept log t ∷ []) by_rules, printed)

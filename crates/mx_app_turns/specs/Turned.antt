@@ -86,7 +86,7 @@ MakesTurns config events log ticks n qs ws ps Prints (Err f) =
     × IsBegun config events qs c vs xs
     × (names_program c log ≡ false) × IsTurned c vs n (coming xs ticks) k ending
     × ShowsTurns c vs n (coming xs ticks) ps
-    × IsUnreported log (saved_text c.rules k.history) ws Prints f))
+    × IsUnreported log (saved_text c.rules k.history) (report_text (replay k).table (replay k).services) ws Prints f))
 
 -- ---- its replay
 

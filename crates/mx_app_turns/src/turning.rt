@@ -147,7 +147,8 @@ fn save_and_report<R: Drop, F: FileWriter + Drop, W: Write + Drop>(
         (report_text (replay kernel.now).table (replay kernel.now).services)) }
     ensures unsaved { IfErr result (λ f. (ws : List Written)
         × (F.written channels.new.files ≡ F.written channels.old.files ++ ws)
-        × IsUnreported log.now (text_kept kernel.now) ws
+        × IsUnreported log.now (text_kept kernel.now)
+        (report_text (replay kernel.now).table (replay kernel.now).services) ws
         (λ text. Appends (W.contents channels.old.out) (W.contents channels.new.out) text) f) }
 {
     write_history(alloc, kernel, &mut channels.files, log)?;

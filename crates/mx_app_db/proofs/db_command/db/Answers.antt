@@ -1,10 +1,12 @@
-use Rattle.std.proofs.Common.{inl, inr, List, subst}
+use Rattle.std.proofs.Common.{ℕ, inl, inr, List, subst}
+use Rattle.std.proofs.KnownBytes.{Appends-nil}
 use Rattle.std.proofs.lemmas.Result.{IfErr-weaker, err_from_is_err_and, on_ok_weaker}
 use Rattle.std.specs.Io.KnownBytes.{Appends}
 use Rattle.mx_app_step.specs.Driving.{driven}
-use Rattle.mx_app_step.specs.Failure.{IsWanting}
+use Rattle.mx_app_step.specs.Failure.{PrintsFront}
 use Rattle.mx_app_step.specs.Machine.{world_of}
 use Rattle.mx_print_answers.specs.Breakpoint.{Breakpoint}
+use Rattle.mx_app_step.proofs.FrontLemmas.{err_both}
 use Rattle.mx_app_db.proofs.Made.{both}
 use Rattle.mx_app_db.proofs.Printed.{booted_printed, debug_reported, text_of}
 use Rattle.mx_app_db.proofs.db_command.db.Goals as goal
@@ -13,7 +15,7 @@ pub returns-in_err-started-clause-fault : goal.returns-in_err-started-clause-fau
 returns-in_err-started-clause-fault g c =
     let p = err_from_is_err_and c.from_residual.result c.from_residual.ensures.1 in
     let h = c.in_err-started.ensures.fault in
-    rw (p.1, p.2) (h.0, h.1, inl h.2)
+    rw (p.1, p.2) (h.0, h.1, inl (Appends-nil _, h.2))
 
 pub returns-clause-printed : goal.returns-clause-printed
 returns-clause-printed g c =
@@ -30,12 +32,29 @@ returns-clause-printed g c =
       c.in_ok-started.started.lines.items,
       s.3,
       s.4,
-      booted_printed x z s.1 s.2 (world_of m) other c.in_ok-started.started.lines.items lines s.5 s.6 c.as_slice.ensures.value
+      booted_printed (λ t. Appends x z t) s.1 s.2 (world_of m) other c.in_ok-started.started.lines.items lines s.5 s.6 c.as_slice.ensures.value
           (subst (λ (points : List Breakpoint). Appends x z (text_of other (both (world_of m) points) lines)) c.new.ensures
-          (debug_reported x z (driven m (record { debugger = c.new.result })) other lines b)),
+          (debug_reported (λ t. Appends x z t) (driven m (record { debugger = c.new.result })) other lines b)),
     )) c.print_lines.ensures.printed
 
 pub returns-clause-fault : goal.returns-clause-fault
 returns-clause-fault g c =
     let s = c.in_ok-started.ensures.started in
-    IfErr-weaker c.print_lines.result IsWanting _ (λ f h. (s.0, s.3, inr (s.1, s.2, c.in_ok-started.started.lines.items, s.4, h))) c.print_lines.ensures.err
+    let m = c.in_ok-started.started.machine in
+    let other = c.in_ok-started.started.other in
+    let lines = c.as_slice.result.now in
+    let front : List ℕ → Type 0 = λ text. PrintsFront (λ t. Appends (g.W.Write.contents c.args.out.now) (g.W.Write.contents c.print_lines.new.out) t) text in
+    IfErr-weaker c.print_lines.result _ _ (λ f h. (
+      s.0,
+      s.3,
+      inr (
+        s.1,
+        s.2,
+        c.in_ok-started.started.lines.items,
+        s.4,
+        booted_printed front s.1 s.2 (world_of m) other c.in_ok-started.started.lines.items lines s.5 s.6 c.as_slice.ensures.value
+            (subst (λ (points : List Breakpoint). front (text_of other (both (world_of m) points) lines)) c.new.ensures
+            (debug_reported front (driven m (record { debugger = c.new.result })) other lines h.1)),
+        h.0,
+      ),
+    )) (err_both c.print_lines.result _ _ c.print_lines.ensures.err c.print_lines.ensures.front)

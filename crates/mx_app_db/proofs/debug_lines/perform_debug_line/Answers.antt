@@ -36,7 +36,7 @@ returns-in-Go-clause-text c =
     answer_by c.perform_go.result c.args.other (both (world_of c.args.machine.now) c.args.debugger.now) c.args.line.now _ (string_bytes c.args.text.now) (string_bytes c.perform_go.new.text) _ c.in-Go.is
     (go_answer c.args.other (both (world_of c.args.machine.now) c.args.debugger.now) _ _) c.perform_go.ensures.text
 
-pub returns-in-Show-clause-text : goal.returns-in-Show-clause-text
-returns-in-Show-clause-text c =
-    answer_by c.push_look.result c.args.other (both (world_of c.args.machine.now) c.args.debugger.now) c.args.line.now _ (string_bytes c.args.text.now) (string_bytes c.push_look.new.text) _ c.in-Show.is
+pub returns-in-Print-clause-text : goal.returns-in-Print-clause-text
+returns-in-Print-clause-text c =
+    answer_by c.push_look.result c.args.other (both (world_of c.args.machine.now) c.args.debugger.now) c.args.line.now _ (string_bytes c.args.text.now) (string_bytes c.push_look.new.text) _ c.in-Print.is
     (look_answer c.args.other (both (world_of c.args.machine.now) c.args.debugger.now) _) c.push_look.ensures

@@ -6,7 +6,8 @@ use Rattle.mx_app_look.specs.declared.sight.Sight.{Sight}
 use Rattle.mx_app_look.specs.Sessions.{IsAnsweredBy}
 use Rattle.mx_app_look.specs.Shows.{IsShownBy}
 use Rattle.mx_app_look.proofs.Halted.{both_hold}
-use Rattle.mx_app_look.proofs.ShownMore.{Shows, err_always, grown_none, ok_always}
+use Rattle.mx_app_step.proofs.FrontLemmas.{err_always}
+use Rattle.mx_app_look.proofs.ShownMore.{Shows, grown_none, ok_always}
 use Rattle.mx_app_look.proofs.answering.answer.Goals as goal
 
 pub returns-in-Some-clause-shown : goal.returns-in-Some-clause-shown

@@ -8,7 +8,8 @@ use Rattle.mx_app_look.specs.Places.{place_text}
 use Rattle.mx_app_look.specs.Seeking.{point_made, point_text}
 use Rattle.mx_app_look.specs.Showing.{query_text}
 use Rattle.mx_app_look.proofs.Making.{made_as}
-use Rattle.mx_app_look.proofs.ShownMore.{err_always, grown_none, nothing_shown, stayed_shown, why_asked}
+use Rattle.mx_app_step.proofs.FrontLemmas.{err_always}
+use Rattle.mx_app_look.proofs.ShownMore.{grown_none, nothing_shown, stayed_shown, why_asked}
 use Rattle.mx_app_look.proofs.answering.perform_here.Goals as goal
 
 pub returns-in-Why-clause-shown : goal.returns-in-Why-clause-shown

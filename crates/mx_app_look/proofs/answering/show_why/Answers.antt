@@ -1,4 +1,4 @@
-use Rattle.mx_app_look.proofs.ShownMore.{err_always}
+use Rattle.mx_app_step.proofs.FrontLemmas.{err_always}
 use Rattle.mx_app_look.proofs.answering.show_why.Goals as goal
 
 pub returns-in_err-walker-clause-grown : goal.returns-in_err-walker-clause-grown

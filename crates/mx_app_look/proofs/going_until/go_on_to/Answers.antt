@@ -1,7 +1,8 @@
 use Rattle.std.proofs.Common.{◌∙◌, ◌++◌, cond, ap, sym}
 use Rattle.mx_walk.specs.Walks.{shown_to}
 use Rattle.mx_app_look.specs.Until.{until_halt}
-use Rattle.mx_app_look.proofs.ShownMore.{err_always, grown_by}
+use Rattle.mx_app_step.proofs.FrontLemmas.{err_always}
+use Rattle.mx_app_look.proofs.ShownMore.{grown_by}
 use Rattle.mx_app_look.proofs.going_until.go_on_to.Goals as goal
 
 pub returns-clause-shown : goal.returns-clause-shown

@@ -14,7 +14,8 @@ use Rattle.mx_app_look.specs.Searches.{not_met}
 use Rattle.mx_app_look.specs.Until.{halt_after, has, met, until_halt}
 use Rattle.mx_app_look.proofs.Meeting.{met_from}
 use Rattle.mx_app_look.proofs.Moving.{read_is}
-use Rattle.mx_app_look.proofs.ShownMore.{err_always, err_weaker, grown_by, grown_more, grown_same, halts_last, ok_weaker, on_here, on_one_more, passed_one, shown_until_here, shown_until_last}
+use Rattle.mx_app_step.proofs.FrontLemmas.{err_always}
+use Rattle.mx_app_look.proofs.ShownMore.{err_weaker, grown_by, grown_more, grown_same, halts_last, ok_weaker, on_here, on_one_more, passed_one, shown_until_here, shown_until_last}
 use Rattle.mx_app_look.proofs.going_until.go_on_until.Goals as goal
 
 -- it happens in none of the records

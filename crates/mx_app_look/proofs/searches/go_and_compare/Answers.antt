@@ -1,4 +1,5 @@
-use Rattle.mx_app_look.proofs.ShownMore.{err_always, grown_by, grown_none, grown_same}
+use Rattle.mx_app_step.proofs.FrontLemmas.{err_always}
+use Rattle.mx_app_look.proofs.ShownMore.{grown_by, grown_none, grown_same}
 use Rattle.mx_app_look.proofs.searches.go_and_compare.Goals as goal
 
 pub returns-in_err-seen-clause-grown : goal.returns-in_err-seen-clause-grown

@@ -8,7 +8,8 @@ use Rattle.mx_walk.proofs.Next.{is_position_too}
 use Rattle.mx_app_look.specs.Shows.{return_shown}
 use Rattle.mx_app_look.proofs.Coming.{last_halt, next_is_early, no_last_halt, some_below}
 use Rattle.mx_app_look.proofs.Halted.{both_hold}
-use Rattle.mx_app_look.proofs.ShownMore.{back_shown, err_always, err_weaker, grown_by, grown_more, none_before, ok_always, ok_weaker}
+use Rattle.mx_app_step.proofs.FrontLemmas.{err_always}
+use Rattle.mx_app_look.proofs.ShownMore.{back_shown, err_weaker, grown_by, grown_more, none_before, ok_always, ok_weaker}
 use Rattle.mx_app_look.proofs.searches.go_back_to_point.Goals as goal
 
 pub returns-then-not-found-clause-walker : goal.returns-then-not-found-clause-walker

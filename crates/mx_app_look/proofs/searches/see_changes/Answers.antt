@@ -2,7 +2,8 @@ use Rattle.std.proofs.Common.{◌∙◌, ◌++◌, ap, subst, sym}
 use Rattle.mx_walk.specs.declared.positions.Position.{Position}
 use Rattle.mx_walk.specs.Walks.{Walk, shown_to, shown_way}
 use Rattle.mx_walk.specs.Positions.{IsPosition, IsUpTo}
-use Rattle.mx_app_look.proofs.ShownMore.{both_shown, err_always, grown_by, grown_more, grown_same}
+use Rattle.mx_app_step.proofs.FrontLemmas.{err_always}
+use Rattle.mx_app_look.proofs.ShownMore.{both_shown, grown_by, grown_more, grown_same}
 use Rattle.mx_app_look.proofs.searches.see_changes.Goals as goal
 
 pub go_to-requires-clause-position : goal.go_to-requires-clause-position

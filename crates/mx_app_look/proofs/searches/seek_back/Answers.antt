@@ -3,7 +3,8 @@ use Rattle.std.proofs.lemmas.Result.{IfOk-weaker}
 use Rattle.mx_walk.specs.Seeking.{IsLastMarked, IsPassed}
 use Rattle.mx_walk.specs.Positions.{first}
 use Rattle.mx_app_look.proofs.Marked.{Marks, both_are}
-use Rattle.mx_app_look.proofs.ShownMore.{err_always, err_weaker, grown_either, grown_none}
+use Rattle.mx_app_step.proofs.FrontLemmas.{err_always}
+use Rattle.mx_app_look.proofs.ShownMore.{err_weaker, grown_either, grown_none}
 use Rattle.mx_app_look.proofs.searches.seek_back.Goals as goal
 
 pub returns-clause-found : goal.returns-clause-found

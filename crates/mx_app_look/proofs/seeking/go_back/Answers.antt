@@ -1,7 +1,8 @@
 use Rattle.std.proofs.Common.{string_bytes}
 use Rattle.mx_app_look.specs.Searches.{IsLastHalt}
 use Rattle.mx_app_look.proofs.Halted.{halted_by}
-use Rattle.mx_app_look.proofs.ShownMore.{err_always, grown_by, ok_always}
+use Rattle.mx_app_step.proofs.FrontLemmas.{err_always}
+use Rattle.mx_app_look.proofs.ShownMore.{grown_by, ok_always}
 use Rattle.mx_app_look.proofs.seeking.go_back.Goals as goal
 
 pub returns-clause-halted : goal.returns-clause-halted

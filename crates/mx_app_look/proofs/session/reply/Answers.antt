@@ -1,6 +1,8 @@
-use Rattle.std.proofs.Common.{refl, subst}
+use Rattle.std.proofs.Common.{◌∙◌, [], inl, inr, refl, subst, sym}
+use Rattle.std.proofs.KnownBytes.{Appends-nil}
 use Rattle.std.specs.Io.KnownBytes.{Appends}
-use Rattle.mx_app_look.proofs.ShownMore.{err_always, grown_by}
+use Rattle.mx_app_step.proofs.FrontLemmas.{err_always}
+use Rattle.mx_app_look.proofs.ShownMore.{grown_by}
 use Rattle.mx_app_look.proofs.SoFar.{none_case, some_case}
 use Rattle.mx_app_look.proofs.session.reply.Goals as goal
 
@@ -26,3 +28,14 @@ returns-in_err-print_text-in-Some-clause-grown g c =
     let h = some_case c.in_ok-next.field-0 (c.in-Some.next, c.in-Some.text) _ _ c.in-Some.is c.in_ok-next.ensures.answered in
     let a = h.1 in
     err_always c.from_residual-in_err-print_text-in-Some.result _ (grown_by _ _ _ a.5)
+
+pub returns-in_err-next-clause-begun : goal.returns-in_err-next-clause-begun
+returns-in_err-next-clause-begun g c = err_always c.from_residual.result _ ([], inl refl, Appends-nil _)
+
+pub returns-in_err-print_text-in-Some-clause-begun : goal.returns-in_err-print_text-in-Some-clause-begun
+returns-in_err-print_text-in-Some-clause-begun g c =
+    let h = some_case c.in_ok-next.field-0 (c.in-Some.next, c.in-Some.text) _ _ c.in-Some.is c.in_ok-next.ensures.answered in
+    let a = h.1 in
+    let front = c.in_err-print_text-in-Some.ensures.front in
+    err_always c.from_residual-in_err-print_text-in-Some.result _
+    (front.0, inr (h.0, (c.in-Some.next, a.0, front.1, a.2, sym a.4 ∙ sym c.as_slice.ensures.value ∙ front.2)), front.3)

@@ -35,7 +35,7 @@ returns-in_err-walker-clause-fault g c =
     let last : IsLast (world_at_boot s.1 s.2) records h.0 = subst (λ (w : World). IsLast w records h.0) boot h.1 in
     let wanting : IfErr c.from_residual-in_err-walker.result IsWanting = search rules in
     IfErr-weaker c.from_residual-in_err-walker.result IsWanting _
-    (λ f e. (s.0, walk_shown records h.0, s.3, h.2, inr (s.1, s.2, records, h.0, s.4, last, grown_none _, inr e))) wanting
+    (λ f e. (s.0, walk_shown records h.0, s.3, h.2, inr (s.1, s.2, records, h.0, s.4, last, grown_none _, e))) wanting
 
 pub returns-clause-begun : goal.returns-clause-begun
 returns-clause-begun g c =

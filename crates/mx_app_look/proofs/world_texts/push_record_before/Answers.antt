@@ -5,7 +5,8 @@ use Rattle.mx_walk.specs.Walks.{Walk}
 use Rattle.mx_app_look.proofs.Moving.{records_up_to}
 use Rattle.mx_walk.specs.declared.positions.Position.{Position}
 use Rattle.mx_app_look.specs.Shows.{record_shown}
-use Rattle.mx_app_look.proofs.ShownMore.{err_always, grown_by, grown_more, grown_same, then_none}
+use Rattle.mx_app_step.proofs.FrontLemmas.{err_always}
+use Rattle.mx_app_look.proofs.ShownMore.{grown_by, grown_more, grown_same, then_none}
 use Rattle.mx_app_look.proofs.world_texts.push_record_before.Goals as goal
 
 pub see_record-requires-clause-there : goal.see_record-requires-clause-there

@@ -3,7 +3,8 @@ use Rattle.mx_walk.specs.declared.positions.Position.{Position}
 use Rattle.mx_walk.specs.Positions.{IsPosition}
 use Rattle.mx_app_look.proofs.Moving.{begun_position}
 use Rattle.mx_walk.proofs.Along.{at}
-use Rattle.mx_app_look.proofs.ShownMore.{err_always, grown_by, grown_more, grown_same, record_is_shown}
+use Rattle.mx_app_step.proofs.FrontLemmas.{err_always}
+use Rattle.mx_app_look.proofs.ShownMore.{grown_by, grown_more, grown_same, record_is_shown}
 use Rattle.mx_app_look.proofs.world_texts.see_record.Goals as goal
 
 pub go_to-requires-clause-position : goal.go_to-requires-clause-position

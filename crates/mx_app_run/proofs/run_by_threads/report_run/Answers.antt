@@ -14,7 +14,7 @@ returns-in_err-write_history-clause-reported g c =
 pub returns-in_err-print_kernel_report-clause-reported : goal.returns-in_err-print_kernel_report-clause-reported
 returns-in_err-print_kernel_report-clause-reported g c =
     let p = err_from_is_err_and c.from_residual-in_err-print_kernel_report.result c.from_residual-in_err-print_kernel_report.ensures.1 in
-    rw (p.1, p.2) (kept c.args.log.now (text_kept c.args.kernel.now) ∷ [], c.in_ok-write_history.ensures.written, inr (refl, c.in_err-print_kernel_report.ensures.err))
+    rw (p.1, p.2) (kept c.args.log.now (text_kept c.args.kernel.now) ∷ [], c.in_ok-write_history.ensures.written, inr (refl, c.in_err-print_kernel_report.ensures.front, c.in_err-print_kernel_report.ensures.err))
 
 pub returns-clause-reported : goal.returns-clause-reported
 returns-clause-reported g c =

@@ -2,9 +2,9 @@ use Rattle.std.proofs.Common.{List, ℕ, inl, inr}
 use Rattle.std.proofs.KnownBytes.{Appends-nil}
 use Rattle.std.proofs.lemmas.Result.{IfErr-weaker, IfOk-weaker, err_from_is_err_and}
 use Rattle.std.specs.Io.KnownBytes.{Appends}
-use Rattle.mx_app_start.specs.Failure.{IsWanting, PrintsFront}
+use Rattle.mx_app_start.specs.Failure.{PrintsFront}
 use Rattle.mx_app_start.specs.Machine.{world_of}
-use Rattle.mx_app_step.proofs.FrontLemmas.{err_always}
+use Rattle.mx_app_step.proofs.FrontLemmas.{err_both}
 use Rattle.mx_app_step.proofs.ReplayLemmas.{history_printed, saved_by_actors}
 use Rattle.mx_app_step.proofs.records.replay.Goals as goal
 
@@ -12,7 +12,7 @@ pub returns-in_err-started-clause-fault : goal.returns-in_err-started-clause-fau
 returns-in_err-started-clause-fault g c =
     let p = err_from_is_err_and c.from_residual.result c.from_residual.ensures.1 in
     let h = c.in_err-started.ensures.fault in
-    rw (p.1, p.2) (h.0, h.1, inl h.2)
+    rw (p.1, p.2) (h.0, h.1, inl (Appends-nil _, h.2))
 
 pub print_records-requires : goal.print_records-requires
 print_records-requires g c =
@@ -35,21 +35,16 @@ returns-clause-printed g c =
 pub returns-clause-fault : goal.returns-clause-fault
 returns-clause-fault g c =
     let s = c.in_ok-started.ensures.started in
-    IfErr-weaker c.print_records.result IsWanting _ (λ f h. (s.0, s.3, inr (s.1, s.2, c.in_ok-started.started.lines.items, s.4, h))) c.print_records.ensures.err
-
-pub returns-in_err-started-clause-begun : goal.returns-in_err-started-clause-begun
-returns-in_err-started-clause-begun g c = err_always c.from_residual.result _ (inl (Appends-nil _))
-
-pub returns-clause-begun : goal.returns-clause-begun
-returns-clause-begun g c =
-    let s = c.in_ok-started.ensures.started in
     let front : List ℕ → Type 0 = λ text. PrintsFront (λ t. Appends (g.W.Write.contents c.args.out.now) (g.W.Write.contents c.print_records.new.out) t) text in
-    IfErr-weaker c.print_records.result _ _ (λ f h. inr (
+    IfErr-weaker c.print_records.result _ _ (λ f h. (
       s.0,
-      s.1,
-      s.2,
-      c.in_ok-started.started.lines.items,
       s.3,
-      s.4,
-      (h.0, history_printed front s.1 s.2 c.in_ok-started.started.lines.items c.as_slice-records.result.now (world_of c.in_ok-started.started.machine) h.0 c.as_slice-records.ensures.value s.5 h.1),
-    )) c.print_records.ensures.begun
+      inr (
+        s.1,
+        s.2,
+        c.in_ok-started.started.lines.items,
+        s.4,
+        (h.1.0, history_printed front s.1 s.2 c.in_ok-started.started.lines.items c.as_slice-records.result.now (world_of c.in_ok-started.started.machine) h.1.0 c.as_slice-records.ensures.value s.5 h.1.1),
+        h.0,
+      ),
+    )) (err_both c.print_records.result _ _ c.print_records.ensures.err c.print_records.ensures.begun)

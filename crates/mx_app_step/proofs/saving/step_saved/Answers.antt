@@ -2,19 +2,19 @@ use Rattle.std.proofs.Common.{[], ◌∷◌, ◌++◌, inl, inr, subst, ap, sym,
 use Rattle.std.proofs.lemmas.List.{append-nil}
 use Rattle.std.proofs.lemmas.Result.{IfErr-weaker, err_from_is_err_and, on_ok_weaker}
 use Rattle.std.specs.Io.KnownBytes.{Appends}
+use Rattle.mx_app_start.proofs.Appended.{appends_nothing}
 use Rattle.mx_app_start.specs.Config.{Config}
 use Rattle.mx_app_start.specs.Machine.{world_of}
 use Rattle.mx_app_start.specs.Programs.{names_program}
 use Rattle.mx_app_start.specs.Written.{kept}
-use Rattle.mx_app_start.specs.Telling.{IsUnsaved}
-use Rattle.mx_app_step.proofs.StepLemmas.{script_history, script_printed}
+use Rattle.mx_app_step.proofs.StepLemmas.{script_history, script_printed, script_unsaved}
 use Rattle.mx_app_step.proofs.saving.step_saved.Goals as goal
 
 pub returns-in_err-started-clause-fault : goal.returns-in_err-started-clause-fault
 returns-in_err-started-clause-fault g c =
     let p = err_from_is_err_and c.from_residual.result c.from_residual.ensures.1 in
     let h = c.in_err-started.ensures.fault in
-    rw (p.1, p.2) (h.0, [], h.1, sym (append-nil _), inl (refl, h.2))
+    rw (p.1, p.2) (h.0, [], h.1, sym (append-nil _), inl (refl, appends_nothing _, h.2))
 
 pub returns-clause-saved : goal.returns-clause-saved
 returns-clause-saved g c =
@@ -42,5 +42,20 @@ returns-clause-fault g c =
     let asked = ap g.R.Reader.asked c.step_started.ensures.reader ∙ s.3 in
     IfErr-weaker c.step_started.result _ _ (λ f h. (elim h.2 [
       | inl spared ↦ (s.0, h.0, asked, h.1, inr (s.1, s.2, lines, s.4, inl (config ∙ spared.0, spared.1, spared.2, spared.3)))
-      | inr unsaved ↦ (s.0, h.0, asked, h.1, inr (s.1, s.2, lines, s.4, inr (config ∙ unsaved.0, subst (λ (t : List ℕ). IsUnsaved c.args.log.now t h.0 f) text unsaved.1)))
+      | inr unsaved ↦ (
+        s.0,
+        h.0,
+        asked,
+        h.1,
+        inr (
+          s.1,
+          s.2,
+          lines,
+          s.4,
+          inr (
+            config ∙ unsaved.0,
+            script_unsaved c.args.named.numbered (λ t. Appends (g.W.Write.contents c.args.channels.now.out) (g.W.Write.contents c.step_started.new.channels.out) t) h.0 f c.args.log.now _ _ s.1 s.2 (world_of c.in_ok-started.started.machine) c.in_ok-started.started.other lines lines s.5 s.6 refl text unsaved.1,
+          ),
+        ),
+      )
     ])) c.step_started.ensures.unsaved

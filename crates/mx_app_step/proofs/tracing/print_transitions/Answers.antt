@@ -37,7 +37,9 @@ loop-index-preserved g c =
 pub returns-in_err-print_transition-in-Ok-clause-front : goal.returns-in_err-print_transition-in-Ok-clause-front
 returns-in_err-print_transition-in-Ok-clause-front g c =
     let inv = c.loop-index.invariant in
+    let w = world_of c.args.machine.now in
+    let v = world_of c.loop-index.machine in
     let i = c.loop-index.index in
     err_always c.from_residual.result _
-    (front_traced c.args.from (world_of c.args.machine.now) (world_of c.loop-index.machine) c.args.records.now i (i + 1) _ c.look_record.new.transition (g.W.Write.contents c.args.out.now) (g.W.Write.contents c.loop-index.out) (g.W.Write.contents c.print_transition.new.out)
-    c.loop-index-test.true refl inv.world c.in-Ok.ensures.transition inv.printed c.in_err-print_transition-in-Ok.ensures.front)
+    (front_traced c.args.from w v c.args.records.now i (i + 1) _ c.look_record.new.transition (g.W.Write.contents c.args.out.now) (g.W.Write.contents c.loop-index.out) (g.W.Write.contents c.print_transition.new.out)
+    c.loop-index-test.true refl inv.world c.in-Ok.ensures.transition (next_accepted w v c.args.records.now i _ c.loop-index-test.true inv.accepted inv.world c.in-Ok.ensures.ok.0) inv.printed c.in_err-print_transition-in-Ok.ensures.front)

@@ -2,11 +2,10 @@ use Rattle.std.proofs.Common.{List, ℕ, ◌∙◌, ◌<◌, ap, take, inl, inr}
 use Rattle.std.proofs.KnownBytes.{Appends-nil}
 use Rattle.std.proofs.lemmas.Result.{IfErr-weaker, IfOk-weaker, err_from_is_err_and}
 use Rattle.std.specs.Io.KnownBytes.{Appends}
-use Rattle.mx_app_start.specs.Failure.{IsWanting}
 use Rattle.mx_app_start.specs.Machine.{world_of}
 use Rattle.mx_machine.specs.World.{actors}
 use Rattle.mx_machine.specs.declared.history.Record.{Record}
-use Rattle.mx_app_step.proofs.FrontLemmas.{err_always}
+use Rattle.mx_app_step.proofs.FrontLemmas.{err_both}
 use Rattle.mx_app_step.proofs.ReplayLemmas.{saved_by_actors}
 use Rattle.mx_app_step.proofs.TraceLemmas.{front_by_actors, trace_begun, trace_printed}
 use Rattle.mx_app_step.proofs.tracing.trace.Goals as goal
@@ -15,7 +14,7 @@ pub returns-in_err-started-clause-fault : goal.returns-in_err-started-clause-fau
 returns-in_err-started-clause-fault g c =
     let p = err_from_is_err_and c.from_residual.result c.from_residual.ensures.1 in
     let h = c.in_err-started.ensures.fault in
-    rw (p.1, p.2) (h.0, h.1, inl h.2)
+    rw (p.1, p.2) (h.0, h.1, inl (Appends-nil _, h.2))
 
 pub print_trace-requires-clause-actors : goal.print_trace-requires-clause-actors
 print_trace-requires-clause-actors g c =
@@ -40,22 +39,17 @@ returns-clause-printed g c =
 pub returns-clause-fault : goal.returns-clause-fault
 returns-clause-fault g c =
     let s = c.in_ok-started.ensures.started in
-    IfErr-weaker c.print_trace.result IsWanting _ (λ f h. (s.0, s.3, inr (s.1, s.2, c.in_ok-started.started.lines.items, s.4, h))) c.print_trace.ensures.err
-
-pub returns-in_err-started-clause-begun : goal.returns-in_err-started-clause-begun
-returns-in_err-started-clause-begun g c = err_always c.from_residual.result _ (inl (Appends-nil _))
-
-pub returns-clause-begun : goal.returns-clause-begun
-returns-clause-begun g c =
-    let s = c.in_ok-started.ensures.started in
     let slice = c.first_records-records.ensures.first ∙ ap (λ (rs : List Record). take c.args.chosen.to rs) c.as_slice.ensures.value in
-    IfErr-weaker c.print_trace.result _ _ (λ f h. inr (
+    IfErr-weaker c.print_trace.result _ _ (λ f h. (
       s.0,
-      s.1,
-      s.2,
-      c.in_ok-started.started.lines.items,
       s.3,
-      s.4,
-      trace_begun (λ text. Appends (g.W.Write.contents c.args.out.now) (g.W.Write.contents c.print_trace.new.out) text) s.1 s.2 c.in_ok-started.started.lines.items c.first_records-records.result.now (world_of c.in_ok-started.started.machine) c.args.chosen.from c.args.chosen.to
-          slice s.5 h,
-    )) c.print_trace.ensures.begun
+      inr (
+        s.1,
+        s.2,
+        c.in_ok-started.started.lines.items,
+        s.4,
+        trace_begun (λ text. Appends (g.W.Write.contents c.args.out.now) (g.W.Write.contents c.print_trace.new.out) text) s.1 s.2 c.in_ok-started.started.lines.items c.first_records-records.result.now (world_of c.in_ok-started.started.machine) c.args.chosen.from c.args.chosen.to
+            slice s.5 h.1,
+        h.0,
+      ),
+    )) (err_both c.print_trace.result _ _ c.print_trace.ensures.err c.print_trace.ensures.begun)
