@@ -7,6 +7,8 @@ use Rattle.std.specs.Io.KnownBytes.{Appends}
 use Rattle.std.specs.List.{flat_map}
 use Rattle.std.specs.Str.{bytes_eq}
 use Rattle.mx_machine.specs.History.{BootAndHistory}
+use Rattle.mx_app_failure.specs.Failure.{PrintsFront}
+use Rattle.mx_app_step.proofs.FrontLemmas.{front_after, front_more}
 use Rattle.mx_turns.specs.declared.trials.Findings.{Findings}
 use Rattle.mx_app_turns.specs.declared.blocks.Total.{Total}
 use Rattle.mx_app_turns.specs.declared.sweeping.Tally.{Tally}
@@ -99,6 +101,12 @@ module _ (s : SweepOf) (from end : ℕ) where
     kernel = kept ∙ (let one : from ≡ from + 1 - 1 = omega arith in ap (λ i. (run_at s i).kernel) one);
   }
 
+  -- what is printed so far is a front of all
+  pub front_above : (p : ℕ) (old now : Option (List ℕ)) (current : Positions) (total : Total) (k : BootAndHistory) → SweptSoFar s from end p old now current total k → PrintsFront (λ t. Appends old now t) (flat_map block_text (blocks_at s (end - from) from))
+  front_above p old now current total k so_far =
+      let later = blocks_from f is (end - p) p current in
+      (flat_map block_text so_far.closed, flat_map block_text later, ap (flat_map block_text) so_far.whole ∙ flat_map-append block_text so_far.closed later, so_far.printed)
+
   module _ (p : ℕ) (old now : Option (List ℕ)) (current : Positions) (total : Total) (k : BootAndHistory) (so_far : SweptSoFar s from end p old now current total k) (h : p < end) where
     abbrev more : Total
     more = both total (total_one (findings_at s p))
@@ -119,6 +127,15 @@ module _ (s : SweepOf) (from end : ℕ) where
     by_text b e =
         ap (λ i. blocks_from f is i p current) (next_left end p h)
         ∙ ap (λ b. cond b (blocks_from f is (end - (p + 1)) (p + 1) (longer current (block_at f is p))) (current ∷ blocks_from f is (end - (p + 1)) (p + 1) (block_at f is p))) e
+
+    -- and so it is with a front of the block that ends
+    pub front_ended : (then : Option (List ℕ)) → bytes_eq (f p) current.text ≡ false → PrintsFront (λ t. Appends now then t) (block_text current) → PrintsFront (λ t. Appends old then t) (flat_map block_text (blocks_at s (end - from) from))
+    front_ended then e printed =
+        let above = flat_map block_text so_far.closed in
+        let later = blocks_from f is (end - (p + 1)) (p + 1) (block_at f is p) in
+        let all : flat_map block_text (blocks_at s (end - from) from) ≡ (above ++ block_text current) ++ flat_map block_text later =
+        ap (flat_map block_text) (so_far.whole ∙ ap (λ bs. so_far.closed ++ bs) (by_text false e)) ∙ flat_map-append block_text so_far.closed (current ∷ later) ∙ sym (append_assoc above (block_text current) (flat_map block_text later)) in
+        subst (λ text. PrintsFront (λ t. Appends old then t) text) (sym all) (front_more (λ t. Appends old then t) (above ++ block_text current) (flat_map block_text later) (front_after old now then above (block_text current) so_far.printed printed))
 
     -- the current block goes on
     pub goes_on : (l : BootAndHistory) → bytes_eq (f p) current.text ≡ true → l ≡ (run_at s p).kernel → SweptSoFar s from end (p + 1) old now (longer current (block_at f is p)) (record more { blocks = total.blocks }) l
@@ -193,6 +210,14 @@ module _ (s : SweepOf) (from end : ℕ) where
         ap (λ t. flat_map block_text so_far.closed ++ t) (sym (append-nil (block_text current))) ∙ sym (flat_map-append block_text so_far.closed (current ∷ [])) in
         subst (Appends old then) (more ∙ sym (ap (flat_map block_text) whole_last))
         (Appends-trans old now then (flat_map block_text so_far.closed) (block_text current) so_far.printed printed)
+
+    -- or a front of the last block
+    pub last_front : (then : Option (List ℕ)) → PrintsFront (λ t. Appends now then t) (block_text current) → PrintsFront (λ t. Appends old then t) (flat_map block_text (blocks_at s (end - from) from))
+    last_front then printed =
+        let above = flat_map block_text so_far.closed in
+        let all : flat_map block_text (blocks_at s (end - from) from) ≡ above ++ block_text current =
+        ap (flat_map block_text) whole_last ∙ flat_map-append block_text so_far.closed (current ∷ []) ∙ ap (λ t. above ++ t) (append-nil (block_text current)) in
+        subst (λ text. PrintsFront (λ t. Appends old then t) text) (sym all) (front_after old now then above (block_text current) so_far.printed printed)
 
     last_blocks : total.blocks ≡ length (blocks_at s (end - from) from)
     last_blocks = let longer = length-append so_far.closed (current ∷ []) in let same = ap length whole_last in omega (arith, longer, same, so_far.counted)

@@ -15,9 +15,10 @@ use Rattle.mx_machine.specs.History.{AreAccepted, BootAndHistory, events_of_hist
 use Rattle.mx_walk.specs.declared.progress.Part.{Part}
 use Rattle.mx_walk.specs.Parts.{parts_shown}
 use Rattle.mx_app_failure.specs.declared.failure.Failure.{Failure as Kind}
-use Rattle.mx_app_failure.specs.Failure.{IsWanting}
+use Rattle.mx_app_failure.specs.Failure.{IsWanting, PrintsFront}
 use Rattle.mx_app_step.specs.Asked.{Asked}
 use Rattle.mx_app_step.specs.Config.{Config}
+use Rattle.mx_app_step.proofs.FrontLemmas.{front_after, front_more}
 use Rattle.mx_app_step.specs.Kept.{text_kept}
 use Rattle.mx_app_step.specs.Records.{IsRefusedAt, refused_record_line}
 use Rattle.mx_app_step.specs.Service.{Service}
@@ -31,7 +32,7 @@ use Rattle.mx_app_turns.specs.declared.nothing_tested.Untested.{Untested}
 use Rattle.mx_app_turns.specs.declared.nothing_tested.Untested.TheVariants.{NoLine, NoPosition}
 use Rattle.mx_app_turns.specs.Untested.{refused_or_full, untested_by}
 use Rattle.mx_app_turns.specs.Begun.{IsDone}
-use Rattle.mx_app_turns.specs.Sweeping.{IsBegun, IsNotBegun, IsShown, IsSweptThrough, IsUnsaved, SweepOf, Sweeps, blocks_at, ended, ending_of, is_alike_at, last_text, of, positions_in, refusal_at, run_at, saved_if, saves_program, sweep_text, total_in, total_of}
+use Rattle.mx_app_turns.specs.Sweeping.{IsBegun, IsNotBegun, IsShown, IsSweepBegun, IsSweptThrough, IsUnsaved, SweepOf, Sweeps, blocks_at, ended, ending_of, is_alike_at, last_text, of, positions_in, refusal_at, run_at, saved_if, saves_program, sweep_text, total_in, total_of}
 
 -- ---- how it ended
 
@@ -93,6 +94,17 @@ module _ (t s : SweepOf) (same : t ≡ s) (from to first end records : ℕ) (at 
       Appends-trans old mid now (flat_map block_text bs) (total_text n (length bs) (count_of (is_alike_at s) n from)) three
       (subst (λ (x : Total). Appends mid now (total_text x.positions x.blocks x.alike)) counted_here below)
 
+  -- or a front of it
+  pub all_begun : (old mid now : Option (List ℕ)) → Appends old mid (flat_map block_text (blocks_at t (end - first) first)) → PrintsFront (λ u. Appends mid now u) (total_text total.positions total.blocks total.alike) → PrintsFront (λ u. Appends old now u) (sweep_text s from to)
+  all_begun old mid now above below =
+      let one = subst (λ (x : SweepOf). Appends old mid (flat_map block_text (blocks_at x (end - first) first))) same above in
+      let two = subst (λ n. Appends old mid (flat_map block_text (blocks_at s n first))) in_all one in
+      let three = subst (λ f. Appends old mid (flat_map block_text (blocks_at s (positions_in s from to) f))) at two in
+      let n = positions_in s from to in
+      let bs = blocks_at s n from in
+      front_after old mid now (flat_map block_text bs) (total_text n (length bs) (count_of (is_alike_at s) n from)) three
+      (subst (λ (x : Total). PrintsFront (λ u. Appends mid now u) (total_text x.positions x.blocks x.alike)) counted_here below)
+
   pub how_is : (how : Swept) (why : Option Refusal) → (first < end → why ≡ refusal_at s from) → how ≡ ended (untested_by (length s.fault) from to total why) total → how ≡ ending_of s from to
   how_is how why refused h =
       let some : 0 < total.positions → why ≡ refusal_at s from = λ m. refused (let n = ap (λ (x : Total). x.positions) counted in omega (arith, m, n)) in
@@ -113,6 +125,15 @@ module _ (t s : SweepOf) (same : t ≡ s) (from to first end records : ℕ) (at 
 pub positions_are : (s : SweepOf) (from to first end records : ℕ) → first ≡ from → records ≡ length s.records → end ≡ min to records + 1 → end - first ≡ positions_in s from to
 positions_are s from to first end records at many by = ap (λ f. end - f) at ∙ ap (λ n. n - from) by ∙ ap (λ n. min to n + 1 - from) many
 
+-- a front of the blocks
+pub blocks_begun : (s : SweepOf) (from to first n : ℕ) (Prints : List ℕ → Type 0) → first ≡ from → n ≡ positions_in s from to → PrintsFront Prints (flat_map block_text (blocks_at s n first)) → PrintsFront Prints (sweep_text s from to)
+blocks_begun s from to first n Prints at all h =
+    let one = subst (λ m. PrintsFront Prints (flat_map block_text (blocks_at s m first))) all h in
+    let two = subst (λ f. PrintsFront Prints (flat_map block_text (blocks_at s (positions_in s from to) f))) at one in
+    let m = positions_in s from to in
+    let bs = blocks_at s m from in
+    front_more Prints (flat_map block_text bs) (total_text m (length bs) (count_of (is_alike_at s) m from)) two
+
 -- what was shown if a sweep failed
 pub shown_failed : {X : Type 0} (before after : List Part) (all n : ℕ) (f : Kind) (r : Result X Kind) → IsErrAnd r (λ y. y ≡ f) → n ≤ all → after ≡ before ++ parts_shown all n → IsShown before after all r
 shown_failed before after all n f (Ok x) h few shown = absurd h
@@ -121,21 +142,22 @@ shown_failed before after all n f (Err y) h few shown = (n, few, shown)
 -- ---- what ends it
 
 module _ (s : SweepOf) (from to : ℕ) (save : Option (List ℕ)) (ps : List Part) (n : ℕ) (few : n ≤ positions_in s from to) (shown : ps ≡ parts_shown (positions_in s from to) n) (Prints : List ℕ → Type 0) where
-  pub wanting : (f : Kind) (r : Result Swept Kind) → IsWanting f → IsErrAnd r (λ y. y ≡ f) → IsDone s from to save [] ps Prints r
-  wanting f (Ok how) why h = absurd h
-  wanting f (Err y) why h = (n, few, shown, inl (refl, subst IsWanting (sym h) why))
+  pub wanting : (f : Kind) (r : Result Swept Kind) → IsSweepBegun s from to Prints → IsWanting f → IsErrAnd r (λ y. y ≡ f) → IsDone s from to save [] ps Prints r
+  wanting f (Ok how) begun why h = absurd h
+  wanting f (Err y) begun why h = (n, few, shown, inl (refl, begun, subst IsWanting (sym h) why))
 
-  pub unsaved : (text : List ℕ) (ws : List Written) (f : Kind) (r : Result Swept Kind) → text ≡ last_text s to → IsUnsaved text save ws f → IsErrAnd r (λ y. y ≡ f) → IsDone s from to save ws ps Prints r
-  unsaved text ws f (Ok how) same why h = absurd h
-  unsaved text ws f (Err y) same why h =
-      (n, few, shown, inr (subst (λ t. IsUnsaved t save ws y) same (subst (λ z. IsUnsaved text save ws z) (sym h) why)))
+  pub unsaved : (text : List ℕ) (ws : List Written) (f : Kind) (r : Result Swept Kind) → Prints (sweep_text s from to) → text ≡ last_text s to → IsUnsaved text save ws f → IsErrAnd r (λ y. y ≡ f) → IsDone s from to save ws ps Prints r
+  unsaved text ws f (Ok how) printed same why h = absurd h
+  unsaved text ws f (Err y) printed same why h =
+      (n, few, shown, inr (printed, subst (λ t. IsUnsaved t save ws y) same (subst (λ z. IsUnsaved text save ws z) (sym h) why)))
 
 -- an event of the history is refused
 pub refused : (s : SweepOf) (from to : ℕ) (save : Option (List ℕ)) (Prints : List ℕ → Type 0) (n line : ℕ) (x : Refusal) (r : Result Swept Kind) → IsRefusedAt s.boot s.records n x → line ≡ lines_above s.boot.table.rules + n
-    → IfErr r IsWanting → IfOk r (λ how. (how ≡ Refused) × Prints (refused_record_line line x)) → IsDone s from to save [] [] Prints r
-refused s from to save Prints n line x (Ok how) at above err ok =
+    → IfErr r IsWanting → IfErr r (λ _. PrintsFront Prints (refused_record_line line x)) → IfOk r (λ how. (how ≡ Refused) × Prints (refused_record_line line x)) → IsDone s from to save [] [] Prints r
+refused s from to save Prints n line x (Ok how) at above err front ok =
     subst (λ h. IsSweptThrough s from to save [] [] Prints h) (sym ok.0) (refl, refl, (n, x, at, subst (λ i. Prints (refused_record_line i x)) above ok.1))
-refused s from to save Prints n line x (Err y) at above err ok = (0, omega arith, refl, inl (refl, err))
+refused s from to save Prints n line x (Err y) at above err front ok =
+    (0, omega arith, refl, inl (refl, inr (n, x, at, subst (λ i. PrintsFront Prints (refused_record_line i x)) above front), err))
 
 -- its positions are swept, and then it ends
 module _ (s : SweepOf) (from to first end : ℕ) (at : first ≡ from) (by : end ≡ min to (length s.records) + 1) (total : Total) (counted : total ≡ total_of s (end - first) first) (k : BootAndHistory) (kernel : first < end → k ≡ (run_at s (end - 1)).kernel)
@@ -146,24 +168,31 @@ module _ (s : SweepOf) (from to first end : ℕ) (at : first ≡ from) (by : end
   abbrev Ends : Result Swept Kind → Type 0
   Ends r = (ws : List Written) × (after ≡ before ++ ws) × IsDone s from to save ws (parts_shown (end - first) (end - first)) (λ (text : List ℕ). Appends old now text) r
 
-  unended : (f : Kind) → ((after ≡ before) × IsWanting f) ⊎ ((0 < total.positions) × (ws : List Written) × (after ≡ before ++ ws) × IsUnsaved (text_kept k) save ws f) → Ends (Err f)
-  unended f (inl h) =
+  abbrev IsUnended : Kind → Type 0
+  IsUnended f =
+      ((after ≡ before) × PrintsFront (λ (text : List ℕ). Appends mid now text) (total_text total.positions total.blocks total.alike) × IsWanting f)
+      ⊎ ((0 < total.positions) × Appends mid now (total_text total.positions total.blocks total.alike) × (ws : List Written) × (after ≡ before ++ ws) × IsUnsaved (text_kept k) save ws f)
+
+  unended : AreAccepted s.boot (events_of_history s.records) → (f : Kind) → IsUnended f → Ends (Err f)
+  unended accepted f (inl h) =
       let n = end - first in (
         [],
         h.0 ∙ sym (append-nil before),
-        wanting s from to save (parts_shown n n) n (omega (arith, all_in)) (ap (λ a. parts_shown a n) all_in) (λ (text : List ℕ). Appends old now text) f (Err f) h.1 refl,
+        wanting s from to save (parts_shown n n) n (omega (arith, all_in)) (ap (λ a. parts_shown a n) all_in) (λ (text : List ℕ). Appends old now text) f (Err f)
+            (inl (accepted, all_begun s s refl from to first end (length s.records) at refl by total counted old mid now printed h.1)) h.2 refl,
       )
-  unended f (inr h) =
+  unended accepted f (inr h) =
       let n = end - first in (
-        h.1,
         h.2,
-        unsaved s from to save (parts_shown n n) n (omega (arith, all_in)) (ap (λ a. parts_shown a n) all_in) (λ (text : List ℕ). Appends old now text) (text_kept k) h.1 f (Err f)
-            (last_kept s s refl from to first end (length s.records) at refl by total counted k kernel h.0) h.3 refl,
+        h.3,
+        unsaved s from to save (parts_shown n n) n (omega (arith, all_in)) (ap (λ a. parts_shown a n) all_in) (λ (text : List ℕ). Appends old now text) (text_kept k) h.2 f (Err f)
+            (all_printed s s refl from to first end (length s.records) at refl by total counted old mid now printed h.1)
+            (last_kept s s refl from to first end (length s.records) at refl by total counted k kernel h.0) h.4 refl,
       )
 
   pub ends : (r : Result Swept Kind) → AreAccepted s.boot (events_of_history s.records)
       → IfOk r (λ how. (how ≡ ended (untested_by (length s.fault) from to total why) total) × Appends mid now (total_text total.positions total.blocks total.alike) × (after ≡ before ++ saved_if (text_kept k) total.positions save))
-      → IfErr r (λ f. ((after ≡ before) × IsWanting f) ⊎ ((0 < total.positions) × (ws : List Written) × (after ≡ before ++ ws) × IsUnsaved (text_kept k) save ws f)) → Ends r
+      → IfErr r IsUnended → Ends r
   ends (Ok how) accepted ok err =
       let n = end - first in
       let records = length s.records in
@@ -173,7 +202,7 @@ module _ (s : SweepOf) (from to first end : ℕ) (at : first ≡ from) (by : end
         through s from to save ws (parts_shown n n) (λ (text : List ℕ). Appends old now text) how accepted (how_is s s refl from to first end records at refl by total counted how why refusal ok.0)
             (all_printed s s refl from to first end records at refl by total counted old mid now printed ok.1) (last_saved s s refl from to first end records at refl by total counted k save kernel) (ap (λ a. parts_shown a a) all_in),
       )
-  ends (Err f) accepted ok err = unended f err
+  ends (Err f) accepted ok err = unended accepted f err
 
 -- ---- all of it
 

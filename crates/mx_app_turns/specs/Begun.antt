@@ -44,4 +44,4 @@ begun_of b n =
 abbrev pub IsDone : SweepOf → ℕ → ℕ → Option (List ℕ) → List Written → List Part → (List ℕ → Type 0) → Result Swept Kind
     → Type 0
 IsDone s from to save ws ps Prints (Ok how) = IsSweptThrough s from to save ws ps Prints how
-IsDone s from to save ws ps Prints (Err f) = IsUntold s from to save ws ps f
+IsDone s from to save ws ps Prints (Err f) = IsUntold s from to save ws ps Prints f

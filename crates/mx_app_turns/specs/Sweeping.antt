@@ -11,7 +11,7 @@ use Rattle.mx_walk.specs.declared.progress.Part.{Part}
 use Rattle.mx_walk.specs.Parts.{parts_shown}
 use Rattle.mx_app_failure.specs.declared.failure.Failure.{Failure as Kind}
 use Rattle.mx_app_failure.specs.declared.failure.About.TheVariants.{Fault}
-use Rattle.mx_app_failure.specs.Failure.{IsWanting}
+use Rattle.mx_app_failure.specs.Failure.{IsWanting, PrintsFront}
 use Rattle.mx_app_step.specs.Asked.{Asked}
 use Rattle.mx_app_step.specs.Config.{Config}
 use Rattle.mx_app_step.specs.Service.{Service}
@@ -162,11 +162,19 @@ IsSweptThrough s from to save ws ps Prints how =
     × (how ≡ ending_of s from to)
     × Prints (sweep_text s from to) × (ws ≡ saved_if (last_text s to) (positions_in s from to) save)
 
--- why it isn't finished, after it was read: memory or standard output; or the file that is saved
-abbrev pub IsUntold : SweepOf → ℕ → ℕ → Option (List ℕ) → List Written → List Part → Kind → Type 0
-IsUntold s from to save ws ps f =
+-- a front of what is printed of a history: of its positions, or of the line of an event that is refused
+abbrev pub IsSweepBegun : SweepOf → ℕ → ℕ → (List ℕ → Type 0) → Type 0
+IsSweepBegun s from to Prints =
+    (AreAccepted s.boot (events_of_history s.records) × PrintsFront Prints (sweep_text s from to))
+    ⊎ IsReplayPrinted s.boot s.records replayed.Refused (PrintsFront Prints)
+
+-- why it isn't finished, after it was read: memory or standard output, and a front is printed; or the file that is
+-- saved, and all is printed
+abbrev pub IsUntold : SweepOf → ℕ → ℕ → Option (List ℕ) → List Written → List Part → (List ℕ → Type 0) → Kind → Type 0
+IsUntold s from to save ws ps Prints f =
     (n : ℕ) × (n ≤ positions_in s from to) × (ps ≡ parts_shown (positions_in s from to) n)
-    × (((ws ≡ []) × IsWanting f) ⊎ IsUnsaved (last_text s to) save ws f)
+    × (((ws ≡ []) × IsSweepBegun s from to Prints × IsWanting f)
+    ⊎ (Prints (sweep_text s from to) × IsUnsaved (last_text s to) save ws f))
 
 abbrev pub of : Config → List Service → List Record → List FaultLine → ℕ → SweepOf
 of c vs records said n =
@@ -186,4 +194,4 @@ Sweeps config log fault save from to n qs ws ps Prints (Err f) =
     × (saves_program c save ≡ true) × (ws ≡ []) × (ps ≡ []) × Prints [] × (f ≡ over_program))
     ⊎ ((c : Config) × (vs : List Service) × (records : List Record) × (said : List FaultLine)
     × IsBegun config log fault qs c vs records said
-    × (saves_program c save ≡ false) × IsUntold (of c vs records said n) from to save ws ps f))
+    × (saves_program c save ≡ false) × IsUntold (of c vs records said n) from to save ws ps Prints f))

@@ -11,7 +11,7 @@ ghost use Rattle.mx_machine.specs.Boot.{world_at_boot};
 ghost use Rattle.mx_machine.specs.declared.history.Record.{Record as Recorded};
 ghost use Rattle.mx_machine.specs.History.{AreAccepted, events_of_history};
 ghost use Rattle.mx_machine.specs.World.{actors};
-ghost use Rattle.mx_app_failure.specs.Failure.{IsWanting};
+ghost use Rattle.mx_app_failure.specs.Failure.{IsWanting, PrintsFront};
 ghost use Rattle.mx_app_step.specs.Asked.{Asked};
 ghost use Rattle.mx_app_step.specs.Config.{Config as Configured};
 ghost use Rattle.mx_app_step.specs.Machine.{world_of};
@@ -147,6 +147,9 @@ fn print_block<P: Progress, W: Write>(
     out: &mut W,
 ) -> Result<(), Failure>
     ensures err { IfErr result IsWanting }
+    ensures front { IfErr result (λ _. PrintsFront
+        (λ front. Appends (W.contents out.old) (W.contents out.new) front)
+        (block_text (positions_of block.now))) }
     ensures bytes { OnOk result (Appends (W.contents out.old) (W.contents out.new)
         (block_text (positions_of block.now))) }
     ensures shown { P.shown progress.new ≡ P.shown progress.old }
@@ -187,6 +190,11 @@ impl Tally {
         requires few { has_room self.old.total next.total }
         ensures err { IfErr result IsWanting }
         ensures same { IfErr result (λ _. self.new ≡ self.old) }
+        ensures ended { IfErr result (λ _.
+            bytes_eq next.block.text.items self.old.block.text.items ≡ false) }
+        ensures front { IfErr result (λ _. PrintsFront
+            (λ front. Appends (W.contents out.old) (W.contents out.new) front)
+            (block_text (positions_of self.old.block))) }
         ensures goes_on { OnOk result
             (bytes_eq next.block.text.items self.old.block.text.items ≡ true
             → (self.new ≡ record {
@@ -276,6 +284,10 @@ fn print_more<T: Threads + Sync, P: Progress, W: Write>(
         (first.text.items ≡ text_at s sweep.range.from)
         × (first.findings ≡ findings_at s sweep.range.from) }
     ensures err { IfErr result IsWanting }
+    ensures front { IfErr result (λ _. let range = sweep.entry.range in PrintsFront
+        (λ front. Appends (W.contents out.old) (W.contents out.new) front)
+        (flat_map block_text (blocks_at (sweep_of sweep.entry (boot_of ahead))
+        (range.end - range.from) range.from))) }
     ensures printed { OnOk result (let range = sweep.entry.range in
         Appends (W.contents out.old) (W.contents out.new)
         (flat_map block_text (blocks_at (sweep_of sweep.entry (boot_of ahead))
@@ -343,6 +355,10 @@ fn print_positions<T: Threads + Sync, P: Progress, W: Write>(
     requires few { jobs ≤ 64 }
     requires within { sweep.range.end ≤ length sweep.records.now + 1 }
     ensures err { IfErr result IsWanting }
+    ensures front { IfErr result (λ _. let range = sweep.entry.range in PrintsFront
+        (λ front. Appends (W.contents out.old) (W.contents out.new) front)
+        (flat_map block_text (blocks_at (sweep_of sweep.entry machine.kernel.boot)
+        (range.end - range.from) range.from))) }
     ensures printed { OnOk result (let range = sweep.entry.range in
         Appends (W.contents out.old) (W.contents out.new)
         (flat_map block_text (blocks_at (sweep_of sweep.entry machine.kernel.boot)
@@ -387,6 +403,9 @@ fn range_of(wanted: SweepWanted<'_>, records: usize) -> Range
 /// Prints the last line of a sweep.
 fn print_total<W: Write>(alloc: Global, total: Total, out: &mut W) -> Result<(), Failure>
     ensures err { IfErr result IsWanting }
+    ensures front { IfErr result (λ _. PrintsFront
+        (λ front. Appends (W.contents out.old) (W.contents out.new) front)
+        (total_text total.positions total.blocks total.alike)) }
     ensures bytes { OnOk result (Appends (W.contents out.old) (W.contents out.new)
         (total_text total.positions total.blocks total.alike)) }
 {
@@ -428,6 +447,9 @@ fn print_refused<W: Write>(
     out: &mut W,
 ) -> Result<Swept, Failure>
     ensures err { IfErr result IsWanting }
+    ensures front { IfErr result (λ _. PrintsFront
+        (λ front. Appends (W.contents out.old) (W.contents out.new) front)
+        (refused_record_line number refusal)) }
     ensures refused { IfOk result (λ how. (how ≡ swept.Refused)
         × Appends (W.contents out.old) (W.contents out.new)
         (refused_record_line number refusal)) }
@@ -476,9 +498,12 @@ fn end_sweep<F: FileWriter, W: Write>(
         × (F.written files.new ≡ F.written files.old
         ++ saved_if (text_kept done.now.machine.kernel) total.positions
         (option_map (λ s. s.now) plan.entry.wanted.save))) }
-    ensures unended { IfErr result (λ f.
-        ((F.written files.new ≡ F.written files.old) × IsWanting f)
-        ⊎ ((0 < done.now.total.positions) × (ws : List Written)
+    ensures unended { IfErr result (λ f. let total = done.now.total in
+        ((F.written files.new ≡ F.written files.old) × PrintsFront
+        (λ front. Appends (W.contents out.old) (W.contents out.new) front)
+        (total_text total.positions total.blocks total.alike) × IsWanting f)
+        ⊎ ((0 < total.positions) × Appends (W.contents out.old) (W.contents out.new)
+        (total_text total.positions total.blocks total.alike) × (ws : List Written)
         × (F.written files.new ≡ F.written files.old ++ ws)
         × IsUnsaved (text_kept done.now.machine.kernel)
         (option_map (λ s. s.now) plan.entry.wanted.save) ws f)) }
@@ -618,7 +643,8 @@ fn sweep_begun<T: Threads + Sync, R: Drop, F: FileWriter + Drop, W: Write + Drop
 /// fault, and how many have the result that they have without it. Then writes the history of the last position's run
 /// to the file `save`, if it is named. If an event of the saved history is refused, prints that as `replay` does, and
 /// nothing is swept. If `save` has the name of a service's program, nothing is swept, printed or written. After each
-/// position `progress` is shown how many are done.
+/// position `progress` is shown how many are done. Before a failure a front of the text is printed; before one of the
+/// file `save`, all of it.
 pub fn sweep<
     T: Threads + Sync,
     R: Reader + Drop,

@@ -1,4 +1,4 @@
-use Rattle.std.proofs.Common.{◌≡◌, ◌∙◌, subst, ◌+◌, ◌-◌, ◌++◌, ℕ, cond, List, Some, None, is_some, Vec, Global, ap, arith, refl, sym}
+use Rattle.std.proofs.Common.{◌≡◌, ◌∙◌, subst, ◌+◌, ◌-◌, ◌++◌, ℕ, cond, List, Some, None, is_some, false, Vec, Global, ap, arith, refl, sym}
 use Rattle.std.proofs.lemmas.List.{append-nil}
 use Rattle.std.specs.Str.{bytes_eq}
 use Rattle.mx_machine.specs.World.{World}
@@ -13,7 +13,8 @@ use Rattle.mx_app_turns.specs.Tallied.{tally_of, total_one}
 use Rattle.mx_walk.specs.Parts.{parts_shown}
 use Rattle.mx_walk.proofs.PartsShown.{next_shown}
 use Rattle.mx_app_turns.proofs.SweptLemmas.{shown_failed}
-use Rattle.mx_app_turns.proofs.BlockLemmas.{SweptSoFar, first_swept, goes, last_printed, last_total, small}
+use Rattle.mx_app_step.proofs.FrontLemmas.{err_always}
+use Rattle.mx_app_turns.proofs.BlockLemmas.{SweptSoFar, first_swept, front_above, front_ended, goes, last_front, last_printed, last_total, small}
 use Rattle.mx_app_turns.proofs.sweeping.print_more.Goals as goal
 
 -- one position, by its outcome
@@ -73,6 +74,42 @@ returns-clause-printed g c =
     let block = positions_of c.loop-position.tally.block in
     last_printed (sweep_of c.args.sweep (boot_of c.args.ahead)) c.args.sweep.range.from end p (g.W.Write.contents c.args.out.now) (g.W.Write.contents c.loop-position.out) block c.loop-position.tally.total
     (run_at (sweep_of c.args.sweep (boot_of c.args.ahead)) (p - 1)).kernel so_far last (g.W.Write.contents c.print_block.new.out) c.in_ok-print_block.ensures.bytes
+
+-- what is printed if it fails
+
+pub returns-in_err-told-clause-front : goal.returns-in_err-told-clause-front
+returns-in_err-told-clause-front g c =
+    let inv = c.loop-position.invariant in
+    let s = sweep_of c.args.sweep (boot_of c.args.ahead) in
+    let tally = c.loop-position.tally in
+    err_always c.from_residual.result _
+    (front_above s c.args.sweep.range.from c.args.sweep.range.end c.loop-position.position (g.W.Write.contents c.args.out.now) (g.W.Write.contents c.loop-position.out) (positions_of tally.block) tally.total (run_at s (c.loop-position.position - 1)).kernel inv.swept)
+
+pub returns-in_err-push-clause-front : goal.returns-in_err-push-clause-front
+returns-in_err-push-clause-front g c =
+    let inv = c.loop-position.invariant in
+    let s = sweep_of c.args.sweep (boot_of c.args.ahead) in
+    let p = c.loop-position.position in
+    let tally = c.loop-position.tally in
+    let told = c.in_ok-told.told in
+    let is = subst (λ (w : World). (let s = sweep_of c.args.sweep w in (told.text.items ≡ text_at s p) × (told.findings ≡ findings_at s p))) inv.boot c.in_ok-told.ensures.told in
+    let other : bytes_eq (text_at s p) tally.block.text.items ≡ false =
+    ap (λ u. bytes_eq u tally.block.text.items) (sym (ap (λ (t : Tally). t.block.text.items) c.one-next.ensures ∙ is.0)) ∙ c.in_err-push.ensures.ended in
+    err_always c.from_residual-in_err-push.result _
+    (front_ended s c.args.sweep.range.from c.args.sweep.range.end p (g.W.Write.contents c.args.out.now) (g.W.Write.contents c.loop-position.out) (positions_of tally.block) tally.total (run_at s (p - 1)).kernel inv.swept c.loop-position-test.true
+    (g.W.Write.contents c.push.new.out) other c.in_err-push.ensures.front)
+
+pub returns-in_err-print_block-clause-front : goal.returns-in_err-print_block-clause-front
+returns-in_err-print_block-clause-front g c =
+    let so_far = c.loop-position.invariant.swept in
+    let s = sweep_of c.args.sweep (boot_of c.args.ahead) in
+    let p = c.loop-position.position in
+    let end = c.args.sweep.range.end in
+    let last : p ≡ end = omega (arith, so_far.within, c.loop-position-test.false) in
+    let tally = c.loop-position.tally in
+    err_always c.from_residual-in_err-print_block.result _
+    (last_front s c.args.sweep.range.from end p (g.W.Write.contents c.args.out.now) (g.W.Write.contents c.loop-position.out) (positions_of tally.block) tally.total (run_at s (p - 1)).kernel so_far last
+    (g.W.Write.contents c.print_block.new.out) c.in_err-print_block.ensures.front)
 
 pub returns-clause-total : goal.returns-clause-total
 returns-clause-total g c =

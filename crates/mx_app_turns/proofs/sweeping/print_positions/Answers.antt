@@ -1,8 +1,11 @@
-use Rattle.std.proofs.Common.{◌≡◌, ◌∙◌, ◌+◌, ◌-◌, IfOk, OnOk, ap, arith, subst, sym}
+use Rattle.std.proofs.Common.{◌≡◌, ◌∙◌, ◌+◌, ◌-◌, IfErr, IfOk, OnOk, [], ap, arith, refl, subst, sym}
+use Rattle.std.proofs.KnownBytes.{Appends-nil}
 use Rattle.std.proofs.lemmas.List.{append-nil}
 use Rattle.std.proofs.lemmas.Result.{IfOk-weaker}
 use Rattle.std.specs.Io.KnownBytes.{Appends}
 use Rattle.std.specs.List.{flat_map}
+use Rattle.mx_app_failure.specs.Failure.{PrintsFront}
+use Rattle.mx_app_step.proofs.FrontLemmas.{err_always}
 use Rattle.mx_machine.specs.World.{World}
 use Rattle.mx_turns.specs.Ahead.{IsTold, boot_of}
 use Rattle.mx_app_turns.specs.Begun.{sweep_of}
@@ -17,6 +20,18 @@ returns-clause-printed g c =
     let range = c.args.sweep.range in
     subst (λ (w : World). OnOk c.print_more.result (Appends (g.W.Write.contents c.args.out.now) (g.W.Write.contents c.print_more.new.out) (flat_map block_text (blocks_at (sweep_of c.args.sweep w) (range.end - range.from) range.from)))) (c.in_ok-first.ensures.boot ∙ c.in_ok-ahead.ensures.boot)
     c.print_more.ensures.printed
+
+pub returns-in_err-ahead-clause-front : goal.returns-in_err-ahead-clause-front
+returns-in_err-ahead-clause-front g c = err_always c.from_residual.result _ ([], _, refl, Appends-nil _)
+
+pub returns-in_err-first-clause-front : goal.returns-in_err-first-clause-front
+returns-in_err-first-clause-front g c = err_always c.from_residual-in_err-first.result _ ([], _, refl, Appends-nil _)
+
+pub returns-clause-front : goal.returns-clause-front
+returns-clause-front g c =
+    let range = c.args.sweep.range in
+    subst (λ (w : World). IfErr c.print_more.result (λ _. PrintsFront (λ front. Appends (g.W.Write.contents c.args.out.now) (g.W.Write.contents c.print_more.new.out) front) (flat_map block_text (blocks_at (sweep_of c.args.sweep w) (range.end - range.from) range.from)))) (c.in_ok-first.ensures.boot ∙ c.in_ok-ahead.ensures.boot)
+    c.print_more.ensures.front
 
 pub returns-clause-total : goal.returns-clause-total
 returns-clause-total g c =

@@ -20,7 +20,7 @@ returns-in-Err-clause-done g c =
       sym (append-nil _),
       sym (append-nil _),
       refused (sweep_of c.args.plan.sweep w) c.args.plan.wanted.from c.args.plan.wanted.to save (λ (text : List ℕ). Appends (g.W.Write.contents c.args.channels.now.out) (g.W.Write.contents c.print_refused.new.out) text)
-          h.0 c.in-Err.line c.in-Err.refusal c.print_refused.result h.1 h.2 c.print_refused.ensures.err c.print_refused.ensures.refused,
+          h.0 c.in-Err.line c.in-Err.refusal c.print_refused.result h.1 h.2 c.print_refused.ensures.err c.print_refused.ensures.front c.print_refused.ensures.refused,
     )
 
 pub sweep_replayed-requires-clause-swept : goal.sweep_replayed-requires-clause-swept
