@@ -14,28 +14,27 @@ use Rattle.mx_machine.specs.Boot.{world_at_boot}
 use Rattle.mx_machine.specs.declared.history.Record.{Record}
 use Rattle.mx_app_db.specs.Asked.{Asked}
 use Rattle.mx_app_db.specs.Written.{Written, kept}
-use Rattle.mx_app_start.specs.Programs.{SparesProgram, names_program}
+use Rattle.mx_app_start.specs.Programs.{names_program}
 use Rattle.mx_app_start.proofs.Appended.{appends_nothing}
 use Rattle.mx_walk.specs.declared.progress.Part.{Part}
 use Rattle.mx_app_db.specs.Text.{saved_text}
 use Rattle.mx_app_db.specs.Config.{Config}
 use Rattle.mx_app_db.specs.Service.{Service}
 use Rattle.mx_app_db.specs.Report.{report_text}
-use Rattle.mx_app_db.specs.Course.{IsSaved, IsScript, TellsSaved, TellsScript}
-use Rattle.mx_app_db.specs.DebugScript.{IsDebugScript, TellsDebugScript}
-use Rattle.mx_app_db.specs.Setup.{IsNotStarted, IsStart}
-use Rattle.mx_app_db.specs.Telling.{IsTold, IsUnsaved}
+use Rattle.mx_app_db.specs.Course.{IsSaved, IsScript}
+use Rattle.mx_app_db.specs.DebugScript.{IsDebugScript}
+use Rattle.mx_app_db.specs.Setup.{IsStart}
 use Rattle.mx_app_db.specs.Kept.{history_made}
 use Rattle.mx_app_db.specs.Lines.{lines_made}
 use Rattle.mx_app_db.specs.Numbered.{answers_text}
-use Rattle.mx_app_db.specs.Records.{IsReplayPrinted as IsReplayPrinted}
+use Rattle.mx_app_db.specs.Records.{IsReplayPrinted}
 use Rattle.mx_app_db.specs.Traces.{IsTracePrinted}
 use Rattle.mx_app_db.specs.Replayed.{Replayed}
 use Rattle.mx_app_db.specs.DebugLines.{DebuggedWorld, debug_lines_made}
 use Rattle.mx_app_db.specs.LineTexts.{debug_lines_text}
 use Rattle.mx_app_draw.specs.Scenes.{IsDrawingPrinted}
 use Rattle.mx_app_page.specs.Pages.{IsPagePrinted, run_of_files}
-use Rattle.mx_app_look.specs.Sessions.{HasFailed, IsBegun, IsSession, IsWhole, begun_text, sight_at}
+use Rattle.mx_app_look.specs.Sessions.{IsBegun, IsSession, IsWhole, begun_text, sight_at}
 use Rattle.mx_app_run.specs.Run.{Runs}
 use Rattle.mx_app_turns.specs.Sweeping.{Sweeps}
 use Rattle.mx_app_turns.specs.declared.sweeping.Swept.{Swept}
@@ -102,7 +101,7 @@ pub looks : (asked now : List Asked) (files files_now : List Written) (given giv
     → OnOk d ((qs : List Asked) × (c : Config) × (vs : List Service) × (records : List Record) × (k : Walk) × (typed : List (Option (List ℕ))) × (text : List ℕ) × (ps : List Part)
     × (now ≡ asked ++ qs) × (given_now ≡ given ++ typed) × IsWhole typed × (later ≡ shown ++ (walk_shown k.records k.last ++ ps)) × IsStart IsSaved config log qs c vs records × IsBegun (world_at_boot c vs) records k
     × IsSession asks (sight_at k) typed text ps × Appends x y (begun_text asks k ++ text))
-    → IfErr d (λ f. (qs : List Asked) × (typed : List (Option (List ℕ))) × (ps : List Part) × (now ≡ asked ++ qs) × (given_now ≡ given ++ typed) × (later ≡ shown ++ ps) × HasFailed config log qs ps f)
+    → IfErr d (λ f. (qs : List Asked) × (typed : List (Option (List ℕ))) × (ps : List Part) × (now ≡ asked ++ qs) × (given_now ≡ given ++ typed) × (later ≡ shown ++ ps) × Looks config log asks qs typed ps (λ text. Appends x y text) (Err f))
     → r ≡ done_after_work d → files_now ≡ files
     → Grows asked now files files_now given given_now shown later (λ did. (e : Result (Unit {0}) Kind) × (did.written ≡ []) × Looks config log asks did.asked did.typed did.shown (λ text. Appends x y text) e × (r ≡ done_after_work e))
 looks asked now files files_now given given_now shown later config log asks x y (Ok u) r p f e same =
@@ -148,10 +147,7 @@ pub saved : (asked now : List Asked) (files written : List Written) (config scri
     × (written ≡ files ++ kept log (saved_text c.rules (history_made (world_at_boot c vs) c.cpus said)) ∷ [])
     × (let m = lines_made (world_at_boot c vs) c.cpus said in Appends x y (answers_text numbered m.0 ++ report_text m.1.table m.1.services)))
     → IfErr d (λ f. (qs : List Asked) × (ws : List Written) × (now ≡ asked ++ qs) × (written ≡ files ++ ws)
-    × (((ws ≡ []) × IsNotStarted IsScript TellsScript config script qs f)
-    ⊎ ((c : Config) × (vs : List Service) × (said : List ScriptLine) × IsStart IsScript config script qs c vs said
-    × (SparesProgram c log ws (λ text. Appends x y text) f
-    ⊎ ((names_program c log ≡ false) × IsUnsaved log (saved_text c.rules (history_made (world_at_boot c vs) c.cpus said)) ws f)))))
+    × SavesSteps config script log numbered qs ws (λ text. Appends x y text) (Err f))
     → r ≡ done_after_work d
     → AsksAndWrites asked now files written (λ qs ws. (e : Result (Unit {0}) Kind) × SavesSteps config script log numbered qs ws (λ text. Appends x y text) e × (r ≡ done_after_work e))
 saved asked now files written config script log numbered x y (Ok u) r p f e =
@@ -177,7 +173,7 @@ module _ (asked now : List Asked) (files : List Written) where
       → OnOk d ((qs : List Asked) × (c : Config) × (vs : List Service) × (said : List ScriptLine)
       × (now ≡ asked ++ qs) × IsStart IsScript config script qs c vs said
       × (let m = lines_made (world_at_boot c vs) c.cpus said in Appends x y (answers_text numbered m.0 ++ report_text m.1.table m.1.services)))
-      → IfErr d (λ f. (qs : List Asked) × (now ≡ asked ++ qs) × IsTold IsScript TellsScript config script qs f)
+      → IfErr d (λ f. (qs : List Asked) × (now ≡ asked ++ qs) × Steps config script numbered qs (λ text. Appends x y text) (Err f))
       → r ≡ done_after_work d
       → WritesNone (λ qs ws. (e : Result (Unit {0}) Kind) × (ws ≡ []) × Steps config script numbered qs (λ text. Appends x y text) e × (r ≡ done_after_work e))
   steps config script numbered x y (Ok u) r p f e = (p.0, [], p.4, sym (append-nil files), (Ok u, refl, (p.1, p.2, p.3, p.5, p.6), e))
@@ -189,7 +185,7 @@ module _ (asked now : List Asked) (files : List Written) where
       × (let d : DebuggedWorld = record { world = world_at_boot c vs; points = [] } in
       let e = debug_lines_made c.cpus d said in
       Appends x y (debug_lines_text c.cpus d said ++ report_text e.world.table e.world.services)))
-      → IfErr d (λ f. (qs : List Asked) × (now ≡ asked ++ qs) × IsTold IsDebugScript TellsDebugScript config script qs f)
+      → IfErr d (λ f. (qs : List Asked) × (now ≡ asked ++ qs) × Debugs config script qs (λ text. Appends x y text) (Err f))
       → r ≡ done_after_work d
       → WritesNone (λ qs ws. (e : Result (Unit {0}) Kind) × (ws ≡ []) × Debugs config script qs (λ text. Appends x y text) e × (r ≡ done_after_work e))
   debugs config script x y (Ok u) r p f e = (p.0, [], p.4, sym (append-nil files), (Ok u, refl, (p.1, p.2, p.3, p.5, p.6), e))
@@ -198,7 +194,7 @@ module _ (asked now : List Asked) (files : List Written) where
   pub replays : (config log : List ℕ) (x y : Option (List ℕ)) (d : Result Replayed Kind) (r : Result Done Kind)
       → IfOk d (λ how. (qs : List Asked) × (c : Config) × (vs : List Service) × (records : List Record)
       × (now ≡ asked ++ qs) × IsStart IsSaved config log qs c vs records × IsReplayPrinted (world_at_boot c vs) records how (λ text. Appends x y text))
-      → IfErr d (λ f. (qs : List Asked) × (now ≡ asked ++ qs) × IsTold IsSaved TellsSaved config log qs f)
+      → IfErr d (λ f. (qs : List Asked) × (now ≡ asked ++ qs) × Replays config log qs (λ text. Appends x y text) (Err f))
       → r ≡ done_after_replay d
       → WritesNone (λ qs ws. (e : Result Replayed Kind) × (ws ≡ []) × Replays config log qs (λ text. Appends x y text) e × (r ≡ done_after_replay e))
   replays config log x y (Ok how) r p f e = (p.0, [], p.4, sym (append-nil files), (Ok how, refl, (p.1, p.2, p.3, p.5, p.6), e))
@@ -208,7 +204,7 @@ module _ (asked now : List Asked) (files : List Written) where
       → IfOk d (λ how. (qs : List Asked) × (c : Config) × (vs : List Service) × (records : List Record)
       × (now ≡ asked ++ qs) × IsStart IsSaved config log qs c vs records
       × IsTracePrinted (world_at_boot c vs) (take range.to records) range.from how (λ text. Appends x y text))
-      → IfErr d (λ f. (qs : List Asked) × (now ≡ asked ++ qs) × IsTold IsSaved TellsSaved config log qs f)
+      → IfErr d (λ f. (qs : List Asked) × (now ≡ asked ++ qs) × Traces config log range qs (λ text. Appends x y text) (Err f))
       → r ≡ done_after_replay d
       → WritesNone (λ qs ws. (e : Result Replayed Kind) × (ws ≡ []) × Traces config log range qs (λ text. Appends x y text) e × (r ≡ done_after_replay e))
   traces config log range x y (Ok how) r p f e = (p.0, [], p.4, sym (append-nil files), (Ok how, refl, (p.1, p.2, p.3, p.5, p.6), e))
@@ -218,7 +214,7 @@ module _ (asked now : List Asked) (files : List Written) where
       → IfOk d (λ how. (qs : List Asked) × (c : Config) × (vs : List Service) × (records : List Record)
       × (now ≡ asked ++ qs) × IsStart IsSaved config log qs c vs records
       × IsDrawingPrinted (world_at_boot c vs) c.cpus records range.from range.to how (λ text. Appends x y text))
-      → IfErr d (λ f. (qs : List Asked) × (now ≡ asked ++ qs) × IsTold IsSaved TellsSaved config log qs f)
+      → IfErr d (λ f. (qs : List Asked) × (now ≡ asked ++ qs) × Draws config log range qs (λ text. Appends x y text) (Err f))
       → r ≡ done_after_replay d
       → WritesNone (λ qs ws. (e : Result Replayed Kind) × (ws ≡ []) × Draws config log range qs (λ text. Appends x y text) e × (r ≡ done_after_replay e))
   draws config log range x y (Ok how) r p f e = (p.0, [], p.4, sym (append-nil files), (Ok how, refl, (p.1, p.2, p.3, p.5, p.6), e))
@@ -228,7 +224,7 @@ module _ (asked now : List Asked) (files : List Written) where
       → IfOk d (λ how. (qs : List Asked) × (c : Config) × (vs : List Service) × (records : List Record)
       × (now ≡ asked ++ qs) × IsStart IsSaved config log qs c vs records
       × IsPagePrinted (λ first. run_of_files config log first c) (world_at_boot c vs) (take range.to records) (range.from - 1) how (λ text. Appends x y text))
-      → IfErr d (λ f. (qs : List Asked) × (now ≡ asked ++ qs) × IsTold IsSaved TellsSaved config log qs f)
+      → IfErr d (λ f. (qs : List Asked) × (now ≡ asked ++ qs) × Pages config log range qs (λ text. Appends x y text) (Err f))
       → r ≡ done_after_replay d
       → WritesNone (λ qs ws. (e : Result Replayed Kind) × (ws ≡ []) × Pages config log range qs (λ text. Appends x y text) e × (r ≡ done_after_replay e))
   pages config log range x y (Ok how) r p f e = (p.0, [], p.4, sym (append-nil files), (Ok how, refl, (p.1, p.2, p.3, p.5, p.6), e))

@@ -9,7 +9,7 @@ use Rattle.mx_app_db.specs.declared.script.DebugLine.{DebugLine}
 use Rattle.mx_app_failure.specs.declared.failure.Failure.{Failure as Kind}
 use Rattle.mx_app_failure.specs.declared.failure.About.TheVariants.{Written as FileWritten}
 use Rattle.mx_app_failure.specs.declared.failure.FileProblem.TheVariants.{OverRead}
-use Rattle.mx_app_failure.specs.Failure.{failure_if}
+use Rattle.mx_app_failure.specs.Failure.{PrintsFront, failure_if}
 use Rattle.mx_app_program.specs.One.{IsPrinted}
 use Rattle.mx_app_program.specs.Shown.{IsListingOf, IsShown}
 use Rattle.mx_machine.specs.Boot.{world_at_boot}
@@ -29,12 +29,12 @@ use Rattle.mx_app_db.specs.Telling.{IsTold, IsUnsaved}
 use Rattle.mx_app_db.specs.Kept.{history_made}
 use Rattle.mx_app_db.specs.Lines.{lines_made}
 use Rattle.mx_app_db.specs.Numbered.{answers_text}
-use Rattle.mx_app_db.specs.Records.{IsReplayPrinted as IsReplayPrinted}
-use Rattle.mx_app_db.specs.Traces.{IsTracePrinted}
+use Rattle.mx_app_db.specs.Records.{IsReplayBegun, IsReplayPrinted}
+use Rattle.mx_app_db.specs.Traces.{IsTraceBegun, IsTracePrinted}
 use Rattle.mx_app_db.specs.Replayed.{Replayed}
 use Rattle.mx_app_db.specs.Replayed.TheVariants as replayed
-use Rattle.mx_app_draw.specs.Scenes.{IsDrawingPrinted}
-use Rattle.mx_app_page.specs.Pages.{IsPagePrinted, run_of_files}
+use Rattle.mx_app_draw.specs.Scenes.{IsDrawingBegun, IsDrawingPrinted}
+use Rattle.mx_app_page.specs.Pages.{IsPageBegun, IsPagePrinted, run_of_files}
 use Rattle.mx_app_look.specs.Sessions.{HasFailed, IsBegun, IsSession, IsWhole, begun_text, sight_at}
 use Rattle.mx_app_run.specs.Run.{Runs}
 use Rattle.mx_app_turns.specs.Sweeping.{Sweeps}
@@ -97,14 +97,17 @@ done_after_sweep strict (Ok swept.Refused) = Ok (with_status 1)
 done_after_sweep strict (Err f) = Err f
 
 -- ---- machines: the files are as the start wants them, and the text is printed, after the lines' numbers if that is
--- asked; or it fails by the first fault
+-- asked; or it fails by the first fault, and nothing is printed, or a front of the text
 
 abbrev pub Steps : List ℕ → List ℕ → Bool → List Asked → (List ℕ → Type 0) → Result (Unit {0}) Kind → Type 0
 Steps config script numbered qs Prints (Ok u) =
     (c : Config) × (vs : List Service) × (said : List ScriptLine) × IsStart IsScript config script qs c vs said
     × (let m = lines_made (world_at_boot c vs) c.cpus said in
     Prints (answers_text numbered m.0 ++ report_text m.1.table m.1.services))
-Steps config script numbered qs Prints (Err f) = IsTold IsScript TellsScript config script qs f
+Steps config script numbered qs Prints (Err f) =
+    IsTold IsScript TellsScript config script qs Prints
+    (λ c vs said. let m = lines_made (world_at_boot c vs) c.cpus said in
+    PrintsFront Prints (answers_text numbered m.0 ++ report_text m.1.table m.1.services)) f
 
 -- the steps, with the file of the script's history, which is written before the report is printed; a service's program
 -- isn't written over
@@ -117,11 +120,13 @@ SavesSteps config script log numbered qs ws Prints (Ok u) =
     × (let m = lines_made (world_at_boot c vs) c.cpus said in
     Prints (answers_text numbered m.0 ++ report_text m.1.table m.1.services))
 SavesSteps config script log numbered qs ws Prints (Err f) =
-    ((ws ≡ []) × IsNotStarted IsScript TellsScript config script qs f)
+    ((ws ≡ []) × Prints [] × IsNotStarted IsScript TellsScript config script qs f)
     ⊎ ((c : Config) × (vs : List Service) × (said : List ScriptLine) × IsStart IsScript config script qs c vs said
     × (SparesProgram c log ws Prints f
     ⊎ ((names_program c log ≡ false)
-    × IsUnsaved log (saved_text c.rules (history_made (world_at_boot c vs) c.cpus said)) ws f)))
+    × (let m = lines_made (world_at_boot c vs) c.cpus said in
+    IsUnsaved log (saved_text c.rules (history_made (world_at_boot c vs) c.cpus said)) (answers_text numbered m.0)
+    (report_text m.1.table m.1.services) ws Prints f))))
 
 abbrev pub Debugs : List ℕ → List ℕ → List Asked → (List ℕ → Type 0) → Result (Unit {0}) Kind → Type 0
 Debugs config script qs Prints (Ok u) =
@@ -129,27 +134,36 @@ Debugs config script qs Prints (Ok u) =
     × (let d : DebuggedWorld = record { world = world_at_boot c vs; points = [] } in
     let e = debug_lines_made c.cpus d said in
     Prints (debug_lines_text c.cpus d said ++ report_text e.world.table e.world.services))
-Debugs config script qs Prints (Err f) = IsTold IsDebugScript TellsDebugScript config script qs f
+Debugs config script qs Prints (Err f) =
+    IsTold IsDebugScript TellsDebugScript config script qs Prints
+    (λ c vs said. let d : DebuggedWorld = record { world = world_at_boot c vs; points = [] } in
+    let e = debug_lines_made c.cpus d said in
+    PrintsFront Prints (debug_lines_text c.cpus d said ++ report_text e.world.table e.world.services)) f
 
 abbrev pub Replays : List ℕ → List ℕ → List Asked → (List ℕ → Type 0) → Result Replayed Kind → Type 0
 Replays config log qs Prints (Ok how) =
     (c : Config) × (vs : List Service) × (records : List Record) × IsStart IsSaved config log qs c vs records
     × IsReplayPrinted (world_at_boot c vs) records how Prints
-Replays config log qs Prints (Err f) = IsTold IsSaved TellsSaved config log qs f
+Replays config log qs Prints (Err f) =
+    IsTold IsSaved TellsSaved config log qs Prints (λ c vs records. IsReplayBegun (world_at_boot c vs) records Prints) f
 
 -- the records up to the range's last are made, and those from its first on are printed
 abbrev pub Traces : List ℕ → List ℕ → RecordRange → List Asked → (List ℕ → Type 0) → Result Replayed Kind → Type 0
 Traces config log range qs Prints (Ok how) =
     (c : Config) × (vs : List Service) × (records : List Record) × IsStart IsSaved config log qs c vs records
     × IsTracePrinted (world_at_boot c vs) (take range.to records) range.from how Prints
-Traces config log range qs Prints (Err f) = IsTold IsSaved TellsSaved config log qs f
+Traces config log range qs Prints (Err f) =
+    IsTold IsSaved TellsSaved config log qs Prints
+    (λ c vs records. IsTraceBegun (world_at_boot c vs) (take range.to records) range.from Prints) f
 
 -- the records of a trace, as a picture
 abbrev pub Draws : List ℕ → List ℕ → RecordRange → List Asked → (List ℕ → Type 0) → Result Replayed Kind → Type 0
 Draws config log range qs Prints (Ok how) =
     (c : Config) × (vs : List Service) × (records : List Record) × IsStart IsSaved config log qs c vs records
     × IsDrawingPrinted (world_at_boot c vs) c.cpus records range.from range.to how Prints
-Draws config log range qs Prints (Err f) = IsTold IsSaved TellsSaved config log qs f
+Draws config log range qs Prints (Err f) =
+    IsTold IsSaved TellsSaved config log qs Prints
+    (λ c vs records. IsDrawingBegun (world_at_boot c vs) c.cpus records range.from range.to Prints) f
 
 -- the records of a trace, as a page
 abbrev pub Pages : List ℕ → List ℕ → RecordRange → List Asked → (List ℕ → Type 0) → Result Replayed Kind → Type 0
@@ -157,7 +171,10 @@ Pages config log range qs Prints (Ok how) =
     (c : Config) × (vs : List Service) × (records : List Record) × IsStart IsSaved config log qs c vs records
     × IsPagePrinted (λ first. run_of_files config log first c) (world_at_boot c vs) (take range.to records)
     (range.from - 1) how Prints
-Pages config log range qs Prints (Err f) = IsTold IsSaved TellsSaved config log qs f
+Pages config log range qs Prints (Err f) =
+    IsTold IsSaved TellsSaved config log qs Prints
+    (λ c vs records. IsPageBegun (λ first. run_of_files config log first c) (world_at_boot c vs)
+    (take range.to records) (range.from - 1) Prints) f
 
 -- a session over a history: what it prints is determined by the lines that are typed, which it takes up to `quit` or to
 -- the end of the input; it shows each record of the walk to the last position, with which it begins, and then those of
@@ -169,7 +186,7 @@ Looks config log asks qs typed ps Prints (Ok u) =
     × IsStart IsSaved config log qs c vs records × IsBegun (world_at_boot c vs) records k
     × (ps ≡ walk_shown k.records k.last ++ after) × IsWhole typed × IsSession asks (sight_at k) typed text after
     × Prints (begun_text asks k ++ text)
-Looks config log asks qs typed ps Prints (Err f) = HasFailed config log qs ps f
+Looks config log asks qs typed ps Prints (Err f) = HasFailed asks config log qs typed ps Prints f
 
 -- ---- requests
 

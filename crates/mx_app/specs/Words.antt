@@ -57,13 +57,14 @@ complaint_text (Unexplained f) = Some (line_failure_line f ++ codes "\nmx: memor
 
 -- ---- words that ask for nothing
 
--- help was printed, or memory or output is wanting
+-- the answer to one who asks for help, or that memory or output is wanting
 abbrev pub IsHelp : Result Done Complaint → Type 0
 IsHelp r =
     MatchResult r (λ done. done ≡ with_status 0)
     (λ complaint. (f : Kind) × IsWanting f × (complaint ≡ Failed (Request f)))
 
--- what comes of an error, by its kind: help that was asked for is printed, and nothing of a lack of memory or a mistake
+-- what comes of an error, by its kind: help that was asked for, of whose text nothing is said; or a lack of memory or a
+-- mistake, and nothing is printed
 abbrev pub ExplainsKind : WordsErrorKind → Error → (List ℕ → Type 0) → Result Done Complaint → Type 0
 ExplainsKind words.OutOfMemory e Prints r = Prints [] × (r ≡ Err (Failed (Request NoMemory)))
 ExplainsKind words.DisplayHelp e Prints r = IsHelp r
@@ -73,8 +74,8 @@ ExplainsKind k e Prints r = Prints [] × (r ≡ Err (Mistaken e))
 abbrev pub Explains : Error → (List ℕ → Type 0) → Result Done Complaint → Type 0
 Explains e Prints r = ExplainsKind (kind_of e) e Prints r
 
--- what comes of a mistake: what its error says; or the complaint that only one of ticks and outside events may be given,
--- and nothing is printed
+-- what comes of a mistake: what its error says; or the complaint that only one of ticks and outside events may be
+-- given, and nothing is printed
 abbrev pub AnswersMistake : Mistake → (List ℕ → Type 0) → Result Done Complaint → Type 0
 AnswersMistake (mistakes.Grammar e) Prints r = Explains e Prints r
 AnswersMistake mistakes.TicksAndEvents Prints r = Prints [] × (r ≡ Err TicksAndEvents)
