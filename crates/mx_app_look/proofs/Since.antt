@@ -318,11 +318,9 @@ module _ (k : Walk) (s : Points) (from : Position) where
       e ∙ ap (λ (i : Marks). i v x u) same ∙ ap (λ (t : World). changes_watched s t x u) here
       ∙ ap (λ (t : World). changes_watched s (world_here k) x t) (there ∙ ap (λ (i : Walk). world_here i) moved)
 
-  pub placed : (j : Walk) (r : Position) → j ≡ gone k j.here → r ≡ j.here → IsPosition j.records r → IsUpTo r j.last → IsPosition k.records j.here × IsUpTo j.here k.last
-  placed j r moved here position early = (
-    subst (λ (i : Walk). IsPosition i.records j.here) moved (subst (λ (p : Position). IsPosition j.records p) here position),
-    subst (λ (i : Walk). IsUpTo j.here i.last) moved (subst (λ (p : Position). IsUpTo p j.last) here early),
-  )
+  pub placed : (j : Walk) → j ≡ gone k j.here → IsPosition j.records j.here → IsUpTo j.here j.last → IsPosition k.records j.here × IsUpTo j.here k.last
+  placed j moved position early =
+      (subst (λ (i : Walk). IsPosition i.records j.here) moved position, subst (λ (i : Walk). IsUpTo j.here i.last) moved early)
 
   -- what it is told of comes to the breakpoints
   pub told_coming : (g : Marks) (ps : List CodePlace) (v : World) (x : ℕ × Event) (u : World) → g ≡ told → ps ≡ places → comes_any ps v x u ≡ true → g v x u ≡ true

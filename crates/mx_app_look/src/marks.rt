@@ -35,16 +35,23 @@ fn each_change(alloc: Global, watches: &[Watch]) -> Result<Vec<ByteChange>, Allo
     Ok(marks)
 }
 
+/// The place of a breakpoint.
+fn code_place(point: &Breakpoint) -> CodePlace
+    ensures { result ≡ code_place point.now }
+{
+    CodePlace {
+        slot: point.slot,
+        address: point.address,
+    }
+}
+
 /// What marks the steps at each breakpoint.
 fn each_leaving(alloc: Global, points: &[Breakpoint]) -> Result<Vec<Leaving>, AllocError>
     ensures { IfOk result (λ marks. map (λ m. m.place) marks.items ≡ map code_place points.now) }
 {
     let mut marks = Vec::new(alloc);
     for point in points {
-        marks.push(Leaving::new(CodePlace {
-            slot: point.slot,
-            address: point.address,
-        }))?;
+        marks.push(Leaving::new(code_place(point)))?;
     }
     Ok(marks)
 }
@@ -71,10 +78,7 @@ pub(crate) fn break_places(alloc: Global, points: &Points) -> Result<Vec<CodePla
 {
     let mut places = Vec::new(alloc);
     for point in points.breakpoints.as_slice() {
-        places.push(CodePlace {
-            slot: point.slot,
-            address: point.address,
-        })?;
+        places.push(code_place(point))?;
     }
     Ok(places)
 }

@@ -89,8 +89,6 @@ fn go_on_past<P: Progress>(
     // The watched bytes stay as they were seen up to the event that changes them.
     while !bytes.is_met(walker.machine()) {
         let halt = walker.seek_halt(places.as_slice(), &mut mark, progress);
-        // Where it is now is a position, and not past the last.
-        let _ = walker.here();
         match halt {
             Halt::Before => return Ok((walker, String::new(alloc))),
             Halt::After => {}

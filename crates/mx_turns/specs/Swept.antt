@@ -51,8 +51,8 @@ pub record IsPair (records : List Record) (p : Pair) : Type 0 where
 abbrev pub run_in : Sweep → World → List FaultLine → ℕ → Run
 run_in s w fault k = run_of w s.other s.records.now s.bound fault k
 
--- THE TRIAL of position k in a sweep of a machine that boots as this world: the pair is there, and its copy is after the
--- run with the fault; the text is the run's, and the findings are those of the runs with the fault and without it.
+-- THE TRIAL of position k in a sweep of a machine that boots as this world: the pair is there, and its copy is after
+-- the run with the fault; the text is the run's, and the findings are those of the runs with the fault and without it.
 pub record IsTrial (s : Sweep) (w : World) (k : ℕ) (t : Trial) : Type 0 where
   pub pair : IsPair s.records.now t.pair
   pub there : t.pair.position ≡ k

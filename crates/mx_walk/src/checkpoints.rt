@@ -2,9 +2,9 @@
 //!
 //! # Where they are
 //!
-//! A checkpoint saves the steps before it, and costs two copies of the machine: one when it is taken, one each time that
-//! a machine is made from it. So along a history they are at equal distances that are worth a copy: a copy of as many
-//! bytes takes a tenth of the time of as many steps. There are at most `MOST_CHECKPOINTS`, and they take at most
+//! A checkpoint saves the steps before it, and costs two copies of the machine: one when it is taken, one each time
+//! that a machine is made from it. So along a history they are at equal distances that are worth a copy: a copy of as
+//! many bytes takes a tenth of the time of as many steps. There are at most `MOST_CHECKPOINTS`, and they take at most
 //! `MOST_BYTES`, so a step back takes a sixtieth of the whole walk at most, if that is long. One more is near where a
 //! session last went back: it makes a second step back at one place quick, however long the history is.
 

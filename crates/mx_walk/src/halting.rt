@@ -1,8 +1,8 @@
 //! A search that halts before a step that leaves a place, or after an event that is marked.
 //!
-//! A machine only goes on, so such a step has to be known before it is made. Within a record it is the first step, or it
-//! comes right after a step that came to the place. So the search asks before each record, and wants a mark that marks the
-//! events that come to a place too.
+//! A machine only goes on, so such a step has to be known before it is made. Within a record it is the first step, or
+//! it comes right after a step that came to the place. So the search asks before each record, and wants a mark that
+//! marks the events that come to a place too.
 
 ghost use Rattle.std.specs.Prelude.{◌≡◌, ◌<◌, ◌≤◌, ◌+◌, ◌++◌, All, length};
 ghost use Rattle.mx_machine.specs.declared.history.Record.{Record as Noted};

@@ -6,12 +6,11 @@
 //! A record of a history says what came, and not what a process computed: so a position is made by making its records
 //! again. `Walker` is a machine at a position of a history. Going on makes the next records; going back makes a machine
 //! again, from the nearest checkpoint before the position that is wanted, or from the boot, and goes on from there. So
-//! the way back costs what the way from the checkpoint costs. A checkpoint is a copy of the whole machine: some are along
-//! the history, and one near where the walker last went back; they are bounded in number and in bytes.
+//! the way back costs what the way from the checkpoint costs. A checkpoint is a copy of the whole machine: some are
+//! along the history, and one near where the walker last went back; they are bounded in number and in bytes.
 //!
 //! A search (`seek`) goes on until a `Mark` marks an event, or the history ends; `seek_halt` halts before some steps
-//! too. Where the requests
-//! of a session lead a walker, by records, events or a `PositionWord`, is in `destinations`.
+//! too. Where the requests of a session lead a walker, by records, events or a `PositionWord`, is in `destinations`.
 #![tactic(auto)]
 
 mod booting;
@@ -47,7 +46,7 @@ pub use positions::{
 };
 pub use progress::{Part, Progress};
 pub use records::{Halted, finish_record, make_event, make_steps};
-pub use seeking::{Mark, Sought, Way};
+pub use seeking::{Mark, Way};
 pub use several::Several;
 pub use stopping::{CodePlace, Coming, Leaving};
 pub use walker::Walker;

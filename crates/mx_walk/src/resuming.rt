@@ -105,7 +105,8 @@ pub(crate) fn checkpoint_before(stock: &Stock, to: Position) -> Position
 
 /// Whether a checkpoint is on the way from one position to a later one, with more than one record from there on.
 fn is_on_the_way(stock: &Stock, here: Position, to: Position) -> bool
-    ensures { result ≡ true → IsUpTo here (checkpoint_before (positions_of stock.now.along.items) to) }
+    ensures { result ≡ true
+        → IsUpTo here (checkpoint_before (positions_of stock.now.along.items) to) }
 {
     if to.records.saturating_sub(here.records) < 2 {
         return false;
@@ -139,8 +140,8 @@ pub(crate) fn machine_on_the_way(
     Ok((machine, here))
 }
 
-/// Goes on to a position by an earlier one, and takes a checkpoint there, if there is memory for it. Answers the position
-/// that is reached, as `go_on` does, and the checkpoint.
+/// Goes on to a position by an earlier one, and takes a checkpoint there, if there is memory for it. Answers the
+/// position that is reached, as `go_on` does, and the checkpoint.
 fn go_on_by<P: Progress>(
     alloc: Global,
     machine: &mut Machine,

@@ -1,7 +1,7 @@
 //! A search back: by the stretches between checkpoints, the last one first.
 //!
-//! A machine only goes on, so the last of the events that are looked for is known when all up to the end are made. But a
-//! stretch that ends where the next one begins can be searched alone, so a search back takes the last one first, and
+//! A machine only goes on, so the last of the events that are looked for is known when all up to the end are made. But
+//! a stretch that ends where the next one begins can be searched alone, so a search back takes the last one first, and
 //! what it costs is the way from the checkpoint before the event, and not that from the boot.
 
 ghost use Rattle.std.specs.Prelude.{◌≡◌, ◌<◌, ◌≤◌, ◌++◌, All, IfOk, length};

@@ -286,6 +286,8 @@ impl Walker {
         ensures same { self.new ≡ record self.old { here = self.new.here } }
         ensures halted { HaltsAt (M.marks mark.old) places.now
             self.old.boot self.old.records self.old.here self.old.last self.new.here result }
+        ensures position { IsPosition self.new.records self.new.here }
+        ensures early { IsUpTo self.new.here self.new.last }
         ensures nowhere { result ≡ halts.Nowhere → self.new.here ≡ self.old.last }
         ensures unleft { IsPassed (leaves_any places.now)
             self.old.boot self.old.records self.old.here self.new.here }

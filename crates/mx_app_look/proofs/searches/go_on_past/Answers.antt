@@ -21,7 +21,8 @@ use Rattle.mx_app_look.specs.Marks.{changes_watched}
 use Rattle.mx_app_look.specs.Searches.{IsHalt, IsHaltAfter, not_met}
 use Rattle.mx_app_look.proofs.Coming.{gone}
 use Rattle.mx_app_look.proofs.Marked.{bytes_are, told_by, told_is}
-use Rattle.mx_app_look.proofs.ShownMore.{err_always, grown_by}
+use Rattle.mx_app_step.proofs.FrontLemmas.{err_always}
+use Rattle.mx_app_look.proofs.ShownMore.{grown_by}
 use Rattle.mx_app_look.proofs.Since.{fewer_found, first_told, halt_here, halted_as, halts_after, halts_at_break, halts_at_last, looked_at, met_is, placed, text_is, told_coming, unleft_as}
 use Rattle.mx_app_look.proofs.searches.go_on_past.Goals as goal
 
@@ -89,7 +90,7 @@ returns-in-Before-clause-halt g c =
     let halted = halted_as k s from (told_by c.loop-walker.mark) ps j q inv.told there inv.walker halts.Before c.in-Before.ensures.halted in
     let unleft = unleft_as k s from (told_by c.loop-walker.mark) ps j q inv.told there inv.walker c.in-Before.ensures.unleft in
     let moved = c.in-Before.ensures.same ∙ ap (λ (i : Walk). gone i q) inv.walker in
-    let at = placed k s from c.seek_halt-halt.new.self c.here.result moved c.here.ensures.here c.here.ensures.position c.here.ensures.early in
+    let at = placed k s from c.seek_halt-halt.new.self moved c.in-Before.ensures.position c.in-Before.ensures.early in
     halt_here k s from _ q [] _ looked.0 c.new.ensures.bytes
     (halts_at_break k s from j.here q looked.1 halted.0 unleft halted.1 at.0 c.requires.last halted.2)
 
@@ -107,7 +108,7 @@ returns-in-Before-clause-shown g c =
     let ps = c.as_slice-in-loop-walker.result.now in
     let halted = halted_as k s from (told_by c.loop-walker.mark) ps j q inv.told there inv.walker halts.Before c.in-Before.ensures.halted in
     let moved = c.in-Before.ensures.same ∙ ap (λ (i : Walk). gone i q) inv.walker in
-    let at = placed k s from c.seek_halt-halt.new.self c.here.result moved c.here.ensures.here c.here.ensures.position c.here.ensures.early in
+    let at = placed k s from c.seek_halt-halt.new.self moved c.in-Before.ensures.position c.in-Before.ensures.early in
     let up = up_by_events k.records p q halted.0.0 inv.position at.0 halted.0.1 in
     shown_on k.records k.here p q _ before _ inv.later up inv.shown (c.in-Before.ensures.shown ∙ ap (λ (i : Walk). before ++ walk_between i.records p q) inv.walker)
 
@@ -122,7 +123,7 @@ loop-walker-smaller g c =
     let there = c.as_slice-in-loop-walker.ensures.value ∙ c.in_ok-places.ensures in
     let halted = halted_as k s from (told_by c.loop-walker.mark) c.as_slice-in-loop-walker.result.now j q inv.told there inv.walker halts.After c.in-After.ensures.halted in
     let moved = c.in-After.ensures.same ∙ ap (λ (i : Walk). gone i q) inv.walker in
-    let at = placed k s from c.seek_halt-halt.new.self c.here.result moved c.here.ensures.here c.here.ensures.position c.here.ensures.early in
+    let at = placed k s from c.seek_halt-halt.new.self moved c.in-After.ensures.position c.in-After.ensures.early in
     fewer_found k s from j.here q at.0 c.requires.last at.1 halted.0
 
 pub loop-walker-preserved : goal.loop-walker-preserved
@@ -144,7 +145,7 @@ loop-walker-preserved g c =
     let halted = halted_as k s from (told_by c.loop-walker.mark) ps j q inv.told there inv.walker halts.After c.in-After.ensures.halted in
     let unleft = unleft_as k s from (told_by c.loop-walker.mark) ps j q inv.told there inv.walker c.in-After.ensures.unleft in
     let moved = c.in-After.ensures.same ∙ ap (λ (i : Walk). gone i q) inv.walker in
-    let at = placed k s from c.seek_halt-halt.new.self c.here.result moved c.here.ensures.here c.here.ensures.position c.here.ensures.early in
+    let at = placed k s from c.seek_halt-halt.new.self moved c.in-After.ensures.position c.in-After.ensures.early in
     let up = up_by_events k.records p q (halted.0.0 ++ halted.0.1 ∷ []) inv.position at.0 halted.0.2 in
     let before = g.P.Progress.shown c.loop-walker.progress in
     record {
@@ -178,7 +179,7 @@ returns-in-Nowhere-clause-halt g c =
     let ps = c.as_slice-in-loop-walker.result.now in
     let halted = halted_as k s from (told_by c.loop-walker.mark) ps j q inv.told there inv.walker halts.Nowhere c.in-Nowhere.ensures.halted in
     let moved = c.in-Nowhere.ensures.same ∙ ap (λ (i : Walk). gone i q) inv.walker in
-    let at = placed k s from c.seek_halt-halt.new.self c.here.result moved c.here.ensures.here c.here.ensures.position c.here.ensures.early in
+    let at = placed k s from c.seek_halt-halt.new.self moved c.in-Nowhere.ensures.position c.in-Nowhere.ensures.early in
     let x : ℕ × Event = (c.args.next.actor, c.args.next.event) in
     let met = met_is k s from c.is_met.result x _ (world_of c.machine.result.now) (world_of c.machine-in-loop-walker.result.now) j
     (c.is_met.ensures (world_of c.machine.result.now) x c.look.ensures.seen) (c.look.ensures.same ∙ bytes_are s c.in_ok-bytes.bytes.marks.items c.in_ok-bytes.ensures) c.machine.ensures.world c.machine-in-loop-walker.ensures.world inv.walker in
@@ -203,7 +204,7 @@ returns-in-Nowhere-clause-shown g c =
     let ps = c.as_slice-in-loop-walker.result.now in
     let halted = halted_as k s from (told_by c.loop-walker.mark) ps j q inv.told there inv.walker halts.Nowhere c.in-Nowhere.ensures.halted in
     let moved = c.in-Nowhere.ensures.same ∙ ap (λ (i : Walk). gone i q) inv.walker in
-    let at = placed k s from c.seek_halt-halt.new.self c.here.result moved c.here.ensures.here c.here.ensures.position c.here.ensures.early in
+    let at = placed k s from c.seek_halt-halt.new.self moved c.in-Nowhere.ensures.position c.in-Nowhere.ensures.early in
     let up = up_by_events k.records p q halted.0.0 inv.position at.0 halted.0.1 in
     let shown = shown_on k.records k.here p q _ before _ inv.later up inv.shown (c.in-Nowhere.ensures.shown ∙ ap (λ (i : Walk). before ++ walk_between i.records p q) inv.walker) in
     let all = g.P.Progress.shown c.args.progress.now in
@@ -223,7 +224,7 @@ returns-in-Nowhere-clause-grown g c =
     let ps = c.as_slice-in-loop-walker.result.now in
     let halted = halted_as k s from (told_by c.loop-walker.mark) ps j q inv.told there inv.walker halts.Nowhere c.in-Nowhere.ensures.halted in
     let moved = c.in-Nowhere.ensures.same ∙ ap (λ (i : Walk). gone i q) inv.walker in
-    let at = placed k s from c.seek_halt-halt.new.self c.here.result moved c.here.ensures.here c.here.ensures.position c.here.ensures.early in
+    let at = placed k s from c.seek_halt-halt.new.self moved c.in-Nowhere.ensures.position c.in-Nowhere.ensures.early in
     let up = up_by_events k.records p q halted.0.0 inv.position at.0 halted.0.1 in
     let shown = shown_on k.records k.here p q _ before _ inv.later up inv.shown (c.in-Nowhere.ensures.shown ∙ ap (λ (i : Walk). before ++ walk_between i.records p q) inv.walker) in
     err_always c.meet_nothing.result _ (grown_by _ _ _ shown)
