@@ -1,6 +1,10 @@
 -- The last bytes of a console.
-use Rattle.std.proofs.Common.{◌≡◌, ◌∙◌, ◌⊎◌, ℕ, zero, suc, ◌+◌, ◌-◌, ◌≤◌, List, [], ◌∷◌, Option, Some, None, drop, length, slice_get, inl, inr, ap, arith, length-drop}
+use Rattle.std.proofs.Common.{◌≡◌, ◌∙◌, ◌⊎◌, ℕ, zero, suc, ◌+◌, ◌-◌, ◌≤◌, List, [], ◌∷◌, Option, Some, None, drop, length, slice_get, inl, inr, refl, ap, arith, length-drop}
 use Rattle.std.proofs.lemmas.List.{drop-drop, drop_all}
+use Rattle.mx_machine.specs.History.{replay}
+use Rattle.mx_machine.specs.Machine.{MachineState, world_of}
+use Rattle.mx_proc.specs.Console.{ConsoleState}
+use Rattle.mx_app_live.specs.Screen.{grown}
 
 -- the last `more` of those from an index on are the last of all
 pub tail_of : (kept bytes : List ℕ) (first more : ℕ) → bytes ≡ drop first kept → (first ≡ 0) ⊎ (first + more ≤ length kept) → drop (length bytes - more) bytes ≡ drop (length kept - more) kept
@@ -11,6 +15,17 @@ tail_of kept bytes first more is (inr within) =
     let long : length (drop first kept) ≡ length kept - first = length-drop first kept in
     let at : first + (length (drop first kept) - more) ≡ length kept - more = omega (arith, long, within) in
     ap (λ (l : List ℕ). drop (length l - more) l) is ∙ drop-drop (length (drop first kept) - more) first kept ∙ ap (λ (n : ℕ). drop n kept) at
+
+-- what is printed is what the console has more
+pub text_is : (c : ConsoleState) (shown count more first : ℕ) (bytes text : List ℕ) → count ≡ c.count → more ≡ count - shown → bytes ≡ drop first c.kept → (first ≡ 0) ⊎ (first + more ≤ length c.kept)
+    → text ≡ drop (length bytes - more) bytes → text ≡ grown shown c
+text_is c shown count more first bytes text counted is from there last =
+    last ∙ tail_of c.kept bytes first more from there ∙ ap (λ (n : ℕ). drop (length c.kept - n) c.kept) (is ∙ ap (λ (n : ℕ). n - shown) counted)
+
+-- a machine's console is its kernel's
+pub console_now : (m : MachineState) → (replay m.kernel).table.devices.console ≡ (world_of m).table.devices.console
+unfolding world_of
+console_now m = refl
 
 -- ---- one byte after another
 

@@ -1,6 +1,6 @@
 //! What a console has more than is on the screen.
 
-ghost use Rattle.std.specs.Prelude.{◌≡◌, ◌⊎◌, ◌≤◌, ◌+◌, ◌++◌, IfErr, IfOk, OnOk, drop, length};
+ghost use Rattle.std.specs.Prelude.{◌≡◌, ◌⊎◌, ◌≤◌, ◌+◌, ◌-◌, ◌++◌, IfErr, IfOk, OnOk, drop, length};
 ghost use Rattle.std.specs.Io.KnownBytes.{Appends};
 ghost use Rattle.mx_app_failure.specs.Failure.{IsWanting, PrintsFront};
 ghost use Rattle.mx_machine.specs.Machine.{world_of};
@@ -42,6 +42,13 @@ fn push_from(out: &mut Vec<u8>, console: &Console, first: usize) -> Result<(), A
     Ok(())
 }
 
+/// The last `more` of some bytes.
+fn last_of(bytes: &[u8], more: usize) -> &[u8]
+    ensures { result.now ≡ drop (length bytes.now - more) bytes.now }
+{
+    &bytes[bytes.len().saturating_sub(more)..]
+}
+
 /// Prints the bytes of a machine's console after the first `shown`, and answers how many it has now. They stand in
 /// `bytes` meanwhile, so that no memory is taken if that has enough.
 #[tactic(auto, unfolding(mx_machine::specs::Machine::world_of))]
@@ -66,7 +73,7 @@ pub(crate) fn show<W: Write>(
     let first = first_of(console, more);
     bytes.clear();
     push_from(bytes, console, first)?;
-    let text = &bytes.as_slice()[bytes.len().saturating_sub(more)..];
+    let text = last_of(bytes.as_slice(), more);
     if text.is_empty() {
         return Ok(count);
     }
