@@ -1,5 +1,5 @@
 -- A machine that goes on: turns, what they wrote, and the next byte.
-use Rattle.std.proofs.Common.{◌≡◌, ◌∙◌, ℕ, ◌++◌, ◌≤◌, Bool, true, false, cond, List, [], length, Option, Some, None, refl, ap, sym, subst}
+use Rattle.std.proofs.Common.{◌≡◌, ◌∙◌, ℕ, ◌++◌, ◌≤◌, Bool, true, false, cond, List, length, Option, Some, None, refl, ap, sym, subst}
 use Rattle.mx_app_failure.specs.Failure.{PrintsFront}
 use Rattle.mx_machine.specs.Machine.{MachineState, world_of}
 use Rattle.mx_machine.specs.World.{World}

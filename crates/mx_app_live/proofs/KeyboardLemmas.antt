@@ -1,5 +1,5 @@
 -- The lines of a byte, one after another.
-use Rattle.std.proofs.Common.{◌≡◌, ◌∙◌, ◌+◌, ◌<◌, ◌≤◌, ◌++◌, ◌∷◌, [], if◌then◌else◌, ℕ, zero, suc, Bool, true, false, List, Option, Some, map, drop, refl, ap, sym, arith, append_assoc}
+use Rattle.std.proofs.Common.{◌≡◌, ◌∙◌, ◌+◌, ◌≤◌, ◌++◌, ◌∷◌, [], if◌then◌else◌, ℕ, zero, suc, Bool, true, false, List, Some, map, drop, refl, ap, arith, append_assoc}
 use Rattle.std.specs.List.{filter, range_with_len}
 use Rattle.std.proofs.lemmas.List.{map-append}
 use Rattle.std.proofs.lemmas.List.Elements.{filter-append}
@@ -8,7 +8,7 @@ use Rattle.mx_machine.specs.declared.events.Event.TheVariants.{Line}
 use Rattle.mx_turns.proofs.OfferLemmas.{range_more}
 use Rattle.mx_word.specs.Bits.{has_bit}
 use Rattle.mx_typist.specs.declared.typist.Raise.{Raise}
-use Rattle.mx_app_live.specs.Keyboard.{byte_lines, raise_events}
+use Rattle.mx_app_live.specs.Keyboard.{raise_events}
 
 -- the lines of some bits
 abbrev pub lines_of : ℕ → List ℕ → List ℕ

@@ -1,5 +1,5 @@
 -- The last bytes of a console.
-use Rattle.std.proofs.Common.{◌≡◌, ◌∙◌, ◌⊎◌, ℕ, zero, suc, ◌+◌, ◌-◌, ◌≤◌, List, [], ◌∷◌, Option, Some, None, drop, length, slice_get, inl, inr, refl, ap, arith, length-drop}
+use Rattle.std.proofs.Common.{◌≡◌, ◌∙◌, ◌⊎◌, ℕ, zero, suc, ◌+◌, ◌-◌, ◌≤◌, List, [], ◌∷◌, Some, None, drop, length, slice_get, inl, inr, refl, ap, arith, length-drop}
 use Rattle.std.proofs.lemmas.List.{drop-drop, drop_all}
 use Rattle.mx_machine.specs.History.{replay}
 use Rattle.mx_machine.specs.Machine.{MachineState, world_of}

@@ -3,7 +3,6 @@ use Rattle.std.specs.Prelude.{◌≡◌, ◌⊎◌, ◌==◌, ◌-◌, ◌^◌, 
 use Rattle.mx_machine.specs.declared.events.Event.{Event}
 use Rattle.mx_machine.specs.declared.events.Event.TheVariants.{Tick, Kill}
 use Rattle.mx_machine.specs.History.{world_after_events}
-use Rattle.mx_machine.specs.Machine.{MachineState, world_of}
 use Rattle.mx_machine.specs.Rest.{at_rest}
 use Rattle.mx_machine.specs.World.{World}
 use Rattle.mx_turns.specs.declared.turns.Ending.{Ending}

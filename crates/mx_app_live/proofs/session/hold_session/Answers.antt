@@ -1,4 +1,4 @@
-use Rattle.std.proofs.Common.{◌≡◌, ◌∙◌, ◌++◌, ◌∷◌, [], ℕ, Err, List, None, Ok, Option, Some, ap, arith, refl, subst, sym}
+use Rattle.std.proofs.Common.{◌∙◌, ◌++◌, List, ap, arith, sym}
 use Rattle.std.proofs.lemmas.Result.{err_from_is_err_and}
 use Rattle.mx_machine.specs.Machine.{world_of}
 use Rattle.mx_app_live.specs.declared.outside.Note.{Note}
