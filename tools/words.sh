@@ -63,7 +63,7 @@ refuse_own_files() {
         esac
         case $word in
             --explain) explains=yes ;;
-            --numbered | --no-explain | --strict) ;;
+            --numbered | --no-explain | --strict | --live | --raw) ;;
             --save=*) save=${word#*=} ;;
             --events=*) events=${word#*=} ;;
             --sums=*) sums=${word#*=} ;;
@@ -90,4 +90,73 @@ refuse_own_files() {
 $(files_read "$config" "$read" "$third" "$compared")
 END
     refuse_same "$written" "$sums" SUMS "$explains"
+}
+
+# Whether these words are those of a session in which somebody types.
+is_live() {
+    [ "${1-}" = turns ] || return 1
+    for word in "$@"; do
+        [ "$word" != --live ] || return 0
+    done
+    return 1
+}
+
+# The file that ends the session of these words, if they name one.
+stop_named() {
+    named='' option=''
+    for word in "$@"; do
+        [ -z "$option" ] || named=$word
+        option=''
+        case $word in
+            --stop) option=yes ;;
+            --stop=*) named=${word#*=} ;;
+        esac
+    done
+    printf '%s' "$named"
+}
+
+# Ends the session: its file is made, and who feeds it ends.
+end_session() {
+    woken=yes
+    : >"$stop"
+    [ -z "$feeder" ] || kill "$feeder" 2>/dev/null
+}
+
+# The terminal is as it was before, and nothing is left of the session.
+leave_session() {
+    [ -z "$saved" ] || stty "$saved" 2>/dev/null
+    [ -z "$feeder" ] || kill "$feeder" 2>/dev/null
+    rm -rf "$room"
+}
+
+# Runs a session of these words, by start_program of the script that calls it, which ends as the program. A terminal
+# gives each key as it is typed, and no key makes a signal; at the end it is as before. The program sees no signals:
+# those that end a command make the session's file, so that its history is saved. The status is the program's.
+run_live() {
+    saved='' feeder='' woken=''
+    room=$(mktemp -d) || return 3
+    stop=$(stop_named "$@")
+    [ -n "$stop" ] || { stop=$room/stop; set -- "$@" --stop "$stop"; }
+    # What runs beside the shell has no input but what it is given.
+    exec 3<&0
+    trap leave_session EXIT
+    trap end_session INT TERM HUP
+    if [ -t 0 ]; then
+        saved=$(stty -g) || return 3
+        stty -icanon -echo -isig -ixon -iexten min 0 time 0 || return 3
+        (trap '' INT TERM HUP QUIT TSTP; start_program "$@" --raw) <&3 3<&- &
+    else
+        # A read of a pipe may wait for ever: so this one ends when its writer is ended.
+        mkfifo "$room/keys" || return 3
+        cat <&3 3<&- >"$room/keys" &
+        feeder=$!
+        (trap '' INT TERM HUP QUIT TSTP; start_program "$@") <"$room/keys" 3<&- &
+    fi
+    child=$!
+    while :; do
+        woken=''
+        wait "$child"
+        status=$?
+        [ -n "$woken" ] || return "$status"
+    done
 }

@@ -358,13 +358,31 @@ static int part_line(char *from)
     return count;
 }
 
+/* Says that a line is wanted. */
+static void prompt(void)
+{
+#ifdef LIVE
+    say("% ");
+#endif
+}
+
+/* Says which line came. Somebody who types sees it already. */
+static void repeat(void)
+{
+#ifndef LIVE
+    say("% ");
+    say(line);
+    say("\n");
+#endif
+}
+
 int main(void)
 {
+    prompt();
     while (take_line(line, ROOM) != KEYS_END) {
-        say("% ");
-        say(line);
-        say("\n");
+        repeat();
         run(part_line(line));
+        prompt();
     }
     return 0;
 }

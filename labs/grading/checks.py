@@ -282,8 +282,8 @@ class Check:
                        came="; ".join(f"{it} {given[it]}" if it in given else f"no line `{it}`" for it in wrong))
 
     def compare(self, case, printed, trace=None):
-        """The report's states, the console and the history, as far as the case names them."""
-        want = case.get("want", {})
+        """The history by models, the console, what else was said, and the report's states, as far as the case names them.
+        Models are first, since the rest follows from what they see: they say which request was answered wrongly."""
         lines = printed.split("\n")
         at = next((i for i, it in enumerate(lines) if re.match(r"console \d+$", it)), None)
         if at is None:
@@ -291,31 +291,31 @@ class Check:
         trace = trace or self.trace()
         rows = [it.split() for it in lines[:at - 1]]
         states = {words[1]: " ".join(words[3:-2]) for words in rows}
-        ending = ended({words[1] + after_ends(int(words[2])): states[words[1]] for words in rows})
+        named = {words[2]: words[1] for words in rows}
+        ending = ended({words[1] + after_ends(int(words[2])): in_names(states[words[1]], named) for words in rows})
         ending = f"the history was full, {ending}" if self.is_full(trace) else ending
-        self.compare_console(case, "\n".join(lines[at + 1:]), trace, ending)
+        found = facts.events(trace)
         try:
-            self.compare_history(case, trace)
+            self.compare_said(case, found)
+            self.compare_console(case, "\n".join(lines[at + 1:]), trace)
+            self.compare_history(case, found)
         except Lost as it:
             it.came = f"{it.came}; {ending}"
             raise
-        self.show_at("end")
-        for name, state in want.get("states", {}).items():
+        for name, state in case.get("want", {}).get("states", {}).items():
             if states.get(name) != state:
-                raise Lost(told(case), f"{name} {state}", ending)
+                raise Lost(told(case), f"{name} {in_names(state, named)}", ending)
 
-    def compare_console(self, case, text, trace, ending):
+    def compare_console(self, case, text, trace):
         """The console's bytes. The place is the record that wrote the first one that is another than is wanted."""
         want = case.get("want", {})
-        wanted = want.get("console", want.get("starts", ""))
+        wanted = want.get("console", "")
         first = next((i for i, it in enumerate(text) if it != wanted[i:i + 1]), len(text))
         records = re.findall(r"(?m)^(\d+)   console 0x\w+", trace)
-        came = f"console {text!r}; {ending}"
+        came = f"console {text!r}"
         self.show_at((records + ["end"])[min(first, len(records))])
         if "console" in want and text != wanted:
             raise Lost(told(case), f"console {wanted!r}", came)
-        if "starts" in want and not text.startswith(wanted):
-            raise Lost(told(case), f"console {wanted!r} and so on", came)
         if text not in want.get("consoles", [text]):
             raise Lost(told(case), f"console {' or '.join(map(repr, want['consoles']))}", came)
         self.show_at("end")
@@ -325,10 +325,9 @@ class Check:
         self.place = place
         self.shows = "| tail -n 30" if place == "end" else f"--from {max(1, int(place) - 9)} --to {place}"
 
-    def compare_history(self, case, trace):
-        """What was said in the run: by models, by facts, by who asked whom for what, by reports, and by memory."""
-        found, want = facts.events(trace), case.get("want", {})
-        self.compare_said(case, found)
+    def compare_history(self, case, found):
+        """What was said in the run: by facts, by who asked whom for what, and by reports."""
+        want = case.get("want", {})
         facts.require(told(case), case.get("facts", []), found)
         for pair, wanted in want.get("asks", {}).items():
             who, whom = pair.split()
@@ -416,6 +415,12 @@ def console_of(block):
 def after_ends(endpoint):
     """What is told behind a service's name if it has ended before."""
     return f" (it has ended, and is now {endpoint})" if endpoint >= models.GENERATION else ""
+
+
+def in_names(state, named):
+    """A state with the name of whom somebody waits for, in place of its endpoint."""
+    kind, _, whom = state.partition(" ")
+    return state if kind == "down" or whom not in named else f"{kind} {named[whom]}"
 
 
 def ended(states):

@@ -5,7 +5,7 @@ use Rattle.std.specs.Io.KnownBytes.{Appends}
 use Rattle.std.proofs.lemmas.List.{append-nil}
 use Rattle.mx_app_command.specs.Files.{writes_over}
 use Rattle.mx_app_command.specs.declared.command_line.CommandRequest.{CommandRequest}
-use Rattle.mx_app_command.specs.declared.command_line.CommandRequest.TheVariants.{Look, Run, Sweep, Turns}
+use Rattle.mx_app_command.specs.declared.command_line.CommandRequest.TheVariants.{Live, Look, Run, Sweep, Turns}
 use Rattle.mx_app_command.specs.declared.command_line.RecordRange.{RecordRange}
 use Rattle.mx_app_db.specs.ScriptLine.{ScriptLine}
 use Rattle.mx_app_db.specs.declared.script.DebugLine.{DebugLine}
@@ -38,37 +38,42 @@ use Rattle.mx_app_page.specs.Pages.{IsPagePrinted, run_of_files}
 use Rattle.mx_app_look.specs.Sessions.{HasFailed, IsBegun, IsSession, IsWhole, begun_text, sight_at}
 use Rattle.mx_app_run.specs.Run.{Runs}
 use Rattle.mx_app_turns.specs.Sweeping.{Sweeps}
+use Rattle.mx_app_live.specs.declared.outside.Heard.{Heard}
+use Rattle.mx_app_live.specs.declared.outside.Note.{Note}
+use Rattle.mx_app_live.specs.declared.session.SessionEnding.{SessionEnding}
+use Rattle.mx_app_live.specs.Living.{Lives}
 use Rattle.mx_app_turns.specs.declared.sweeping.Swept.{Swept}
 use Rattle.mx_app_turns.specs.Turned.{MakesTurns}
 use Rattle.mx_app_run.specs.declared.run_by_threads.RunEnding.{RunEnding}
 use Rattle.mx_turns.specs.declared.turns.Ending.{Ending}
 use Rattle.mx_walk.specs.Parts.{walk_shown}
 use Rattle.mx_walk.specs.Walks.{Walk}
-use Rattle.mx_app.specs.Deeds.{Deeds, nothing_done}
+use Rattle.mx_app.specs.Deeds.{Deeds, IsAlone, nothing_done}
 use Rattle.mx_app.specs.Explained.{ExplainsConfig}
 use Rattle.mx_app.specs.Named.{Assembles, ShowsFile}
 use Rattle.mx_app.specs.declared.performing.Done.{Done}
-use Rattle.mx_app.specs.Requests.{Debugs, Draws, Explains, Looks, Pages, Performs, PerformsApart, PerformsUntyped, Replays, SavesSteps, Shows, Steps, Traces, done_after_replay, done_after_run, done_after_sweep, done_after_turns, done_after_work, over_read}
+use Rattle.mx_app.specs.Requests.{Debugs, Draws, Explains, Looks, Pages, Performs, PerformsApart, PerformsUntyped, Replays, SavesSteps, Shows, Steps, Traces, done_after_live, done_after_replay, done_after_run, done_after_sweep, done_after_turns, done_after_work, over_read}
 
 -- what a request asked for and wrote, and what is done of it
 abbrev pub AsksAndWrites : List Asked → List Asked → List Written → List Written → (List Asked → List Written → Type 0) → Type 0
 AsksAndWrites asked asked_now written written_now Done =
     (qs : List Asked) × (ws : List Written) × (asked_now ≡ asked ++ qs) × (written_now ≡ written ++ ws) × Done qs ws
 
--- the same, with the lines that were typed, and the progress that was shown
-abbrev pub Grows : List Asked → List Asked → List Written → List Written → List (Option (List ℕ)) → List (Option (List ℕ)) → List Part → List Part → (Deeds → Type 0) → Type 0
-Grows asked asked_now written written_now given given_now shown shown_now Holds =
+-- the same, with the lines that were typed, what was heard and told, and the progress that was shown
+abbrev pub Grows : List Asked → List Asked → List Written → List Written → List (Option (List ℕ)) → List (Option (List ℕ)) → List Heard → List Heard → List Note → List Note → List Part → List Part → (Deeds → Type 0) → Type 0
+Grows asked asked_now written written_now given given_now heard heard_now told told_now shown shown_now Holds =
     (did : Deeds) × (asked_now ≡ asked ++ did.asked) × (written_now ≡ written ++ did.written)
-    × (given_now ≡ given ++ did.typed) × (shown_now ≡ shown ++ did.shown) × Holds did
+    × (given_now ≡ given ++ did.typed) × (heard_now ≡ heard ++ did.heard) × (told_now ≡ told ++ did.told) × (shown_now ≡ shown ++ did.shown) × Holds did
 
 -- a request that takes no lines and shows no progress
 untyped : (WasShown : Part → Type 0) (request : CommandRequest) (asks : Bool) (qs : List Asked) (ws : List Written) (Prints : List ℕ → Type 0) (r : Result Done Kind)
-    → PerformsUntyped request qs ws Prints r → PerformsApart WasShown request asks (record { asked = qs; written = ws; typed = []; shown = [] }) Prints r
+    → PerformsUntyped request qs ws Prints r → PerformsApart WasShown request asks (record { asked = qs; written = ws; typed = []; heard = []; told = []; shown = [] }) Prints r
 untyped WasShown (Run config log ticks events) asks qs ws Prints r h = absurd h
 untyped WasShown (Look config log) asks qs ws Prints r h = absurd h
 untyped WasShown (Turns config log ticks events bound) asks qs ws Prints r h = absurd h
+untyped WasShown (Live config log raw hertz stop) asks qs ws Prints r h = absurd h
 untyped WasShown (Sweep config log fault bound from to jobs strict save) asks qs ws Prints r h = absurd h
-untyped WasShown request asks qs ws Prints r h = (refl, refl, h)
+untyped WasShown request asks qs ws Prints r h = ((refl, refl), refl, refl, h)
 
 -- what is done of the request that this one is
 pub as_known : (asked now : List Asked) (files written : List Written) (Prints : List ℕ → Type 0) (r : Result Done Kind) (request known : CommandRequest) → request ≡ known
@@ -78,37 +83,39 @@ as_known asked now files written Prints r request known same done =
     subst (λ (x : CommandRequest). AsksAndWrites asked now files written (λ qs ws. PerformsUntyped x qs ws Prints r)) (sym same) done
 
 -- what is done of it, if no lines are typed and no progress is shown
-pub as_asked : (WasShown : Part → Type 0) {given : List (Option (List ℕ))} {shown : List Part} (asks : Bool) (asked now : List Asked) (files written : List Written) (Prints : List ℕ → Type 0) (r : Result Done Kind) (request : CommandRequest)
+pub as_asked : (WasShown : Part → Type 0) {given : List (Option (List ℕ))} {heard : List Heard} {told : List Note} {shown : List Part} (asks : Bool) (asked now : List Asked) (files written : List Written) (Prints : List ℕ → Type 0) (r : Result Done Kind) (request : CommandRequest)
     → AsksAndWrites asked now files written (λ qs ws. PerformsUntyped request qs ws Prints r)
-    → Grows asked now files written given given shown shown (λ did. PerformsApart WasShown request asks did Prints r)
-as_asked WasShown {given} {shown} asks asked now files written Prints r request done = (
-  record { asked = done.0; written = done.1; typed = []; shown = [] },
+    → Grows asked now files written given given heard heard told told shown shown (λ did. PerformsApart WasShown request asks did Prints r)
+as_asked WasShown {given} {heard} {told} {shown} asks asked now files written Prints r request done = (
+  record { asked = done.0; written = done.1; typed = []; heard = []; told = []; shown = [] },
   done.2,
   done.3,
   sym (append-nil given),
+  sym (append-nil heard),
+  sym (append-nil told),
   sym (append-nil shown),
   untyped WasShown request asks done.0 done.1 Prints r done.4,
 )
 
 -- what is done of the request that this one is, if it takes lines, shows progress or has threads
-pub as_typed : (WasShown : Part → Type 0) (asked now : List Asked) (files written : List Written) (given typed : List (Option (List ℕ))) (shown later : List Part) (asks : Bool) (Prints : List ℕ → Type 0) (r : Result Done Kind) (request known : CommandRequest) → request ≡ known
-    → Grows asked now files written given typed shown later (λ did. PerformsApart WasShown known asks did Prints r)
-    → Grows asked now files written given typed shown later (λ did. PerformsApart WasShown request asks did Prints r)
-as_typed WasShown asked now files written given typed shown later asks Prints r request known same done =
-    subst (λ (x : CommandRequest). Grows asked now files written given typed shown later (λ did. PerformsApart WasShown x asks did Prints r)) (sym same) done
+pub as_typed : (WasShown : Part → Type 0) (asked now : List Asked) (files written : List Written) (given typed : List (Option (List ℕ))) (heard heard_now : List Heard) (told told_now : List Note) (shown later : List Part) (asks : Bool) (Prints : List ℕ → Type 0) (r : Result Done Kind) (request known : CommandRequest) → request ≡ known
+    → Grows asked now files written given typed heard heard_now told told_now shown later (λ did. PerformsApart WasShown known asks did Prints r)
+    → Grows asked now files written given typed heard heard_now told told_now shown later (λ did. PerformsApart WasShown request asks did Prints r)
+as_typed WasShown asked now files written given typed heard heard_now told told_now shown later asks Prints r request known same done =
+    subst (λ (x : CommandRequest). Grows asked now files written given typed heard heard_now told told_now shown later (λ did. PerformsApart WasShown x asks did Prints r)) (sym same) done
 
 -- a session was held, or its machine wasn't started
-pub looks : (asked now : List Asked) (files files_now : List Written) (given given_now : List (Option (List ℕ))) (shown later : List Part) (config log : List ℕ) (asks : Bool) (x y : Option (List ℕ)) (d : Result (Unit {0}) Kind) (r : Result Done Kind)
+pub looks : {heard : List Heard} {told : List Note} (asked now : List Asked) (files files_now : List Written) (given given_now : List (Option (List ℕ))) (shown later : List Part) (config log : List ℕ) (asks : Bool) (x y : Option (List ℕ)) (d : Result (Unit {0}) Kind) (r : Result Done Kind)
     → OnOk d ((qs : List Asked) × (c : Config) × (vs : List Service) × (records : List Record) × (k : Walk) × (typed : List (Option (List ℕ))) × (text : List ℕ) × (ps : List Part)
     × (now ≡ asked ++ qs) × (given_now ≡ given ++ typed) × IsWhole typed × (later ≡ shown ++ (walk_shown k.records k.last ++ ps)) × IsStart IsSaved config log qs c vs records × IsBegun (world_at_boot c vs) records k
     × IsSession asks (sight_at k) typed text ps × Appends x y (begun_text asks k ++ text))
     → IfErr d (λ f. (qs : List Asked) × (typed : List (Option (List ℕ))) × (ps : List Part) × (now ≡ asked ++ qs) × (given_now ≡ given ++ typed) × (later ≡ shown ++ ps) × HasFailed config log qs ps f)
     → r ≡ done_after_work d → files_now ≡ files
-    → Grows asked now files files_now given given_now shown later (λ did. (e : Result (Unit {0}) Kind) × (did.written ≡ []) × Looks config log asks did.asked did.typed did.shown (λ text. Appends x y text) e × (r ≡ done_after_work e))
-looks asked now files files_now given given_now shown later config log asks x y (Ok u) r p f e same =
-    (record { asked = p.0; written = []; typed = p.5; shown = walk_shown p.4.records p.4.last ++ p.7 }, p.8, same ∙ sym (append-nil files), p.9, p.11, (Ok u, refl, (p.1, p.2, p.3, p.4, p.6, p.7, p.12, p.13, refl, p.10, p.14, p.15), e))
-looks asked now files files_now given given_now shown later config log asks x y (Err why) r p f e same =
-    (record { asked = f.0; written = []; typed = f.1; shown = f.2 }, f.3, same ∙ sym (append-nil files), f.4, f.5, (Err why, refl, f.6, e))
+    → Grows asked now files files_now given given_now heard heard told told shown later (λ did. IsAlone did × (e : Result (Unit {0}) Kind) × (did.written ≡ []) × Looks config log asks did.asked did.typed did.shown (λ text. Appends x y text) e × (r ≡ done_after_work e))
+looks {heard} {told} asked now files files_now given given_now shown later config log asks x y (Ok u) r p f e same =
+    (record { asked = p.0; written = []; typed = p.5; heard = []; told = []; shown = walk_shown p.4.records p.4.last ++ p.7 }, p.8, same ∙ sym (append-nil files), p.9, sym (append-nil heard), sym (append-nil told), p.11, ((refl, refl), Ok u, refl, (p.1, p.2, p.3, p.4, p.6, p.7, p.12, p.13, refl, p.10, p.14, p.15), e))
+looks {heard} {told} asked now files files_now given given_now shown later config log asks x y (Err why) r p f e same =
+    (record { asked = f.0; written = []; typed = f.1; heard = []; told = []; shown = f.2 }, f.3, same ∙ sym (append-nil files), f.4, sym (append-nil heard), sym (append-nil told), f.5, ((refl, refl), Err why, refl, f.6, e))
 
 -- a text was assembled, and nothing printed
 pub assembled : (asked now : List Asked) (files written : List Written) (known : Option (List ℕ)) (text file : List ℕ) (d : Result (Unit {0}) Kind) (r : Result Done Kind)
@@ -117,29 +124,39 @@ pub assembled : (asked now : List Asked) (files written : List Written) (known :
 assembled asked now files written known text file d r p e = (p.0, p.1, p.2, p.3, (d, p.4, appends_nothing known, e))
 
 -- a machine was run, or it wasn't
-pub runs : (WasShown : Part → Type 0) {given : List (Option (List ℕ))} (asked now : List Asked) (files written : List Written) (shown later : List Part) (config log : List ℕ) (events : Option (List ℕ)) (ticks : ℕ) (x y : Option (List ℕ)) (d : Result RunEnding Kind) (r : Result Done Kind)
+pub runs : (WasShown : Part → Type 0) {given : List (Option (List ℕ))} {heard : List Heard} {told : List Note} (asked now : List Asked) (files written : List Written) (shown later : List Part) (config log : List ℕ) (events : Option (List ℕ)) (ticks : ℕ) (x y : Option (List ℕ)) (d : Result RunEnding Kind) (r : Result Done Kind)
     → (qs : List Asked) × (ws : List Written) × (now ≡ asked ++ qs) × (written ≡ files ++ ws) × Runs WasShown config events log ticks qs ws (λ text. Appends x y text) d
     → later ≡ shown → r ≡ done_after_run d
-    → Grows asked now files written given given shown later (λ did. (did.typed ≡ []) × (did.shown ≡ []) × (e : Result RunEnding Kind)
+    → Grows asked now files written given given heard heard told told shown later (λ did. IsAlone did × (did.typed ≡ []) × (did.shown ≡ []) × (e : Result RunEnding Kind)
     × Runs WasShown config events log ticks did.asked did.written (λ text. Appends x y text) e × (r ≡ done_after_run e))
-runs WasShown {given} asked now files written shown later config log events ticks x y d r p same e =
-    (record nothing_done { asked = p.0; written = p.1 }, p.2, p.3, sym (append-nil given), same ∙ sym (append-nil shown), (refl, refl, d, p.4, e))
+runs WasShown {given} {heard} {told} asked now files written shown later config log events ticks x y d r p same e =
+    (record nothing_done { asked = p.0; written = p.1 }, p.2, p.3, sym (append-nil given), sym (append-nil heard), sym (append-nil told), same ∙ sym (append-nil shown), ((refl, refl), refl, refl, d, p.4, e))
 
 -- turns were made, or they weren't
-pub turned : {given : List (Option (List ℕ))} (asked now : List Asked) (files written : List Written) (shown later : List Part) (config log : List ℕ) (events : Option (List ℕ)) (ticks bound : ℕ) (x y : Option (List ℕ)) (d : Result Ending Kind) (r : Result Done Kind)
+pub turned : {given : List (Option (List ℕ))} {heard : List Heard} {told : List Note} (asked now : List Asked) (files written : List Written) (shown later : List Part) (config log : List ℕ) (events : Option (List ℕ)) (ticks bound : ℕ) (x y : Option (List ℕ)) (d : Result Ending Kind) (r : Result Done Kind)
     → (qs : List Asked) × (ws : List Written) × (ps : List Part) × (now ≡ asked ++ qs) × (written ≡ files ++ ws) × (later ≡ shown ++ ps) × MakesTurns config events log ticks bound qs ws ps (λ text. Appends x y text) d
     → r ≡ done_after_turns d
-    → Grows asked now files written given given shown later (λ did. (did.typed ≡ []) × (e : Result Ending Kind) × MakesTurns config events log ticks bound did.asked did.written did.shown (λ text. Appends x y text) e × (r ≡ done_after_turns e))
-turned {given} asked now files written shown later config log events ticks bound x y d r p e =
-    (record { asked = p.0; written = p.1; typed = []; shown = p.2 }, p.3, p.4, sym (append-nil given), p.5, (refl, d, p.6, e))
+    → Grows asked now files written given given heard heard told told shown later (λ did. IsAlone did × (did.typed ≡ []) × (e : Result Ending Kind) × MakesTurns config events log ticks bound did.asked did.written did.shown (λ text. Appends x y text) e × (r ≡ done_after_turns e))
+turned {given} {heard} {told} asked now files written shown later config log events ticks bound x y d r p e =
+    (record { asked = p.0; written = p.1; typed = []; heard = []; told = []; shown = p.2 }, p.3, p.4, sym (append-nil given), sym (append-nil heard), sym (append-nil told), p.5, ((refl, refl), refl, d, p.6, e))
+
+-- a machine lived, or it didn't
+pub lived : (asked now : List Asked) (files written : List Written) (given given_now : List (Option (List ℕ))) (heard heard_now : List Heard) (told told_now : List Note) (shown later : List Part) (config log : List ℕ) (has_clock : Bool) (x y : Option (List ℕ)) (d : Result SessionEnding Kind) (r : Result Done Kind)
+    → (qs : List Asked) × (ws : List Written) × (hs : List Heard) × (notes : List Note) × (now ≡ asked ++ qs) × (written ≡ files ++ ws) × (heard_now ≡ heard ++ hs) × (told_now ≡ told ++ notes)
+    × Lives config log has_clock qs ws hs notes (λ text. Appends x y text) d
+    → given_now ≡ given → later ≡ shown → r ≡ done_after_live d
+    → Grows asked now files written given given_now heard heard_now told told_now shown later (λ did. (did.typed ≡ []) × (did.shown ≡ []) × (e : Result SessionEnding Kind)
+    × Lives config log has_clock did.asked did.written did.heard did.told (λ text. Appends x y text) e × (r ≡ done_after_live e))
+lived asked now files written given given_now heard heard_now told told_now shown later config log has_clock x y d r p lines same e =
+    (record nothing_done { asked = p.0; written = p.1; heard = p.2; told = p.3 }, p.4, p.5, lines ∙ sym (append-nil given), p.6, p.7, same ∙ sym (append-nil shown), (refl, refl, d, p.8, e))
 
 -- a history was swept, or it wasn't
-pub swept : {given : List (Option (List ℕ))} (asked now : List Asked) (files written : List Written) (shown later : List Part) (config log fault : List ℕ) (save : Option (List ℕ)) (from to bound : ℕ) (strict : Bool) (x y : Option (List ℕ)) (d : Result Swept Kind) (r : Result Done Kind)
+pub swept : {given : List (Option (List ℕ))} {heard : List Heard} {told : List Note} (asked now : List Asked) (files written : List Written) (shown later : List Part) (config log fault : List ℕ) (save : Option (List ℕ)) (from to bound : ℕ) (strict : Bool) (x y : Option (List ℕ)) (d : Result Swept Kind) (r : Result Done Kind)
     → (qs : List Asked) × (ws : List Written) × (ps : List Part) × (now ≡ asked ++ qs) × (written ≡ files ++ ws) × (later ≡ shown ++ ps) × Sweeps config log fault save from to bound qs ws ps (λ text. Appends x y text) d
     → r ≡ done_after_sweep strict d
-    → Grows asked now files written given given shown later (λ did. (did.typed ≡ []) × (e : Result Swept Kind) × Sweeps config log fault save from to bound did.asked did.written did.shown (λ text. Appends x y text) e × (r ≡ done_after_sweep strict e))
-swept {given} asked now files written shown later config log fault save from to bound strict x y d r p e =
-    (record { asked = p.0; written = p.1; typed = []; shown = p.2 }, p.3, p.4, sym (append-nil given), p.5, (refl, d, p.6, e))
+    → Grows asked now files written given given heard heard told told shown later (λ did. IsAlone did × (did.typed ≡ []) × (e : Result Swept Kind) × Sweeps config log fault save from to bound did.asked did.written did.shown (λ text. Appends x y text) e × (r ≡ done_after_sweep strict e))
+swept {given} {heard} {told} asked now files written shown later config log fault save from to bound strict x y d r p e =
+    (record { asked = p.0; written = p.1; typed = []; heard = []; told = []; shown = p.2 }, p.3, p.4, sym (append-nil given), sym (append-nil heard), sym (append-nil told), p.5, ((refl, refl), refl, d, p.6, e))
 
 -- a script was done, and its history saved or not
 pub saved : (asked now : List Asked) (files written : List Written) (config script log : List ℕ) (numbered : Bool) (x y : Option (List ℕ)) (d : Result (Unit {0}) Kind) (r : Result Done Kind)
@@ -236,14 +253,14 @@ module _ (asked now : List Asked) (files : List Written) where
 
 -- ---- whether it writes over what it reads
 
-pub spared : (WasShown : Part → Type 0) {given : List (Option (List ℕ))} {shown : List Part} (asks : Bool) (asked : List Asked) (files : List Written) (known : Option (List ℕ)) (r : Result Done Kind) (request : CommandRequest)
+pub spared : (WasShown : Part → Type 0) {given : List (Option (List ℕ))} {heard : List Heard} {told : List Note} {shown : List Part} (asks : Bool) (asked : List Asked) (files : List Written) (known : Option (List ℕ)) (r : Result Done Kind) (request : CommandRequest)
     → writes_over request ≡ true → r ≡ Err over_read
-    → Grows asked asked files files given given shown shown (λ did. Performs WasShown request asks did (λ text. Appends known known text) r)
-spared WasShown {given} {shown} asks asked files known r request over e =
-    (nothing_done, sym (append-nil asked), sym (append-nil files), sym (append-nil given), sym (append-nil shown), inl (over, refl, appends_nothing known, e))
+    → Grows asked asked files files given given heard heard told told shown shown (λ did. Performs WasShown request asks did (λ text. Appends known known text) r)
+spared WasShown {given} {heard} {told} {shown} asks asked files known r request over e =
+    (nothing_done, sym (append-nil asked), sym (append-nil files), sym (append-nil given), sym (append-nil heard), sym (append-nil told), sym (append-nil shown), inl (over, refl, appends_nothing known, e))
 
-pub apart : (WasShown : Part → Type 0) (asked now : List Asked) (files written : List Written) (given typed : List (Option (List ℕ))) (shown later : List Part) (asks : Bool) (Prints : List ℕ → Type 0) (r : Result Done Kind) (request : CommandRequest)
+pub apart : (WasShown : Part → Type 0) (asked now : List Asked) (files written : List Written) (given typed : List (Option (List ℕ))) (heard heard_now : List Heard) (told told_now : List Note) (shown later : List Part) (asks : Bool) (Prints : List ℕ → Type 0) (r : Result Done Kind) (request : CommandRequest)
     → writes_over request ≡ false
-    → Grows asked now files written given typed shown later (λ did. PerformsApart WasShown request asks did Prints r)
-    → Grows asked now files written given typed shown later (λ did. Performs WasShown request asks did Prints r)
-apart WasShown asked now files written given typed shown later asks Prints r request other done = (done.0, done.1, done.2, done.3, done.4, inr (other, done.5))
+    → Grows asked now files written given typed heard heard_now told told_now shown later (λ did. PerformsApart WasShown request asks did Prints r)
+    → Grows asked now files written given typed heard heard_now told told_now shown later (λ did. Performs WasShown request asks did Prints r)
+apart WasShown asked now files written given typed heard heard_now told told_now shown later asks Prints r request other done = (done.0, done.1, done.2, done.3, done.4, done.5, done.6, inr (other, done.7))

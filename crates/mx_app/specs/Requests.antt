@@ -1,9 +1,9 @@
 -- What is done of requests (our own).
-use Rattle.std.specs.Prelude.{◌≡◌, ◌⊎◌, ℕ, ◌-◌, Bool, true, false, if◌then◌else◌, List, [], ◌∷◌, ◌++◌, Option, Some, None, Result, Ok, Err, option_map, take}
+use Rattle.std.specs.Prelude.{◌≡◌, ◌⊎◌, ℕ, ◌-◌, Bool, true, false, if◌then◌else◌, List, [], ◌∷◌, ◌++◌, Option, Some, None, Result, Ok, Err, nat_lt, option_map, take}
 use Rattle.mx_app_command.specs.Files.{writes_over}
 use Rattle.mx_app_command.specs.declared.command_line.CommandRequest.{CommandRequest}
 use Rattle.mx_app_command.specs.declared.command_line.RecordRange.{RecordRange}
-use Rattle.mx_app_command.specs.declared.command_line.CommandRequest.TheVariants.{One, As, Show, Explain, Step, Run, Turns, Sweep, Replay, Trace, Draw, Page, Look, Db}
+use Rattle.mx_app_command.specs.declared.command_line.CommandRequest.TheVariants.{One, As, Show, Explain, Step, Run, Turns, Live, Sweep, Replay, Trace, Draw, Page, Look, Db}
 use Rattle.mx_app_db.specs.ScriptLine.{ScriptLine}
 use Rattle.mx_app_db.specs.declared.script.DebugLine.{DebugLine}
 use Rattle.mx_app_failure.specs.declared.failure.Failure.{Failure as Kind}
@@ -35,6 +35,9 @@ use Rattle.mx_app_db.specs.Replayed.{Replayed}
 use Rattle.mx_app_db.specs.Replayed.TheVariants as replayed
 use Rattle.mx_app_draw.specs.Scenes.{IsDrawingPrinted}
 use Rattle.mx_app_page.specs.Pages.{IsPagePrinted, run_of_files}
+use Rattle.mx_app_live.specs.declared.session.SessionEnding.{SessionEnding}
+use Rattle.mx_app_live.specs.declared.session.SessionEnding.TheVariants as session
+use Rattle.mx_app_live.specs.Living.{Lives}
 use Rattle.mx_app_look.specs.Sessions.{HasFailed, IsBegun, IsSession, IsWhole, begun_text, sight_at}
 use Rattle.mx_app_run.specs.Run.{Runs}
 use Rattle.mx_app_turns.specs.Sweeping.{Sweeps}
@@ -48,7 +51,7 @@ use Rattle.mx_walk.specs.Parts.{walk_shown}
 use Rattle.mx_walk.specs.Walks.{Walk}
 use Rattle.mx_app_db.specs.DebugLines.{DebuggedWorld, debug_lines_made}
 use Rattle.mx_app_db.specs.LineTexts.{debug_lines_text}
-use Rattle.mx_app.specs.Deeds.{Deeds, nothing_done}
+use Rattle.mx_app.specs.Deeds.{Deeds, IsAlone, nothing_done}
 use Rattle.mx_app.specs.Explained.{ExplainsConfig}
 use Rattle.mx_app.specs.Named.{Assembles, ShowsFile}
 use Rattle.mx_app.specs.declared.ending.DrivenEnding.TheVariants as driven
@@ -74,6 +77,15 @@ done_after_replay (Err f) = Err f
 abbrev pub done_after_turns : Result Ending Kind → Result Done Kind
 done_after_turns (Ok ending) = Ok (record { status = 0; ending = Some (driven.Turns ending); untested = None })
 done_after_turns (Err f) = Err f
+
+-- the status of a session is 130 if it was stopped
+abbrev pub live_status : SessionEnding → ℕ
+live_status session.Stopped = 130
+live_status e = 0
+
+abbrev pub done_after_live : Result SessionEnding Kind → Result Done Kind
+done_after_live (Ok ending) = Ok (with_status (live_status ending))
+done_after_live (Err f) = Err f
 
 -- the status of a run is 5 if it was stopped
 abbrev pub run_status : RunEnding → ℕ
@@ -203,6 +215,7 @@ PerformsUntyped (Step config script (Some log) numbered) qs ws Prints r =
     × (r ≡ done_after_work d)
 PerformsUntyped (Run config log ticks events) qs ws Prints r = ⊥
 PerformsUntyped (Turns config log ticks events bound) qs ws Prints r = ⊥
+PerformsUntyped (Live config log raw hertz stop) qs ws Prints r = ⊥
 PerformsUntyped (Sweep config log fault bound from to jobs strict save) qs ws Prints r = ⊥
 PerformsUntyped (Replay config log) qs ws Prints r =
     (d : Result Replayed Kind) × (ws ≡ []) × Replays config.now log.now qs Prints d × (r ≡ done_after_replay d)
@@ -217,29 +230,33 @@ PerformsUntyped (Db config script) qs ws Prints r =
     (d : Result (Unit {0}) Kind) × (ws ≡ []) × Debugs config.now script.now qs Prints d × (r ≡ done_after_work d)
 
 -- what is done of a request that writes over nothing that it reads, by what a command did, by what is printed, and by
--- how it ends. Only a session takes lines; it, turns and a sweep show progress. What the threads of a run show is no
--- list, since they have no order: WasShown holds of it.
+-- how it ends. Only `look` takes lines, and somebody sits only at a live machine; `look`, turns and a sweep show
+-- progress. What the threads of a run show is no list, since they have no order: WasShown holds of it.
 abbrev pub PerformsApart : (Part → Type 0) → CommandRequest → Bool → Deeds → (List ℕ → Type 0) → Result Done Kind
     → Type 0
 PerformsApart WasShown (Look config log) asks did Prints r =
-    (d : Result (Unit {0}) Kind) × (did.written ≡ [])
+    IsAlone did × (d : Result (Unit {0}) Kind) × (did.written ≡ [])
     × Looks config.now log.now asks did.asked did.typed did.shown Prints d × (r ≡ done_after_work d)
 PerformsApart WasShown (Run config log ticks events) asks did Prints r =
-    (did.typed ≡ []) × (did.shown ≡ []) × (d : Result RunEnding Kind)
+    IsAlone did × (did.typed ≡ []) × (did.shown ≡ []) × (d : Result RunEnding Kind)
     × Runs WasShown config.now (option_map (λ s. s.now) events) log.now ticks did.asked did.written Prints d
     × (r ≡ done_after_run d)
 PerformsApart WasShown (Turns config log ticks events bound) asks did Prints r =
-    (did.typed ≡ []) × (d : Result Ending Kind)
+    IsAlone did × (did.typed ≡ []) × (d : Result Ending Kind)
     × MakesTurns config.now
     (option_map (λ s. s.now) events) log.now ticks bound did.asked did.written did.shown Prints d
     × (r ≡ done_after_turns d)
+PerformsApart WasShown (Live config log raw hertz stop) asks did Prints r =
+    (did.typed ≡ []) × (did.shown ≡ []) × (d : Result SessionEnding Kind)
+    × Lives config.now log.now (nat_lt 0 hertz) did.asked did.written did.heard did.told Prints d
+    × (r ≡ done_after_live d)
 PerformsApart WasShown (Sweep config log fault bound from to jobs strict save) asks did Prints r =
-    (did.typed ≡ []) × (d : Result Swept Kind)
+    IsAlone did × (did.typed ≡ []) × (d : Result Swept Kind)
     × Sweeps config.now log.now fault.now
     (option_map (λ s. s.now) save) from to bound did.asked did.written did.shown Prints d
     × (r ≡ done_after_sweep strict d)
 PerformsApart WasShown request asks did Prints r =
-    (did.typed ≡ []) × (did.shown ≡ []) × PerformsUntyped request did.asked did.written Prints r
+    IsAlone did × (did.typed ≡ []) × (did.shown ≡ []) × PerformsUntyped request did.asked did.written Prints r
 
 -- the failure of a request that would write over what it reads
 abbrev pub over_read : Kind

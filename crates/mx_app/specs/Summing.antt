@@ -4,7 +4,7 @@ use Rattle.std.specs.declared.io.ErrorKind.{ErrorKind}
 use Rattle.mx_app_command.specs.Files.{files_read, names_file}
 use Rattle.mx_app_command.specs.declared.command_line.CommandLine.{CommandLine}
 use Rattle.mx_app_command.specs.declared.command_line.CommandRequest.{CommandRequest}
-use Rattle.mx_app_command.specs.declared.command_line.CommandRequest.TheVariants.{Step, Run, Turns}
+use Rattle.mx_app_command.specs.declared.command_line.CommandRequest.TheVariants.{Step, Run, Turns, Live}
 use Rattle.mx_app_failure.specs.declared.failure.Failure.{Failure as Kind}
 use Rattle.mx_app_failure.specs.declared.failure.Failure.TheVariants as failures
 use Rattle.mx_app_failure.specs.Failure.{failure_line, status_of}
@@ -20,7 +20,7 @@ use Rattle.mx_app_explain.specs.declared.sums_fault.SumsFault.TheVariants.{NameT
 use Rattle.mx_app_explain.specs.declared.sums.MachinePart.{MachinePart}
 use Rattle.mx_app_explain.specs.declared.sums.PartSum.{PartSum}
 use Rattle.mx_walk.specs.declared.progress.Part.{Part}
-use Rattle.mx_app.specs.Deeds.{Deeds}
+use Rattle.mx_app.specs.Deeds.{Deeds, IsAlone}
 use Rattle.mx_app.specs.Requests.{Performs}
 use Rattle.mx_app.specs.declared.performing.Done.{Done}
 use Rattle.mx_app.specs.declared.summing.LineFailure.{LineFailure}
@@ -45,6 +45,7 @@ abbrev pub writes_sums : CommandRequest → Bool
 writes_sums (Step config script save numbered) = true
 writes_sums (Run config log ticks events) = true
 writes_sums (Turns config log ticks events bound) = true
+writes_sums (Live config log raw hertz stop) = true
 writes_sums r = false
 
 -- ---- the sums of the machine
@@ -81,9 +82,9 @@ WritesSums name text w (Err f) = (kind : ErrorKind) × (w ≡ unkept name text k
 
 -- ---- the request, and the sums before or after it
 
--- nothing was written, typed, shown or printed
+-- nothing was written, typed, heard, told, shown or printed
 abbrev pub IsIdle : Deeds → (List ℕ → Type 0) → Type 0
-IsIdle did Prints = (did.written ≡ []) × (did.typed ≡ []) × (did.shown ≡ []) × Prints []
+IsIdle did Prints = (did.written ≡ []) × (did.typed ≡ []) × IsAlone did × (did.shown ≡ []) × Prints []
 
 abbrev pub by_request : Result Done Kind → Result Done LineFailure
 by_request (Ok done) = Ok done

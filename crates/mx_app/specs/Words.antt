@@ -9,14 +9,14 @@ use Rattle.clap.specs.declared.error.kind.ErrorKind.{ErrorKind as WordsErrorKind
 use Rattle.clap.specs.declared.error.kind.ErrorKind.TheVariants as words
 use Rattle.mx_app_command.specs.declared.command_line.CommandLine.{CommandLine}
 use Rattle.mx_app_explain.specs.Explaining.{explained}
-use Rattle.mx_app_command.specs.Mistakes.{IsMistake, both_given}
+use Rattle.mx_app_command.specs.Mistakes.{IsMistake, mistake_given}
 use Rattle.mx_app_command.specs.declared.command_line.Mistake.{Mistake}
 use Rattle.mx_app_command.specs.declared.command_line.Mistake.TheVariants as mistakes
 use Rattle.mx_app_command.specs.Words.{Asks, AsksForSilence, AsksForSums, AsksToExplain, mx_grammar}
 use Rattle.mx_app_failure.specs.declared.failure.Failure.{Failure as Kind}
 use Rattle.mx_app_failure.specs.declared.failure.Failure.TheVariants.{NotText, NoMemory}
 use Rattle.mx_app_failure.specs.Failure.{IsWanting}
-use Rattle.mx_app.specs.Deeds.{Deeds}
+use Rattle.mx_app.specs.Deeds.{Deeds, IsAlone}
 use Rattle.mx_app.specs.Requests.{with_status}
 use Rattle.mx_app.specs.Summing.{PerformsLine, line_failure_line, line_failure_status}
 use Rattle.mx_app.specs.declared.summing.LineFailure.{LineFailure}
@@ -25,7 +25,7 @@ use Rattle.mx_app_explain.specs.SumsFaults.{fault_explained}
 use Rattle.mx_walk.specs.declared.progress.Part.{Part}
 use Rattle.mx_app.specs.declared.performing.Done.{Done}
 use Rattle.mx_app.specs.declared.complaint.Complaint.{Complaint}
-use Rattle.mx_app.specs.declared.complaint.Complaint.TheVariants.{Mistaken, TicksAndEvents, Failed, Explained, Unexplained}
+use Rattle.mx_app.specs.declared.complaint.Complaint.TheVariants.{Mistaken, TicksAndEvents, LiveWithCourse, NotLive, Failed, Explained, Unexplained}
 
 -- why they can't be had
 abbrev pub words_failure_of : ErrorKind → Kind
@@ -36,6 +36,8 @@ words_failure_of k = NotText
 abbrev pub complaint_status : Complaint → ℕ
 complaint_status (Mistaken e) = 2
 complaint_status TicksAndEvents = 2
+complaint_status LiveWithCourse = 2
+complaint_status NotLive = 2
 complaint_status (Failed f) = line_failure_status f
 complaint_status (Explained f s) = line_failure_status f
 complaint_status (Unexplained f) = line_failure_status f
@@ -46,11 +48,25 @@ both_text =
     codes "error: the argument '--ticks <T>' cannot be used with '--events <EVENTS>'\n\n"
     ++ codes "Usage: mx turns [OPTIONS] <CONFIG> <LOG>\n\nFor more information, try '--help'.\n"
 
+-- the same of `turns --live` with a course of its own
+abbrev pub course_text : List ℕ
+course_text =
+    codes "error: the argument '--live' cannot be used with '--ticks <T>', '--events <EVENTS>' or '--turns <N>'\n\n"
+    ++ codes "Usage: mx turns [OPTIONS] <CONFIG> <LOG>\n\nFor more information, try '--help'.\n"
+
+-- and of an option of `--live` without it
+abbrev pub not_live_text : List ℕ
+not_live_text =
+    codes "error: the arguments '--hertz <H>', '--raw' and '--stop <FILE>' need '--live'\n\n"
+    ++ codes "Usage: mx turns [OPTIONS] <CONFIG> <LOG>\n\nFor more information, try '--help'.\n"
+
 -- what standard error gets: of a mistake what clap says, which isn't pinned here; of a failure its line, and the line
 -- that explains it, or that there is no memory for this line
 abbrev pub complaint_text : Complaint → Option (List ℕ)
 complaint_text (Mistaken e) = None
 complaint_text TicksAndEvents = Some both_text
+complaint_text LiveWithCourse = Some course_text
+complaint_text NotLive = Some not_live_text
 complaint_text (Failed f) = Some (line_failure_line f ++ codes "\n")
 complaint_text (Explained f s) = Some (line_failure_line f ++ codes "\n" ++ string_bytes s ++ codes "\n")
 complaint_text (Unexplained f) = Some (line_failure_line f ++ codes "\nmx: memory: wanted more of it\n")
@@ -73,11 +89,13 @@ ExplainsKind k e Prints r = Prints [] × (r ≡ Err (Mistaken e))
 abbrev pub Explains : Error → (List ℕ → Type 0) → Result Done Complaint → Type 0
 Explains e Prints r = ExplainsKind (kind_of e) e Prints r
 
--- what comes of a mistake: what its error says; or the complaint that only one of ticks and outside events may be given,
--- and nothing is printed
+-- what comes of a mistake: what its error says; or the complaint that says which words exclude each other, and nothing
+-- is printed
 abbrev pub AnswersMistake : Mistake → (List ℕ → Type 0) → Result Done Complaint → Type 0
 AnswersMistake (mistakes.Grammar e) Prints r = Explains e Prints r
 AnswersMistake mistakes.TicksAndEvents Prints r = Prints [] × (r ≡ Err TicksAndEvents)
+AnswersMistake mistakes.LiveWithCourse Prints r = Prints [] × (r ≡ Err LiveWithCourse)
+AnswersMistake mistakes.NotLive Prints r = Prints [] × (r ≡ Err NotLive)
 
 -- ---- all words
 
@@ -111,7 +129,7 @@ IsAnswered line shows (Ok done) r = r ≡ Ok done
 IsAnswered line shows (Err f) r = (c : Complaint) × (r ≡ Err c) × IsComplaintOf line shows f c
 
 -- WHAT IS DONE OF WORDS: what the request does that they ask for; or, if something is wrong with them, nothing is asked
--- for, written, typed or shown, and the mistake is answered
+-- for, written, typed, heard, told or shown, and the mistake is answered
 abbrev pub IsPerformed : (Part → Type 0) → List (List ℕ) → Bool → Bool → Deeds → (List ℕ → Type 0)
     → Result Done Complaint → Type 0
 IsPerformed WasShown texts asks shows did Prints r =
@@ -119,7 +137,7 @@ IsPerformed WasShown texts asks shows did Prints r =
     × AsksToExplain line.explains (subcommand_of mx_grammar texts)
     × AsksForSilence line.silent (subcommand_of mx_grammar texts)
     × AsksForSums (option_map (λ s. s.now) line.sums) (subcommand_of mx_grammar texts)
-    × (both_given (subcommand_of mx_grammar texts) ≡ false)
+    × (mistake_given (subcommand_of mx_grammar texts) ≡ None)
     × PerformsLine WasShown line asks did Prints d × IsAnswered line shows d r)
-    ⊎ ((m : Mistake) × IsMistake texts m × (did.asked ≡ []) × (did.written ≡ []) × (did.typed ≡ []) × (did.shown ≡ [])
-    × AnswersMistake m Prints r)
+    ⊎ ((m : Mistake) × IsMistake texts m × (did.asked ≡ []) × (did.written ≡ []) × (did.typed ≡ []) × IsAlone did
+    × (did.shown ≡ []) × AnswersMistake m Prints r)

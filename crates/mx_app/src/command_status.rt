@@ -15,6 +15,7 @@ use clap::error::ErrorKind;
 use mx_app_command::{CommandLine, Mistake, command};
 use mx_app_explain::{explain_failure, explain_sums};
 use mx_app_failure::{Failure, print_text};
+use mx_app_live::Outside;
 use mx_app_start::{FileWriter, LineReader, Reader, SharedProgress};
 use mx_walk::Progress;
 use std::alloc::{AllocError, Global};
@@ -57,6 +58,8 @@ fn complain<W: Write>(alloc: Global, mistake: Mistake, out: &mut W) -> Result<Do
     match mistake {
         Mistake::Grammar(error) => explain(alloc, error, out),
         Mistake::TicksAndEvents => Err(Complaint::TicksAndEvents),
+        Mistake::LiveWithCourse => Err(Complaint::LiveWithCourse),
+        Mistake::NotLive => Err(Complaint::NotLive),
     }
 }
 
@@ -129,16 +132,17 @@ pub fn perform_words<
     F: FileWriter + Drop,
     W: Write + Drop,
     L: LineReader + Drop,
+    O: Outside + Drop,
     P: Progress + SharedProgress + Sync + Drop,
 >(
     rt: &T,
     alloc: Global,
     words: &'a [&'a str],
-    io: &mut CommandIo<R, F, W, L, P>,
+    io: &mut CommandIo<R, F, W, L, O, P>,
     shows: bool,
 ) -> Result<Done, Complaint>
     ensures asks { io.new.asks ≡ io.old.asks }
-    ensures done { Does io.old io.new R.asked F.written W.contents L.given P.shown
+    ensures done { Does io.old io.new R.asked F.written W.contents L.given O.heard O.told P.shown
         (λ did Prints. IsPerformed (P.was_shown io.old.progress)
         (map (λ s. s.now) words.now) io.old.asks shows did Prints result) }
 {

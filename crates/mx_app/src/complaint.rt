@@ -15,6 +15,24 @@ Usage: mx turns [OPTIONS] <CONFIG> <LOG>
 For more information, try '--help'.
 ";
 
+/// What is printed of `turns --live` with a course of its own.
+const LIVE_COURSE: &str =
+    "error: the argument '--live' cannot be used with '--ticks <T>', '--events <EVENTS>' or '--turns <N>'
+
+Usage: mx turns [OPTIONS] <CONFIG> <LOG>
+
+For more information, try '--help'.
+";
+
+/// What is printed of `turns` with an option of `--live`, and without it.
+const NOT_LIVE: &str =
+    "error: the arguments '--hertz <H>', '--raw' and '--stop <FILE>' need '--live'
+
+Usage: mx turns [OPTIONS] <CONFIG> <LOG>
+
+For more information, try '--help'.
+";
+
 /// Why the program didn't do what its words ask for.
 #[derive(Drop)]
 pub enum Complaint {
@@ -22,6 +40,10 @@ pub enum Complaint {
     Mistaken(clap::Error),
     /// They are those of `turns` with both `--ticks` and `--events`.
     TicksAndEvents,
+    /// They are those of `turns --live` with `--ticks`, `--events` or `--turns`.
+    LiveWithCourse,
+    /// They are those of `turns` with `--hertz`, `--raw` or `--stop`, and without `--live`.
+    NotLive,
     /// What they ask for failed.
     Failed(LineFailure),
     /// It failed: with the line that explains the failure, without its end.
@@ -37,7 +59,7 @@ impl Complaint {
     {
         match self {
             Complaint::Mistaken(_) => 2,
-            Complaint::TicksAndEvents => 2,
+            Complaint::TicksAndEvents | Complaint::LiveWithCourse | Complaint::NotLive => 2,
             Complaint::Failed(failure) => failure.status(),
             Complaint::Explained(failure, _) => failure.status(),
             Complaint::Unexplained(failure) => failure.status(),
@@ -55,6 +77,8 @@ impl fmt::Display for Complaint {
         match self {
             Complaint::Mistaken(error) => write!(f, "{error}"),
             Complaint::TicksAndEvents => f.write_str(BOTH),
+            Complaint::LiveWithCourse => f.write_str(LIVE_COURSE),
+            Complaint::NotLive => f.write_str(NOT_LIVE),
             Complaint::Failed(failure) => write!(f, "{failure}\n"),
             Complaint::Explained(failure, line) => write!(f, "{failure}\n{line}\n"),
             Complaint::Unexplained(failure) => {

@@ -2,7 +2,7 @@
 
 ghost use Rattle.std.specs.Prelude.{◌≡◌};
 ghost use Rattle.mx_app.specs.Deeds.{Does};
-ghost use Rattle.mx_app.specs.Requests.{Performs, PerformsApart, done_after_replay, done_after_run, done_after_sweep, done_after_turns, done_after_work, run_status, with_status};
+ghost use Rattle.mx_app.specs.Requests.{Performs, PerformsApart, done_after_live, done_after_replay, done_after_run, done_after_sweep, done_after_turns, done_after_work, run_status, with_status};
 
 use crate::command_io::CommandIo;
 use crate::ending::DrivenEnding;
@@ -12,6 +12,7 @@ use mx_app_command::{CommandRequest, RecordRange};
 use mx_app_db::{HistoryPart, NamedScript, Replayed, db, replay, step, step_saved, trace};
 use mx_app_draw::draw;
 use mx_app_failure::{About, Failure, FileProblem};
+use mx_app_live::{LiveNames, Outside, SessionEnding, Sitting, live};
 use mx_app_look::{SessionWanted, look};
 use mx_app_page::page;
 use mx_app_run::{RunEnding, RunWanted, run};
@@ -106,6 +107,20 @@ fn done_after_turns(done: Result<Ending, Failure>) -> Result<Done, Failure>
     }
 }
 
+/// The status of a session that was stopped, as a shell has it of what SIGINT ended.
+const INTERRUPTED: u8 = 130;
+
+/// What is done after a session: the status is 0, unless it was stopped.
+fn done_after_live(done: Result<SessionEnding, Failure>) -> Result<Done, Failure>
+    ensures { result ≡ done_after_live done }
+{
+    match done {
+        Ok(SessionEnding::Stopped) => Ok(Done::with_status(INTERRUPTED)),
+        Ok(_) => Ok(Done::with_status(0)),
+        Err(failure) => Err(failure),
+    }
+}
+
 /// What is done after a sweep: the status is 1 if the history is refused, and, if the sweep is strict, if an
 /// outcome differs or nothing was tested.
 fn done_after_sweep(done: Result<Swept, Failure>, strict: bool) -> Result<Done, Failure>
@@ -131,15 +146,16 @@ fn perform_apart<
     F: FileWriter + Drop,
     W: Write + Drop,
     L: LineReader + Drop,
+    O: Outside + Drop,
     P: Progress + SharedProgress + Sync + Drop,
 >(
     rt: &T,
     alloc: Global,
-    io: &mut CommandIo<R, F, W, L, P>,
+    io: &mut CommandIo<R, F, W, L, O, P>,
     request: CommandRequest<'_>,
 ) -> Result<Done, Failure>
     ensures asks { io.new.asks ≡ io.old.asks }
-    ensures done { Does io.old io.new R.asked F.written W.contents L.given P.shown
+    ensures done { Does io.old io.new R.asked F.written W.contents L.given O.heard O.told P.shown
         (λ did Prints. PerformsApart (P.was_shown io.old.progress)
         request.entry io.old.asks did Prints result) }
 {
@@ -218,6 +234,21 @@ fn perform_apart<
             };
             let wanted = TurnsWanted { ticks, bound };
             done_after_turns(turns(alloc, channels, names, wanted, &mut io.progress))
+        }
+        CommandRequest::Live {
+            config,
+            log,
+            raw,
+            hertz,
+            stop,
+        } => {
+            let names = LiveNames { config, log };
+            let sitting = Sitting {
+                is_raw: raw,
+                hertz,
+                stop,
+            };
+            done_after_live(live(alloc, channels, names, sitting, &mut io.seat))
         }
         CommandRequest::Sweep {
             config,
@@ -302,15 +333,16 @@ pub fn perform<
     F: FileWriter + Drop,
     W: Write + Drop,
     L: LineReader + Drop,
+    O: Outside + Drop,
     P: Progress + SharedProgress + Sync + Drop,
 >(
     rt: &T,
     alloc: Global,
-    io: &mut CommandIo<R, F, W, L, P>,
+    io: &mut CommandIo<R, F, W, L, O, P>,
     request: CommandRequest<'_>,
 ) -> Result<Done, Failure>
     ensures asks { io.new.asks ≡ io.old.asks }
-    ensures done { Does io.old io.new R.asked F.written W.contents L.given P.shown
+    ensures done { Does io.old io.new R.asked F.written W.contents L.given O.heard O.told P.shown
         (λ did Prints. Performs (P.was_shown io.old.progress)
         request.entry io.old.asks did Prints result) }
 {

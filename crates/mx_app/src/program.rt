@@ -11,6 +11,7 @@ use crate::complaint::Complaint;
 use crate::ending::{NotingOutput, PrintedText, Terminals};
 use crate::performing::Done;
 use mx_app_failure::Failure;
+use mx_app_live::Seat;
 use mx_app_start::{Channels, InputLines, RuntimeFiles, RuntimeProgress, RuntimeWriter};
 use mx_walk::Progress;
 use std::rt::{Env, Files};
@@ -131,6 +132,7 @@ where
             out: NotingOutput::new(io::writer(rt)),
         },
         lines: InputLines::new(rt.reader()),
+        seat: Seat::new(rt),
         progress: RuntimeProgress::new(rt, terminals.err, unit_of(words)),
         asks: terminals.input && terminals.out,
     };

@@ -18,6 +18,7 @@ use mx_app_explain::{
     unwritten,
 };
 use mx_app_failure::Failure;
+use mx_app_live::Outside;
 use mx_app_start::{FileWriter, LineReader, Reader, SharedProgress, setup_of};
 use mx_walk::Progress;
 use std::alloc::Global;
@@ -97,9 +98,10 @@ fn writes_sums(request: CommandRequest<'_>) -> bool
     ensures { result ≡ writes_sums request.entry }
 {
     match request {
-        CommandRequest::Step { .. } | CommandRequest::Run { .. } | CommandRequest::Turns { .. } => {
-            true
-        }
+        CommandRequest::Step { .. }
+        | CommandRequest::Run { .. }
+        | CommandRequest::Turns { .. }
+        | CommandRequest::Live { .. } => true,
         _ => false,
     }
 }
@@ -199,16 +201,17 @@ fn perform_summed<
     F: FileWriter + Drop,
     W: Write + Drop,
     L: LineReader + Drop,
+    O: Outside + Drop,
     P: Progress + SharedProgress + Sync + Drop,
 >(
     rt: &T,
     alloc: Global,
-    io: &mut CommandIo<R, F, W, L, P>,
+    io: &mut CommandIo<R, F, W, L, O, P>,
     request: CommandRequest<'_>,
     name: &str,
 ) -> Result<Done, LineFailure>
     ensures asks { io.new.asks ≡ io.old.asks }
-    ensures done { Does io.old io.new R.asked F.written W.contents L.given P.shown
+    ensures done { Does io.old io.new R.asked F.written W.contents L.given O.heard O.told P.shown
         (λ did Prints. PerformsSummed (P.was_shown io.old.progress)
         request.entry name.now io.old.asks did Prints result) }
 {
@@ -225,16 +228,17 @@ fn perform_compared<
     F: FileWriter + Drop,
     W: Write + Drop,
     L: LineReader + Drop,
+    O: Outside + Drop,
     P: Progress + SharedProgress + Sync + Drop,
 >(
     rt: &T,
     alloc: Global,
-    io: &mut CommandIo<R, F, W, L, P>,
+    io: &mut CommandIo<R, F, W, L, O, P>,
     request: CommandRequest<'_>,
     name: &str,
 ) -> Result<Done, LineFailure>
     ensures asks { io.new.asks ≡ io.old.asks }
-    ensures done { Does io.old io.new R.asked F.written W.contents L.given P.shown
+    ensures done { Does io.old io.new R.asked F.written W.contents L.given O.heard O.told P.shown
         (λ did Prints. PerformsCompared (P.was_shown io.old.progress)
         request.entry name.now io.old.asks did Prints result) }
 {
@@ -251,16 +255,17 @@ fn perform_with_sums<
     F: FileWriter + Drop,
     W: Write + Drop,
     L: LineReader + Drop,
+    O: Outside + Drop,
     P: Progress + SharedProgress + Sync + Drop,
 >(
     rt: &T,
     alloc: Global,
-    io: &mut CommandIo<R, F, W, L, P>,
+    io: &mut CommandIo<R, F, W, L, O, P>,
     request: CommandRequest<'_>,
     name: &str,
 ) -> Result<Done, LineFailure>
     ensures asks { io.new.asks ≡ io.old.asks }
-    ensures done { Does io.old io.new R.asked F.written W.contents L.given P.shown
+    ensures done { Does io.old io.new R.asked F.written W.contents L.given O.heard O.told P.shown
         (λ did Prints. PerformsWith (P.was_shown io.old.progress)
         request.entry name.now io.old.asks did Prints result) }
 {
@@ -282,15 +287,16 @@ pub fn perform_line<
     F: FileWriter + Drop,
     W: Write + Drop,
     L: LineReader + Drop,
+    O: Outside + Drop,
     P: Progress + SharedProgress + Sync + Drop,
 >(
     rt: &T,
     alloc: Global,
-    io: &mut CommandIo<R, F, W, L, P>,
+    io: &mut CommandIo<R, F, W, L, O, P>,
     line: CommandLine<'_>,
 ) -> Result<Done, LineFailure>
     ensures asks { io.new.asks ≡ io.old.asks }
-    ensures done { Does io.old io.new R.asked F.written W.contents L.given P.shown
+    ensures done { Does io.old io.new R.asked F.written W.contents L.given O.heard O.told P.shown
         (λ did Prints. PerformsLine (P.was_shown io.old.progress)
         line.entry io.old.asks did Prints result) }
 {

@@ -4,7 +4,7 @@ use Rattle.std.specs.Str.{bytes_eq}
 use Rattle.mx_app_command.specs.declared.files.NamedWord.{NamedWord}
 use Rattle.mx_app_command.specs.declared.files.ReadWords.{ReadWords}
 use Rattle.mx_app_command.specs.declared.command_line.CommandRequest.{CommandRequest}
-use Rattle.mx_app_command.specs.declared.command_line.CommandRequest.TheVariants.{One, As, Show, Explain, Step, Run, Turns, Sweep, Replay, Trace, Draw, Page, Look, Db}
+use Rattle.mx_app_command.specs.declared.command_line.CommandRequest.TheVariants.{One, As, Show, Explain, Step, Run, Turns, Live, Sweep, Replay, Trace, Draw, Page, Look, Db}
 
 -- A word of the command line that names a file: the word as help has it, and the name.
 pub record FileWord : Type 0 where
@@ -42,6 +42,7 @@ files_read (Explain config) = one_file (codes "CONFIG") config.now
 files_read (Step config script save numbered) = with_course config.now (codes "SCRIPT") script.now
 files_read (Run config log ticks events) = with_events config.now (option_map (λ s. s.now) events)
 files_read (Turns config log ticks events bound) = with_events config.now (option_map (λ s. s.now) events)
+files_read (Live config log raw hertz stop) = one_file (codes "CONFIG") config.now
 files_read (Sweep config log fault bound from to jobs strict save) =
     record {
       first = file_word (codes "CONFIG") config.now;
@@ -61,6 +62,7 @@ file_written (As text file) = Some (file_word (codes "FILE") file.now)
 file_written (Step config script (Some log) numbered) = Some (file_word (codes "LOG") log.now)
 file_written (Run config log ticks events) = Some (file_word (codes "LOG") log.now)
 file_written (Turns config log ticks events bound) = Some (file_word (codes "LOG") log.now)
+file_written (Live config log raw hertz stop) = Some (file_word (codes "LOG") log.now)
 file_written (Sweep config log fault bound from to jobs strict (Some file)) = Some (file_word (codes "FILE") file.now)
 file_written r = None
 

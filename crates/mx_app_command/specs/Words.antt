@@ -13,7 +13,7 @@ use Rattle.mx_app_command.specs.declared.command_line.CommandRequest.{CommandReq
 use Rattle.mx_app_command.specs.declared.command_line.Listing.{Listing}
 use Rattle.mx_app_command.specs.declared.command_line.Listing.TheVariants.{Instructions, Symbols}
 use Rattle.mx_app_command.specs.declared.command_line.RecordRange.{RecordRange}
-use Rattle.mx_app_command.specs.declared.command_line.CommandRequest.TheVariants.{One, As, Show, Explain, Step, Run, Turns, Sweep, Replay, Trace, Draw, Page, Look, Db}
+use Rattle.mx_app_command.specs.declared.command_line.CommandRequest.TheVariants.{One, As, Show, Explain, Step, Run, Turns, Live, Sweep, Replay, Trace, Draw, Page, Look, Db}
 
 -- ---- the grammar
 
@@ -84,13 +84,15 @@ run_shape =
     (required_text (codes "CONFIG") ∷ required_text (codes "LOG") ∷ number_after (codes "ticks") (codes "T")
     ∷ after_name (codes "events") (codes "EVENTS") ∷ sums_rule ∷ [])
 
--- `turns CONFIG LOG --ticks T --events EVENTS --turns N --sums SUMS`; that only one of ticks and events is given,
--- `Mistakes` has
+-- `turns CONFIG LOG --ticks T --events EVENTS --turns N --live --raw --hertz H --stop FILE --sums SUMS`; which of them
+-- exclude each other, `Mistakes` has
 abbrev pub turns_shape : Shape
 turns_shape =
     subcommand (codes "turns")
     (required_text (codes "CONFIG") ∷ required_text (codes "LOG") ∷ number_after (codes "ticks") (codes "T")
-    ∷ after_name (codes "events") (codes "EVENTS") ∷ number_after (codes "turns") (codes "N") ∷ sums_rule ∷ [])
+    ∷ after_name (codes "events") (codes "EVENTS") ∷ number_after (codes "turns") (codes "N")
+    ∷ flag (codes "live") ∷ flag (codes "raw") ∷ number_after (codes "hertz") (codes "H")
+    ∷ after_name (codes "stop") (codes "FILE") ∷ sums_rule ∷ [])
 
 -- `sweep CONFIG LOG FAULT --turns N --from A --to B --jobs J --strict --save FILE --sums SUMS`
 abbrev pub sweep_shape : Shape
@@ -199,6 +201,15 @@ IsFlag id rows given =
     × ((one_of id rows ≡ Some (codes "false") → given ≡ false)
     × (one_of id rows ≡ None → given ≡ false))
 
+-- the text is that of a flag that is on
+abbrev pub is_on_text : Option Text → Bool
+is_on_text (Some text) = bytes_eq text (codes "true")
+is_on_text None = false
+
+-- the flag is on
+abbrev pub is_on : Text → List Row → Bool
+is_on id rows = is_on_text (first_of id rows)
+
 -- the listing is the one that the subcommand of this name and its options ask for
 abbrev pub AsksForListing : Listing → Text → List Row → Type 0
 AsksForListing Instructions name rows = name ≡ codes "dis"
@@ -221,7 +232,11 @@ AsksBy (Run config log ticks events) name rows =
 AsksBy (Turns config log ticks events bound) name rows =
     (name ≡ codes "turns") × HasText (codes "CONFIG") rows config.now × HasText (codes "LOG") rows log.now
     × HasNumberOr 0 (codes "T") rows ticks × MayHaveText (codes "EVENTS") rows (option_map (λ s. s.now) events)
-    × HasNumberOr 4294967295 (codes "N") rows bound
+    × HasNumberOr 4294967295 (codes "N") rows bound × (is_on (codes "live") rows ≡ false)
+AsksBy (Live config log raw hertz stop) name rows =
+    (name ≡ codes "turns") × HasText (codes "CONFIG") rows config.now × HasText (codes "LOG") rows log.now
+    × (is_on (codes "live") rows ≡ true) × (raw ≡ is_on (codes "raw") rows)
+    × HasNumberOr 0 (codes "H") rows hertz × MayHaveText (codes "FILE") rows (option_map (λ s. s.now) stop)
 AsksBy (Sweep config log fault bound from to jobs strict save) name rows =
     (name ≡ codes "sweep") × HasText (codes "CONFIG") rows config.now × HasText (codes "LOG") rows log.now
     × HasText (codes "FAULT") rows fault.now
@@ -289,9 +304,10 @@ IsProgramAsked name rows =
 abbrev pub IsScriptAsked : Text → List Row → Type 0
 IsScriptAsked name rows = IsGiven (codes "SCRIPT") rows × ((name ≡ codes "step") ⊎ (name ≡ codes "db"))
 
--- `turns` may have the numbers of ticks and of turns
+-- `turns` may have the numbers of ticks, of turns and of ticks a second
 abbrev pub MayHaveTurns : List Row → Type 0
-MayHaveTurns rows = MayHaveNumber (codes "T") rows × MayHaveNumber (codes "N") rows
+MayHaveTurns rows =
+    MayHaveNumber (codes "T") rows × MayHaveNumber (codes "N") rows × MayHaveNumber (codes "H") rows
 
 -- `sweep` has a fault, and may have the numbers of turns, of the first and the last position, and of jobs
 pub record MayHaveSweep (rows : List Row) : Type 0 where

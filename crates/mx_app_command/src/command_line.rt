@@ -1,9 +1,9 @@
 //! The command line.
 
-ghost use Rattle.std.specs.Prelude.{◌≡◌, ◌&&◌, ◌⊎◌, ℕ, Bool, IfErr, IfOk, MatchResult, [], codes, false, is_some, map, not, option_map, true};
+ghost use Rattle.std.specs.Prelude.{◌≡◌, ◌&&◌, ◌⊎◌, ℕ, Bool, IfErr, IfOk, MatchResult, None, [], codes, is_none, is_some, map, option_map, true};
 ghost use Rattle.clap.specs.Words.{FailsBy, HasMatchesOf, fault_of, first_of, found_of, kind_of, rows_of, subcommand_of, takes};
-ghost use Rattle.mx_app_command.specs.Words.{Asks, AsksBy, AsksForSilence, AsksForSums, AsksToExplain, HasNumber, HasNumberIf, HasNumberOr, HasRange, HasText, IsFlag, MayHaveNumber, MayHaveRange, MayHaveSweep, MayHaveText, MayHaveTurns, IsAsked, IsHistoryAsked, IsMachineAsked, IsProgramAsked, IsOtherHistoryAsked, IsScriptAsked, is_following, is_machine, mx_grammar};
-ghost use Rattle.mx_app_command.specs.Mistakes.{IsMistake, IsOutOfMemory, both_given, has_both};
+ghost use Rattle.mx_app_command.specs.Words.{Asks, AsksBy, AsksForSilence, AsksForSums, AsksToExplain, HasNumber, HasNumberIf, HasNumberOr, HasRange, HasText, IsAsked, IsFlag, IsHistoryAsked, IsMachineAsked, IsOtherHistoryAsked, IsProgramAsked, IsScriptAsked, MayHaveNumber, MayHaveRange, MayHaveSweep, MayHaveText, MayHaveTurns, is_following, is_machine, is_on, mx_grammar};
+ghost use Rattle.mx_app_command.specs.Mistakes.{IsMistake, IsOutOfMemory, has_both, has_course, lacks_live, mistake_given, mistake_in};
 
 use crate::grammar::grammar;
 use clap::error::ErrorKind;
@@ -77,6 +77,17 @@ pub enum CommandRequest<'a> {
         /// The most turns, which a history can't have if none are given.
         bound: u32,
     },
+    /// `turns CONFIG LOG --live`, with `--hertz H`, `--raw` and `--stop FILE` or without.
+    Live {
+        config: &'a str,
+        log: &'a str,
+        /// Whether a read of the keys never waits.
+        raw: bool,
+        /// How many ticks the clock makes in a second.
+        hertz: u32,
+        /// The file that ends the session once it is there.
+        stop: Option<&'a str>,
+    },
     /// `sweep CONFIG LOG FAULT`, with `--turns N`, `--from A`, `--to B`, `--jobs J`, `--strict` and `--save FILE` or
     /// without.
     Sweep {
@@ -148,6 +159,10 @@ pub enum Mistake {
     Grammar(Error),
     /// `turns` has both `--ticks` and `--events`, and only one of them may be given.
     TicksAndEvents,
+    /// `turns --live` has `--ticks`, `--events` or `--turns`: what comes is what is typed.
+    LiveWithCourse,
+    /// `turns` has `--hertz`, `--raw` or `--stop`, and no `--live`.
+    NotLive,
 }
 
 impl From<Error> for Mistake {
@@ -260,6 +275,33 @@ fn script_request<'a>(name: &str, config: &'a str, matches: &ArgMatches<'a>) -> 
     }
 }
 
+/// Whether a flag is on.
+fn is_on(matches: &ArgMatches<'_>, id: &str) -> bool
+    ensures { result ≡ is_on id.now (rows_of (found_of matches.now)) }
+{
+    match value_if_asked(matches, id) {
+        Some(text) => text == "true",
+        None => false,
+    }
+}
+
+/// What the words of `turns --live` ask for.
+fn live_request<'a>(config: &'a str, log: &'a str, matches: &ArgMatches<'a>) -> CommandRequest<'a>
+    requires config { HasText (codes "CONFIG") (rows_of (found_of matches.now)) config.now }
+    requires log { HasText (codes "LOG") (rows_of (found_of matches.now)) log.now }
+    requires hertz { MayHaveNumber (codes "H") (rows_of (found_of matches.now)) }
+    requires live { is_on (codes "live") (rows_of (found_of matches.now)) ≡ true }
+    ensures { AsksBy result (codes "turns") (rows_of (found_of matches.now)) }
+{
+    CommandRequest::Live {
+        config,
+        log,
+        raw: is_on(matches, "raw"),
+        hertz: number_or(matches, "H", 0),
+        stop: value_if_asked(matches, "FILE"),
+    }
+}
+
 /// What the words of `turns` ask for.
 fn turns_request<'a>(config: &'a str, log: &'a str, matches: &ArgMatches<'a>) -> CommandRequest<'a>
     requires config { HasText (codes "CONFIG") (rows_of (found_of matches.now)) config.now }
@@ -267,6 +309,9 @@ fn turns_request<'a>(config: &'a str, log: &'a str, matches: &ArgMatches<'a>) ->
     requires numbers { MayHaveTurns (rows_of (found_of matches.now)) }
     ensures { AsksBy result (codes "turns") (rows_of (found_of matches.now)) }
 {
+    if is_on(matches, "live") {
+        return live_request(config, log, matches);
+    }
     let ticks = number_or(matches, "T", 0);
     let events = value_if_asked(matches, "EVENTS");
     let bound = number_or(matches, "N", u32::MAX);
@@ -481,6 +526,39 @@ fn has_both(name: &str, matches: &ArgMatches<'_>) -> bool
     name == "turns" && is_given(matches, "T") && is_given(matches, "EVENTS")
 }
 
+/// Whether these are the words of `turns --live` with `--ticks`, `--events` or `--turns`.
+fn has_course(name: &str, matches: &ArgMatches<'_>) -> bool
+    ensures { result ≡ has_course name.now (rows_of (found_of matches.now)) }
+{
+    name == "turns"
+        && is_on(matches, "live")
+        && (is_given(matches, "T") || is_given(matches, "EVENTS") || is_given(matches, "N"))
+}
+
+/// Whether these are the words of `turns` with `--hertz`, `--raw` or `--stop`, and without `--live`.
+fn lacks_live(name: &str, matches: &ArgMatches<'_>) -> bool
+    ensures { result ≡ lacks_live name.now (rows_of (found_of matches.now)) }
+{
+    name == "turns"
+        && !is_on(matches, "live")
+        && (is_given(matches, "H") || is_on(matches, "raw") || is_given(matches, "FILE"))
+}
+
+/// What is wrong with the words of a subcommand that its grammar takes.
+fn mistake_of(name: &str, matches: &ArgMatches<'_>) -> Option<Mistake>
+    ensures { result ≡ mistake_in name.now (rows_of (found_of matches.now)) }
+{
+    if has_both(name, matches) {
+        Some(Mistake::TicksAndEvents)
+    } else if has_course(name, matches) {
+        Some(Mistake::LiveWithCourse)
+    } else if lacks_live(name, matches) {
+        Some(Mistake::NotLive)
+    } else {
+        None
+    }
+}
+
 /// Reads the words of a command line, the program's own name first.
 pub fn command<'a>(alloc: Global, words: &'a [&'a str]) -> Result<CommandLine<'a>, Mistake>
     ensures asks { IfOk result (λ l. Asks l.request
@@ -493,19 +571,19 @@ pub fn command<'a>(alloc: Global, words: &'a [&'a str]) -> Result<CommandLine<'a
         (subcommand_of mx_grammar (map (λ s. s.now) words.now))) }
     ensures passes { IfErr result (λ m.
         (takes mx_grammar (map (λ s. s.now) words.now)
-        && not (both_given (subcommand_of mx_grammar (map (λ s. s.now) words.now)))) ≡ true
+        && is_none (mistake_given (subcommand_of mx_grammar (map (λ s. s.now) words.now)))) ≡ true
         → IsOutOfMemory m) }
     ensures kinds { MatchResult result
         (λ _. fault_of mx_grammar (map (λ s. s.now) words.now) ≡ [])
         (IsMistake (map (λ s. s.now) words.now)) }
     ensures apart { IfOk result (λ _.
-        both_given (subcommand_of mx_grammar (map (λ s. s.now) words.now)) ≡ false) }
+        mistake_given (subcommand_of mx_grammar (map (λ s. s.now) words.now)) ≡ None) }
 {
     let matches = matches_of(alloc, words)?;
     match matches.subcommand() {
         Some((name, found)) => {
-            if has_both(name, found) {
-                return Err(Mistake::TicksAndEvents);
+            if let Some(mistake) = mistake_of(name, found) {
+                return Err(mistake);
             }
             Ok(CommandLine {
                 request: request_of(name, found),

@@ -96,6 +96,7 @@ impl<'a> CommandRequest<'a> {
             CommandRequest::Db { config, script } => with_course(config, "SCRIPT", script),
             CommandRequest::Run { config, events, .. } => with_events(config, events),
             CommandRequest::Turns { config, events, .. } => with_events(config, events),
+            CommandRequest::Live { config, .. } => one_file("CONFIG", config),
             CommandRequest::Sweep {
                 config,
                 log,
@@ -126,6 +127,7 @@ impl<'a> CommandRequest<'a> {
             } => Some(word("LOG", log)),
             CommandRequest::Run { log, .. } => Some(word("LOG", log)),
             CommandRequest::Turns { log, .. } => Some(word("LOG", log)),
+            CommandRequest::Live { log, .. } => Some(word("LOG", log)),
             CommandRequest::Sweep {
                 save: Some(file),
                 ..

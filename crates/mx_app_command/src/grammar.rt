@@ -137,6 +137,34 @@ const CALLS: CommandArgument<'static> = CommandArgument {
     form: ArgumentForm::After("events"),
 };
 
+/// Whether somebody sits at the machine.
+const LIVE: CommandArgument<'static> = CommandArgument {
+    name: "live",
+    help: "Shows the console as it is written, and types into the machine; not with the three above",
+    form: ArgumentForm::Flag,
+};
+
+/// Whether the terminal gives each key at once.
+const RAW: CommandArgument<'static> = CommandArgument {
+    name: "raw",
+    help: "With --live: standard input gives each key at once, as ./mx sets a terminal up",
+    form: ArgumentForm::Flag,
+};
+
+/// How many ticks the clock makes in a second.
+const HERTZ: CommandArgument<'static> = CommandArgument {
+    name: "H",
+    help: "With --live: how many ticks are made a second, 0 to 4294967295; none without it",
+    form: ArgumentForm::NumberAfter("hertz"),
+};
+
+/// The file that ends a session.
+const STOP: CommandArgument<'static> = CommandArgument {
+    name: "FILE",
+    help: "With --live: ends the session, and saves LOG, once the file FILE is there",
+    form: ArgumentForm::After("stop"),
+};
+
 /// How many turns are made.
 const TURNS: CommandArgument<'static> = CommandArgument {
     name: "N",
@@ -319,6 +347,10 @@ static TURN_COMMANDS: [Subcommand<'static>; 2] = [
             TICKS,
             EVENTS,
             TURNS,
+            LIVE,
+            RAW,
+            HERTZ,
+            STOP,
             WRITTEN_SUMS,
             EXPLAIN,
             SILENT,

@@ -7,6 +7,7 @@ use mx_app::{
     perform_words,
 };
 use mx_app_db::{Channels, InputLines, KeptFile, MemoryWriter, NamedFiles};
+use mx_app_live::Nobody;
 use std::alloc::Global;
 use std::fmt::Write as _;
 use std::io;
@@ -50,6 +51,7 @@ type MemoryIo = CommandIo<
     MemoryWriter,
     Sink,
     InputLines<&'static [u8]>,
+    Nobody,
     NoProgress,
 >;
 
@@ -71,6 +73,7 @@ fn memory_io(alloc: Global, refusal: Option<io::ErrorKind>) -> MemoryIo {
             },
         },
         lines: InputLines::new(b"".as_slice()),
+        seat: Nobody::new(),
         progress: NoProgress::new(),
         asks: false,
     }

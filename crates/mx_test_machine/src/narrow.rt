@@ -5,6 +5,7 @@ use crate::texts::Narrow;
 use mx_app::{CommandIo, Failure, NoProgress, OutputProblem, perform};
 use mx_app_command::{CommandRequest, Listing, RecordRange};
 use mx_app_db::{Channels, InputLines, MemoryWriter, Script, make_steps, start};
+use mx_app_live::Nobody;
 use mx_boot::{Over, save};
 use mx_machine::{Event, Machine};
 use std::alloc::Global;
@@ -44,6 +45,7 @@ fn is_printed<R: Threads + Wait + Clock + Sync>(
             },
         },
         lines: InputLines::new(b"".as_slice()),
+        seat: Nobody::new(),
         progress: NoProgress::new(),
         asks: false,
     };

@@ -60,14 +60,16 @@ def bounces(draw):
 
 
 def releases(draw):
-    """Two ticks, three ticks; two presses; and the first tick right after the press, while the driver has its letter to
-    write."""
+    """Two ticks, three ticks; two presses; the first tick right after the press, while the driver has its letter to write;
+    and some presses, each with enough ticks or one or two more."""
     wait = draw.randint(8, 11)
     yield button_case("two ticks", f"{wait} b 8 t 8 t 9")
     yield button_case("three ticks", f"{wait} b 8 t 8 t 8 t 9")
     yield button_case("two presses", f"{wait} b 8 t 8 t 8 t 8 t 8 b 8 t 8 t 8 t 9")
     yield button_case("the first tick at once", f"{wait} b t 8 t 8 t 9")
     yield button_case("a bounce, and the next tick at once", f"{wait} b 8 t 8 b t 8 t 8 t 9")
+    some = [f"b{' 8 t' * draw.randint(3, 5)} {draw.randint(8, 12)}" for _ in range(draw.randint(2, 4))]
+    yield button_case("some presses", f"{wait} {' '.join(some)} 9")
 
 
 def both_lines(draw):

@@ -23,8 +23,9 @@ def lengths(draw):
 
 
 def empty_lengths(draw):
+    """The empty text, and one that isn't: for a program that counts nothing the first alone would be right."""
     yield length_case(b"")
-    yield length_case(text(draw, draw.randint(2, 9)))
+    yield length_case(text(draw, draw.randint(12, 40)))
 
 
 def checksum(data):
@@ -50,8 +51,9 @@ def large_sums(draw):
 
 
 def empty_sums(draw):
+    """No byte, and some: for a program that adds nothing the first alone would be right."""
     yield sum_case(b"", text(draw, 3, range(0x80, 0x100)))
-    yield sum_case(text(draw, 1, range(1, 0x80)))
+    yield sum_case(text(draw, draw.randint(12, 30), range(1, 0x80)))
 
 
 def sort_case(numbers):

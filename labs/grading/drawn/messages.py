@@ -4,6 +4,7 @@ from .machines import ASK, POKE, TAKE, TELL, WORK, bystanders, machine, on, plan
 ADD, READ = 1, 2
 SERVER = service("server", "server.out", send="fffe", calls="1", level=4)
 PAIR = {"left": 2, "right": 3}
+LONG = 40  # calls, after which all that two clients add is added
 
 
 def totals(draw, name, actors, **more):
@@ -110,13 +111,15 @@ def strangers(draw):
 
 
 def with_server(draw, case):
-    """A pair's machine with the server behind it, two clients that add, and one between them that waits for the server and
-    sends nothing."""
+    """A pair's machine with the server behind it, two clients that add, one between them that waits for the server and sends
+    nothing, and one that comes when all is added and asks for the total."""
     slot = sum(line.startswith("service ") for line in case["config"])
     clients = {"asker": additions(draw, draw.randint(3, 5), slot), "silent": [(TAKE, slot)],
-               "second": additions(draw, draw.randint(3, 5), slot)}
+               "second": additions(draw, draw.randint(3, 5), slot),
+               "late": [(WORK, LONG), (ASK, slot, READ, draw.randint(1, 1000))]}
     server = SERVER.replace("fffe", f"{0xFFFF & ~(1 << slot | 3):x}")
-    lines = [service(it, "actor.out", send=f"{1 << slot:x}", calls="1", level=draw.randint(6, 8)) for it in clients]
+    lines = [service(it, "actor.out", send=f"{1 << slot:x}", calls="1", level=9 if it == "late" else draw.randint(6, 8))
+             for it in clients]
     states = case["want"]["states"] | {"server": "receiving any"}
     return case | {"config": [*case["config"], server, *lines], "set": case["set"] | {it: plan(*clients[it]) for it in clients},
                    "models": [*case["models"], ("totals", "server")], "want": {"states": states},

@@ -2,10 +2,12 @@
 from .machines import ASK, POKE, TELL, WORK, bystanders, machine, on, plan, requests, served, service
 
 REGISTER, LOOKUP = 1, 2
+NAME_JUDGE = 2
 PUT, GET, TRY, END = 1, 2, 3, 4
 ASKS = {"waits": GET, "polls": TRY}  # what a consumer asks for, the first time at least
 ITEMS = 12
 FULL, EMPTY = (7, 8), (8, 7)  # levels of producers and consumers on one processor, and how the queue is most of the time
+FULL_ON_ONE = "on one processor, where producers come first"
 SOON, LATE = 5, 11  # levels of a judge that is there before it is looked up, and of one that isn't
 LARGEST = 10_000_000  # of an item, so that no sum of a machine is below 0
 MUCH = 40_000  # records of a history
@@ -131,10 +133,10 @@ def patient(draw):
     patience = draw.randint(5, 19)
     slow = machine(1, names, service("queue", "slow_queue.out", all_but(1), "1", 4), judge)
     made = {"patience": [patience], "items": [draw.randint(1, LARGEST) for _ in range(2)]}
-    yield {"name": f"a queue with an item after {patience} answers NOTHING, and then one for a GET", "config": [*slow, polls],
-           "set": {"queue": made}, "facts": reports("polls"),
-           "want": {"asks": asked("polls", [TRY] * (patience + 1 + 20) + [GET, TRY]), "states": {"polls": "down exit"},
-                    "taken": ["queue", "judge"]}}
+    for who, line, kinds in (("polls", polls, [TRY] * (patience + 1 + 20) + [GET, TRY]), ("waits", waits, [GET] * 2)):
+        yield {"name": f"{who}, a queue with an item after {patience} answers NOTHING, and then one for a GET",
+               "config": [*slow, line], "set": {"queue": made}, "facts": reports(who),
+               "want": {"asks": asked(who, kinds), "states": {who: "down exit"}, "taken": ["queue", "judge"]}}
     yield six(draw, 1, given=("names", "queue")) | {"name": "with a name server and a queue of the grader"}
     for name, line, kind, answers in (("waits", waits, GET, draw.randint(0, 1)), ("polls", polls, TRY, draw.randint(1, 4))):
         yield {"name": f"a queue that ends at a request, after {answers} answers", "config": [*slow, line],
@@ -163,11 +165,22 @@ def in_any_slots(draw, rows):
     return rows
 
 
+def guests(draw, to_the_end):
+    """Clients of the grader's that ask the queue before anybody has brought an item, and at last look up the judge: of each
+    its name and how many items it asks for. Those that ask to the end wait when the ENDs come. So servers have to keep who
+    waits, however late a student's consumers ask."""
+    return {f"guest{i}": 2 * ITEMS + 1 if to_the_end else draw.randint(1, 2) for i in range(draw.randint(2, 3))}
+
+
+def visit(queue, items):
+    return [*[(ASK, queue, GET)] * items, (ASK, 0, LOOKUP, NAME_JUDGE)]
+
+
 def six(draw, cpus, levels=(7, 7), given=(), takers=("waits", "polls"), **want):
-    """Name server, queue, judge, two producers with items of their own, two consumers, in slots that are drawn. The levels
-    are those of producers and consumers; without them all are drawn. On one processor the judge runs when all others wait:
-    so both consumers look it up before it has its name. The servers that are `given` are the grader's; then the items are
-    large. The consumers are of the programs `takers`."""
+    """Name server, queue, judge, two producers with items of their own, two consumers and guests, in slots that are drawn. The
+    levels are those of producers and consumers; without them all are drawn. Guests ask to the end, but where the queue is to
+    be full. On one processor the judge runs when all others wait: so who looks it up does so before it has its name. The
+    servers that are `given` are the grader's; then the items are large. The consumers are of the programs `takers`."""
     items = [[draw.randint(1, LARGEST if given else 1000) for _ in range(ITEMS)] for _ in range(2)]
     names, queue = (f"good_{it}.out" if it in given else f"{it}.out" for it in ("names", "queue"))
     makes, takes = levels or (0, 0)
@@ -177,48 +190,50 @@ def six(draw, cpus, levels=(7, 7), given=(), takers=("waits", "polls"), **want):
             *[(name, f"{program}.out", takes, "3") for name, program in consumers.items()]]
     if not levels:
         rows = [(name, program, draw.choice([5, 7, 8]), calls) for name, program, _, calls in rows]
-    rows = in_any_slots(draw, rows)
-    servers = [0, *[slot for slot, it in enumerate(rows, 1) if it[0] in ("queue", "judge")]]
+    visitors = guests(draw, levels != FULL)
+    rows = in_any_slots(draw, [*rows, *[(it, "actor.out", draw.randint(2, 4), "1") for it in visitors]])
+    slots = {it[0]: slot for slot, it in enumerate(rows, 1)}
+    visits = {it: visit(slots["queue"], count) for it, count in visitors.items()}
+    servers = [0, slots["queue"], slots["judge"]]
     to_servers = f"{sum(1 << it for it in servers):x}"
     config = machine(cpus, service("names", names, all_but(0), "1", 3),
-                     *[called(name, program, level, calls, all_but(slot) if slot in servers else to_servers)
-                       for slot, (name, program, level, calls) in enumerate(rows, 1)])
-    return {"config": config, "set": {it: {"items": items[i]} for i, it in enumerate(("ann", "ben"))},
-            "models": [("names", "names"), ("queue", "queue")],
+                     *[called(name, program, level, calls, all_but(slots[name]) if slots[name] in servers else to_servers)
+                       for name, program, level, calls in rows])
+    return {"config": config, "models": [("names", "names"), ("queue", "queue")],
+            "set": {it: {"items": items[i]} for i, it in enumerate(("ann", "ben"))} | {it: plan(*visits[it]) for it in visits},
             "facts": [f"1+ message {name} to queue type {ASKS[program]} .." for name, program in consumers.items()]
                      + [fact for it in consumers for fact in reports(it)],
-            "want": {"starts": f"24 items, sum {sum(map(sum, items))}\n", "taken": ["queue", "judge"],
-                     "states": {it: "down exit" for it in ("judge", "ann", "ben", *consumers)}, **want}}
+            "want": {"taken": ["queue", "judge"],
+                     "states": {it: "down exit" for it in ("judge", "ann", "ben", *consumers, *visits)}, **want}}
 
 
 def by_turns(draw):
-    """Here `polls` is followed too. With two consumers of one program nobody else takes what they leave."""
-    for name, cpus, levels in (("on one processor, where producers come first", 1, FULL),
-                               ("on one processor, where consumers come first", 1, EMPTY),
+    """Here `polls` is followed too. With two consumers of one program, and guests that soon go, nobody else takes what they
+    leave."""
+    for name, cpus, levels in ((FULL_ON_ONE, 1, FULL), ("on one processor, where consumers come first", 1, EMPTY),
                                (on(4), 4, (7, 7))):
         case = six(draw, cpus, levels)
         yield case | {"name": name, "models": [*case["models"], ("polls", "polls")]}
     for name, program in (("two that wait", "waits"), ("two that poll", "polls")):
-        case = six(draw, 1, draw.choice([FULL, EMPTY]), takers=(program, program))
+        case = six(draw, 1, FULL, takers=(program, program))
         followed = [("polls", it) for it in (program, "second") if program == "polls"]
         yield case | {"name": f"{name}, {on(1)}", "models": [*case["models"], *followed]}
 
 
 def in_other_slots(draw):
-    """On one processor, where producers come first, the queue gets full."""
     yield six(draw, 2, levels=None) | {"name": on(2)}
-    yield six(draw, 1, FULL) | {"name": "on one processor, where producers come first"}
+    yield six(draw, 1, FULL) | {"name": FULL_ON_ONE}
 
 
 def with_reports(draw):
-    yield six(draw, 1, FULL, steps="judge") | {"name": on(1)}
+    yield six(draw, 1, FULL, steps="judge") | {"name": FULL_ON_ONE}
     yield six(draw, 4, steps="judge") | {"name": on(4)}
 
 
 def by_threads(draw):
-    """The runs are of these machines by turns. On one processor, where producers come first, the queue gets full."""
+    """The runs are of these machines by turns."""
     yield six(draw, 4) | {"name": on(4)}
-    yield six(draw, 1, FULL) | {"name": on(1)}
+    yield six(draw, 1, FULL) | {"name": FULL_ON_ONE}
 
 
 ADDERS = ("ann", "ben", "cleo")

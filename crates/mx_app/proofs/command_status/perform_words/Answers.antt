@@ -5,7 +5,7 @@ use Rattle.mx_app.proofs.command_status.perform_words.Goals as goal
 
 pub returns-in-Err-clause-done : goal.returns-in-Err-clause-done
 returns-in-Err-clause-done g c =
-    (nothing_done, sym (append-nil _), sym (append-nil _), sym (append-nil _), sym (append-nil _), inr (c.in-Err.mistake, c.in-Err.ensures.kinds, refl, refl, refl, refl, c.complain.ensures))
+    (nothing_done, sym (append-nil _), sym (append-nil _), sym (append-nil _), sym (append-nil _), sym (append-nil _), sym (append-nil _), inr (c.in-Err.mistake, c.in-Err.ensures.kinds, refl, refl, refl, (refl, refl), refl, c.complain.ensures))
 
 pub returns-in-Ok-clause-done : goal.returns-in-Ok-clause-done
 returns-in-Ok-clause-done g c =
@@ -15,6 +15,8 @@ returns-in-Ok-clause-done g c =
       done.2,
       done.3,
       done.4,
+      done.5,
+      done.6,
       inl (
         c.in-Ok.line,
         c.perform_line-done.result,
@@ -23,7 +25,7 @@ returns-in-Ok-clause-done g c =
         c.in-Ok.ensures.silent,
         c.in-Ok.ensures.sums,
         c.in-Ok.ensures.apart,
-        done.5,
+        done.7,
         c.answer.ensures,
       ),
     )

@@ -8,4 +8,4 @@ returns-then-writes_over-clause-done g c =
 
 pub returns-clause-done : goal.returns-clause-done
 returns-clause-done g c =
-    apart (g.P.SharedProgress.was_shown c.args.io.now.progress) _ _ _ _ _ _ _ _ c.args.io.now.asks _ _ c.args.request (sym c.writes_over.ensures ∙ c.if-writes_over.false) c.perform_apart.ensures.done
+    apart (g.P.SharedProgress.was_shown c.args.io.now.progress) _ _ _ _ _ _ _ _ _ _ _ _ c.args.io.now.asks _ _ c.args.request (sym c.writes_over.ensures ∙ c.if-writes_over.false) c.perform_apart.ensures.done

@@ -1,9 +1,9 @@
-use Rattle.std.proofs.Common.{◌∙◌, ap, Option}
+use Rattle.std.proofs.Common.{◌∙◌, ap, nat_lt, Option, refl}
 use Rattle.std.specs.Prelude.{option_map}
 use Rattle.mx_app_command.specs.declared.command_line.CommandRequest.TheVariants.{Step}
 use Rattle.mx_app_program.specs.One.{IsPrinted}
 use Rattle.mx_app_program.specs.Shown.{IsListingOf, IsShown}
-use Rattle.mx_app.proofs.Doing.{as_asked, as_known, as_typed, assembled, debugs, draws, explains, looks, pages, replays, runs, saved, shows, steps, swept, traces, turned}
+use Rattle.mx_app.proofs.Doing.{as_asked, as_known, as_typed, assembled, debugs, draws, explains, lived, looks, pages, replays, runs, saved, shows, steps, swept, traces, turned}
 use Rattle.mx_app.proofs.performing.perform_apart.Goals as goal
 
 pub returns-in-One-clause-done : goal.returns-in-One-clause-done
@@ -50,17 +50,22 @@ returns-in-Db-clause-done g c =
 
 pub returns-in-Run-clause-done : goal.returns-in-Run-clause-done
 returns-in-Run-clause-done g c =
-    as_typed (g.P.SharedProgress.was_shown c.args.io.now.progress) _ _ _ _ _ _ _ _ _ _ _ _ _ c.in-Run.is
+    as_typed (g.P.SharedProgress.was_shown c.args.io.now.progress) _ _ _ _ _ _ _ _ _ _ _ _ _ _ _ _ _ c.in-Run.is
     (runs (g.P.SharedProgress.was_shown c.args.io.now.progress) _ _ _ _ _ _ c.in-Run.config.now c.in-Run.log.now (option_map (λ s. s.now) c.in-Run.events) c.in-Run.ticks _ _ c.run.result c.done_after_run.result c.run.ensures.done c.run.ensures.shown c.done_after_run.ensures)
 
 pub returns-in-Turns-clause-done : goal.returns-in-Turns-clause-done
 returns-in-Turns-clause-done g c =
-    as_typed (g.P.SharedProgress.was_shown c.args.io.now.progress) _ _ _ _ _ _ _ _ _ _ _ _ _ c.in-Turns.is
+    as_typed (g.P.SharedProgress.was_shown c.args.io.now.progress) _ _ _ _ _ _ _ _ _ _ _ _ _ _ _ _ _ c.in-Turns.is
     (turned _ _ _ _ _ _ c.in-Turns.config.now c.in-Turns.log.now (option_map (λ s. s.now) c.in-Turns.events) c.in-Turns.ticks c.in-Turns.bound _ _ c.turns.result c.done_after_turns.result c.turns.ensures c.done_after_turns.ensures)
+
+pub returns-in-Live-clause-done : goal.returns-in-Live-clause-done
+returns-in-Live-clause-done g c =
+    as_typed (g.P.SharedProgress.was_shown c.args.io.now.progress) _ _ _ _ _ _ _ _ _ _ _ _ _ _ _ _ _ c.in-Live.is
+    (lived _ _ _ _ _ _ _ _ _ _ _ _ c.in-Live.config.now c.in-Live.log.now (nat_lt 0 c.in-Live.hertz) _ _ c.live.result c.done_after_live.result c.live.ensures refl refl c.done_after_live.ensures)
 
 pub returns-in-Sweep-clause-done : goal.returns-in-Sweep-clause-done
 returns-in-Sweep-clause-done g c =
-    as_typed (g.P.SharedProgress.was_shown c.args.io.now.progress) _ _ _ _ _ _ _ _ _ _ _ _ _ c.in-Sweep.is
+    as_typed (g.P.SharedProgress.was_shown c.args.io.now.progress) _ _ _ _ _ _ _ _ _ _ _ _ _ _ _ _ _ c.in-Sweep.is
     (swept _ _ _ _ _ _ c.in-Sweep.config.now c.in-Sweep.log.now c.in-Sweep.fault.now (option_map (λ s. s.now) c.in-Sweep.save) c.in-Sweep.from c.in-Sweep.to c.in-Sweep.bound c.in-Sweep.strict _ _ c.sweep-swept.result c.done_after_sweep.result c.sweep-swept.ensures c.done_after_sweep.ensures)
 
 pub returns-in-Replay-clause-done : goal.returns-in-Replay-clause-done
@@ -89,5 +94,5 @@ returns-in-Page-clause-done g c =
 
 pub returns-in-Look-clause-done : goal.returns-in-Look-clause-done
 returns-in-Look-clause-done g c =
-    as_typed (g.P.SharedProgress.was_shown c.args.io.now.progress) _ _ _ _ _ _ _ _ _ _ _ _ _ c.in-Look.is
+    as_typed (g.P.SharedProgress.was_shown c.args.io.now.progress) _ _ _ _ _ _ _ _ _ _ _ _ _ _ _ _ _ c.in-Look.is
     (looks _ _ _ _ _ _ _ _ c.in-Look.config.now c.in-Look.log.now _ _ _ c.look.result c.done_after_work-in-Look.result c.look.ensures.printed c.look.ensures.fault c.done_after_work-in-Look.ensures (ap g.F.FileWriter.written c.look.ensures.files))

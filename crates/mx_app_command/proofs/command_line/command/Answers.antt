@@ -1,21 +1,21 @@
-use Rattle.std.proofs.Common.{◌≡◌, ◌∙◌, ◌&&◌, not, Bool, true, false, ap, codes, map, subst, sym, List, refl, Result, Ok, Err, IfErr}
-use Rattle.std.specs.Prelude.{IsErrAnd, None, Option, Some, option_map, unwrap_or}
-use Rattle.clap.specs.Words.{Row, Text, found_of, kind_of, rows_of, subcommand_name_of, subcommand_of, subcommand_rows_of, takes}
+use Rattle.std.proofs.Common.{◌≡◌, ◌∙◌, ◌&&◌, if◌then◌else◌, Bool, true, false, [], ap, ap₂, codes, map, subst, sym, List, refl, Result, Ok, Err, IfErr}
+use Rattle.std.specs.Prelude.{IsErrAnd, is_none, None, Option, Some, option_map, unwrap_or}
+use Rattle.clap.specs.Words.{Row, Text, fault_of, found_of, kind_of, rows_of, subcommand_name_of, subcommand_of, subcommand_rows_of, takes}
 use Rattle.clap.specs.declared.error.Error.{Error}
 use Rattle.clap.specs.declared.error.kind.ErrorKind.TheVariants.{OutOfMemory}
 use Rattle.clap.specs.declared.parser.matches.ArgMatches.{ArgMatches}
 use Rattle.clap.specs.declared.parser.matches.ArgMatches.TheViews.{out-ArgMatches}
 use Rattle.mx_app_command.specs.declared.command_line.Mistake.{Mistake}
-use Rattle.mx_app_command.specs.declared.command_line.Mistake.TheVariants.{Grammar}
-use Rattle.mx_app_command.specs.Mistakes.{IsOutOfMemory, both_given}
+use Rattle.mx_app_command.specs.declared.command_line.Mistake.TheVariants.{Grammar, TicksAndEvents, LiveWithCourse, NotLive}
+use Rattle.mx_app_command.specs.Mistakes.{IsMistake, IsOutOfMemory, has_both, has_course, lacks_live, mistake_given, mistake_in}
 use Rattle.mx_app_command.specs.Words.{Asks, AsksBy, AsksForSilence, AsksForSums, AsksToExplain, IsAsked, IsFlag, MayHaveText, mx_grammar}
 use Rattle.mx_app_command.proofs.AskedWords.{words_asked}
 use Rattle.mx_app_command.proofs.command_line.command.Goals as goal
 
 -- an error that the grammar gives is want of memory, if the grammar takes the words
-passes_on : {A : Type 0} (r : Result A Mistake) (e : Error) (taken both : Bool) → IsErrAnd r (λ m. m ≡ Grammar e) → (taken ≡ true → kind_of e ≡ OutOfMemory) → IfErr r (λ m. (taken && not both) ≡ true → IsOutOfMemory m)
-passes_on (Ok x) e taken both is out = absurd is
-passes_on (Err m) e taken both is out = λ h. subst IsOutOfMemory (sym is) (out (left taken (not both) h))
+passes_on : {A : Type 0} (r : Result A Mistake) (e : Error) (taken fine : Bool) → IsErrAnd r (λ m. m ≡ Grammar e) → (taken ≡ true → kind_of e ≡ OutOfMemory) → IfErr r (λ m. (taken && fine) ≡ true → IsOutOfMemory m)
+passes_on (Ok x) e taken fine is out = absurd is
+passes_on (Err m) e taken fine is out = λ h. subst IsOutOfMemory (sym is) (out (left taken fine h))
   where
     left : (a b : Bool) → (a && b) ≡ true → a ≡ true
     left true b h = refl
@@ -24,7 +24,32 @@ passes_on (Err m) e taken both is out = λ h. subst IsOutOfMemory (sym is) (out 
 pub returns-in_err-matches-clause-passes : goal.returns-in_err-matches-clause-passes
 returns-in_err-matches-clause-passes c =
     let words : List Text = map (λ s. s.now) c.args.words.now in
-    passes_on c.from_residual.result c.in_err-matches.field-0.0 (takes mx_grammar words) (both_given (subcommand_of mx_grammar words)) c.from_residual.ensures.1 c.in_err-matches.ensures.passes
+    passes_on c.from_residual.result c.in_err-matches.field-0.0 (takes mx_grammar words) (is_none (mistake_given (subcommand_of mx_grammar words))) c.from_residual.ensures.1 c.in_err-matches.ensures.passes
+
+-- words that exclude each other aren't taken
+not_passed : (a : Bool) (o : Option Mistake) (m : Mistake) → o ≡ Some m → (a && is_none o) ≡ true → IsOutOfMemory m
+not_passed a o m is h = absurd (never a (subst (λ (x : Option Mistake). (a && is_none x) ≡ true) is h))
+  where
+    never : (a : Bool) → (a && false) ≡ true → ⊥
+    never true e = let z : false ≡ true = e in cc
+    never false e = let z : false ≡ true = e in cc
+
+-- they are no mistake of the grammar's
+not_grammar : (o : Option (Text × List Row)) (e : Error) → mistake_given o ≡ Some (Grammar e) → ⊥
+not_grammar None e h = absurd cc
+not_grammar (Some found) e h = by (has_both found.0 found.1) (has_course found.0 found.1) (lacks_live found.0 found.1) h
+  where
+    by : (a b c : Bool) → (if a then Some TicksAndEvents else if b then Some LiveWithCourse else if c then Some NotLive else None) ≡ Some (Grammar e) → ⊥
+    by true b c h = absurd cc
+    by false true c h = absurd cc
+    by false false true h = absurd cc
+    by false false false h = absurd cc
+
+mistaken : (words : List Text) (m : Mistake) → fault_of mx_grammar words ≡ [] → mistake_given (subcommand_of mx_grammar words) ≡ Some m → IsMistake words m
+mistaken words (Grammar e) fine is = absurd (not_grammar (subcommand_of mx_grammar words) e is)
+mistaken words TicksAndEvents fine is = (fine, is)
+mistaken words LiveWithCourse fine is = (fine, is)
+mistaken words NotLive fine is = (fine, is)
 
 firsts : {X A B : Type 0} (f : X → A) (g : X → B) (o : Option X) → option_map f o ≡ option_map (λ (q : A × B). q.0) (option_map (λ x. (f x, g x)) o)
 firsts f g None = refl
@@ -103,3 +128,27 @@ returns-clause-sums c =
     let sums : Option Text = option_map (λ s. s.now) c.value_if_asked.result in
     let by : MayHaveText (codes "SUMS") asked.1 sums = subst (λ (r : List Row). MayHaveText (codes "SUMS") r sums) rows_same c.value_if_asked.ensures in
     subst (AsksForSums sums) (sym asked.2) by
+
+pub returns-in-Some-mistake_of-clause-passes : goal.returns-in-Some-mistake_of-clause-passes
+returns-in-Some-mistake_of-clause-passes c =
+    let words : List Text = map (λ s. s.now) c.args.words.now in
+    let asked = words_asked words c.in_ok-matches.ensures.kinds in
+    let entered : subcommand_rows_of c.in_ok-matches.matches ≡ Some (asked.0, asked.1) = (c.in_ok-matches.ensures.matches refl).1 ∙ asked.2 in
+    let rows = rows_of (found_of c.in-Some.found.now) in
+    let name_same = name_is c.in_ok-matches.matches (asked.0, asked.1) entered c.in-Some.name.now rows c.in-Some.ensures.name c.in-Some.ensures.rows in
+    let rows_same = rows_is c.in_ok-matches.matches (asked.0, asked.1) entered c.in-Some.name.now rows c.in-Some.ensures.name c.in-Some.ensures.rows in
+    let given : mistake_given (subcommand_of mx_grammar words) ≡ Some c.in-Some-mistake_of.mistake =
+    ap mistake_given asked.2 ∙ sym (ap₂ mistake_in name_same rows_same) ∙ sym c.mistake_of.ensures ∙ c.in-Some-mistake_of.is in
+    not_passed (takes mx_grammar words) (mistake_given (subcommand_of mx_grammar words)) c.in-Some-mistake_of.mistake given
+
+pub returns-in-Some-mistake_of-clause-kinds : goal.returns-in-Some-mistake_of-clause-kinds
+returns-in-Some-mistake_of-clause-kinds c =
+    let words : List Text = map (λ s. s.now) c.args.words.now in
+    let asked = words_asked words c.in_ok-matches.ensures.kinds in
+    let entered : subcommand_rows_of c.in_ok-matches.matches ≡ Some (asked.0, asked.1) = (c.in_ok-matches.ensures.matches refl).1 ∙ asked.2 in
+    let rows = rows_of (found_of c.in-Some.found.now) in
+    let name_same = name_is c.in_ok-matches.matches (asked.0, asked.1) entered c.in-Some.name.now rows c.in-Some.ensures.name c.in-Some.ensures.rows in
+    let rows_same = rows_is c.in_ok-matches.matches (asked.0, asked.1) entered c.in-Some.name.now rows c.in-Some.ensures.name c.in-Some.ensures.rows in
+    let given : mistake_given (subcommand_of mx_grammar words) ≡ Some c.in-Some-mistake_of.mistake =
+    ap mistake_given asked.2 ∙ sym (ap₂ mistake_in name_same rows_same) ∙ sym c.mistake_of.ensures ∙ c.in-Some-mistake_of.is in
+    mistaken words c.in-Some-mistake_of.mistake c.in_ok-matches.ensures.kinds given

@@ -1,0 +1,4 @@
+pub mod Keyboard
+pub mod Living
+pub mod Screen
+pub mod Session
