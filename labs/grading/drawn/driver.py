@@ -19,13 +19,17 @@ HOGGED = 22  # turns from a tick until a driver has done with it, if another pro
 BOUNCES = [it for count in (1, 2) for it in itertools.product(range(3), repeat=count)]
 
 
-def taken(made, enough):
-    """The facts that a driver has both lines, and takes an interrupt soon: at least one notification for those that come
-    without a pause."""
+def lines_of(made):
+    """The facts that a driver has both lines when their interrupts come."""
+    return [(f"{made.count(f'line {it}')} line {it} driver", f"the driver has taken line {it} before its first interrupt")
+            for it in (3, 5)]
+
+
+def soon(made, enough):
+    """The fact that a driver takes an interrupt soon: at least one notification for those that come without a pause."""
     at = [i for i, it in enumerate(made) if it in ("line 3", "line 5")]
-    pauses = sum(later - earlier > enough for earlier, later in zip(at, at[1:]))
-    return [f"{made.count('line 3')} line 3 driver", f"{made.count('line 5')} line 5 driver",
-            f"{1 + pauses}+ notify HARDWARE to driver .."]
+    least = 1 + sum(later - earlier > enough for earlier, later in zip(at, at[1:]))
+    return f"{least}+ notify HARDWARE to driver ..", f"the driver receives soon: {least} notifications of HARDWARE at least"
 
 
 def button_case(name, events, with_hog=False):
@@ -34,7 +38,7 @@ def button_case(name, events, with_hog=False):
         made += ["line 9"] * int(it) if it.isdigit() else [EVENTS[it]]
     return {"name": f"{name}: {' '.join(words)}", "config": machine(1, DRIVER, *([HOG] if with_hog else [])), "events": made,
             "models": [("button", "driver")], "want": {"states": {"driver": "receiving any"}},
-            "facts": taken(made, ENOUGH_WITH_HOG if with_hog else ENOUGH)}
+            "first": lines_of(made), "facts": [soon(made, ENOUGH_WITH_HOG if with_hog else ENOUGH)]}
 
 
 def lines_taken(draw):
@@ -44,7 +48,7 @@ def lines_taken(draw):
 
 def sensor(draw):
     for count in (1, draw.randint(3, 6), draw.randint(25, 35)):
-        yield button_case(f"the sensor {count} times", " ".join([str(draw.randint(8, 11))] + ["s 8"] * count))
+        yield button_case(f"the sensor {count} times" if count > 1 else "the sensor once", " ".join([str(draw.randint(8, 11))] + ["s 8"] * count))
 
 
 def ways(draw, many, least=0):
