@@ -113,15 +113,14 @@ def hogged(draw, bounces):
 
 
 def both_lines(draw):
-    """Both interrupts come while another process runs, in any order, also twice, and again before the button is
-    released; then once more with the next press. Each press bounces as is drawn."""
+    """Both interrupts come while another process runs, in any order, also twice; then once more with the next press. Then the
+    sensor comes, so whoever forgets a press can't make up for it by a bounce. Each press bounces as is drawn."""
     kinds = ("b s", "s b s", "b b s", f"s {draw.randint(2, 4)} b s")
     for lines, way, other in zip(kinds, ways(draw, 4, 1), ways(draw, 4)):
         quiet = [f"t {HOGGED}"] * 3
-        for at in sorted(draw.sample([1, 2, 3], draw.randint(1, 2)), reverse=True):
-            quiet.insert(at, f"s {HOGGED}")
-        first = f"{draw.randint(12, 14)} t {lines} 40 {hogged(draw, way)} {' '.join(quiet)}"
-        again = f"{'t 22 ' * draw.randint(0, 2)}t {draw.choice(['b s', 's b'])} 40 {hogged(draw, other)}"
+        quiet.insert(draw.randint(1, 3), f"s {HOGGED}")
+        first = f"{draw.randint(12, 14)} t {lines} 40 s {HOGGED} {hogged(draw, way)} {' '.join(quiet)}"
+        again = f"{'t 22 ' * draw.randint(0, 2)}t {draw.choice(['b s', 's b'])} 40 s {HOGGED} {hogged(draw, other)}"
         yield button_case("both lines while another process runs", f"{first} {again} t 22 t 22 t 22", True)
 
 
