@@ -18,6 +18,7 @@ use Rattle.mx_machine.proofs.PartLemmas.{part_own}
 use Rattle.mx_machine.proofs.ReplayLemmas.{last_accepted}
 use Rattle.mx_loan.proofs.Fronts.{prefix_trans}
 use Rattle.mx_loan.specs.Seats.{DeskView, SeatView, LoanView, IsSeatOf, back_record, desk_after_back, desk_after_event, desk_after_take, new_loan, record_of, take_record, seat_after_back, seat_after_event, seat_after_take, seat_seeing}
+use Rattle.mx_spool.specs.Written.{console_of_history}
 use Rattle.mx_cpus.specs.Calls.{EndsDead, Follows, IsAcceptedCall, IsLentAt, IsRefusedCall, IsRestCall, IsAcceptedHistory, desk_beside, event_of, is_dead, outs_of, slot_of, steps_of, world_after}
 use Rattle.mx_cpus.proofs.WorldLemmas.{back_outs, moved_by}
 
@@ -168,3 +169,13 @@ lent_by boot n t l a o is seen who made lent =
         lent.2 ∙ sym same,
       );
     }
+
+-- what a seat that was shown the history has seen is the kernel's
+history_seen : (z : TableId) (k : BootAndHistory) (d : DeskView) (s t : SeatView) → d ≡ desk_beside z k → t ≡ seat_seeing s d.history → k.history ≡ t.seen
+history_seen z k d s t desk shown = ap (λ (u : SeatView). u.seen) (seat_shown z k d s t desk shown)
+
+pub world_seen : (boot : World) (z : TableId) (k : BootAndHistory) (d : DeskView) (s t : SeatView) → k.boot ≡ boot → d ≡ desk_beside z k → t ≡ seat_seeing s d.history → replay k ≡ world_after boot t.seen
+world_seen boot z k d s t is desk shown = ap (λ w. world_after w k.history) is ∙ ap (world_after boot) (history_seen z k d s t desk shown)
+
+pub console_seen : (boot : World) (z : TableId) (k : BootAndHistory) (d : DeskView) (s t : SeatView) → k.boot ≡ boot → d ≡ desk_beside z k → t ≡ seat_seeing s d.history → console_of_history k.boot k.history ≡ console_of_history boot t.seen
+console_seen boot z k d s t is desk shown = ap (λ w. console_of_history w k.history) is ∙ ap (console_of_history boot) (history_seen z k d s t desk shown)
