@@ -1,6 +1,6 @@
 -- What a spool has to keep: a record writes a byte at most, and only that of a return does; and the console is the end of
 -- all that was written.
-use Rattle.std.proofs.Common.{◌≡◌, ◌∙◌, ℕ, zero, suc, ◌<◌, ◌+◌, ◌-◌, ◌++◌, ◌≤◌, Bool, true, false, true≢false, List, [], ◌∷◌, drop, take, length, min, replicate, Option, Some, None, slice_get, refl, ap, sym, subst, arith, append_assoc, length-drop}
+use Rattle.std.proofs.Common.{◌≡◌, ◌∙◌, ℕ, zero, suc, ◌<◌, ◌+◌, ◌-◌, ◌++◌, ◌≤◌, true, true≢false, List, [], ◌∷◌, drop, take, length, min, replicate, Option, Some, None, slice_get, refl, ap, sym, subst, arith, append_assoc, length-drop}
 use Rattle.std.proofs.lemmas.List.{append-nil, drop-append-le, drop-drop, drop_min, length-append, take_min}
 use Rattle.circular_buffer.specs.Buffer.{keep_last}
 use Rattle.mx_kcall.specs.Service.{Service}
@@ -8,7 +8,6 @@ use Rattle.mx_proc.specs.Console.{ConsoleState, empty_console}
 use Rattle.mx_proc.specs.declared.windows.Rules.{Rules}
 use Rattle.mx_machine.specs.declared.events.Event.{Event}
 use Rattle.mx_machine.specs.declared.events.Event.TheVariants as events
-use Rattle.mx_machine.specs.declared.history.Record.{Record}
 use Rattle.mx_machine.specs.declared.history.Recorded.{Recorded}
 use Rattle.mx_machine.specs.declared.history.Recorded.TheVariants as recorded
 use Rattle.mx_machine.specs.Agrees.{IsBoot}
@@ -17,12 +16,12 @@ use Rattle.mx_machine.specs.History.{BootAndHistory, events_of, events_of_histor
 use Rattle.mx_machine.specs.KernelState.{is_for_all, recorded_as}
 use Rattle.mx_machine.specs.Move.{world_after_back, world_after_event, world_after_line, world_after_respawn, world_after_step, world_after_take}
 use Rattle.mx_machine.specs.Sound.{IsSound}
-use Rattle.mx_machine.specs.World.{World, HeldProcess, held_by}
+use Rattle.mx_machine.specs.World.{World, HeldProcess}
 use Rattle.mx_machine.proofs.ReplayLemmas.{unfold_last}
 use Rattle.mx_spool.specs.Spools.{IsBehind, IsSpoolOf, SpoolView}
 use Rattle.mx_spool.specs.Written.{console_of, console_of_history}
-use Rattle.mx_spool.proofs.ConsoleLemmas.{backs_of, pushed, with_byte}
-use Rattle.mx_spool.proofs.WrittenLemmas.{all_pushed, backs, backs_append, console_at, few_written, none_written, written_more}
+use Rattle.mx_spool.proofs.ConsoleLemmas.{pushed, with_byte}
+use Rattle.mx_spool.proofs.WrittenLemmas.{all_pushed, backs, backs_append, console_at, few_written, no_length, none_written, written_more}
 
 -- ---- one record more
 
@@ -164,13 +163,43 @@ by_events : (xs : List (ℕ × Event)) (w : World) → (world_after_events w xs)
 by_events [] w = refl
 by_events (x ∷ xs) w = by_events xs (world_after_event w x.0 x.1) ∙ by_event w x.0 x.1
 
--- what was written has room
-pub fits : (k : BootAndHistory) (s : SpoolView) → IsBoot k.boot → IsSound (replay k) → k.boot.capacity ≤ s.room → length (written k) ≤ s.room
+-- ---- what a spool that is behind lacks
+
+-- a kernel's console, in numbers
+counted : (k : BootAndHistory) (s : SpoolView) (con : ConsoleState) → IsBoot k.boot → con ≡ console_at (replay k) → (h : IsBehind k s) → con.count ≡ length s.bytes + length h.more
+counted k s con booted is h = ap (λ (c : ConsoleState). c.count) (is ∙ console_is k booted) ∙ ap length h.bytes ∙ length-append s.bytes h.more
+
+pub lacks_none : (k : BootAndHistory) (s : SpoolView) (con : ConsoleState) → IsBoot k.boot → IsBehind k s → con ≡ console_at (replay k) → con.count ≤ length s.bytes → IsSpoolOf k s
+lacks_none k s con booted h is few =
+    let count = counted k s con booted is h in
+    let none : h.more ≡ [] = no_length h.more (omega (arith, count, few)) in
+    record { bytes = sym (append-nil s.bytes) ∙ ap (λ (l : List ℕ). s.bytes ++ l) (sym none) ∙ sym h.bytes; room = h.room }
+
+-- it is the last of what was written, and of what the console keeps
+abbrev pub IsLast : BootAndHistory → SpoolView → ConsoleState → ℕ → Type 0
+IsLast k s con b = (written k ≡ s.bytes ++ b ∷ []) × (slice_get con.kept (min con.count 4096 - 1) ≡ Some b)
+
+last_by : (k : BootAndHistory) (s : SpoolView) (con : ConsoleState) (more : List ℕ) → con ≡ console_with (written k) → written k ≡ s.bytes ++ more → length more ≤ 1 → 0 < length more → (b : ℕ) × IsLast k s con b
+last_by k s con [] is all few some = absurd (omega (arith, some))
+last_by k s con (b ∷ c ∷ more) is all few some = absurd (omega (arith, few))
+last_by k s con (b ∷ []) is all few some =
+    (b, (all, ap (λ (c : ConsoleState). slice_get c.kept (min c.count 4096 - 1)) (is ∙ ap console_with all) ∙ last_kept s.bytes b))
+
+pub lacks_one : (k : BootAndHistory) (s : SpoolView) (con : ConsoleState) → IsBoot k.boot → IsBehind k s → con ≡ console_at (replay k) → length s.bytes < con.count → (b : ℕ) × IsLast k s con b
+lacks_one k s con booted h is more =
+    let count = counted k s con booted is h in
+    last_by k s con h.more (is ∙ console_is k booted) h.bytes h.few (omega (arith, count, more))
+
+-- there is room for it
+pub has_room : (k : BootAndHistory) (s : SpoolView) (con : ConsoleState) → IsSound (replay k) → IsBehind k s → con ≡ console_at (replay k) → length s.bytes < con.count → length s.bytes < s.room
 unfolding replay
-fits k s booted sound room =
-    let count = ap (λ (c : ConsoleState). c.count) (console_is k booted) in
+has_room k s con sound h is more =
+    let count = ap (λ (c : ConsoleState). c.count) is in
     let same = by_events (events_of_history k.history) k.boot in
-    omega (arith, count, same, room, sound.holds.console, sound.holds.room)
+    let room = h.room in
+    let written = sound.holds.console in
+    let records = sound.holds.room in
+    omega (arith, count, same, room, written, records, more)
 
 -- ---- part of a list
 

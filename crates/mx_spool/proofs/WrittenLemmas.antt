@@ -1,6 +1,6 @@
 -- What events write to the console, one after another, is what the console has more in the end: if that isn't more than
 -- it keeps.
-use Rattle.std.proofs.Common.{◌≡◌, ◌∙◌, ℕ, ◌+◌, ◌-◌, ◌++◌, ◌≤◌, List, [], ◌∷◌, drop, length, refl, ap, sym, subst, arith, append_assoc}
+use Rattle.std.proofs.Common.{◌≡◌, ◌∙◌, ℕ, suc, ◌+◌, ◌-◌, ◌++◌, ◌≤◌, List, [], ◌∷◌, drop, length, refl, ap, sym, subst, arith, append_assoc}
 use Rattle.std.proofs.Math.Seq.{drop-append_seam}
 use Rattle.std.proofs.lemmas.List.{append-nil, drop-append-le, length-append}
 use Rattle.mx_proc.specs.Console.{ConsoleState}
@@ -105,7 +105,7 @@ grown_is_written xs w h =
     let few = few_written xs w in
     grown_pushed (console_at w) (console_at (world_after_events w xs)) (console_of w xs) (all_pushed xs w) (omega (arith, few, h))
 
-no_length : (l : List ℕ) → length l ≤ 0 → l ≡ []
+pub no_length : (l : List ℕ) → length l ≤ 0 → l ≡ []
 no_length [] h = refl
 no_length (x ∷ l) h = absurd (omega (arith, h))
 
