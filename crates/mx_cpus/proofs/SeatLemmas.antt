@@ -78,6 +78,14 @@ desk_after_lend z k n d c e a b o is same now who made outs =
     (sym (ap (λ (x : BootAndHistory). x.history) made ∙ ap (λ i. k.history ++ take_record i ∷ []) who))
     (sym (outs ∙ ap (λ i. slice_set (outs_of (replay k)) i (Some o)) who))
 
+-- an event that changes no loan was recorded
+pub desk_after_made : (z : TableId) (k n : BootAndHistory) (d c e : DeskView) (a b : ℕ) (r x : Recorded) → d ≡ desk_beside z k → c ≡ d → e ≡ desk_after_event c a r → b ≡ a → r ≡ x → n ≡ with_record k b x
+    → outs_of (replay n) ≡ outs_of (replay k) → e ≡ desk_beside z n
+desk_after_made z k n d c e a b r x is same now who event made outs =
+    now ∙ ap (λ y. desk_after_event y a r) (same ∙ is)
+    ∙ same_desk z (k.history ++ record_of a r ∷ []) n.history (outs_of (replay k)) (outs_of (replay n))
+    (sym (ap (λ (m : BootAndHistory). m.history) made ∙ ap (λ i. k.history ++ record_of i x ∷ []) who ∙ ap (λ y. k.history ++ record_of a y ∷ []) (sym event))) (sym outs)
+
 -- a call that was recorded
 pub accepted_by : (boot : World) (k n : BootAndHistory) (s t : SeatView) (b : ℕ) (e : Recorded) (holding : Option Out) (IsAnswered : World → Answer → Type 0) → k.boot ≡ boot → IsPrefix s.seen k.history → s.mine ≡ part_of k.history s.actor → b ≡ s.actor → n ≡ with_record k b e
     → t ≡ recorded_seat s k e holding → AreAccepted n.boot (events_of_history n.history) → IsAnswered (replay k) (event_answer (world_after_events (replay k) (steps_of b e)) b (event_of e)) → IsAcceptedCall boot s t e holding IsAnswered

@@ -78,7 +78,7 @@ impl<M: Naming> Model for Locked<M> {
     ghost invariant = { λ l. IsLocked M.table M.boot l.kernel l.desk l.spool };
 }
 
-#[tactic(auto, using(crate::proofs::WorldLemmas::event_outs, mx_spool::proofs::SpoolLemmas::spool_at_event))]
+#[tactic(auto, using(crate::proofs::WorldLemmas::event_outs))]
 impl<M: Naming> Locked<M> {
     /// What the lock guards: a kernel, and the desk and the spool that agree with it.
     pub fn new(kernel: Kernel, desk: Desk, spool: Spool) -> Locked<M>

@@ -1,4 +1,4 @@
-use Rattle.std.proofs.Common.{◌≡◌, ◌∙◌, List, ℕ, ap, drop, length, sym, take}
+use Rattle.std.proofs.Common.{◌≡◌, ◌∙◌, List, ℕ, ap, drop, take, vec_capacity}
 use Rattle.mx_keyboard.specs.Keyboard.{seen_of}
 use Rattle.mx_machine.specs.World.{World}
 use Rattle.mx_proc.specs.TableState.{TableState}
@@ -18,4 +18,4 @@ returns-clause-keyboard g c =
 pub returns-clause-bytes : goal.returns-clause-bytes
 returns-clause-bytes g c =
     let same = console_seen g.M.Naming.boot g.M.Naming.table c.self.inside.kernel c.self.inside.desk c.args.seat c.note.result c.self.invariant.0 c.self.invariant.2 c.note.ensures.seat in
-    c.copy_from.ensures.bytes ∙ ap (λ (l : List ℕ). take _ (drop c.args.from l)) (c.self.invariant.3.bytes ∙ same)
+    c.copy_from.ensures.bytes ∙ ap (λ (l : List ℕ). take (vec_capacity c.args.bytes.now) (drop c.args.from l)) (c.self.invariant.3.bytes ∙ same)
