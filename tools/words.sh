@@ -115,10 +115,10 @@ stop_named() {
     printf '%s' "$named"
 }
 
-# Ends the session: its file is made, and who feeds it ends.
+# Ends the session: its file is made, if it isn't there, and who feeds it ends.
 end_session() {
     woken=yes
-    : >"$stop"
+    [ -e "$stop" ] || : >"$stop"
     [ -z "$feeder" ] || kill "$feeder" 2>/dev/null
 }
 

@@ -14,6 +14,7 @@ use mx_app_failure::Failure;
 use mx_app_live::Seat;
 use mx_app_start::{Channels, InputLines, RuntimeFiles, RuntimeProgress, RuntimeWriter};
 use mx_walk::Progress;
+use std::io::IsTerminal;
 use std::rt::{Env, Files};
 use std::sync::Wait;
 use std::thread::Threads;
@@ -124,6 +125,7 @@ fn unit_of(words: &[&str]) -> &'static str {
 fn perform_texts<R>(rt: &R, terminals: Terminals, words: &[&str]) -> Result<u8, Complaint>
 where
     R: Env + Files + Input + Print + Eprint + AllocGlobal + Threads + Wait + Clock + Sync,
+    R::Reader: IsTerminal,
 {
     let mut work = CommandIo {
         channels: Channels {
@@ -147,6 +149,7 @@ where
 fn perform_arguments<R>(rt: &R, terminals: Terminals) -> Result<u8, Complaint>
 where
     R: Env + Files + Input + Print + Eprint + AllocGlobal + Threads + Wait + Clock + Sync,
+    R::Reader: IsTerminal,
 {
     let arguments = arguments(rt)?;
     let texts = texts_asked(rt.alloc(), arguments.as_slice())?;
@@ -158,6 +161,7 @@ where
 pub fn run_program<R>(rt: &R, terminals: Terminals) -> u8
 where
     R: Env + Files + Input + Print + Eprint + AllocGlobal + Threads + Wait + Clock + Sync,
+    R::Reader: IsTerminal,
 {
     match perform_arguments(rt, terminals) {
         Ok(status) => status,

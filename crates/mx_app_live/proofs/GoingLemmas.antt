@@ -11,10 +11,11 @@ use Rattle.mx_app_live.specs.declared.outside.Heard.{Heard}
 use Rattle.mx_app_live.specs.declared.session.Session.{Session as Known}
 use Rattle.mx_app_live.specs.declared.session.SessionEnding.{SessionEnding}
 use Rattle.mx_app_live.specs.declared.session.SessionEnding.TheVariants.{Full, Rest}
-use Rattle.mx_app_live.specs.Keyboard.{seen_of}
-use Rattle.mx_app_live.specs.Screen.{console_of, grown}
+use Rattle.mx_keyboard.specs.Keyboard.{seen_of}
+use Rattle.mx_spool.specs.Written.{console_of, grown}
 use Rattle.mx_app_live.specs.Session.{Seat, ending_if, going_on, hearing, is_full, is_over, raised_at, round_turns, seat_after_raise, seat_after_turns, seat_of, turns_at, waiting}
-use Rattle.mx_app_live.proofs.WrittenLemmas.{count_stays, going_written, grown_is_written, hearing_backs, raised_backs, round_backs}
+use Rattle.mx_spool.proofs.WrittenLemmas.{count_stays, grown_is_written}
+use Rattle.mx_app_live.proofs.WrittenLemmas.{going_written, hearing_backs, raised_backs, round_backs}
 
 abbrev written_at : World → ℕ
 written_at w = w.table.devices.console.count

@@ -8,7 +8,7 @@ use Rattle.mx_machine.specs.declared.events.Event.TheVariants.{Line}
 use Rattle.mx_turns.proofs.OfferLemmas.{range_more}
 use Rattle.mx_word.specs.Bits.{has_bit}
 use Rattle.mx_typist.specs.declared.typist.Raise.{Raise}
-use Rattle.mx_app_live.specs.Keyboard.{raise_events}
+use Rattle.mx_keyboard.specs.Keyboard.{raise_events}
 
 -- the lines of some bits
 abbrev pub lines_of : ℕ → List ℕ → List ℕ

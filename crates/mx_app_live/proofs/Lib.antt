@@ -1,4 +1,3 @@
-pub mod ConsoleLemmas
 pub mod GoingLemmas
 pub mod KeyboardLemmas
 pub mod LivingLemmas

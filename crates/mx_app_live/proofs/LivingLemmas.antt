@@ -19,7 +19,7 @@ use Rattle.mx_app_live.specs.declared.outside.Note.{Note}
 use Rattle.mx_app_live.specs.declared.outside.Note.TheVariants as note
 use Rattle.mx_app_live.specs.declared.session.SessionEnding.{SessionEnding}
 use Rattle.mx_app_live.specs.Living.{IsBooted, IsCutOff, IsKernelOf, IsNotBooted, Lives, both_kept, end_told, kernel_at_boot, shown_of}
-use Rattle.mx_app_live.specs.Screen.{console_of}
+use Rattle.mx_spool.specs.Written.{console_of}
 use Rattle.mx_app_live.specs.Session.{IsSession, IsUnshown, Part, Seat, first_seat, waiting}
 
 abbrev at_boot : World → BootAndHistory

@@ -4,7 +4,7 @@ use Rattle.std.proofs.lemmas.List.{drop-drop, drop_all}
 use Rattle.mx_machine.specs.History.{replay}
 use Rattle.mx_machine.specs.Machine.{MachineState, world_of}
 use Rattle.mx_proc.specs.Console.{ConsoleState}
-use Rattle.mx_app_live.specs.Screen.{grown}
+use Rattle.mx_spool.specs.Written.{grown}
 
 -- the last `more` of those from an index on are the last of all
 pub tail_of : (kept bytes : List ℕ) (first more : ℕ) → bytes ≡ drop first kept → (first ≡ 0) ⊎ (first + more ≤ length kept) → drop (length bytes - more) bytes ≡ drop (length kept - more) kept

@@ -14,9 +14,10 @@ use Rattle.mx_app_live.specs.declared.outside.Heard.{Heard}
 use Rattle.mx_app_live.specs.declared.outside.Note.{Note}
 use Rattle.mx_app_live.specs.declared.session.SessionEnding.{SessionEnding}
 use Rattle.mx_app_live.specs.declared.session.SessionEnding.TheVariants.{Stopped}
-use Rattle.mx_app_live.specs.Screen.{console_of}
+use Rattle.mx_spool.specs.Written.{console_of}
 use Rattle.mx_app_live.specs.Session.{AreRounds, IsRound, IsSession, IsUnshown, Part, Seat, going_on, hearing, is_full, seat_after_turns, telling, then_part, turns_at}
-use Rattle.mx_app_live.proofs.WrittenLemmas.{hearing_backs, then_none, written_more}
+use Rattle.mx_spool.proofs.WrittenLemmas.{then_none, written_more}
+use Rattle.mx_app_live.proofs.WrittenLemmas.{hearing_backs}
 
 pub nil_after : {A : Type 0} (xs : List A) → xs ++ [] ≡ xs
 nil_after [] = refl

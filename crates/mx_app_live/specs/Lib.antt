@@ -1,4 +1,2 @@
-pub mod Keyboard
 pub mod Living
-pub mod Screen
 pub mod Session

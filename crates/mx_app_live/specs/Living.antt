@@ -18,7 +18,7 @@ use Rattle.mx_app_live.specs.declared.outside.Heard.{Heard}
 use Rattle.mx_app_live.specs.declared.outside.Note.{Note}
 use Rattle.mx_app_live.specs.declared.outside.Note.TheVariants as note
 use Rattle.mx_app_live.specs.declared.session.SessionEnding.{SessionEnding}
-use Rattle.mx_app_live.specs.Screen.{console_of}
+use Rattle.mx_spool.specs.Written.{console_of}
 use Rattle.mx_app_live.specs.Session.{IsSession, IsUnshown, Part, first_seat, waiting}
 
 abbrev pub kernel_at_boot : Config → List Service → BootAndHistory

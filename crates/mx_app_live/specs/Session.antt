@@ -21,7 +21,7 @@ use Rattle.mx_app_live.specs.declared.outside.Note.TheVariants as note
 use Rattle.mx_app_live.specs.declared.session.Session.{Session as Held}
 use Rattle.mx_app_live.specs.declared.session.SessionEnding.{SessionEnding}
 use Rattle.mx_app_live.specs.declared.session.SessionEnding.TheVariants.{Rest, Full, Left, Stopped}
-use Rattle.mx_app_live.specs.Keyboard.{driver_of, endpoint_in, raise_events, seen_of}
+use Rattle.mx_keyboard.specs.Keyboard.{driver_of, endpoint_in, raise_events, seen_of}
 
 -- The machine's world, what is typed, what was typed of a command, and whether no more keys will come.
 pub record Seat : Type 0 where

@@ -84,7 +84,8 @@ pub fn live<R: Reader + Drop, F: FileWriter + Drop, W: Write + Drop, O: Outside>
         × (F.written channels.new.files ≡ F.written channels.old.files ++ ws)
         × (O.heard outside.new ≡ O.heard outside.old ++ hs)
         × (O.told outside.new ≡ O.told outside.old ++ notes)
-        × Lives names.entry.config.now names.entry.log.now (nat_lt 0 sitting.entry.hertz) qs ws hs notes
+        × Lives names.entry.config.now names.entry.log.now
+        (nat_lt 0 sitting.entry.hertz) qs ws hs notes
         (λ text. Appends (W.contents channels.old.out) (W.contents channels.new.out) text) result }
 {
     let mut machine = begin(alloc, &mut channels.reader, names)?;

@@ -4,7 +4,7 @@ ghost use Rattle.std.specs.Prelude.{◌≡◌, ◌⊎◌, ◌≤◌, ◌+◌, �
 ghost use Rattle.std.specs.Io.KnownBytes.{Appends};
 ghost use Rattle.mx_app_failure.specs.Failure.{IsWanting, PrintsFront};
 ghost use Rattle.mx_machine.specs.Machine.{world_of};
-ghost use Rattle.mx_app_live.specs.Screen.{grown};
+ghost use Rattle.mx_spool.specs.Written.{grown};
 
 use mx_app_failure::{Failure, print_text};
 use mx_machine::Machine;

@@ -5,7 +5,7 @@ ghost use Rattle.std.specs.Prelude.{◌≡◌, ◌++◌, ◌∷◌, [], Some, No
 use crate::noted::Noted;
 use crate::outside::{Asking, Heard, Note, Outside};
 use crate::session::SessionEnding;
-use std::io::Read;
+use std::io::{IsTerminal, Read};
 use std::rt::Files;
 use std::time::{Clock, Duration, Instant};
 use std::{fs, io, thread};
@@ -115,18 +115,29 @@ impl<'a, R: Clock + Files> Ear<'a, R> {
     }
 }
 
-impl<'a, R: Clock + Files + Input> Ear<'a, R> {
-    /// Reads keys. A terminal that gives each key at once may have none; else a read that gives none is their end.
+impl<'a, R: Clock + Files + Input + Eprint> Ear<'a, R>
+where
+    R::Reader: IsTerminal,
+{
+    /// No more keys will come.
+    fn end_keys(&mut self) -> Heard {
+        self.is_over = true;
+        Heard::NoMoreKeys
+    }
+
+    /// Reads keys. A terminal that gives each key at once may have none; else a read that gives none is their end, and so
+    /// is one that fails. A terminal that was closed is none any more.
     fn read_keys(&mut self, is_raw: bool) -> Heard {
         let mut reader = self.rt.reader();
         let read = reader.read(&mut self.keys);
         self.first = 0;
         self.count = 0;
         match read {
-            Ok(0) if is_raw => Heard::Nothing,
-            Ok(0) | Err(_) => {
-                self.is_over = true;
-                Heard::NoMoreKeys
+            Ok(0) if is_raw && reader.is_terminal() => Heard::Nothing,
+            Ok(0) => self.end_keys(),
+            Err(_) => {
+                let _ = eprint!(self.rt; "mx: no more keys: standard input can't be read\n");
+                self.end_keys()
             }
             Ok(count) => {
                 self.count = count;
@@ -232,7 +243,10 @@ fn print_note(rt: &impl Eprint, note: Note) {
     };
 }
 
-impl<'a, R: Clock + Files + Input + Eprint> Outside for Seat<'a, R> {
+impl<'a, R: Clock + Files + Input + Eprint> Outside for Seat<'a, R>
+where
+    R::Reader: IsTerminal,
+{
     ghost heard = { λ seat. seat.heard.items };
 
     ghost told = { λ seat. seat.told.items };

@@ -10,8 +10,8 @@ ghost use Rattle.mx_turns.specs.Made.{HasMade, HasOffered};
 ghost use Rattle.mx_turns.specs.Turns.{offered, world_after};
 ghost use Rattle.mx_typist.specs.Typing.{has_room, raise_of, typing_after_key, typing_after_look};
 ghost use Rattle.mx_app_live.specs.declared.outside.Heard.{Heard as Heards};
-ghost use Rattle.mx_app_live.specs.Keyboard.{raise_events, seen_of};
-ghost use Rattle.mx_app_live.specs.Screen.{console_of};
+ghost use Rattle.mx_keyboard.specs.Keyboard.{raise_events, seen_of};
+ghost use Rattle.mx_spool.specs.Written.{console_of};
 ghost use Rattle.mx_app_live.specs.Session.{IsSession, IsUnshown, Part, doing, ending_if, going_on, hearing, is_full, is_over, kill_note, kill_offered, kill_told, refused_if, round_length, round_turns, seat_of, turns_at};
 
 use crate::keyboard::{endpoint_at, is_driven, look_at, offer, raise};
@@ -234,7 +234,8 @@ fn kill_and_tell<O: Outside>(machine: &mut Machine, slot: u8, outside: &mut O) -
 /// A byte is typed, if there is room for it; else it is told that there is none.
 fn type_byte<O: Outside>(typist: &mut Typist, byte: u8, outside: &mut O)
     ensures typed { typist.new ≡ typing_after_key byte typist.old }
-    ensures told { O.told outside.new ≡ O.told outside.old ++ refused_if (not (has_room typist.old)) }
+    ensures told { O.told outside.new ≡ O.told outside.old
+        ++ refused_if (not (has_room typist.old)) }
     ensures heard { O.heard outside.new ≡ O.heard outside.old }
 {
     if !typist.push(byte) {

@@ -9,6 +9,7 @@ use Rattle.mx_machine.specs.Rules.{Rules}
 use Rattle.mx_machine.specs.Boot.{world_at_boot_with}
 use Rattle.mx_machine.specs.History.{BootAndHistory, replay}
 use Rattle.mx_machine.specs.World.{actors}
+use Rattle.mx_spool.specs.Spools.{IsSpoolOf, SpoolView}
 use Rattle.atomic_table.specs.Seated.{TableId}
 use Rattle.mx_cpus.specs.Seats.{DeskView, SeatView, empty_desk, new_seat, new_seats}
 use Rattle.mx_cpus.specs.Calls.{desk_beside, out_of_lent, outs_of, world_after}
@@ -27,14 +28,22 @@ outs_at_boot rules v n o c = no_outs n
 actors_at_boot : (rules : Rules) (v : List Service) (n o c : ℕ) → actors (world_at_boot_with rules v n o c) ≡ n + o
 actors_at_boot rules v n o c = ap (λ m. m + o) (length-replicate n None)
 
--- an empty desk agrees with the kernel of a configuration
-pub blank_at_boot : (d : DeskView) (k : BootAndHistory) (rules : Rules) (v : List Service) (n o c : ℕ) → d ≡ empty_desk d.table n → d.table.words ≡ n + o → k ≡ record { boot = world_at_boot_with rules v n o c; history = [] } → IsBlank d k
-blank_at_boot d k rules v n o c desk words kernel = (
+-- an empty spool with room for all records is that of a kernel without a record
+spool_at_boot : (k : BootAndHistory) (s : SpoolView) (rules : Rules) (v : List Service) (n o c : ℕ) → k ≡ record { boot = world_at_boot_with rules v n o c; history = [] } → s ≡ record { bytes = []; room = c } → IsSpoolOf k s
+spool_at_boot k s rules v n o c kernel spool =
+    subst (λ (x : BootAndHistory). IsSpoolOf x s) (sym kernel)
+    (record { bytes = ap (λ (x : SpoolView). x.bytes) spool; room = (let room = ap (λ (x : SpoolView). x.room) spool in omega (arith, room)) })
+
+-- an empty desk and an empty spool agree with the kernel of a configuration
+pub blank_at_boot : (d : DeskView) (k : BootAndHistory) (s : SpoolView) (rules : Rules) (v : List Service) (n o c : ℕ) → d ≡ empty_desk d.table n → d.table.words ≡ n + o → k ≡ record { boot = world_at_boot_with rules v n o c; history = [] }
+    → s ≡ record { bytes = []; room = c } → IsBlank d k s
+blank_at_boot d k s rules v n o c desk words kernel spool = (
   ap (λ (x : BootAndHistory). x.history) kernel,
   (
     refl,
     words ∙ sym (ap (λ (x : BootAndHistory). actors x.boot) kernel ∙ actors_at_boot rules v n o c),
     desk ∙ sym (ap (desk_beside d.table) kernel ∙ ap (λ l. let y : DeskView = record { table = d.table; history = []; lent = l } in y) (outs_at_boot rules v n o c)),
+    spool_at_boot k s rules v n o c kernel spool,
   ),
 )
 

@@ -18,6 +18,7 @@ use Rattle.mx_machine.proofs.PartLemmas.{part_own}
 use Rattle.mx_machine.proofs.ReplayLemmas.{last_accepted}
 use Rattle.mx_loan.proofs.Fronts.{prefix_trans}
 use Rattle.mx_loan.specs.Seats.{DeskView, SeatView, LoanView, IsSeatOf, back_record, desk_after_back, desk_after_event, desk_after_take, new_loan, record_of, take_record, seat_after_back, seat_after_event, seat_after_take, seat_seeing}
+use Rattle.mx_spool.specs.Written.{console_of_history}
 use Rattle.mx_cpus.specs.Calls.{EndsDead, Follows, IsAcceptedCall, IsLentAt, IsRefusedCall, IsRestCall, IsAcceptedHistory, desk_beside, event_of, is_dead, outs_of, slot_of, steps_of, world_after}
 use Rattle.mx_cpus.proofs.WorldLemmas.{back_outs, moved_by}
 
@@ -76,6 +77,14 @@ desk_after_lend z k n d c e a b o is same now who made outs =
     ∙ same_desk z (k.history ++ take_record a ∷ []) n.history (slice_set (outs_of (replay k)) a (Some o)) (outs_of (replay n))
     (sym (ap (λ (x : BootAndHistory). x.history) made ∙ ap (λ i. k.history ++ take_record i ∷ []) who))
     (sym (outs ∙ ap (λ i. slice_set (outs_of (replay k)) i (Some o)) who))
+
+-- an event that changes no loan was recorded
+pub desk_after_made : (z : TableId) (k n : BootAndHistory) (d c e : DeskView) (a b : ℕ) (r x : Recorded) → d ≡ desk_beside z k → c ≡ d → e ≡ desk_after_event c a r → b ≡ a → r ≡ x → n ≡ with_record k b x
+    → outs_of (replay n) ≡ outs_of (replay k) → e ≡ desk_beside z n
+desk_after_made z k n d c e a b r x is same now who event made outs =
+    now ∙ ap (λ y. desk_after_event y a r) (same ∙ is)
+    ∙ same_desk z (k.history ++ record_of a r ∷ []) n.history (outs_of (replay k)) (outs_of (replay n))
+    (sym (ap (λ (m : BootAndHistory). m.history) made ∙ ap (λ i. k.history ++ record_of i x ∷ []) who ∙ ap (λ y. k.history ++ record_of a y ∷ []) (sym event))) (sym outs)
 
 -- a call that was recorded
 pub accepted_by : (boot : World) (k n : BootAndHistory) (s t : SeatView) (b : ℕ) (e : Recorded) (holding : Option Out) (IsAnswered : World → Answer → Type 0) → k.boot ≡ boot → IsPrefix s.seen k.history → s.mine ≡ part_of k.history s.actor → b ≡ s.actor → n ≡ with_record k b e
@@ -168,3 +177,13 @@ lent_by boot n t l a o is seen who made lent =
         lent.2 ∙ sym same,
       );
     }
+
+-- what a seat that was shown the history has seen is the kernel's
+history_seen : (z : TableId) (k : BootAndHistory) (d : DeskView) (s t : SeatView) → d ≡ desk_beside z k → t ≡ seat_seeing s d.history → k.history ≡ t.seen
+history_seen z k d s t desk shown = ap (λ (u : SeatView). u.seen) (seat_shown z k d s t desk shown)
+
+pub world_seen : (boot : World) (z : TableId) (k : BootAndHistory) (d : DeskView) (s t : SeatView) → k.boot ≡ boot → d ≡ desk_beside z k → t ≡ seat_seeing s d.history → replay k ≡ world_after boot t.seen
+world_seen boot z k d s t is desk shown = ap (λ w. world_after w k.history) is ∙ ap (world_after boot) (history_seen z k d s t desk shown)
+
+pub console_seen : (boot : World) (z : TableId) (k : BootAndHistory) (d : DeskView) (s t : SeatView) → k.boot ≡ boot → d ≡ desk_beside z k → t ≡ seat_seeing s d.history → console_of_history k.boot k.history ≡ console_of_history boot t.seen
+console_seen boot z k d s t is desk shown = ap (λ w. console_of_history w k.history) is ∙ ap (console_of_history boot) (history_seen z k d s t desk shown)

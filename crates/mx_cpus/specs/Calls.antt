@@ -21,6 +21,7 @@ use Rattle.mx_machine.specs.Move.{event_refusal, move}
 use Rattle.mx_machine.specs.Rest.{at_rest}
 use Rattle.mx_machine.specs.World.{World, HeldProcess, actors, held_by}
 use Rattle.mx_machine.specs.KernelState.{recorded_as}
+use Rattle.mx_spool.specs.Spools.{IsSpoolOf, SpoolView}
 use Rattle.mx_loan.specs.Rule.{lent_to}
 use Rattle.mx_loan.specs.Seats.{DeskView, SeatView, LoanView, record_of}
 
@@ -50,10 +51,12 @@ outs_of w = map out_of_lent w.cpus
 abbrev pub desk_beside : TableId → BootAndHistory → DeskView
 desk_beside z k = record { table = z; history = k.history; lent = outs_of (replay k) }
 
--- WHAT ALWAYS HOLDS UNDER THE LOCK: the kernel was booted so, the table has a word for each actor, and the desk
--- agrees with the kernel. That the kernel is at the replay of its history is what `replay` means of a kernel.
-abbrev pub IsLocked : TableId → World → BootAndHistory → DeskView → Type 0
-IsLocked z boot k d = (k.boot ≡ boot) × (z.words ≡ actors boot) × (d ≡ desk_beside z k)
+-- WHAT ALWAYS HOLDS UNDER THE LOCK: the kernel was booted so, the table has a word for each actor, the desk agrees with
+-- the kernel, and the spool has all that its history writes to the console. That the kernel is at the replay of its
+-- history is what `replay` means of a kernel.
+abbrev pub IsLocked : TableId → World → BootAndHistory → DeskView → SpoolView → Type 0
+IsLocked z boot k d s =
+    (k.boot ≡ boot) × (z.words ≡ actors boot) × (d ≡ desk_beside z k) × IsSpoolOf k s
 
 -- ---- calls
 

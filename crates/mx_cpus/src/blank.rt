@@ -7,6 +7,7 @@ ghost use Rattle.mx_cpus.specs.Boots.{all_seats};
 use crate::shared::Shared;
 use crate::{ActorSeat, Desk, Kernel, Locked, Naming, Service};
 use mx_machine::Config;
+use mx_spool::Spool;
 use mx_word::NoMemory;
 use std::alloc::Global;
 use std::marker::Model;
@@ -16,6 +17,7 @@ use std::marker::Model;
 pub struct Blank {
     kernel: Kernel,
     desk: Desk,
+    spool: Spool,
 }
 
 impl Model for Blank {
@@ -25,7 +27,7 @@ impl Model for Blank {
 
     ghost view = { λ b. blank_of b.desk b.kernel };
 
-    ghost invariant = { λ b. IsBlank b.desk b.kernel };
+    ghost invariant = { λ b. IsBlank b.desk b.kernel b.spool };
 }
 
 /// Boots a machine from a configuration and its services, with an empty history, and gives the seats of
@@ -49,8 +51,15 @@ pub fn boot(
     ensures same { OnErr result (services.new.items ≡ services.old.items) }
 {
     let (desk, seats) = Desk::open(alloc, config.cpus + config.others, config.cpus)?;
+    // A record writes one byte at most, so this is room for all of them.
+    let spool = Spool::with_room(alloc, config.log as usize)?;
     let kernel = Kernel::new(alloc, config, services)?;
-    Ok((Blank { kernel, desk }, seats))
+    let blank = Blank {
+        kernel,
+        desk,
+        spool,
+    };
+    Ok((blank, seats))
 }
 
 impl Blank {
@@ -59,8 +68,12 @@ impl Blank {
         requires table { self.table ≡ M.table }
         requires boot { self.boot ≡ M.boot }
     {
-        let Blank { kernel, desk } = self;
+        let Blank {
+            kernel,
+            desk,
+            spool,
+        } = self;
         let cpus = kernel.cpus();
-        Shared::new(cpus, Locked::new(kernel, desk))
+        Shared::new(cpus, Locked::new(kernel, desk, spool))
     }
 }

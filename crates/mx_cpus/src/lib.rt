@@ -9,7 +9,8 @@
 //! # What lies under the lock
 //!
 //! The kernel and the desk, always in agreement, so that whoever takes the lock finds the kernel in
-//! exactly the state to which its history leads.
+//! exactly the state to which its history leads. Beside them is a spool with all that this history wrote to the console,
+//! for who shows it and may be slow.
 //!
 //! # Threads
 //!
@@ -44,7 +45,7 @@ mod threads;
 pub use blank::{Blank, boot};
 pub use calling::outsider;
 pub use gate::{Gate, WatchingGate};
-pub use locked::{Given, HowFar, Locked};
+pub use locked::{Given, Glance, HowFar, Locked};
 pub use loops::{processor, respawner};
 pub use mx_loan::ActorSeat;
 pub(crate) use mx_loan::{Desk, Loan};

@@ -1,23 +1,30 @@
-//! The kernel and its desk, as they lie under the lock.
+//! The kernel with its desk and its spool, as they lie under the lock.
 
-ghost use Rattle.std.specs.Prelude.{◌≡◌, true, IfOk, IfErr, length};
+ghost use Rattle.std.specs.Prelude.{◌≡◌, ◌≤◌, true, IfOk, IfErr, drop, length, take, vec_capacity};
 ghost use Rattle.mx_machine.specs.declared.events.Event.TheVariants as events;
 ghost use Rattle.mx_machine.specs.KernelState.{is_for_all};
 ghost use Rattle.mx_machine.specs.History.{replay};
 ghost use Rattle.mx_cpus.specs.Calls.{EndsDead, Follows, IsAnsweredCall, IsGiveCall, IsLoanOf, IsLocked};
-ghost use Rattle.mx_cpus.specs.Calls.{IsRefusedCall, IsRestCall, IsSameSeat, IsTakeCall, StandsIn, is_dead};
+ghost use Rattle.mx_cpus.specs.Calls.{IsRefusedCall, IsRestCall, IsSameSeat, IsTakeCall, StandsIn, is_dead, world_after};
+ghost use Rattle.mx_keyboard.specs.Keyboard.{seen_of};
+ghost use Rattle.mx_spool.specs.Written.{console_of_history};
 
 use crate::naming::Naming;
+use mx_keyboard::seen_in;
 use mx_loan::{ActorSeat, Desk, Loan};
 use mx_machine::{Answer, Event, Kernel, Refusal, recorded_as};
 use mx_proc::Slot;
+use mx_spool::Spool;
+use mx_typist::Seen;
 use std::marker::{Model, PhantomData};
 
-/// What lies under the lock: the kernel, in the state to which its history leads, and its desk,
-/// which has this history and lends what that state shows as out. Contracts see the kernel.
+/// What lies under the lock: the kernel, in the state to which its history leads; its desk, which has this history and
+/// lends what that state shows as out; and its spool, which has all that this history wrote to the console. Contracts
+/// see the kernel.
 pub struct Locked<M: Naming> {
     kernel: Kernel,
     desk: Desk,
+    spool: Spool,
     of: PhantomData<M>,
 }
 
@@ -28,6 +35,14 @@ pub struct HowFar {
     pub records: usize,
     /// Whether nothing is ready, nothing is out, and no slot that is down can be respawned.
     pub at_rest: bool,
+}
+
+/// What an outsider sees at a glance.
+#[derive(Clone, Copy)]
+pub struct Glance {
+    pub far: HowFar,
+    /// The driver of the keyboard, and the process that the last byte was raised for.
+    pub seen: Seen,
 }
 
 /// What a processor sees when it has given a process back.
@@ -60,19 +75,20 @@ impl<M: Naming> Model for Locked<M> {
 
     ghost view = { λ l. l.kernel };
 
-    ghost invariant = { λ l. IsLocked M.table M.boot l.kernel l.desk };
+    ghost invariant = { λ l. IsLocked M.table M.boot l.kernel l.desk l.spool };
 }
 
 #[tactic(auto, using(crate::proofs::WorldLemmas::event_outs))]
 impl<M: Naming> Locked<M> {
-    /// What the lock guards: a kernel, and the desk that agrees with it.
-    pub fn new(kernel: Kernel, desk: Desk) -> Locked<M>
-        requires { IsLocked M.table M.boot kernel desk }
+    /// What the lock guards: a kernel, and the desk and the spool that agree with it.
+    pub fn new(kernel: Kernel, desk: Desk, spool: Spool) -> Locked<M>
+        requires { IsLocked M.table M.boot kernel desk spool }
         ensures { result ≡ kernel }
     {
         Locked {
             kernel,
             desk,
+            spool,
             of: PhantomData,
         }
     }
@@ -85,6 +101,7 @@ impl<M: Naming> Locked<M> {
         let Locked {
             kernel,
             desk: _,
+            spool: _,
             of: _,
         } = self;
         kernel
@@ -126,6 +143,37 @@ impl<M: Naming> Locked<M> {
         (self.desk.note(seat), far)
     }
 
+    /// Shows the seat the history, and a machine in which a byte was raised for the process `flight`, if it was: how far
+    /// it is, what is seen of its keyboard, and the bytes of its console from one on, as many as there is room for. They
+    /// take the place of what the list had. Takes no memory.
+    pub fn glance(
+        &mut self,
+        seat: ActorSeat,
+        flight: Option<u32>,
+        from: usize,
+        bytes: &mut Vec<u8>,
+    ) -> (ActorSeat, Glance)
+        requires table { seat.table ≡ M.table }
+        ensures rest { IsRestCall M.boot seat result.0 result.1.far.at_rest }
+        ensures records { result.1.far.records ≡ length result.0.seen }
+        ensures keyboard { result.1.seen
+            ≡ seen_of (world_after M.boot result.0.seen).table flight }
+        ensures bytes { bytes.new.items ≡ take (vec_capacity bytes.old)
+            (drop from (console_of_history M.boot result.0.seen)) }
+        ensures room { vec_capacity bytes.old ≤ vec_capacity bytes.new }
+    {
+        self.spool.copy_from(from, bytes);
+        let seen = seen_in(self.kernel.table(), flight);
+        self.kernel.facts();
+        let history = self.kernel.history();
+        let at_rest = self.kernel.at_rest();
+        let far = HowFar {
+            records: history.len(),
+            at_rest,
+        };
+        (self.desk.note(seat), Glance { far, seen })
+    }
+
     /// A processor takes the process that is first to run.
     pub fn take(&mut self, seat: ActorSeat) -> (ActorSeat, Result<Loan, Refusal>)
         requires table { seat.table ≡ M.table }
@@ -160,6 +208,7 @@ impl<M: Naming> Locked<M> {
         let (seat, out) = self.desk.redeem(seat, loan);
         self.kernel.back(actor, out);
         self.kernel.facts();
+        self.spool.follow(&self.kernel);
         let records = self.kernel.history().len();
         let has_died = is_dead(&self.kernel, slot);
         (seat, Given { records, has_died })

@@ -1,12 +1,14 @@
 //! The machine that threads share, and its calls under the lock.
 
-ghost use Rattle.std.specs.Prelude.{◌≡◌, true, IfOk, IfErr, All, length};
+ghost use Rattle.std.specs.Prelude.{◌≡◌, ◌≤◌, true, IfOk, IfErr, All, drop, length, take, vec_capacity};
 ghost use Rattle.mx_machine.specs.declared.events.Event.TheVariants as events;
 ghost use Rattle.mx_machine.specs.KernelState.{is_for_all};
 ghost use Rattle.mx_cpus.specs.Calls.{EndsDead, IsAnsweredCall, IsGiveCall, IsLoanOf, IsRefusedCall};
-ghost use Rattle.mx_cpus.specs.Calls.{IsRestCall, IsTakeCall, IsAcceptedHistory, StandsIn};
+ghost use Rattle.mx_cpus.specs.Calls.{IsRestCall, IsTakeCall, IsAcceptedHistory, StandsIn, world_after};
+ghost use Rattle.mx_keyboard.specs.Keyboard.{seen_of};
+ghost use Rattle.mx_spool.specs.Written.{console_of_history};
 
-use crate::{ActorSeat, Given, HowFar, Kernel, Loan, Locked, Naming};
+use crate::{ActorSeat, Given, Glance, HowFar, Kernel, Loan, Locked, Naming};
 use mx_machine::{Answer, Event, Refusal};
 use std::sync::{Mutex, Wait};
 
@@ -183,5 +185,28 @@ impl<M: Naming> Shared<M> {
         ensures records { result.1.records ≡ length result.0.seen }
     {
         self.lock.lock(rt).how_far(seat)
+    }
+
+    /// Shows an outsider that types the machine, in which a byte was raised for the process `flight`, if it was: how
+    /// far it is, what is seen of its keyboard, and the bytes of its console from one on, as many as there is room for.
+    /// They take the place of what the list had. Takes no memory.
+    pub fn glance(
+        &self,
+        rt: &impl Wait,
+        seat: ActorSeat,
+        flight: Option<u32>,
+        from: usize,
+        bytes: &mut Vec<u8>,
+    ) -> (ActorSeat, Glance)
+        requires table { seat.table ≡ M.table }
+        ensures rest { IsRestCall M.boot seat result.0 result.1.far.at_rest }
+        ensures records { result.1.far.records ≡ length result.0.seen }
+        ensures keyboard { result.1.seen
+            ≡ seen_of (world_after M.boot result.0.seen).table flight }
+        ensures bytes { bytes.new.items ≡ take (vec_capacity bytes.old)
+            (drop from (console_of_history M.boot result.0.seen)) }
+        ensures room { vec_capacity bytes.old ≤ vec_capacity bytes.new }
+    {
+        self.lock.lock(rt).glance(seat, flight, from, bytes)
     }
 }

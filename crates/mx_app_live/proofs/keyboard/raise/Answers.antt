@@ -8,7 +8,7 @@ use Rattle.mx_turns.specs.Turns.{offered}
 use Rattle.mx_turns.proofs.MadeLemmas.{full_done, next_done, none_offered}
 use Rattle.mx_typist.specs.declared.typist.Raise.{Raise}
 use Rattle.mx_word.specs.Bits.{has_bit}
-use Rattle.mx_app_live.specs.Keyboard.{raise_events}
+use Rattle.mx_keyboard.specs.Keyboard.{raise_events}
 use Rattle.mx_app_live.proofs.KeyboardLemmas.{events_of, first_events, first_more, first_same, lines_of, raised, raised_part}
 use Rattle.mx_app_live.proofs.keyboard.raise.Goals as goal
 use Rattle.mx_app_live.proofs.keyboard.raise.Goals.{else-has_bit-via-then-has_bit+else-offer, else-has_bit-via-else-has_bit}

@@ -8,7 +8,7 @@ use Rattle.mx_machine.specs.Machine.{world_of}
 use Rattle.mx_proc.specs.Console.{ConsoleState}
 use Rattle.mx_proc.specs.declared.devices.Devices.{Devices}
 use Rattle.mx_proc.specs.TableState.{TableState}
-use Rattle.mx_app_live.specs.Screen.{grown}
+use Rattle.mx_spool.specs.Written.{grown}
 use Rattle.mx_app_live.proofs.ScreenLemmas.{console_now, text_is}
 use Rattle.mx_app_live.proofs.screen.show.Goals as goal
 

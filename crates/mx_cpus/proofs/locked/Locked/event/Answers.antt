@@ -3,8 +3,9 @@ use Rattle.mx_machine.specs.History.{replay}
 use Rattle.mx_machine.specs.World.{actors}
 use Rattle.mx_machine.specs.KernelState.{recorded_as}
 use Rattle.mx_loan.specs.Seats.{SeatView}
-use Rattle.mx_cpus.proofs.WorldLemmas.{actor_there, for_all_answer}
-use Rattle.mx_cpus.proofs.SeatLemmas.{accepted_by, known_by, refused_by, seat_of_event}
+use Rattle.mx_spool.proofs.SpoolLemmas.{spool_at_event}
+use Rattle.mx_cpus.proofs.WorldLemmas.{actor_there, event_outs, for_all_answer}
+use Rattle.mx_cpus.proofs.SeatLemmas.{accepted_by, desk_after_made, known_by, refused_by, seat_of_event}
 use Rattle.mx_cpus.proofs.locked.Locked.event.Goals as goal
 
 pub event-requires-clause-actor : goal.event-requires-clause-actor
@@ -15,6 +16,20 @@ event-requires-clause-actor g c =
     let below : a < g.M.Naming.table.words = subst (λ z. a < z.words) table c.facts.ensures.actor in
     subst (λ i. i < actors (replay k)) (sym c.actor.ensures)
     (actor_there k a g.M.Naming.table.words (c.self.invariant.1 ∙ ap actors (sym c.self.invariant.0)) below)
+
+pub invariant_of-self : goal.invariant_of-self
+invariant_of-self g c =
+    let k = c.self.inside.kernel in
+    let n = c.event.new.self in
+    let made = c.in-Ok.ensures.ok.1 in
+    let a = c.actor.result in
+    let outs = event_outs (replay k) (replay n) a c.args.event c.requires.event made.world in (
+      ap (λ m. m.boot) made.recorded ∙ c.self.invariant.0,
+      c.self.invariant.1,
+      desk_after_made g.M.Naming.table k n c.self.inside.desk c.note-seat.new.self c.record.new.self c.note-seat.result.actor a c.recorded_as.result (recorded_as c.args.event) c.self.invariant.2 c.note-seat.ensures.desk c.record.ensures.desk
+          c.actor.ensures c.recorded_as.ensures made.recorded outs,
+      spool_at_event k n c.self.inside.spool a c.args.event c.requires.event made.recorded c.self.invariant.3,
+    )
 
 pub returns-in-Ok-clause-ok : goal.returns-in-Ok-clause-ok
 returns-in-Ok-clause-ok g c =

@@ -7,6 +7,7 @@ use Rattle.mx_machine.specs.declared.holding.Out.{Out}
 use Rattle.mx_machine.specs.declared.history.Recorded.TheVariants as recorded
 use Rattle.mx_loan.specs.Rule.{lent_to}
 use Rattle.mx_loan.specs.Seats.{DeskView}
+use Rattle.mx_spool.proofs.SpoolLemmas.{behind_at_back}
 use Rattle.mx_cpus.specs.Calls.{is_dead, outs_of}
 use Rattle.mx_cpus.proofs.WorldLemmas.{back_answered, back_there, lent_there}
 use Rattle.mx_cpus.proofs.SeatLemmas.{accepted_by, dead_by, desk_after_give, known_by, seat_of_back}
@@ -20,6 +21,10 @@ back-requires g c =
     subst (λ i. (l : HeldProcess) × (held_by w i ≡ Some l) × IsBack l.out p) (sym c.actor-actor.ensures)
     (back_there w a c.args.loan.lent p (ap (λ (d : DeskView). lent_to d.lent a) (sym c.self.invariant.2) ∙ c.redeem-seat.ensures.start) c.redeem-seat.ensures.run)
 
+pub follow-requires : goal.follow-requires
+follow-requires g c =
+    behind_at_back c.self.inside.kernel c.back.new.self c.self.inside.spool c.actor-actor.result c.redeem-seat.result.1.count c.back.ensures.recorded c.self.invariant.3
+
 pub invariant_of-self : goal.invariant_of-self
 invariant_of-self g c =
     let k = c.self.inside.kernel in
@@ -31,6 +36,7 @@ invariant_of-self g c =
       c.self.invariant.1,
       desk_after_give g.M.Naming.table k c.back.new.self c.self.inside.desk c.redeem-seat.new.self a c.actor-actor.result c.args.loan.out.count h.0 c.redeem-seat.result.1 c.self.invariant.2 c.redeem-seat.ensures.desk
           who (ap (λ (o : Out). o.count) c.redeem-seat.ensures.out) c.back.ensures.recorded (ap (held_by w) who ∙ h.1) c.back.ensures.world,
+      c.follow.ensures,
     )
 
 pub returns-clause-given : goal.returns-clause-given

@@ -3,7 +3,9 @@ use Rattle.mx_machine.specs.declared.history.Recorded.TheVariants as recorded
 use Rattle.mx_machine.specs.declared.events.Event.TheVariants as events
 use Rattle.mx_loan.specs.Rule.{lent_to}
 use Rattle.mx_loan.specs.Seats.{DeskView, LoanView, SeatView, new_loan, take_record}
-use Rattle.mx_machine.specs.History.{replay}
+use Rattle.mx_machine.specs.History.{BootAndHistory, replay}
+use Rattle.mx_spool.specs.Spools.{IsSpoolOf}
+use Rattle.mx_spool.proofs.SpoolLemmas.{spool_at_take}
 use Rattle.mx_cpus.specs.Calls.{IsAcceptedCall, desk_beside, outs_of}
 use Rattle.mx_cpus.proofs.WorldLemmas.{take_below, take_empty, take_fresh, take_outs}
 use Rattle.mx_cpus.proofs.SeatLemmas.{accepted_by, desk_after_lend, known_by, lent_by, refused_by, seat_of_take}
@@ -44,6 +46,7 @@ invariant_of-self g c =
       c.self.invariant.1,
       desk_after_lend g.M.Naming.table k n c.self.inside.desk c.note-seat.new.self c.lend-seat.new.self c.note-seat.result.actor a c.in-Ok.out c.self.invariant.2 c.note-seat.ensures.desk c.lend-seat.ensures.desk
           c.actor.ensures ok.recorded outs,
+      spool_at_take k n c.self.inside.spool a ok.recorded c.self.invariant.3,
     )
 
 pub invariant_of-self-in-Err : goal.invariant_of-self-in-Err
@@ -52,6 +55,7 @@ invariant_of-self-in-Err g c =
       ap (λ m. m.boot) same ∙ c.self.invariant.0,
       c.self.invariant.1,
       c.note-seat.ensures.desk ∙ c.self.invariant.2 ∙ ap (λ k. desk_beside g.M.Naming.table k) (sym same),
+      subst (λ (k : BootAndHistory). IsSpoolOf k c.self.inside.spool) (sym same) c.self.invariant.3,
     )
 
 pub returns-in-Ok-clause-ok : goal.returns-in-Ok-clause-ok

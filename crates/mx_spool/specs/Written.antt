@@ -1,6 +1,8 @@
 -- What is written to a console, and what it has more than is shown (our own).
 use Rattle.std.specs.Prelude.{◌-◌, ◌++◌, ◌∷◌, [], ℕ, List, drop, length}
 use Rattle.mx_machine.specs.declared.events.Event.{Event}
+use Rattle.mx_machine.specs.declared.history.Record.{Record}
+use Rattle.mx_machine.specs.History.{events_of_history}
 use Rattle.mx_machine.specs.Move.{world_after_event}
 use Rattle.mx_machine.specs.World.{World}
 use Rattle.mx_proc.specs.Console.{ConsoleState}
@@ -16,3 +18,7 @@ console_of w [] = []
 console_of w (x ∷ xs) =
     let after = world_after_event w x.0 x.1 in
     grown w.table.devices.console.count after.table.devices.console ++ console_of after xs
+
+-- WHAT A HISTORY WRITES to the console, from this boot on
+abbrev pub console_of_history : World → List Record → List ℕ
+console_of_history boot history = console_of boot (events_of_history history)

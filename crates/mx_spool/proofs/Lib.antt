@@ -1,0 +1,3 @@
+pub mod ConsoleLemmas
+pub mod SpoolLemmas
+pub mod WrittenLemmas

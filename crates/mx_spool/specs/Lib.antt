@@ -1,0 +1,2 @@
+pub mod Spools
+pub mod Written
