@@ -48,7 +48,8 @@ def lines_taken(draw):
 
 def sensor(draw):
     for count in (1, draw.randint(3, 6), draw.randint(25, 35)):
-        yield button_case(f"the sensor {count} times" if count > 1 else "the sensor once", " ".join([str(draw.randint(8, 11))] + ["s 8"] * count))
+        times = f"{count} times" if count > 1 else "once"
+        yield button_case(f"the sensor {times}", " ".join([str(draw.randint(8, 11))] + ["s 8"] * count))
 
 
 def ways(draw, many, least=0):
@@ -137,8 +138,8 @@ def busy(draw):
             yield button_case("a press and its bounces", f"{before} {bounces_of_it} {'t 9 ' * draw.randint(2, 3)}")
     for distance in range(5):
         before = f"{until_due(old.pop(), HOGGED)} t {distance or ''} b 24 {after(draw.randint(1, 2), HOGGED, HOGGED)}"
-        yield button_case("a press and its bounce while another process runs", f"13 {before} b 24 {'t 22 ' * draw.randint(1, 3)}",
-                          True)
+        rest = f"b 24 {'t 22 ' * draw.randint(1, 3)}"
+        yield button_case("a press and its bounce while another process runs", f"13 {before} {rest}", True)
 
 
 def until_due(way, pause):
