@@ -21,8 +21,9 @@ BOUNCES = [it for count in (1, 2) for it in itertools.product(range(3), repeat=c
 
 def lines_of(made):
     """The facts that a driver has both lines when their interrupts come."""
-    return [(f"{made.count(f'line {it}')} line {it} driver", f"the driver has taken line {it} before its first interrupt")
-            for it in (3, 5)]
+    counts = {it: made.count(f"line {it}") for it in (3, 5)}
+    return [(f"{count} line {it} driver", f"the driver has line {it} each time that it comes: {count}")
+            for it, count in counts.items()]
 
 
 def soon(made, enough):
