@@ -7,9 +7,12 @@ import itertools
 from .machines import machine, service
 
 EVENTS = {"b": "line 3", "s": "line 5", "t": "tick"}
+NOTHING = "line 16"  # there is no such line, so nobody can take it
 DRIVER = service("driver", "driver.out", send="0", calls="1c", level=4, traps="c")
 HOG = service("hog", "hog.out", send="0", calls="6", level=1, traps="c")
 
+
+OF_LINES = "8|32|40"  # the bits of one line, of the other, and of both
 
 # So many turns are enough for a driver to take an interrupt and write its letters; another process may come before it.
 ENOUGH, ENOUGH_WITH_HOG = 8, 20
@@ -30,13 +33,14 @@ def soon(made, enough):
     """The fact that a driver takes an interrupt soon: at least one notification for those that come without a pause."""
     at = [i for i, it in enumerate(made) if it in ("line 3", "line 5")]
     least = 1 + sum(later - earlier > enough for earlier, later in zip(at, at[1:]))
-    return f"{least}+ notify HARDWARE to driver ..", f"the driver receives soon: {least} notifications of HARDWARE at least"
+    return (f"{least}+ notify HARDWARE to driver type 4096 words * {OF_LINES} ..",
+            f"the driver receives soon: at least {least} notifications of its lines")
 
 
 def button_case(name, events, with_hog=False):
     words, made = events.split(), []
     for it in words:
-        made += ["line 9"] * int(it) if it.isdigit() else [EVENTS[it]]
+        made += [NOTHING] * int(it) if it.isdigit() else [EVENTS[it]]
     return {"name": f"{name}: {' '.join(words)}", "config": machine(1, DRIVER, *([HOG] if with_hog else [])), "events": made,
             "models": [("button", "driver")], "want": {"states": {"driver": "receiving any"}},
             "first": lines_of(made), "facts": [soon(made, ENOUGH_WITH_HOG if with_hog else ENOUGH)]}

@@ -119,7 +119,7 @@ def thieves(draw):
     for every in (3, 4):
         for first in range(every):
             data = letters(draw, BYTES)
-            events = ["line 9"] * first + (["line 5"] + ["line 9"] * (every - 1)) * (120 // every)
+            events = ["line 16"] * first + (["line 5"] + ["line 16"] * (every - 1)) * (120 // every)
             yield saving(f"a thief in slot 0, which looks again every {every} turns, from turn {first} on", 1, THIEF,
                          {"store": {"given": dwords(data)}}, events=events, want={"console": ends(data)})
     yield ended_once(draw, 1)
