@@ -53,7 +53,8 @@ def many(draw):
 def swept_squares(draw, name, noise, before=()):
     """A driver that ends by itself too, once: so the successor of a kill has one endpoint or another. And one that ends
     again and again: who gives up there loses nothing here, but nobody asks whom WHOIS didn't tell."""
-    yield squares(draw, name, noise, [draw.randint(1, 4)], **killed(draw, before))
+    once = f"{name}, of a driver that also ends once by itself"
+    yield squares(draw, once, noise, [draw.randint(1, 4)], **killed(draw, before))
     lives = many(draw)
     case = squares(draw, f"{name}: a driver that ends {len(lives)} times at a request", noise, lives,
                    **killed(draw, looks=8))

@@ -7,9 +7,12 @@ import itertools
 from .machines import machine, service
 
 EVENTS = {"b": "line 3", "s": "line 5", "t": "tick"}
+NOTHING = "line 16"  # there is no such line, so nobody can take it
 DRIVER = service("driver", "driver.out", send="0", calls="1c", level=4, traps="c")
 HOG = service("hog", "hog.out", send="0", calls="6", level=1, traps="c")
 
+
+OF_LINES = "8|32|40"  # the bits of one line, of the other, and of both
 
 # So many turns are enough for a driver to take an interrupt and write its letters; another process may come before it.
 ENOUGH, ENOUGH_WITH_HOG = 8, 20
@@ -21,21 +24,23 @@ BOUNCES = [it for count in (1, 2) for it in itertools.product(range(3), repeat=c
 
 def lines_of(made):
     """The facts that a driver has both lines when their interrupts come."""
-    return [(f"{made.count(f'line {it}')} line {it} driver", f"the driver has taken line {it} before its first interrupt")
-            for it in (3, 5)]
+    counts = {it: made.count(f"line {it}") for it in (3, 5)}
+    return [(f"{count} line {it} driver", f"the driver has line {it} each time that it comes: {count}")
+            for it, count in counts.items()]
 
 
 def soon(made, enough):
     """The fact that a driver takes an interrupt soon: at least one notification for those that come without a pause."""
     at = [i for i, it in enumerate(made) if it in ("line 3", "line 5")]
     least = 1 + sum(later - earlier > enough for earlier, later in zip(at, at[1:]))
-    return f"{least}+ notify HARDWARE to driver ..", f"the driver receives soon: {least} notifications of HARDWARE at least"
+    return (f"{least}+ notify HARDWARE to driver type 4096 words * {OF_LINES} ..",
+            f"the driver receives soon: at least {least} notifications of its lines")
 
 
 def button_case(name, events, with_hog=False):
     words, made = events.split(), []
     for it in words:
-        made += ["line 9"] * int(it) if it.isdigit() else [EVENTS[it]]
+        made += [NOTHING] * int(it) if it.isdigit() else [EVENTS[it]]
     return {"name": f"{name}: {' '.join(words)}", "config": machine(1, DRIVER, *([HOG] if with_hog else [])), "events": made,
             "models": [("button", "driver")], "want": {"states": {"driver": "receiving any"}},
             "first": lines_of(made), "facts": [soon(made, ENOUGH_WITH_HOG if with_hog else ENOUGH)]}
@@ -48,7 +53,8 @@ def lines_taken(draw):
 
 def sensor(draw):
     for count in (1, draw.randint(3, 6), draw.randint(25, 35)):
-        yield button_case(f"the sensor {count} times" if count > 1 else "the sensor once", " ".join([str(draw.randint(8, 11))] + ["s 8"] * count))
+        times = f"{count} times" if count > 1 else "once"
+        yield button_case(f"the sensor {times}", " ".join([str(draw.randint(8, 11))] + ["s 8"] * count))
 
 
 def ways(draw, many, least=0):
@@ -137,8 +143,8 @@ def busy(draw):
             yield button_case("a press and its bounces", f"{before} {bounces_of_it} {'t 9 ' * draw.randint(2, 3)}")
     for distance in range(5):
         before = f"{until_due(old.pop(), HOGGED)} t {distance or ''} b 24 {after(draw.randint(1, 2), HOGGED, HOGGED)}"
-        yield button_case("a press and its bounce while another process runs", f"13 {before} b 24 {'t 22 ' * draw.randint(1, 3)}",
-                          True)
+        rest = f"b 24 {'t 22 ' * draw.randint(1, 3)}"
+        yield button_case("a press and its bounce while another process runs", f"13 {before} {rest}", True)
 
 
 def until_due(way, pause):

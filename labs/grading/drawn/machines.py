@@ -70,6 +70,7 @@ def killed(draw, before=(), looks=4, down=(6, 12)):
     generation later; and then slot 0 is down for so many traps of others, so that who asks for its process is told several
     times that there is none. The histories of some positions are looked at."""
     more, count = draw.randint(1, 2), draw.randint(*down)
-    told = f"kill slot 0, and {more} successors, and it is down for {count} traps" + (", after another kill" if before else "")
+    successors = "its successor" if more == 1 else f"{more} successors"
+    told = f"kill slot 0, and {successors}, and it is down for {count} traps" + (", after another kill" if before else "")
     return {"fault": [*before, *["kill slot 0", "respawn 0"] * more, "kill slot 0", *rounds(count)], "told": told,
             "looks": [draw.random() for _ in range(looks)]}

@@ -13,6 +13,7 @@ SOON, LATE = 5, 11  # levels of a judge that is there before it is looked up, an
 LARGEST = 10_000_000  # of an item, so that no sum of a machine is below 0
 MUCH = 40_000  # records of a history
 CROWD = 27  # clients: with the others of their machine nearly as many as there are slots
+LIVES = "receiving any"  # what a server does that has answered all
 
 
 def called(name, program, level, calls="1", send="3"):
@@ -53,7 +54,7 @@ def looked_up(draw):
               ("heir", [(ASK, 0, REGISTER, name), (ASK, 0, LOOKUP, name), (ASK, 0, LOOKUP, other)], 9, draw.randint(1, 2))]
     actors = in_awkward_slots(draw, actors, ("first", "second", "third"), (4, 7))
     yield served(draw, "names that are looked up before anybody has them, or never has", actors, "names",
-                 server=service("names", "names.out", "fffe", "1", 3))
+                 server=service("names", "names.out", "fffe", "1", 3), want={"states": {"names": LIVES}})
 
 
 def crowd_looked_up(draw):
@@ -63,7 +64,7 @@ def crowd_looked_up(draw):
     crowd = [(f"client{i}", [(ASK, 0, LOOKUP, 0, draw.randint(1, 99))], draw.randint(5, 8), 0) for i in range(CROWD)]
     crowd.insert(draw.randint(0, CROWD), ("owner", [(WORK, 2), (ASK, 0, REGISTER, 0)], 9, 0))
     yield served(draw, f"a name that {CROWD} clients wait for", crowd, "names",
-                 server=service("names", "names.out", "fffffffe", "1", 3))
+                 server=service("names", "names.out", "fffffffe", "1", 3), want={"states": {"names": LIVES}})
 
 
 def queue_case(draw, name, *actors, restarts=0):
@@ -75,6 +76,7 @@ def queue_case(draw, name, *actors, restarts=0):
     lines = [*others, *[service(it, "actor.out", "3", "1", level, restarts) for it, _, level in actors]]
     draw.shuffle(lines)
     return {"name": name, "config": machine(1, names, queue, *lines), "models": [("queue", "queue")],
+            "want": {"states": {"queue": LIVES}},
             "facts": [requests(it, "queue", steps, 1 + restarts) for it, steps, _ in actors],
             "set": plans | {it: plan((WORK, 4), *steps) for it, steps, _ in actors}}
 
@@ -209,7 +211,8 @@ def six(draw, cpus, levels=(7, 7), given=(), takers=("waits", "polls"), **want):
             "facts": [f"1+ message {name} to queue type {ASKS[program]} .." for name, program in consumers.items()]
                      + [fact for it in consumers for fact in reports(it)],
             "want": {"taken": ["queue", "judge"],
-                     "states": {it: "down exit" for it in ("judge", "ann", "ben", *consumers, *visitors)}, **want}}
+                     "states": {it: LIVES for it in ("names", "queue")}
+                               | {it: "down exit" for it in ("judge", "ann", "ben", *consumers, *visitors)}, **want}}
 
 
 def by_turns(draw):

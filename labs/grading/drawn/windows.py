@@ -119,7 +119,7 @@ def thieves(draw):
     for every in (3, 4):
         for first in range(every):
             data = letters(draw, BYTES)
-            events = ["line 9"] * first + (["line 5"] + ["line 9"] * (every - 1)) * (120 // every)
+            events = ["line 16"] * first + (["line 5"] + ["line 16"] * (every - 1)) * (120 // every)
             yield saving(f"a thief in slot 0, which looks again every {every} turns, from turn {first} on", 1, THIEF,
                          {"store": {"given": dwords(data)}}, events=events, want={"console": ends(data)})
     yield ended_once(draw, 1)
@@ -129,7 +129,8 @@ def killed_store(draw):
     """A store of the grader's, which ends by itself too; a student's store; a store that ends again and again."""
     data = letters(draw, BYTES)
     _, plans = bystanders(draw, 1)
-    for name, lives in (("a kill at every position", 1), ("a store that ends {} times at a request", draw.randint(5, 9))):
+    for name, lives in (("a kill at every position, of a store that also ends once by itself", 1),
+                        ("a store that ends {} times at a request", draw.randint(5, 9))):
         ends_at = [draw.randint(0, 1) for _ in range(lives)]
         case = saving(name.format(lives), 1, KEEPER, {**plans, "store": kept(data, ends_at)}, ends(data))
         yield case | {"facts": [*SAVED, looked("saver", ends_at)]} | (killed(draw) if lives == 1 else {})

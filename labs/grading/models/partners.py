@@ -83,8 +83,11 @@ class Named:
                 self.compare(it)
 
     def compare(self, event):
-        whom = event.who[1] or event.words[3]
+        whom, what = event.who[1] or event.words[3], event.words[2]
         if whom not in self.known:
-            told = " or ".join(["0, which is names,", *sorted(self.known - {"0"}, key=int)])
-            raise wrong(self.name, event, f"{event.words[2]} of {self.who} with {told} as a LOOKUP told it",
-                        f"{event.words[2]} with {whom}")
+            raise wrong(self.name, event, f"{what} of {self.who} with {self.allowed()}", f"{what} with {whom}")
+
+    def allowed(self):
+        """The endpoints that may be used, in words."""
+        told = " or ".join(sorted(self.known - {"0"}, key=int))
+        return f"0, which is names, or {told}, by LOOKUP" if told else "0, which is names; no LOOKUP told another"

@@ -168,7 +168,14 @@ class Queue(Served):
     def why_it_waits(self, request):
         if int(request.words[5]) == self.PUT:
             return f"since the queue has {self.ROOM} items and no room"
+        longer = next((it for it, answer in self.due.values() if self.is_given(it, answer) and it.record < request.record), None)
+        if longer:
+            return f"since the item is for {longer.words[1]}, who waits longer (record {longer.record})"
         return f"since the queue has no item, and {self.ended} of {self.PRODUCERS} ENDs have come"
+
+    def is_given(self, request, answer):
+        """Whether an answer that is due gives an item."""
+        return int(request.words[5]) in (self.GET, self.TRY) and answer[0] == 0
 
     def serve_waiting(self):
         """Who waits for an item and died is forgotten, and no item is lost by that."""
