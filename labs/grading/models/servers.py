@@ -24,6 +24,8 @@ class Served:
 
     def follow(self, found):
         for it in found:
+            if it.words[:2] == ["down", self.server]:
+                raise wrong(self.name, it, f"{self.server} never ends", said(it))
             if it.words[0] == "down":
                 self.dead.add(it.who[0])
             elif it.words[0] == "notify" and it.words[3] == self.server:
