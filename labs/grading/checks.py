@@ -306,8 +306,9 @@ class Check:
             it.came = f"{it.came}; {ending}"
             raise
         for name, state in case.get("want", {}).get("states", {}).items():
-            if states.get(name) != state:
-                raise Lost(told(case), f"{name} {in_names(state, named)}", ending)
+            if states.get(name) not in state.split("|"):
+                wanted = " or ".join(in_names(it, named) for it in state.split("|"))
+                raise Lost(told(case), f"{name} {wanted}", ending)
 
     def compare_console(self, case, text, trace):
         """The console's bytes. The place is the record that wrote the first one that is another than is wanted."""

@@ -42,7 +42,7 @@ def button_case(name, events, with_hog=False):
     for it in words:
         made += [NOTHING] * int(it) if it.isdigit() else [EVENTS[it]]
     return {"name": f"{name}: {' '.join(words)}", "config": machine(1, DRIVER, *([HOG] if with_hog else [])), "events": made,
-            "models": [("button", "driver")], "want": {"states": {"driver": "receiving any"}},
+            "models": [("button", "driver")], "want": {"states": {"driver": "receiving any|receiving -1"}},
             "first": lines_of(made), "facts": [soon(made, ENOUGH_WITH_HOG if with_hog else ENOUGH)]}
 
 
@@ -75,7 +75,7 @@ def press(draw, bounces, distance):
     near = draw.randrange(len(bounces))
     made = [draw.choice(["s 8", ""]), f"b {distance or ''}"]
     for i, ticks in enumerate(bounces):
-        made += [draw.choice(["s 8", "", ""]), after(ticks, 8, distance if i == near else 8), "b 8"]
+        made += [draw.choice(["s 8", "", ""]), after(ticks, 8, distance if i == near else 8), draw.choice(["s 8", "", ""]), "b 8"]
     quiet = ["t 8"] * 3
     quiet.insert(draw.randint(0, 2), draw.choice(["s 8", "s 8", ""]))
     return " ".join([*made, *quiet])
@@ -141,6 +141,9 @@ def busy(draw):
             yield button_case("a press while the driver is busy", f"{before} {'t 9 ' * draw.randint(2, 3)}")
             bounces_of_it = " ".join(f"{after(it, 9, 9)} b 9" for it in (draw.randint(1, 2), *new.pop()[1:]))
             yield button_case("a press and its bounces", f"{before} {bounces_of_it} {'t 9 ' * draw.randint(2, 3)}")
+    for distance in draw.sample(range(2, 9), 3):
+        before = f"{draw.randint(8, 10)} {until_due(draw.choice(BOUNCES), 8)}"
+        yield button_case("the sensor, and a bounce before the third tick", f"{before} s {distance} b 9 t 9 t 9 {'t 9' * (distance % 2)}")
     for distance in range(5):
         before = f"{until_due(old.pop(), HOGGED)} t {distance or ''} b 24 {after(draw.randint(1, 2), HOGGED, HOGGED)}"
         rest = f"b 24 {'t 22 ' * draw.randint(1, 3)}"

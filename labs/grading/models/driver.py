@@ -8,14 +8,15 @@ class Button:
     BUTTON, SENSOR, QUIET = 1 << 3, 1 << 5, 3
     LATE = 2  # ticks after an `r` is due in which a driver that has an alarm has written it
     LINES = ("3", "5")
-    WAITS = 60  # records that an interrupt waits at most: while a driver writes all letters, and another process runs
+    CALLS = 12  # kernel calls that an interrupt waits for at most: while a driver sets its alarm and writes all letters
 
     def __init__(self, name, driver):
         self.name, self.driver = name, driver
         self.due, self.uptime = None, 0  # when the button counts as released; None: it does
         self.over = None  # the tick at which it was due
         self.letters = []  # each with the event that asked for it, and the uptime at which an `r` is due
-        self.waiting = {}  # of each line whose interrupt waits: its event, and the ticks since then
+        self.waiting = {}  # of each line whose interrupt waits: its event, and the ticks and kernel calls since then
+        self.only = None  # of whom the driver receives, if of one other than HARDWARE
 
     def follow(self, found):
         written, uptimes = [], []
@@ -30,34 +31,44 @@ class Button:
             elif it.words[:2] == ["notify", "HARDWARE"] and it.words[3] == self.driver:
                 self.take(it, *numbers(it)[:2])
         for line in self.waiting:
-            self.refuse_wait(line, "it isn't taken")
+            self.refuse_wait(line, "it is never taken")
         self.release(found[-1] if found else None, self.uptime)
         self.compare(written)
         self.compare_times(written, uptimes)
 
     def look(self, event):
-        """The driver takes its lines alone, and receives soon: so nothing but interrupts and alarms tells it the time, and it
-        doesn't stay away until the bounces of a press are over."""
+        """The driver takes its lines alone, never ends, and receives soon: so nothing but interrupts and alarms tells it the
+        time, and it doesn't stay away until the bounces of a press are over."""
         words = event.words
         if words[:4] == ["call", self.driver, "IRQCTL", "1"] and words[4] not in self.LINES:
             raise wrong(self.name, event, "the driver takes the lines 3 and 5, and no other", said(event))
-        if words[0] == "line" and words[2] == self.driver:
-            self.waiting.setdefault(words[1], [event, 0])
-        elif words[0] == "tick":
-            for line, one in self.waiting.items():
-                one[1] += 1
-                if one[1] == self.LATE:
-                    self.refuse_wait(line, f"record {event.record}, the second tick after it")
-        elif words[:2] == ["notify", "HARDWARE"] and words[3] == self.driver:
-            for line in [it for it in self.waiting if numbers(event)[1] >> int(it) & 1]:
-                if event.record - self.waiting[line][0].record > self.WAITS:
-                    self.refuse_wait(line, f"record {event.record}")
-                del self.waiting[line]
+        if words[:2] == ["down", self.driver]:
+            raise wrong(self.name, event, "the driver never ends", said(event))
+        if words[:3] == ["try", self.driver, "RECEIVE"]:
+            self.only = None if words[3] in ("any", "HARDWARE") else words[3]
+        elif words[0] == "line" and words[2] == self.driver:
+            self.waiting.setdefault(words[1], [event, 0, 0])
+        elif words[0] in ("notify", "message") and words[3] == self.driver:
+            self.only = None
+            lines = numbers(event)[1] if words[1] == "HARDWARE" else 0
+            self.waiting = {line: it for line, it in self.waiting.items() if not lines >> int(line) & 1}
+        self.count(event)
+
+    def count(self, event):
+        """How long the interrupts wait that do, and for what."""
+        for line, it in self.waiting.items():
+            it[1] += event.words[0] == "tick"
+            it[2] += event.words[:2] == ["call", self.driver]
+            if self.only and event.words[0] in ("line", "tick"):
+                self.refuse_wait(line, f"record {event.record}: the driver receives from {self.only} alone")
+            if it[1] == self.LATE:
+                self.refuse_wait(line, f"record {event.record}, the second tick after it")
+            if it[2] > self.CALLS:
+                self.refuse_wait(line, f"record {event.record}: {it[2]} kernel calls since then")
 
     def refuse_wait(self, line, came):
         event = self.waiting[line][0]
-        raise wrong(self.name, event, f"the driver receives soon, so that the interrupt of line {line} (record {event.record}) "
-                    "doesn't wait", came)
+        raise wrong(self.name, event, f"the driver receives soon after the interrupt of line {line}, record {event.record}", came)
 
     def compare(self, written):
         wanted = "".join(it[0] for it in self.letters)

@@ -24,12 +24,16 @@ class Served:
 
     def follow(self, found):
         for it in found:
+            if it.words[:2] == ["down", self.server]:
+                raise wrong(self.name, it, f"{self.server} never ends", said(it))
             if it.words[0] == "down":
                 self.dead.add(it.who[0])
             elif it.words[0] == "notify" and it.words[3] == self.server:
                 self.notified.add(it.who[0])
             elif it.words[:3] == ["try", self.server, "SEND"] and it.who[1] in self.notified:
                 raise wrong(self.name, it, f"no answer to the notification of {it.words[3]}", said(it))
+            elif it.words[:3] == ["try", self.server, "SENDREC"] and it.words[3] != "names":
+                raise wrong(self.name, it, f"{self.server} answers by SEND, and waits for no client", said(it))
             elif it.words[:3] == ["try", self.server, "NOTIFY"]:
                 raise wrong(self.name, it, f"{self.server} answers, and sends nothing else", said(it))
             elif it.words[:3] == ["try", self.server, "RECEIVE"] and it.words[3] not in ("any", "names"):

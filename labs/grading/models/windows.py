@@ -74,6 +74,8 @@ class Stored:
             words = it.words
             if words[0] == "down":
                 self.end(words[1], it.who[0])
+            elif words[:2] == ["try", self.store] and self.is_for_one(words[2], words[3]):
+                raise wrong(self.name, it, f"{self.store} receives from any, answers by SEND, and waits for no client", said(it))
             elif words[0] == "message" and words[3] == self.store and words[5] != str(NOTIFICATION):
                 self.asked[it.who[0]] = it, self.refusal(it)
             elif words[:3] == ["call", self.store, "VIRCOPY"]:
@@ -82,6 +84,10 @@ class Stored:
                 self.answer(it)
         for request, _ in self.asked.values():
             raise wrong(self.name, request, f"an answer to {said(request)}", "no answer")
+
+    def is_for_one(self, trap, whom):
+        """Whether a trap waits for one client, while others wait too."""
+        return trap == "SENDREC" or (trap == "RECEIVE" and whom != "any")
 
     def end(self, name, endpoint):
         self.asked.pop(endpoint, None)
