@@ -1,0 +1,5 @@
+pub mod Rows
+pub mod Lasts
+pub mod Chains
+pub mod PlaceLemmas
+pub mod NoteLemmas
