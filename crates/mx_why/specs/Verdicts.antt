@@ -1,5 +1,5 @@
--- WHAT IS SAID OF A SLOT whose process waits: whether it can ever go on (our own). It never does, whatever comes but
--- kills of those that it waits for.
+-- WHAT IS SAID OF A SLOT whose process waits: whether it can ever go on (our own). One that never does goes on by no
+-- events, unless a process is killed, from outside or by a kernel call.
 use Rattle.std.specs.Prelude.{ℕ, ◌-◌, ◌==◌, ◌&&◌, not, nat_le, nat_lt, if◌then◌else◌, Bool, true, false, List, [], ◌∷◌, length, map, Option, Some, None, is_none, slice_get, slice_index_or}
 use Rattle.std.specs.List.{range_with_len, list_any, list_all}
 use Rattle.mx_print_report.specs.declared.doing.Awaited.{Awaited}
