@@ -32,7 +32,8 @@ ring_text e s = codes ": they wait for each other: " ++ waiting_text e s ++ ring
 
 unfoldable pub which_ring_text : End → ℕ → ℕ → List ℕ
 which_ring_text e q first =
-    if is_slot q (waits_for e q) then codes " waits for itself" else codes " waits too, in the ring of " ++ slot_text e first
+    if is_slot q (waits_for e q) then codes " waits for itself"
+    else codes " waits too, in the ring of " ++ slot_text e first
 
 -- it waits for a ring
 unfoldable pub for_ring_text : End → ℕ → ℕ → List ℕ

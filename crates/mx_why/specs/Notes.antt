@@ -37,7 +37,7 @@ last_from k (n ∷ ns) = last_from n.number ns
 abbrev pub last_number : List Note → ℕ
 last_number ns = last_from 0 ns
 
--- SINCE WHICH RECORD the process of a slot does what it does: that of its last change, or 0 if it has done so since boot
+-- SINCE WHICH RECORD the process of a slot does what it does: that of its last change; 0, if there is none
 unfoldable pub since : List Note → ℕ → ℕ
 since ns s = last_number (filter (is_change_of s) ns)
 

@@ -1,6 +1,6 @@
 -- WHAT IS SAID OF A SLOT whose process waits: whether it can ever go on (our own). One that never does goes on by no
 -- events, unless a process is killed, from outside or by a kernel call.
-use Rattle.std.specs.Prelude.{ℕ, ◌-◌, ◌==◌, ◌&&◌, not, nat_le, nat_lt, if◌then◌else◌, Bool, true, false, List, [], ◌∷◌, length, map, Option, Some, None, is_none, slice_get, slice_index_or}
+use Rattle.std.specs.Prelude.{ℕ, ◌-◌, ◌==◌, ◌&&◌, not, nat_le, if◌then◌else◌, Bool, true, false, List, [], ◌∷◌, length, map, Option, Some, None, is_none, slice_get}
 use Rattle.std.specs.List.{range_with_len, list_any, list_all}
 use Rattle.mx_print_report.specs.declared.doing.Awaited.{Awaited}
 use Rattle.mx_print_report.specs.declared.doing.Awaited.TheVariants as awaited
@@ -10,7 +10,7 @@ use Rattle.mx_why.specs.declared.seats.End.{End}
 use Rattle.mx_why.specs.declared.verdicts.Verdict.{Verdict}
 use Rattle.mx_why.specs.declared.verdicts.Verdict.TheVariants.{Itself, Ring, ForRing, NoLine, NoAlarm, FromSystem, NoSender, NothingComes, AwaitsLine, AwaitsAlarm, MayComeBy}
 use Rattle.mx_why.specs.Seats.{doing_in, is_slot}
-use Rattle.mx_why.specs.Waiting.{chain, may_send, partner_of, reached, waking_alarm, waking_line}
+use Rattle.mx_why.specs.Waiting.{chain, is_among, may_send, partner_of, reached, waking_alarm, waking_line}
 
 abbrev pub is_never : Verdict → Bool
 is_never AwaitsLine = false
@@ -87,7 +87,7 @@ alone e s _ = None
 unfoldable pub behind : End → ℕ → Option Verdict
 behind e last =
     if e.at_rest then
-    Some (if nat_lt last 32 && slice_index_or (reached e) last false then MayComeBy last else NothingComes last)
+    Some (if is_among (reached e) last then MayComeBy last else NothingComes last)
     else None
 
 abbrev pub behind_if : End → Option ℕ → Option Verdict

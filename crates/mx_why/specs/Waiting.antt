@@ -108,15 +108,19 @@ may_send e from to = may_send_by (seat_in e from) to
 abbrev pub may_wake : End → ℕ → ℕ → Bool
 may_wake e from to = may_send e from to || is_slot from (waits_for e to)
 
+-- a slot is one of those
+abbrev pub is_among : List Bool → ℕ → Bool
+is_among reached s = slice_index_or reached s false
+
 -- of those that may go on, one may make this one go on
 abbrev pub is_next : End → List Bool → ℕ → Bool
-is_next e reached s = list_any (λ from. slice_index_or reached from false && may_wake e from s) (range_with_len 0 32)
+is_next e reached s = list_any (λ from. is_among reached from && may_wake e from s) (range_with_len 0 32)
 
 unfoldable pub first_reached : End → List Bool
 first_reached e = map (wakes_from_outside e) (range_with_len 0 32)
 
 abbrev pub is_reached : End → List Bool → ℕ → Bool
-is_reached e reached s = slice_index_or reached s false || is_next e reached s
+is_reached e reached s = is_among reached s || is_next e reached s
 
 unfoldable pub next_reached : End → List Bool → List Bool
 next_reached e reached = map (is_reached e reached) (range_with_len 0 32)

@@ -98,7 +98,8 @@ fn push_if_first(
     note: &Note,
 ) -> Result<(), AllocError>
     requires { index < length notes.now }
-    ensures { OnOk result (deaths.new.items ≡ deaths.old.items ++ death_if_first notes.now index note.now) }
+    ensures { OnOk result (deaths.new.items ≡ deaths.old.items
+        ++ death_if_first notes.now index note.now) }
 {
     if is_first(notes, index, note) {
         deaths.push(death_of(notes, index, note))?;

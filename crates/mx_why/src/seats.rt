@@ -1,4 +1,5 @@
-//! What is known of a world at the end of a history: its slots, who owns which line, and whether it is at rest.
+//! What is known of a world at the end of a history: its slots, who owns which line, whether it is at
+//! rest.
 
 ghost use Rattle.std.specs.Prelude.{◌≡◌, None, Some, MatchOption};
 ghost use Rattle.mx_why.specs.Seats.{doing_in, first_line, owns, seat_in};

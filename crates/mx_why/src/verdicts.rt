@@ -6,7 +6,7 @@ ghost use Rattle.mx_why.specs.Verdicts.{alone, behind, closed, from_any, from_no
 
 use crate::seats::End;
 use crate::waiting::{
-    chain_from, closes, is_in, may_send, partner_of, reached, waking_alarm, waking_line,
+    chain_from, closes, is_among, is_in, may_send, partner_of, reached, waking_alarm, waking_line,
 };
 use mx_print_report::{Awaited, Doing};
 use std::alloc::{AllocError, Global};
@@ -162,7 +162,7 @@ fn behind(end: &End, last: u32) -> Option<Verdict>
     if !end.at_rest {
         return None;
     }
-    if last < 32 && reached(end)[last as usize] {
+    if is_among(&reached(end), last) {
         Some(Verdict::MayComeBy(last))
     } else {
         Some(Verdict::NothingComes(last))

@@ -1,7 +1,7 @@
 //! Who waits for whom, and who may go on if a line is raised or the clock ticks.
 
 ghost use Rattle.std.specs.Prelude.{◌≡◌, ◌++◌, ◌<◌, length, nat_le, IfOk, OnOk};
-ghost use Rattle.mx_why.specs.Waiting.{alarm_for, chain, first_reached, is_next, is_reached, line_for, may_name, may_send, may_trap, may_wake, next_reached, partner_of, reached, takes_alarms, takes_lines, waits_for, wakes_from_outside, waking_alarm, waking_line};
+ghost use Rattle.mx_why.specs.Waiting.{alarm_for, chain, first_reached, is_among, is_next, is_reached, line_for, may_name, may_send, may_trap, may_wake, next_reached, partner_of, reached, takes_alarms, takes_lines, waits_for, wakes_from_outside, waking_alarm, waking_line};
 ghost use Rattle.mx_why.specs.Verdicts.{is_in};
 
 use crate::seats::{End, Seat};
@@ -164,11 +164,21 @@ fn may_wake(end: &End, from: u32, to: u32) -> bool
     may_send(end, from, to) || waits_for(end, to) == Some(from)
 }
 
+/// Whether a slot is one of those that may go on.
+pub(crate) fn is_among(reached: &[bool; 32], slot: u32) -> bool
+    ensures { result ≡ is_among reached.now slot }
+{
+    if slot as usize >= reached.len() {
+        return false;
+    }
+    reached[slot as usize]
+}
+
 /// Whether one of those that may go on may make the process of a slot go on.
 fn is_next(end: &End, reached: &[bool; 32], slot: u32) -> bool
     ensures { result ≡ is_next end.now reached.now slot }
 {
-    (0..32u32).any(|from| reached[from as usize] && may_wake(end, from, slot))
+    (0..32u32).any(|from| is_among(reached, from) && may_wake(end, from, slot))
 }
 
 /// Who may go on by a line or an alarm.
@@ -184,10 +194,9 @@ fn first_reached(end: &End) -> [bool; 32]
 
 /// Whether the process of a slot may go on, or one of those that may may make it go on.
 fn is_reached(end: &End, reached: &[bool; 32], slot: u32) -> bool
-    requires { slot < 32 }
     ensures { result ≡ is_reached end.now reached.now slot }
 {
-    reached[slot as usize] || is_next(end, reached, slot)
+    is_among(reached, slot) || is_next(end, reached, slot)
 }
 
 /// Those that may go on, and those that one of them may make go on.
