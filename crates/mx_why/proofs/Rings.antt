@@ -10,11 +10,11 @@ from_here chain i d again within e =
     ∙ ap (λ b. cond b (Some (get_or chain i d)) (ring_in (drop (i + 1) chain))) e
 
 -- it comes again
-pub again : (chain : List ℕ) (i d : ℕ) → i < length chain → is_in (drop (i + 1) chain) (get_or chain i d) ≡ true → ring_in (drop i chain) ≡ ring_in chain
+pub comes_again : (chain : List ℕ) (i d : ℕ) → i < length chain → is_in (drop (i + 1) chain) (get_or chain i d) ≡ true → ring_in (drop i chain) ≡ ring_in chain
     → Some (get_or chain i d) ≡ ring_in chain
-again chain i d within e so_far = sym (from_here chain i d true within e) ∙ so_far
+comes_again chain i d within e so_far = sym (from_here chain i d true within e) ∙ so_far
 
 -- it doesn't
-pub once : (chain : List ℕ) (i d : ℕ) → i < length chain → is_in (drop (i + 1) chain) (get_or chain i d) ≡ false → ring_in (drop i chain) ≡ ring_in chain
+pub comes_once : (chain : List ℕ) (i d : ℕ) → i < length chain → is_in (drop (i + 1) chain) (get_or chain i d) ≡ false → ring_in (drop i chain) ≡ ring_in chain
     → ring_in (drop (i + 1) chain) ≡ ring_in chain
-once chain i d within e so_far = sym (from_here chain i d false within e) ∙ so_far
+comes_once chain i d within e so_far = sym (from_here chain i d false within e) ∙ so_far
