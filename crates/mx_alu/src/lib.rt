@@ -17,7 +17,7 @@ pub use extension::{extend, spread_sign};
 use mx_flags::Flags;
 use mx_word::{Arithmetic, Size, Unary, add_w, sub_w};
 pub use products::{DivideFault, Division, Halves, divide, multiply, multiply_low};
-pub use shifts::shift;
+pub use shifts::{shift, shift_in_place};
 pub use wide_numbers::Signedness;
 
 /// The result of an operation on two words, and the flags after it. TEST is an AND, as CMP is a SUB, whose

@@ -15,21 +15,35 @@ pub fn shift(operation: Shift, size: Size, x: u32, count: u32, flags: &Flags) ->
     ensures flags { result.1 ≡ shift_flags operation (width size) x count flags.now }
     ensures below { result.0 < 2 ^ width size }
 {
+    let mut after = flags.copy();
+    let moved = shift_in_place(operation, size, x, count, &mut after);
+    (moved, after)
+}
+
+/// A word moved by a count modulo 32. The flags are changed where they are: a shift changes few of their fields, and
+/// new ones in their place are all stored.
+#[inline(always)]
+pub fn shift_in_place(operation: Shift, size: Size, x: u32, count: u32, flags: &mut Flags) -> u32
+    requires { x < 2 ^ width size }
+    ensures value { result ≡ shift_value operation (width size) x count }
+    ensures flags { flags.new ≡ shift_flags operation (width size) x count flags.old }
+    ensures below { result < 2 ^ width size }
+{
     let places = count % 32;
     if places == 0 {
-        return (x, flags.copy());
+        return x;
     }
     let (moved, out) = move_by(operation, size, x, places);
-    let overflow = if places == 1 {
-        turns_over(operation, size, x, moved, out)
-    } else {
-        flags.overflow()
-    };
-    let shown = shown_flags(operation, size, moved, flags);
-    (moved, shown.with_carry_and_overflow(out, overflow))
+    show(operation, size, moved, flags);
+    flags.set_carry(out);
+    if places == 1 {
+        flags.set_overflow(turns_over(operation, size, x, moved, out));
+    }
+    moved
 }
 
 /// A word moved by some places, and the last bit shifted out.
+#[inline(always)]
 fn move_by(operation: Shift, size: Size, x: u32, places: u32) -> (u32, bool)
     requires word { x < 2 ^ width size }
     requires some { 0 < places }
@@ -99,13 +113,14 @@ fn is_second(size: Size, x: u32) -> bool
     }
 }
 
-/// The flags that show a shift's result.
-fn shown_flags(operation: Shift, size: Size, moved: u32, flags: &Flags) -> Flags
+/// Sets the flags that show a shift's result.
+#[inline(always)]
+fn show(operation: Shift, size: Size, moved: u32, flags: &mut Flags)
     requires { moved < 2 ^ width size }
-    ensures { result ≡ shown_flags operation (width size) moved flags.now }
+    ensures { flags.new ≡ shown_flags operation (width size) moved flags.old }
 {
     match operation {
-        Shift::Rol | Shift::Ror => flags.copy(),
-        Shift::Shl | Shift::Shr | Shift::Sar => flags.after_result(size, moved),
+        Shift::Rol | Shift::Ror => {}
+        Shift::Shl | Shift::Shr | Shift::Sar => flags.show(size, moved),
     }
 }

@@ -8,8 +8,10 @@ ghost use Rattle.mx_exec.specs.Ending.{Leads};
 ghost use Rattle.mx_exec.specs.Step.{after, count_of_shift, multiplied_into, operated, product_by, tested};
 
 use crate::{Image, InsnEnd, Place, Source};
-use mx_alu::{DivideFault, Signedness, alu, divide, multiply, multiply_low, shift, unary};
-use mx_insn::{Count, Insn, Operands, Product};
+use mx_alu::{
+    DivideFault, Signedness, alu, divide, multiply, multiply_low, shift, shift_in_place, unary,
+};
+use mx_insn::{Count, Insn, Operand, Operands, Product};
 use mx_mem::DIVIDE_ERROR;
 use mx_word::{Arithmetic, Register, Shift, Size, Unary};
 
@@ -144,6 +146,25 @@ pub fn shift_by<P: Place>(
         }
         Err(vector) => InsnEnd::Fault(vector),
     }
+}
+
+/// A shift or a rotate of a register.
+#[inline(always)]
+pub fn shift_register(
+    image: &mut Image,
+    operation: Shift,
+    size: Size,
+    to: Register,
+    count: Count,
+) -> InsnEnd
+    ensures { (next : ℕ) → Leads next image.old
+        (after (Insn.Shift operation size (Operand.Register to) count) next image.old) result image.new }
+{
+    let x = image.regs.get(size, to);
+    let places = count_of(image, count);
+    let moved = shift_in_place(operation, size, x, places, &mut image.flags);
+    image.regs.set(size, to, moved);
+    InsnEnd::Next
 }
 
 // ---- the accumulator

@@ -1,13 +1,14 @@
 -- Flags from what is stored of the last operation: its operands x and y and its result n, as dwords of the same sign.
-use Rattle.std.specs.Prelude.{ℕ, ◌+◌, ◌-◌, ◌%◌, ◌^◌, pos, ◌+ℤ◌, int_lt, nat_lt, nat_le, Bool, true, false, ◌==◌}
-use Rattle.mx_word.specs.Word.{signed, modulo, has_even_ones, is_negative, differ, width}
-use Rattle.mx_word.specs.declared.size.Size.{Size}
+use Rattle.std.specs.Prelude.{ℕ, ◌+◌, ◌%◌, ◌^◌, ◌+ℤ◌, ◌-ℤ◌, int_lt, nat_lt, nat_le, Bool, true, false, ◌==◌, ◌≡◌}
+use Rattle.mx_word.specs.Word.{signed, modulo, has_even_ones, is_negative, leaves_signed, differ}
 use Rattle.mx_flags.specs.declared.Kind.{Kind}
 use Rattle.mx_flags.specs.declared.Kind.TheVariants as kinds
 use Rattle.mx_flags.specs.declared.Carry.{Carry}
 use Rattle.mx_flags.specs.declared.Carry.TheVariants as carries
 use Rattle.mx_flags.specs.declared.Auxiliary.{Auxiliary}
 use Rattle.mx_flags.specs.declared.Auxiliary.TheVariants as digits
+use Rattle.mx_flags.specs.declared.overflows.Overflow.{Overflow}
+use Rattle.mx_flags.specs.declared.overflows.Overflow.TheVariants as overflows
 
 -- a word of w bits as a dword of the same sign
 abbrev pub extended : ℕ → ℕ → ℕ
@@ -45,12 +46,25 @@ sign_from kind n given = shown_from kind (is_negative 32 n) given
 abbrev pub parity_from : Kind → ℕ → Bool → Bool
 parity_from kind n given = shown_from kind (has_even_ones n) given
 
--- the sign isn't that of the whole sum or difference; INC of the highest number of w bits, and DEC of the lowest
-abbrev pub overflow_from : Kind → Size → ℕ → ℕ → ℕ → ℕ → Bool → Bool
-overflow_from kinds.Sum size x y k n given = differ (is_negative 32 n) (int_lt (signed 32 x +ℤ signed 32 y) (pos 0))
-overflow_from kinds.Difference size x y k n given = differ (is_negative 32 n) (int_lt (signed 32 x) (signed 32 y))
-overflow_from kinds.Logic size x y k n given = false
-overflow_from kinds.Increment size x y k n given = k + 1 == 2 ^ (width size - 1)
-overflow_from kinds.Decrement size x y k n given = k == 2 ^ (width size - 1)
-overflow_from kinds.Shift size x y k n given = given
-overflow_from kinds.Values size x y k n given = given
+-- a sum or difference that leaves the signed range; INC of the highest number, and DEC of the lowest, with the operand k
+abbrev pub overflow_from : Overflow → ℕ → ℕ → ℕ → Bool
+overflow_from overflows.Clear x y k = false
+overflow_from overflows.Set x y k = true
+overflow_from overflows.SumOfBytes x y k = leaves_signed 8 (signed 32 x +ℤ signed 32 y)
+overflow_from overflows.SumOfWords x y k = leaves_signed 16 (signed 32 x +ℤ signed 32 y)
+overflow_from overflows.SumOfDwords x y k = leaves_signed 32 (signed 32 x +ℤ signed 32 y)
+overflow_from overflows.DifferenceOfBytes x y k = leaves_signed 8 (signed 32 x -ℤ signed 32 y)
+overflow_from overflows.DifferenceOfWords x y k = leaves_signed 16 (signed 32 x -ℤ signed 32 y)
+overflow_from overflows.DifferenceOfDwords x y k = leaves_signed 32 (signed 32 x -ℤ signed 32 y)
+overflow_from overflows.IncrementOfByte x y k = k + 1 == 2 ^ 7
+overflow_from overflows.IncrementOfWord x y k = k + 1 == 2 ^ 15
+overflow_from overflows.IncrementOfDword x y k = k + 1 == 2 ^ 31
+overflow_from overflows.DecrementOfByte x y k = k == 2 ^ 7
+overflow_from overflows.DecrementOfWord x y k = k == 2 ^ 15
+overflow_from overflows.DecrementOfDword x y k = k == 2 ^ 31
+
+-- after a difference, sign and overflow tell whether x is less than y as signed numbers
+abbrev pub TellsLess : Kind → Overflow → ℕ → ℕ → ℕ → ℕ → Type 0
+TellsLess kind overflow x y k n =
+    kind ≡ kinds.Difference
+    → differ (is_negative 32 n) (overflow_from overflow x y k) ≡ int_lt (signed 32 x) (signed 32 y)

@@ -3,23 +3,29 @@
 //!
 //! # Lazy flags
 //!
-//! `Flags` has the kind, the size, the operands and the result of the last operation, and computes a flag when it is
-//! read. A flag that the last operation left has a field of its own: a value, or which sum or difference it comes
-//! from, whose operands are still there. So a compare computes no more than its difference, AND stores its result,
-//! and INC doesn't compute the carry that it leaves. ADC with the carry set, and SBB with it, compute all seven.
+//! `Flags` has the kind, the operands and the result of the last operation, and computes a flag when it is read. A flag
+//! that operations can leave as it was has a field of its own: a value, or which sum or difference it comes from, whose
+//! operands are still there. So a compare computes no more than its difference, AND stores its result, INC doesn't
+//! compute the carry that it leaves, and a shift by two or more not the overflow. ADC with the carry set, and SBB with
+//! it, compute all seven.
 //!
 //! Why: nearly all flags are set again before anything reads them, and a conditional jump reads one or two. A contract
 //! sees `Flags` as seven truth values, those that the fields give; so no caller can tell when they were computed.
 #![tactic(auto)]
 
-ghost use Rattle.std.specs.Prelude.{ℕ, Bool, ◌≡◌, ◌+◌, ◌-◌, ◌^◌, ◌<◌, ◌%◌, ◌/◌};
+ghost use Rattle.std.specs.Prelude.{ℕ, Bool, ◌≡◌, ◌≢◌, ◌+◌, ◌-◌, ◌^◌, ◌<◌, ◌%◌, ◌/◌};
 ghost use Rattle.std.specs.Int.{from_bool};
 ghost use Rattle.mx_word.specs.Word.{width, leaves_unsigned};
 ghost use Rattle.mx_word.specs.declared.size.Size.{Size};
-ghost use Rattle.mx_flags.specs.Last.{extended, carry_from, auxiliary_from, overflow_from, shown_from};
+ghost use Rattle.mx_flags.specs.Last.{extended, carry_from, auxiliary_from, shown_from};
 ghost use Rattle.mx_flags.specs.Flags.{bits_of, values_of, low_byte_flags, result_flags, arithmetic_flags, add_flags, sub_flags, increment_flags, decrement_flags, logic_flags, is_less, holds};
 
+mod overflows;
+
 use mx_word::{Condition, Size, add_w, differ, difference, has_even_ones, signed, sub_w, sum};
+use overflows::{
+    Overflow, of_decrement, of_difference, of_increment, of_sum, overflow_of, overflow_of_operands,
+};
 use std::marker::Model;
 
 /// The highest bit of a dword.
@@ -48,9 +54,9 @@ enum Kind {
     Logic,
     Increment,
     Decrement,
-    /// A shift, a rotate or a product: overflow is a value.
+    /// A shift, a rotate or a product.
     Shift,
-    /// No operation: sign, parity and overflow are values.
+    /// No operation: sign and parity are values.
     Values,
 }
 
@@ -80,8 +86,9 @@ enum Auxiliary {
     Decrement,
 }
 
-/// The seven flags, as the last operation and what it left. A contract sees their values. The fields leave no gaps,
-/// since a struct with gaps is copied through the stack.
+/// The seven flags, as the last operation and what it left. A contract sees their values. The bytes stand in an order in
+/// which four of them beside each other are what an operation writes, or may write, so that one store does. The fields
+/// leave no gaps, since a struct with gaps is copied through the stack.
 #[derive(Drop)]
 pub struct Flags {
     /// The operands of the last sum or difference, as dwords of the same sign.
@@ -91,23 +98,23 @@ pub struct Flags {
     counter: u32,
     /// The result of the last operation, as a dword of the same sign; zero exactly if the zero flag is set.
     result: u32,
+    /// The parity flag after `Values`.
+    parity: bool,
     carry: Carry,
     kind: Kind,
-    /// The size of the result.
-    size: Size,
+    overflow: Overflow,
     auxiliary: Auxiliary,
-    /// The overflow flag after `Shift` and `Values`.
-    overflow: bool,
-    direction: bool,
-    /// The sign and parity flags after `Values`.
+    /// The sign flag after `Values`.
     sign: bool,
-    parity: bool,
+    direction: bool,
+    /// Fills a gap.
+    gap: bool,
 }
 
 impl Model for Flags {
     ghost use Rattle.std.specs.Prelude.{◌==◌};
     ghost use Rattle.mx_flags.specs.declared.FlagValues.{FlagValues};
-    ghost use Rattle.mx_flags.specs.Last.{carry_from, auxiliary_from, overflow_from, sign_from, parity_from};
+    ghost use Rattle.mx_flags.specs.Last.{carry_from, auxiliary_from, overflow_from, sign_from, parity_from, TellsLess};
 
     ghost Value = { FlagValues };
 
@@ -118,8 +125,10 @@ impl Model for Flags {
       zero = f.result == 0;
       sign = sign_from f.kind f.result f.sign;
       direction = f.direction;
-      overflow = overflow_from f.kind f.size f.left f.right f.counter f.result f.overflow;
+      overflow = overflow_from f.overflow f.left f.right f.counter;
     } };
+
+    ghost invariant = { λ f. TellsLess f.kind f.overflow f.left f.right f.counter f.result };
 }
 
 impl Flags {
@@ -137,12 +146,12 @@ impl Flags {
             result: 1 - u32::from(values.zero),
             carry: carry_of(values.carry),
             kind: Kind::Values,
-            size: Size::Dword,
+            overflow: overflow_of(values.overflow),
             auxiliary: auxiliary_of(values.auxiliary),
-            overflow: values.overflow,
             direction: values.direction,
             sign: values.sign,
             parity: values.parity,
+            gap: false,
         }
     }
 
@@ -212,14 +221,14 @@ impl Flags {
             right: self.right,
             counter: self.counter,
             result: self.result,
+            parity: self.parity,
             carry: self.carry,
             kind: self.kind,
-            size: self.size,
-            auxiliary: self.auxiliary,
             overflow: self.overflow,
-            direction: self.direction,
+            auxiliary: self.auxiliary,
             sign: self.sign,
-            parity: self.parity,
+            direction: self.direction,
+            gap: self.gap,
         }
     }
 
@@ -293,12 +302,10 @@ impl Flags {
     pub fn overflow(&self) -> bool
         ensures { result ≡ self.now.overflow }
     {
-        match self.kind {
-            Kind::Values | Kind::Shift => self.overflow,
-            Kind::Logic => false,
-            Kind::Sum | Kind::Difference | Kind::Increment | Kind::Decrement => {
-                self.overflow_of_operands()
-            }
+        match self.overflow {
+            Overflow::Clear => false,
+            Overflow::Set => true,
+            source => overflow_of_operands(source, self.left, self.right, self.counter),
         }
     }
 
@@ -323,25 +330,6 @@ impl Flags {
             Condition::NotLess => !self.is_less(),
             Condition::LessOrEqual => self.is_less_or_equal(),
             Condition::NotLessOrEqual => !self.is_less_or_equal(),
-        }
-    }
-
-    /// Overflow where it is computed: a sum or difference leaves the signed range if its sign isn't that of the
-    /// whole number.
-    #[inline(never)]
-    fn overflow_of_operands(&self) -> bool
-        ensures { result ≡ self.now.overflow }
-    {
-        let left = signed(Size::Dword, self.left);
-        let right = signed(Size::Dword, self.right);
-        let sign = self.result >= TOP_BIT;
-        match self.kind {
-            Kind::Sum => differ(sign, left + right < 0),
-            Kind::Difference => differ(sign, left < right),
-            Kind::Increment => i64::from(self.counter) + 1 == self.size.half(),
-            Kind::Decrement => i64::from(self.counter) == self.size.half(),
-            Kind::Logic => false,
-            Kind::Shift | Kind::Values => self.overflow,
         }
     }
 
@@ -374,10 +362,9 @@ impl Flags {
     pub fn with_carry(&self, carry: bool) -> Flags
         ensures { result ≡ record self.now { carry = carry } }
     {
-        Flags {
-            carry: carry_of(carry),
-            ..self.copy()
-        }
+        let mut flags = self.copy();
+        flags.set_carry(carry);
+        flags
     }
 
     /// With this zero flag, as after BSF and BSR. Sign and parity stay.
@@ -400,41 +387,54 @@ impl Flags {
         }
     }
 
-    /// With this carry and overflow, as after shifts and multiplications.
+    /// With this carry and overflow, as after multiplications.
     #[inline(always)]
     pub fn with_carry_and_overflow(&self, carry: bool, overflow: bool) -> Flags
         ensures { result ≡ record self.now { carry = carry; overflow = overflow } }
     {
-        Flags {
-            left: self.left,
-            right: self.right,
-            counter: self.counter,
-            result: self.result,
-            carry: carry_of(carry),
-            kind: with_overflow_value(self.kind),
-            size: self.size,
-            auxiliary: self.auxiliary,
-            overflow,
-            direction: self.direction,
-            sign: self.sign,
-            parity: self.parity,
-        }
+        let mut flags = self.copy();
+        flags.set_carry(carry);
+        flags.set_overflow(overflow);
+        flags
     }
 
     /// With zero, sign and parity of a result.
-    #[tactic(auto, using(crate::proofs::Extended::extended_negative, crate::proofs::Extended::extended_zero, crate::proofs::Extended::extended_parity))]
     #[inline(always)]
     pub fn after_result(&self, size: Size, word: u32) -> Flags
         requires { word < 2 ^ width size }
         ensures { result ≡ result_flags (width size) word self.now }
     {
-        Flags {
-            result: with_sign_extended(size, word),
-            kind: Kind::Shift,
-            size,
-            overflow: self.overflow(),
-            ..self.copy()
-        }
+        let mut flags = self.copy();
+        flags.show(size, word);
+        flags
+    }
+
+    /// Sets the carry.
+    #[inline(always)]
+    pub fn set_carry(&mut self, carry: bool)
+        ensures { self.new ≡ record self.old { carry = carry } }
+    {
+        self.carry = carry_of(carry);
+    }
+
+    /// Sets overflow. Sign and parity show the result as before.
+    #[inline(always)]
+    pub fn set_overflow(&mut self, overflow: bool)
+        ensures { self.new ≡ record self.old { overflow = overflow } }
+    {
+        self.kind = without_operands(self.kind);
+        self.overflow = overflow_of(overflow);
+    }
+
+    /// Sets zero, sign and parity to those of a result.
+    #[tactic(auto, using(crate::proofs::Extended::extended_negative, crate::proofs::Extended::extended_zero, crate::proofs::Extended::extended_parity))]
+    #[inline(always)]
+    pub fn show(&mut self, size: Size, word: u32)
+        requires { word < 2 ^ width size }
+        ensures { self.new ≡ result_flags (width size) word self.old }
+    {
+        self.result = with_sign_extended(size, word);
+        self.kind = Kind::Shift;
     }
 
     /// After AND, OR, XOR or TEST with this result.
@@ -446,9 +446,10 @@ impl Flags {
     {
         Flags {
             result: with_sign_extended(size, word),
+            parity: false,
             carry: Carry::Clear,
             kind: Kind::Logic,
-            size,
+            overflow: Overflow::Clear,
             ..self.copy()
         }
     }
@@ -471,14 +472,14 @@ impl Flags {
             result: with_sign_extended(size, add_w(size, x, y, false)),
             carry: Carry::Sum,
             kind: Kind::Sum,
-            size,
+            overflow: of_sum(size),
             auxiliary: Auxiliary::Sum,
             ..self.copy()
         }
     }
 
     /// After the difference of two words and a borrow.
-    #[tactic(auto, using(crate::proofs::Extended::extended_negative, crate::proofs::Extended::extended_zero, crate::proofs::Extended::extended_parity, crate::proofs::Wholes::difference_carry, crate::proofs::Wholes::difference_digit, crate::proofs::Wholes::difference_leaves))]
+    #[tactic(auto, using(crate::proofs::Extended::extended_negative, crate::proofs::Extended::extended_zero, crate::proofs::Extended::extended_parity, crate::proofs::Wholes::difference_carry, crate::proofs::Wholes::difference_digit, crate::proofs::Wholes::difference_leaves, crate::proofs::Wholes::difference_less))]
     #[inline(always)]
     pub fn after_sub(&self, size: Size, x: u32, y: u32, borrow: bool) -> Flags
         requires left { x < 2 ^ width size }
@@ -494,7 +495,7 @@ impl Flags {
             result: with_sign_extended(size, sub_w(size, x, y, false)),
             carry: Carry::Difference,
             kind: Kind::Difference,
-            size,
+            overflow: of_difference(size),
             auxiliary: Auxiliary::Difference,
             ..self.copy()
         }
@@ -511,8 +512,9 @@ impl Flags {
             counter: x,
             result: with_sign_extended(size, add_w(size, x, 1, false)),
             kind: Kind::Increment,
-            size,
+            overflow: of_increment(size),
             auxiliary: Auxiliary::Increment,
+            sign: false,
             ..self.copy()
         }
     }
@@ -528,8 +530,9 @@ impl Flags {
             counter: x,
             result: with_sign_extended(size, sub_w(size, x, 1, false)),
             kind: Kind::Decrement,
-            size,
+            overflow: of_decrement(size),
             auxiliary: Auxiliary::Decrement,
+            sign: false,
             ..self.copy()
         }
     }
@@ -603,13 +606,12 @@ fn auxiliary_of(auxiliary: bool) -> Auxiliary
     }
 }
 
-/// The kind after which overflow is a value, and sign and parity are as before.
+/// A kind that says nothing of operands. Sign and parity are as before.
 #[inline(always)]
-fn with_overflow_value(kind: Kind) -> Kind
+fn without_operands(kind: Kind) -> Kind
     ensures shown { (shown given : Bool)
         → shown_from result shown given ≡ shown_from kind shown given }
-    ensures overflow { (size : Size) (x y k n : ℕ) (given : Bool)
-        → overflow_from result size x y k n given ≡ given }
+    ensures other { result ≢ Kind.Difference }
 {
     match kind {
         Kind::Values => Kind::Values,
