@@ -129,7 +129,10 @@ read_within : (x y : ℕ) → x < 16 → y < 16 → read_by x y ≡ Some (x * 16
 read_within x y h l =
     let e : (0 * 16 + x) * 16 + y ≡ x * 16 + y = omega arith in
     let small : (0 * 16 + x) * 16 + y ≤ 255 = omega (arith, h, l) in
-    taken _ _ _ (and_true _ _ (and_true _ _ (lt-ltb x 16 h) (and_true _ _ (lt-ltb y 16 l) refl)) (le-leb ((0 * 16 + x) * 16 + y) 255 small)) ∙ ap Some e
+    let digits : (nat_lt x 16 && (nat_lt y 16 && true)) ≡ true = and_true (nat_lt x 16) (nat_lt y 16 && true) (lt-ltb x 16 h) (and_true (nat_lt y 16) true (lt-ltb y 16 l) refl) in
+    let all : ((true && (nat_lt x 16 && (nat_lt y 16 && true))) && nat_le ((0 * 16 + x) * 16 + y) 255) ≡ true =
+    and_true (nat_lt x 16 && (nat_lt y 16 && true)) (nat_le ((0 * 16 + x) * 16 + y) 255) digits (le-leb ((0 * 16 + x) * 16 + y) 255 small) in
+    taken ((true && (nat_lt x 16 && (nat_lt y 16 && true))) && nat_le ((0 * 16 + x) * 16 + y) 255) (Some ((0 * 16 + x) * 16 + y)) None all ∙ ap Some e
 
 read_digits : (h l a b : ℕ) → digit_value h ≡ a → digit_value l ≡ b → a < 16 → b < 16 → number_up_to 255 16 (h ∷ l ∷ []) ≡ Some (a * 16 + b)
 read_digits h l a b p q small less = ap (λ x. read_by x (digit_value l)) p ∙ ap (read_by a) q ∙ read_within a b small less

@@ -42,13 +42,18 @@ within_room front = if nat_le (length front) (most_bytes + 4) then front else re
 abbrev pub further : List ℕ → ℕ → List ℕ
 further front b = within_room front ++ b ∷ []
 
--- A BYTE COMES: a $ begins a packet wherever it comes; outside of packets all else is passed over
+-- ---- a byte comes: a $ begins a packet wherever it comes; outside of packets all else is passed over
+
+abbrev pub reading_within : List ℕ → ℕ → List ℕ
+reading_within front b = if is_whole (further front b) then [] else further front b
+
+-- WHAT IS KEPT after it
 abbrev pub reading_after : List ℕ → ℕ → List ℕ
-reading_after front b =
-    if b == 36 then 36 ∷ []
-    else if length front == 0 then []
-    else if is_whole (further front b) then []
-    else further front b
+reading_after front b = if b == 36 then 36 ∷ [] else if length front == 0 then [] else reading_within front b
+
+abbrev pub heard_within : List ℕ → ℕ → Heard
+heard_within front b =
+    if is_whole (further front b) then said (body_in (further front b)) (digits_in (further front b)) else Nothing
 
 -- outside of packets a - asks for the last one again
 abbrev pub outside : ℕ → Heard
@@ -56,11 +61,7 @@ outside b = if b == 45 then Again else Nothing
 
 -- WHAT IT SAYS
 abbrev pub heard_of : List ℕ → ℕ → Heard
-heard_of front b =
-    if b == 36 then Nothing
-    else if length front == 0 then outside b
-    else if is_whole (further front b) then said (body_in (further front b)) (digits_in (further front b))
-    else Nothing
+heard_of front b = if b == 36 then Nothing else if length front == 0 then outside b else heard_within front b
 
 -- ---- all that comes
 

@@ -1,7 +1,7 @@
 //! The texts of replies.
 
-ghost use Rattle.std.specs.Prelude.{◌≡◌, ◌++◌, OnOk, codes, drop};
-ghost use Rattle.hex.specs.Hex.{encode_lower};
+ghost use Rattle.std.specs.Prelude.{◌≡◌, ◌++◌, Ok, OnOk, codes, drop};
+ghost use Rattle.hex.specs.Hex.{decode_of, encode_lower};
 ghost use Rattle.mx_rsp.specs.Replies.{front_text, hexadecimal, part_text, reason_text, register_text, registers_text, stop_text, thread_text, threads_after};
 
 use std::alloc::{AllocError, Global};
@@ -39,10 +39,17 @@ pub struct Stop {
     pub eip: u32,
 }
 
-/// Appends bytes, each in two digits.
+/// Law: who reads the digits of bytes reads the bytes.
+fn bytes_facts(bytes: &[u8])
+    ensures { decode_of (encode_lower bytes.now) ≡ Ok bytes.now }
+{}
+
+/// Appends bytes, each in two digits, from which they are read again.
 pub fn push_bytes(alloc: Global, out: &mut Vec<u8>, bytes: &[u8]) -> Result<(), AllocError>
-    ensures { OnOk result (out.new.items ≡ out.old.items ++ encode_lower bytes.now) }
+    ensures text { OnOk result (out.new.items ≡ out.old.items ++ encode_lower bytes.now) }
+    ensures read { decode_of (encode_lower bytes.now) ≡ Ok bytes.now }
 {
+    bytes_facts(bytes);
     let digits = hex::encode(alloc, bytes)?;
     out.extend_from_slice(digits.as_bytes())
 }

@@ -4,7 +4,7 @@ ghost use Rattle.std.specs.Prelude.{◌≡◌, IfOk};
 ghost use Rattle.mx_rsp.specs.Words.{verb_of};
 ghost use Rattle.mx_rsp.specs.Requests.{after_verb, command_of, file_of, names_processes, point_of, process_of, request_by, request_of, unpoint_of};
 ghost use Rattle.hex.specs.Hex.{decode_of};
-ghost use Rattle.mx_rsp.specs.declared.words.Verb.TheVariants as verb;
+ghost use Rattle.mx_rsp.specs.declared.words.Verb.TheVariants as verbs;
 
 use crate::fields::{Which, after, cut, number, two_numbers, who};
 use crate::moves::{Resume, resume};
@@ -106,14 +106,14 @@ fn remove(point: Point, text: &[u8]) -> Option<Request>
 }
 
 fn description(text: &[u8]) -> Option<Request>
-    ensures { result ≡ request_by verb.Description text.now }
+    ensures { result ≡ request_by verbs.Description text.now }
 {
     let (offset, length) = two_numbers(text)?;
     Some(Request::Description(offset, length))
 }
 
 fn memory(text: &[u8]) -> Option<Request>
-    ensures { result ≡ request_by verb.Memory text.now }
+    ensures { result ≡ request_by verbs.Memory text.now }
 {
     let (address, length) = two_numbers(text)?;
     Some(Request::Memory(address, length))
