@@ -1,5 +1,5 @@
 -- What goes on ("Debugging with GDB", "Packets", `vCont`).
-use Rattle.std.specs.Prelude.{ℕ, ◌==◌, if◌then◌else◌, Bool, true, false, List, [], ◌∷◌, Option, Some, None}
+use Rattle.std.specs.Prelude.{ℕ, ◌==◌, if◌then◌else◌, Bool, true, false, List, [], ◌∷◌, length, Option, Some, None}
 use Rattle.mx_text.specs.Fields.{◌>>=◌}
 use Rattle.mx_rsp.specs.declared.fields.Which.{Which}
 use Rattle.mx_rsp.specs.declared.fields.Which.TheVariants.{All}
@@ -10,8 +10,7 @@ use Rattle.mx_rsp.specs.declared.moves.Resume.{Resume}
 use Rattle.mx_rsp.specs.Fields.{cut, number, two_numbers, who_of}
 
 abbrev pub alone : List ℕ → Action → Option Action
-alone [] a = Some a
-alone (b ∷ bs) a = None
+alone text a = if length text == 0 then Some a else None
 
 -- with a signal, which does nothing here
 abbrev pub with_signal : List ℕ → Action → Option Action

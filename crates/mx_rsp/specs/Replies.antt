@@ -47,8 +47,26 @@ reason_text (Watched a) = codes "watch:" ++ hexadecimal a ++ codes ";"
 reason_text AtBegin = codes "replaylog:begin;"
 reason_text AtEnd = codes "replaylog:end;"
 
--- A STOP: signal, reason, thread, and ESP, EBP and EIP
+-- signal, reason and thread
+abbrev pub stop_head : Stop → List ℕ
+stop_head s = codes "T" ++ encode_lower (s.signal ∷ []) ++ reason_text s.reason ++ codes "thread:" ++ thread_text s.thread
+
+-- ESP, EBP and EIP
+abbrev pub stop_registers : Stop → List ℕ
+stop_registers s =
+    codes ";04:" ++ register_text s.esp ++ codes ";05:" ++ register_text s.ebp ++ codes ";08:" ++ register_text s.eip ++ codes ";"
+
+-- A STOP
 abbrev pub stop_text : Stop → List ℕ
-stop_text s =
-    codes "T" ++ encode_lower (s.signal ∷ []) ++ reason_text s.reason ++ codes "thread:" ++ thread_text s.thread
-    ++ codes ";04:" ++ register_text s.esp ++ codes ";05:" ++ register_text s.ebp ++ codes ";08:" ++ register_text s.eip ++ codes ";"
+stop_text s = stop_head s ++ stop_registers s
+
+-- ---- what the stub has
+
+abbrev pub process_feature : Bool → List ℕ
+process_feature true = codes "multiprocess+;"
+process_feature false = []
+
+abbrev pub features_text : Bool → List ℕ
+features_text names =
+    codes "PacketSize=4000;vContSupported+;QStartNoAckMode+;ReverseStep+;ReverseContinue+;" ++ process_feature names
+    ++ codes "qXfer:features:read+;qXfer:exec-file:read+"

@@ -27,9 +27,8 @@ names_processes text = list_any (λ f. bytes_eq f (codes "multiprocess+")) (slic
 
 -- a process's number, which is left out where it is clear
 abbrev pub process_of : List ℕ → Option (Option ℕ)
-process_of [] = Some None
-process_of (b ∷ bs) = do
-  n ← number (b ∷ bs)
+process_of text = if length text == 0 then Some None else do
+  n ← number text
   Some (Some n)
 
 -- a part of a process's file

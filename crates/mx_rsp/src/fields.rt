@@ -20,7 +20,8 @@ pub enum Which {
 pub(crate) fn after<'a>(word: &[u8], text: &'a [u8]) -> Option<&'a [u8]>
     ensures { MatchOption result (after word.now text.now ≡ None) (λ rest. after word.now text.now ≡ Some rest.now) }
 {
-    text.strip_prefix(word)
+    let rest = text.strip_prefix(word)?;
+    Some(rest)
 }
 
 /// What stands before the first such byte, and what after it.
@@ -43,9 +44,9 @@ pub(crate) fn number(text: &[u8]) -> Option<u32>
 pub(crate) fn two_numbers(text: &[u8]) -> Option<(u32, u32)>
     ensures { result ≡ two_numbers text.now }
 {
-    let (first, second) = cut(text, b',')?;
-    let first = number(first)?;
-    let second = number(second)?;
+    let (left, right) = cut(text, b',')?;
+    let first = number(left)?;
+    let second = number(right)?;
     Some((first, second))
 }
 

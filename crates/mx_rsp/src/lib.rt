@@ -15,8 +15,8 @@ pub use hearing::{Heard, Reader};
 pub use moves::{Action, Move, Resume};
 pub use packet::packet_of;
 pub use replies::{
-    Stop, StopReason, ThreadName, push_bytes, push_part, push_register, push_registers, push_stop,
-    push_thread, push_threads,
+    ACTIONS, DONE, FAULT, Stop, StopReason, TARGET, ThreadName, push_bytes, push_features, push_part,
+    push_register, push_registers, push_stop, push_thread, push_threads,
 };
 pub use request::{Point, Request, request_of};
 pub use words::Word;

@@ -2,9 +2,22 @@
 
 ghost use Rattle.std.specs.Prelude.{◌≡◌, ◌++◌, Ok, OnOk, codes, drop};
 ghost use Rattle.hex.specs.Hex.{decode_of, encode_lower};
-ghost use Rattle.mx_rsp.specs.Replies.{front_text, hexadecimal, part_text, reason_text, register_text, registers_text, stop_text, thread_text, threads_after};
+ghost use Rattle.mx_rsp.specs.Replies.{features_text, front_text, hexadecimal, part_text, process_feature, reason_text, register_text, registers_text, stop_head, stop_registers, stop_text, thread_text, threads_after};
 
 use std::alloc::{AllocError, Global};
+
+/// The reply that it is done.
+pub const DONE: &[u8] = b"OK";
+
+/// The reply that it can't be done.
+pub const FAULT: &[u8] = b"E01";
+
+/// The reply that says which actions `vCont` has.
+pub const ACTIONS: &[u8] = b"vCont;c;C;s;S;r";
+
+/// The description of the target.
+pub const TARGET: &[u8] = b"<?xml version=\"1.0\"?><!DOCTYPE target SYSTEM \"gdb-target.dtd\">\
+<target version=\"1.0\"><architecture>i386</architecture><osabi>none</osabi></target>";
 
 /// The name of a thread.
 #[derive(Clone, Copy, Debug, PartialEq, Eq)]
@@ -80,6 +93,7 @@ pub fn push_thread(
 }
 
 /// Appends a list of threads, from its `m` on.
+#[tactic(auto, using(crate::proofs::ReplyLemmas::threads_more))]
 pub fn push_threads(
     alloc: Global,
     out: &mut Vec<u8>,
@@ -176,15 +190,21 @@ fn push_reason(
     }
 }
 
-/// Appends a stop.
-pub fn push_stop(alloc: Global, out: &mut Vec<u8>, stop: &Stop) -> Result<(), AllocError>
-    ensures { OnOk result (out.new.items ≡ out.old.items ++ stop_text stop.now) }
+/// Appends a stop's signal, reason and thread.
+fn push_stop_head(alloc: Global, out: &mut Vec<u8>, stop: &Stop) -> Result<(), AllocError>
+    ensures { OnOk result (out.new.items ≡ out.old.items ++ stop_head stop.now) }
 {
     out.push(b'T')?;
     push_bytes(alloc, out, &[stop.signal])?;
     push_reason(alloc, out, stop.reason)?;
     out.extend_from_slice(b"thread:")?;
-    push_thread(alloc, out, stop.thread)?;
+    push_thread(alloc, out, stop.thread)
+}
+
+/// Appends a stop's registers.
+fn push_stop_registers(alloc: Global, out: &mut Vec<u8>, stop: &Stop) -> Result<(), AllocError>
+    ensures { OnOk result (out.new.items ≡ out.old.items ++ stop_registers stop.now) }
+{
     out.extend_from_slice(b";04:")?;
     push_register(alloc, out, stop.esp)?;
     out.extend_from_slice(b";05:")?;
@@ -192,4 +212,34 @@ pub fn push_stop(alloc: Global, out: &mut Vec<u8>, stop: &Stop) -> Result<(), Al
     out.extend_from_slice(b";08:")?;
     push_register(alloc, out, stop.eip)?;
     out.extend_from_slice(b";")
+}
+
+/// Appends a stop.
+pub fn push_stop(alloc: Global, out: &mut Vec<u8>, stop: &Stop) -> Result<(), AllocError>
+    ensures { OnOk result (out.new.items ≡ out.old.items ++ stop_text stop.now) }
+{
+    push_stop_head(alloc, out, stop)?;
+    push_stop_registers(alloc, out, stop)
+}
+
+/// The feature that processes are named.
+fn process_feature(names: bool) -> &'static [u8]
+    ensures { result.now ≡ process_feature names }
+{
+    if names {
+        b"multiprocess+;"
+    } else {
+        b""
+    }
+}
+
+/// Appends what the stub has, by whether processes are named.
+pub fn push_features(out: &mut Vec<u8>, names: bool) -> Result<(), AllocError>
+    ensures { OnOk result (out.new.items ≡ out.old.items ++ features_text names) }
+{
+    out.extend_from_slice(
+        b"PacketSize=4000;vContSupported+;QStartNoAckMode+;ReverseStep+;ReverseContinue+;",
+    )?;
+    out.extend_from_slice(process_feature(names))?;
+    out.extend_from_slice(b"qXfer:features:read+;qXfer:exec-file:read+")
 }
