@@ -6,8 +6,8 @@ import time
 
 CHROMIUM, DRIVER = "/usr/bin/chromium", "/usr/bin/chromedriver"
 FLAGS = "--headless=new", "--no-sandbox", "--disable-dev-shm-usage", "--disable-gpu"
-# How often a session is asked for.
-TRIES = 4
+# How often a session is asked for, and how many seconds a script may take on a machine with much else to do.
+TRIES, SCRIPT_SECONDS = 4, 300
 FRAMES = "const f = arguments[0]; requestAnimationFrame(() => requestAnimationFrame(() => f()))"
 
 
@@ -47,6 +47,7 @@ class Browser:
             options.add_argument(it)
         options.set_capability("goog:loggingPrefs", {"browser": "ALL", "performance": "ALL"})
         self.driver = begun(lambda: webdriver.Chrome(service=Service(DRIVER), options=options))
+        self.driver.set_script_timeout(SCRIPT_SECONDS)
         self.size(1280, 1000)
         self.scheme("light")
 

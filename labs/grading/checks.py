@@ -19,6 +19,7 @@ from .making import LABS, MX
 PARTNERS = os.path.join(LABS, "partners")
 MOST_FULL = 3  # runs in a row whose histories get full
 MOST_MEMORY = 1 << 15  # of a program whose memory is looked at
+OF_KERNEL = {"-1": "HARDWARE", "-2": "SYSTEM", "-3": "CLOCK"}  # who isn't a service
 
 
 def bytes_of(what):
@@ -283,7 +284,8 @@ class Check:
 
     def compare(self, case, printed, trace=None):
         """The history by models, the console, what else was said, and the report's states, as far as the case names them.
-        Models are first, since the rest follows from what they see: they say which request was answered wrongly."""
+        Models are early, since the rest follows from what they see: they say which request was answered wrongly. Before them
+        are the facts without which a model sees nothing."""
         lines = printed.split("\n")
         at = next((i for i, it in enumerate(lines) if re.match(r"console \d+$", it)), None)
         if at is None:
@@ -296,6 +298,7 @@ class Check:
         ending = f"the history was full, {ending}" if self.is_full(trace) else ending
         found = facts.events(trace)
         try:
+            facts.require(told(case), case.get("first", []), found)
             self.compare_said(case, found)
             self.compare_console(case, "\n".join(lines[at + 1:]), trace)
             self.compare_history(case, found)
@@ -420,7 +423,8 @@ def after_ends(endpoint):
 def in_names(state, named):
     """A state with the name of whom somebody waits for, in place of its endpoint."""
     kind, _, whom = state.partition(" ")
-    return state if kind == "down" or whom not in named else f"{kind} {named[whom]}"
+    name = named.get(whom) or OF_KERNEL.get(whom)
+    return state if kind == "down" or not name else f"{kind} {name}"
 
 
 def ended(states):

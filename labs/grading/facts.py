@@ -115,7 +115,8 @@ def missing(fact, found):
     if len(there) == int(count) or (more and len(there) > int(count)):
         return None
     alike = [" ".join(it.words) for it in found if it.words[:2] == pattern.split()[:2]]
-    return f"{len(there)}; there are: {'; '.join(alike[:6]) or 'none alike'}", there[-1].record if there else None
+    what = f"{len(there)} {pattern}; there are: {'; '.join(alike[:6]) or 'none alike'}"
+    return what, there[-1].record if there else None
 
 
 def missing_order(patterns, found):
@@ -147,6 +148,6 @@ def require(name, facts, found):
         fact, in_words = it if isinstance(it, tuple) else (it, f"in the history: {it}")
         what = missing(fact, found)
         if what:
-            lost = Lost(name, in_words, what[0])
+            lost = Lost(name, in_words, f"in the history: {what[0]}")
             lost.record = what[1]
             raise lost

@@ -63,6 +63,8 @@ function legend() {
     [ArrowKind.MESSAGE, "message, with its type"], [ArrowKind.NOTIFICATION, "notification"],
     [ArrowKind.WAITING, "notification that waits"]
   ];
+  const whole = "on top, the whole run: messages grey, deaths red from the top, respawns green, console bytes " +
+      "blue below; what is in view yellow";
   const sweep = "sweep: a letter for each way to end; coloured and ticked: otherwise than without the fault; " +
       "grey: as without";
   const shares = legendLine(
@@ -72,10 +74,11 @@ function legend() {
       ...bars.map(legendBar), ...kinds.map(legendArrow),
       legendLine("death", svg("path", {d: "M7 3l16 16M7 19l16 -16", class: "death"})),
       legendLine("respawn, new endpoint", svg("path", {d: "M15 3L23 11L15 19L7 11Z", class: "respawnmark"})),
-      ...(strip ? [legendLine(sweep)] : []), shares);
+      legendLine(whole), ...(strip ? [legendLine(sweep)] : []), shares);
 }
 
 const SEARCH_HELP = [
+  ["Enter", "next hit; with Shift the one before"], ["Escape", "from the field back to the lanes"],
   ["disk", "records whose trace has this word"], ["service:disk", "records about this service"],
   ["from:ann to:disk", "messages and notifications from one to the other"], ["type:3", "messages of this type"],
   ["call:DEVIO", "traps and kernel calls of this name"],
@@ -89,7 +92,7 @@ function helpRow(name, key, words) {
   return row;
 }
 function help() {
-  for (const [key, words] of Object.values(ACTS))
+  for (const [key, words] of Object.values(ACTS).filter(it => strip || it !== ACTS.block))
     $("keys").tBodies[0].append(helpRow("kbd", key.replace("Arrow", "arrow "), words));
   for (const [query, words] of SEARCH_HELP) $("words").tBodies[0].append(helpRow("code", query, words));
 }

@@ -14,12 +14,15 @@ function strokes(state, from, to, y) {
     path += state === State.AWAITING ? `M${x} ${y + 5}l5 -10` : `M${x} ${y - 5}l5 10`;
   return path;
 }
+// Whether words fit into so many pixels.
+const fits = (words, wide) => words.length * 6.1 <= wide;
 const hasStrokes = state => state === State.SENDING || state === State.CALLING || state === State.AWAITING;
 
 function drawBar(into, slot, from, to, {state, partner}) {
   const y = laneMiddle(slot), wide = Math.max(0.5, to - from), high = barHeight(state);
   if (isDown(state)) {
-    if (wide > 40) into.append(svg("text", {x: from + 8, y: y + 4, class: "num"}, doing({state, partner})));
+    const words = doing({state, partner});
+    if (fits(words, wide - 16)) into.append(svg("text", {x: from + 12, y: y + 4, class: "num"}, words));
     return;
   }
   into.append(svg("rect", {x: from, y: y - high / 2, width: wide, height: high, class: "s" + state}));
@@ -60,14 +63,15 @@ function drawArrow(into, i) {
     into.append(svg("text", {x: x + 5, y: (down > 0 ? y1 : y0) - 12, class: "halo"}, type >>> 0));
 }
 
-function drawDeath(into, k, slot, state, cause) {
+// A death, whose cause is written where it has room until the service's next change.
+function drawDeath(into, k, slot, state, cause, room) {
   const x = middleOf(k), y = laneMiddle(slot), r = px < 8 ? 4 : 8, killer = subjects[k];
   const y0 = events[k] === EventKind.KILL ? outsideMiddle : killer >= 0 ? laneMiddle(killer) : y;
   if (y0 !== y) into.append(svg("line", {x1: x, x2: x, y1: y0, y2: y, class: "death"}));
   into.append(svg(
       "path", {d: `M${x - r} ${y - r}l${2 * r} ${2 * r}M${x - r} ${y + r}l${2 * r} ${-2 * r}`, class: "death"}));
-  const words = {[State.EXITED]: "exit", [State.KILLED]: "kill", [State.FAULTED]: "fault " + cause};
-  if (px >= 16) into.append(svg("text", {x: x + 10, y: y - 8, class: "bad halo"}, words[state]));
+  const words = {[State.EXITED]: "exit", [State.KILLED]: "kill", [State.FAULTED]: "fault " + cause}[state];
+  if (fits(words, room)) into.append(svg("text", {x: x + 10, y: y - 8, class: "bad halo"}, words));
 }
 function drawRespawn(into, k, slot, endpoint) {
   const x = middleOf(k), y = laneMiddle(slot), r = px < 8 ? 4 : 8;
@@ -80,8 +84,9 @@ function drawLives(into, k) {
   lanes.forEach((lane, slot) => {
     const i = lane.upTo(k);
     if (i === 0 || lane.at(i, 0) !== k) return;
-    const now = lane.change(i), before = lane.change(i - 1);
-    if (isDown(now.state) && !isDown(before.state)) drawDeath(into, k, slot, now.state, now.partner);
+    const now = lane.change(i), before = lane.change(i - 1), isLast = i + 1 === lane.length;
+    const room = px < 16 ? 0 : isLast ? Infinity : (lane.at(i + 1, 0) - k) * px;
+    if (isDown(now.state) && !isDown(before.state)) drawDeath(into, k, slot, now.state, now.partner, room);
     if (now.endpoint !== before.endpoint) drawRespawn(into, k, slot, now.endpoint);
   });
 }
@@ -91,7 +96,7 @@ function drawLabel(into, k, usedTo) {
   const slot = subjects[k], isWrong = flags[k] & WRONG && events[k] === EventKind.BACK;
   if (!labels[k] || px < 14 || slot < 0) return;
   const x = middleOf(k), word = (isWrong ? "! " : "") + labelWords.word(labels[k]);
-  if (x - word.length * 6.1 < usedTo[slot] + 4 && px < 56) return;
+  if (!fits(word, x - usedTo[slot] - 4) && px < 56) return;
   const y = laneTop(slot) + LANE - 6;
   into.append(svg("text", {x: x - 2, y, "text-anchor": "end", class: flags[k] & WRONG ? "bad" : "num"}, word));
   usedTo[slot] = x;

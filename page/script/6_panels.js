@@ -106,7 +106,7 @@ function showConsole(k) {
   const box = $("console"), last = bytes.upTo(k), parts = [];
   for (let i = Math.max(0, last - LAST_BYTES + 1); i <= last; i++)
     parts.push(consoleByte(bytes.at(i, 1), bytes.at(i, 0) === k));
-  if (last < 0) parts.push(html("span", "small", "nothing yet"));
+  if (last < 0) parts.push(html("span", "small", base ? "nothing since record " + base : "nothing yet"));
   box.replaceChildren(...parts);
   box.normalize();
   box.scrollTop = box.scrollHeight;

@@ -93,6 +93,7 @@ const ACTS = {
   help: ["?", "this help", () => $("help").showModal()]
 };
 const act = name => ACTS[name][2]();
+const goInList = step => listed() ? goToHit(step) : select(selected + step);
 
 function onKey(event) {
   const at = event.target, isTyping = at.matches("input:not([type=range]):not([type=checkbox]), textarea");
@@ -101,10 +102,12 @@ function onKey(event) {
   if (event.key.length === 1 && !$("single").checked) return;
   if (at.matches("button") && (event.key === " " || event.key === "Enter")) return;
   if (at.id === "console" && /^(Arrow(Up|Down)|Page|Home|End)/.test(event.key)) return;
+  const inList = at.id === "list" && {ArrowUp: -1, ArrowDown: 1}[event.key];
   const found = Object.keys(ACTS).find(name => ACTS[name][0] === event.key);
-  if (!found) return;
+  if (!inList && !found) return;
   event.preventDefault();
-  act(found);
+  if (inList) goInList(inList);
+  else act(found);
 }
 addEventListener("keydown", onKey);
 addEventListener("click", event => {

@@ -5,7 +5,7 @@ pub(crate) const FRONT: &str = "<!DOCTYPE html>
 <html lang=\"en\">
 <head>
 <meta charset=\"utf-8\">
-<meta http-equiv=\"Content-Security-Policy\" content=\"default-src 'none'; script-src 'sha256-oOudLkj7IppaARppi5aSKjz/Trmds0INYZMxHXnPs0s='; style-src 'sha256-imCFIj8QNZ5cHfxNymDCQL1yWjTtvWxPEpYfhbU1FFY='; base-uri 'none'; form-action 'none'; require-trusted-types-for 'script'; trusted-types 'none'\">
+<meta http-equiv=\"Content-Security-Policy\" content=\"default-src 'none'; script-src 'sha256-NmhXoJ2eczLQbfjIyyt+5Ue8QQqxybyYYYwU90uZaVQ='; style-src 'sha256-4hEkOXDjTcQghcveGEjU0Uqth/e0LzKWzM+SGE5Fs14='; base-uri 'none'; form-action 'none'; require-trusted-types-for 'script'; trusted-types 'none'\">
 <meta name=\"viewport\" content=\"width=device-width, initial-scale=1\">
 <meta name=\"referrer\" content=\"no-referrer\">
 <title>A run of mx</title>
@@ -43,12 +43,13 @@ h1 { font-size: 18px; margin: 0; }
 h2 { font-size: 14px; margin: 0 0 6px; }
 header p { margin: 0; }
 #summary { color: var(--soft); }
-#search { margin-left: auto; }
+#search { display: flex; flex-wrap: wrap; gap: 4px; align-items: baseline; margin-left: auto; }
+#found { margin-right: 14px; }
 #query { width: 22em; max-width: 60vw; }
 button, input { font: inherit; color: inherit; }
 button {
   background: var(--panel); border: 1px solid var(--soft); border-radius: 4px; padding: 1px 8px;
-  cursor: pointer;
+  cursor: pointer; white-space: nowrap;
 }
 button:hover { border-color: var(--ink); }
 :focus-visible { outline: 3px solid var(--out); outline-offset: 1px; }
@@ -57,14 +58,14 @@ main { padding: 6px 14px 20px; }
 #overview { display: block; width: 100%; height: 40px; border: 1px solid var(--line); cursor: pointer; }
 #slider { width: 100%; margin: 2px 0; }
 #bar { display: flex; flex-wrap: wrap; gap: 4px 22px; margin: 2px 0 8px; }
-.group { display: inline-flex; gap: 4px; align-items: center; }
-#number { width: 7em; }
+.group { display: inline-flex; flex-wrap: wrap; gap: 4px; align-items: center; white-space: nowrap; }
+#number { width: 5.5em; }
 #lanes { display: grid; grid-template-columns: 250px 1fr; border: 1px solid var(--line); }
 #names { border-right: 1px solid var(--line); background: var(--panel); }
 #names div { padding: 0 8px; overflow: hidden; white-space: nowrap; }
 #names .lane { cursor: pointer; border-top: 1px solid var(--line); padding-top: 3px; }
 #names b { font-size: 14px; }
-#names small { color: var(--soft); font-size: 12.5px; display: block; }
+#names small { color: var(--soft); font-size: 12.5px; display: block; overflow: hidden; text-overflow: ellipsis; }
 #names .focus { box-shadow: inset 4px 0 0 var(--out); }
 #stage { position: relative; overflow: hidden; cursor: pointer; touch-action: pan-y; }
 #dense { position: absolute; inset: 0; width: 100%; height: 100%; }
@@ -151,15 +152,19 @@ tbody th { font-weight: bold; }
   margin: 4px 0; white-space: pre-wrap; font: 13px/1.4 ui-monospace, \"DejaVu Sans Mono\", monospace;
 }
 dialog { max-width: 700px; color: var(--ink); background: var(--paper); border: 2px solid var(--soft); }
+kbd, #words code { white-space: nowrap; }
 kbd { border: 1px solid var(--soft); border-radius: 3px; padding: 0 5px; font: 13px ui-monospace, monospace; }
 #paper { display: none; }
-@media (min-width: 1150px) {
+@media (min-width: 790px) {
   .wide { grid-column: span 2; }
+  #keys tbody { display: grid; grid-template-columns: 1fr 1fr; }
+  #keys tr { display: grid; grid-template-columns: 7.5em 1fr; }
 }
 @media (max-width: 700px) {
   #lanes { grid-template-columns: 118px 1fr; }
   #panels { grid-template-columns: 1fr; }
   #search { margin-left: 0; }
+  #found { order: 1; }
   main { padding: 6px 6px 20px; }
 }
 @media (forced-colors: active) {
@@ -194,11 +199,11 @@ kbd { border: 1px solid var(--soft); border-radius: 3px; padding: 0 5px; font: 1
 <h1 id=\"title\">A run of mx</h1>
 <p id=\"summary\">reading</p>
 <form id=\"search\" role=\"search\" autocomplete=\"off\">
+<output id=\"found\" for=\"query\"></output>
 <label for=\"query\">Search</label>
 <input id=\"query\" type=\"search\" spellcheck=\"false\" placeholder=\"disk  type:3  from:ann  call:DEVIO  is:error\" aria-describedby=\"found\">
 <button type=\"submit\" title=\"next hit (Enter)\">next hit</button>
 <button type=\"button\" id=\"hitback\" title=\"hit before (Shift+Enter)\">hit before</button>
-<output id=\"found\" for=\"query\"></output>
 </form>
 <p class=\"tools\">
 <button type=\"button\" id=\"theme\">dark / light</button>
@@ -207,7 +212,7 @@ kbd { border: 1px solid var(--soft); border-radius: 3px; padding: 0 5px; font: 1
 </header>
 <main>
 <section aria-label=\"The whole run\" id=\"whole\">
-<canvas id=\"overview\" height=\"40\" aria-hidden=\"true\"></canvas>
+<canvas id=\"overview\" height=\"40\" aria-hidden=\"true\" title=\"the whole run: click or drag to go there\"></canvas>
 <label class=\"hidden\" for=\"slider\">Record of the run</label>
 <input id=\"slider\" type=\"range\" min=\"0\" max=\"0\" value=\"0\" step=\"1\">
 <p id=\"bar\">
@@ -520,12 +525,15 @@ function strokes(state, from, to, y) {
     path += state === State.AWAITING ? `M${x} ${y + 5}l5 -10` : `M${x} ${y - 5}l5 10`;
   return path;
 }
+// Whether words fit into so many pixels.
+const fits = (words, wide) => words.length * 6.1 <= wide;
 const hasStrokes = state => state === State.SENDING || state === State.CALLING || state === State.AWAITING;
 
 function drawBar(into, slot, from, to, {state, partner}) {
   const y = laneMiddle(slot), wide = Math.max(0.5, to - from), high = barHeight(state);
   if (isDown(state)) {
-    if (wide > 40) into.append(svg(\"text\", {x: from + 8, y: y + 4, class: \"num\"}, doing({state, partner})));
+    const words = doing({state, partner});
+    if (fits(words, wide - 16)) into.append(svg(\"text\", {x: from + 12, y: y + 4, class: \"num\"}, words));
     return;
   }
   into.append(svg(\"rect\", {x: from, y: y - high / 2, width: wide, height: high, class: \"s\" + state}));
@@ -566,14 +574,15 @@ function drawArrow(into, i) {
     into.append(svg(\"text\", {x: x + 5, y: (down > 0 ? y1 : y0) - 12, class: \"halo\"}, type >>> 0));
 }
 
-function drawDeath(into, k, slot, state, cause) {
+// A death, whose cause is written where it has room until the service's next change.
+function drawDeath(into, k, slot, state, cause, room) {
   const x = middleOf(k), y = laneMiddle(slot), r = px < 8 ? 4 : 8, killer = subjects[k];
   const y0 = events[k] === EventKind.KILL ? outsideMiddle : killer >= 0 ? laneMiddle(killer) : y;
   if (y0 !== y) into.append(svg(\"line\", {x1: x, x2: x, y1: y0, y2: y, class: \"death\"}));
   into.append(svg(
       \"path\", {d: `M${x - r} ${y - r}l${2 * r} ${2 * r}M${x - r} ${y + r}l${2 * r} ${-2 * r}`, class: \"death\"}));
-  const words = {[State.EXITED]: \"exit\", [State.KILLED]: \"kill\", [State.FAULTED]: \"fault \" + cause};
-  if (px >= 16) into.append(svg(\"text\", {x: x + 10, y: y - 8, class: \"bad halo\"}, words[state]));
+  const words = {[State.EXITED]: \"exit\", [State.KILLED]: \"kill\", [State.FAULTED]: \"fault \" + cause}[state];
+  if (fits(words, room)) into.append(svg(\"text\", {x: x + 10, y: y - 8, class: \"bad halo\"}, words));
 }
 function drawRespawn(into, k, slot, endpoint) {
   const x = middleOf(k), y = laneMiddle(slot), r = px < 8 ? 4 : 8;
@@ -586,8 +595,9 @@ function drawLives(into, k) {
   lanes.forEach((lane, slot) => {
     const i = lane.upTo(k);
     if (i === 0 || lane.at(i, 0) !== k) return;
-    const now = lane.change(i), before = lane.change(i - 1);
-    if (isDown(now.state) && !isDown(before.state)) drawDeath(into, k, slot, now.state, now.partner);
+    const now = lane.change(i), before = lane.change(i - 1), isLast = i + 1 === lane.length;
+    const room = px < 16 ? 0 : isLast ? Infinity : (lane.at(i + 1, 0) - k) * px;
+    if (isDown(now.state) && !isDown(before.state)) drawDeath(into, k, slot, now.state, now.partner, room);
     if (now.endpoint !== before.endpoint) drawRespawn(into, k, slot, now.endpoint);
   });
 }
@@ -597,7 +607,7 @@ function drawLabel(into, k, usedTo) {
   const slot = subjects[k], isWrong = flags[k] & WRONG && events[k] === EventKind.BACK;
   if (!labels[k] || px < 14 || slot < 0) return;
   const x = middleOf(k), word = (isWrong ? \"! \" : \"\") + labelWords.word(labels[k]);
-  if (x - word.length * 6.1 < usedTo[slot] + 4 && px < 56) return;
+  if (!fits(word, x - usedTo[slot] - 4) && px < 56) return;
   const y = laneTop(slot) + LANE - 6;
   into.append(svg(\"text\", {x: x - 2, y, \"text-anchor\": \"end\", class: flags[k] & WRONG ? \"bad\" : \"num\"}, word));
   usedTo[slot] = x;
@@ -933,7 +943,7 @@ function showConsole(k) {
   const box = $(\"console\"), last = bytes.upTo(k), parts = [];
   for (let i = Math.max(0, last - LAST_BYTES + 1); i <= last; i++)
     parts.push(consoleByte(bytes.at(i, 1), bytes.at(i, 0) === k));
-  if (last < 0) parts.push(html(\"span\", \"small\", \"nothing yet\"));
+  if (last < 0) parts.push(html(\"span\", \"small\", base ? \"nothing since record \" + base : \"nothing yet\"));
   box.replaceChildren(...parts);
   box.normalize();
   box.scrollTop = box.scrollHeight;
@@ -1193,6 +1203,7 @@ const ACTS = {
   help: [\"?\", \"this help\", () => $(\"help\").showModal()]
 };
 const act = name => ACTS[name][2]();
+const goInList = step => listed() ? goToHit(step) : select(selected + step);
 
 function onKey(event) {
   const at = event.target, isTyping = at.matches(\"input:not([type=range]):not([type=checkbox]), textarea\");
@@ -1201,10 +1212,12 @@ function onKey(event) {
   if (event.key.length === 1 && !$(\"single\").checked) return;
   if (at.matches(\"button\") && (event.key === \" \" || event.key === \"Enter\")) return;
   if (at.id === \"console\" && /^(Arrow(Up|Down)|Page|Home|End)/.test(event.key)) return;
+  const inList = at.id === \"list\" && {ArrowUp: -1, ArrowDown: 1}[event.key];
   const found = Object.keys(ACTS).find(name => ACTS[name][0] === event.key);
-  if (!found) return;
+  if (!inList && !found) return;
   event.preventDefault();
-  act(found);
+  if (inList) goInList(inList);
+  else act(found);
 }
 addEventListener(\"keydown\", onKey);
 addEventListener(\"click\", event => {
@@ -1341,6 +1354,8 @@ function legend() {
     [ArrowKind.MESSAGE, \"message, with its type\"], [ArrowKind.NOTIFICATION, \"notification\"],
     [ArrowKind.WAITING, \"notification that waits\"]
   ];
+  const whole = \"on top, the whole run: messages grey, deaths red from the top, respawns green, console bytes \" +
+      \"blue below; what is in view yellow\";
   const sweep = \"sweep: a letter for each way to end; coloured and ticked: otherwise than without the fault; \" +
       \"grey: as without\";
   const shares = legendLine(
@@ -1350,10 +1365,11 @@ function legend() {
       ...bars.map(legendBar), ...kinds.map(legendArrow),
       legendLine(\"death\", svg(\"path\", {d: \"M7 3l16 16M7 19l16 -16\", class: \"death\"})),
       legendLine(\"respawn, new endpoint\", svg(\"path\", {d: \"M15 3L23 11L15 19L7 11Z\", class: \"respawnmark\"})),
-      ...(strip ? [legendLine(sweep)] : []), shares);
+      legendLine(whole), ...(strip ? [legendLine(sweep)] : []), shares);
 }
 
 const SEARCH_HELP = [
+  [\"Enter\", \"next hit; with Shift the one before\"], [\"Escape\", \"from the field back to the lanes\"],
   [\"disk\", \"records whose trace has this word\"], [\"service:disk\", \"records about this service\"],
   [\"from:ann to:disk\", \"messages and notifications from one to the other\"], [\"type:3\", \"messages of this type\"],
   [\"call:DEVIO\", \"traps and kernel calls of this name\"],
@@ -1367,7 +1383,7 @@ function helpRow(name, key, words) {
   return row;
 }
 function help() {
-  for (const [key, words] of Object.values(ACTS))
+  for (const [key, words] of Object.values(ACTS).filter(it => strip || it !== ACTS.block))
     $(\"keys\").tBodies[0].append(helpRow(\"kbd\", key.replace(\"Arrow\", \"arrow \"), words));
   for (const [query, words] of SEARCH_HELP) $(\"words\").tBodies[0].append(helpRow(\"code\", query, words));
 }

@@ -1,12 +1,8 @@
-//! Only tests: worked rows of the process layer and of the machine, and writers that fail.
+//! Only tests: commands over machines, texts about them, and writers that fail.
 #![tactic(auto)]
 
 #[cfg(test)]
 mod asking;
-#[cfg(test)]
-mod breakpoints;
-#[cfg(test)]
-mod calls_by_hand;
 #[cfg(test)]
 mod commands;
 #[cfg(test)]
@@ -14,24 +10,8 @@ mod cuts;
 #[cfg(test)]
 mod debugging;
 #[cfg(test)]
-mod events_by_hand;
-#[cfg(test)]
 mod files;
-#[cfg(test)]
-mod kernel_numbers;
-#[cfg(test)]
-mod limits;
 #[cfg(test)]
 mod narrow;
 #[cfg(test)]
-mod pages;
-#[cfg(test)]
-mod queues;
-#[cfg(test)]
-mod tables;
-#[cfg(test)]
 mod texts;
-#[cfg(test)]
-mod traps;
-#[cfg(test)]
-mod windows_by_hand;

@@ -3,7 +3,7 @@
 
 A function `NAME(draw)` gives the cases of the check whose row in `points.json` has `"draws": "NAME"`. A case has a `name`,
 what is run (`input`, `config`, `events`, `fault`), what the grader writes over the data of a service's program (`set`), and
-what is wanted: `want`, `facts`, `models`, `memory`.
+what is wanted: `want`, `first`, `facts`, `models`, `memory`.
 """
 import hashlib
 import random

@@ -2,7 +2,8 @@
 from .machines import ASK, POKE, TELL, WORK, bystanders, machine, on, plan, requests, served, service
 
 REGISTER, LOOKUP = 1, 2
-NAME_JUDGE = 2
+NAME_QUEUE, NAME_JUDGE = 1, 2
+OTHER_NAMES = (0, 3, 4, 5, 6, 7)
 PUT, GET, TRY, END = 1, 2, 3, 4
 ASKS = {"waits": GET, "polls": TRY}  # what a consumer asks for, the first time at least
 ITEMS = 12
@@ -41,7 +42,7 @@ def in_awkward_slots(draw, actors, waiting, levels):
 def looked_up(draw):
     """Names that are looked up before anybody has them, by several; a name that another one takes, and its successor after
     it; what there is not; a process that ends while it waits."""
-    name, other = draw.sample([0, 3, 4, 5, 6, 7], 2)
+    name, other = draw.sample(OTHER_NAMES, 2)
     first = [(ASK, 0, LOOKUP, name), (ASK, 0, draw.randint(5, 99), 0), (ASK, 0, LOOKUP, draw.randint(8, 99)),
              (ASK, 0, REGISTER, -draw.randint(1, 9))]
     registers = [(ASK, 0, REGISTER, it) for it in draw.sample([other, name], 2)]
@@ -127,7 +128,7 @@ def patient(draw):
     judge = service("judge", "judge.out", all_but(2), "11", 5)
     yield {"name": "two consumers and no producer",
            "config": machine(1, names, service("queue", "good_queue.out", all_but(1), "1", 4), judge, waits, polls),
-           "facts": [looks_up(it, "queue", 1) for it in ("waits", "polls")],
+           "facts": [looks_up(it, "queue", NAME_QUEUE) for it in ASKS], "models": [("named", it) for it in ASKS],
            "want": {"console": "", "asks": asked("waits", [GET]) | asked("polls", [TRY] * 20 + [GET]),
                     "states": {"waits": "awaiting 1", "polls": "awaiting 1"}}}
     patience = draw.randint(5, 19)
@@ -135,12 +136,13 @@ def patient(draw):
     made = {"patience": [patience], "items": [draw.randint(1, LARGEST) for _ in range(2)]}
     for who, line, kinds in (("polls", polls, [TRY] * (patience + 1 + 20) + [GET, TRY]), ("waits", waits, [GET] * 2)):
         yield {"name": f"{who}, a queue with an item after {patience} answers NOTHING, and then one for a GET",
-               "config": [*slow, line], "set": {"queue": made}, "facts": reports(who),
+               "config": [*slow, line], "set": {"queue": made}, "facts": reports(who), "models": [("named", who)],
                "want": {"asks": asked(who, kinds), "states": {who: "down exit"}, "taken": ["queue", "judge"]}}
     yield six(draw, 1, given=("names", "queue")) | {"name": "with a name server and a queue of the grader"}
     for name, line, kind, answers in (("waits", waits, GET, draw.randint(0, 1)), ("polls", polls, TRY, draw.randint(1, 4))):
         yield {"name": f"a queue that ends at a request, after {answers} answers", "config": [*slow, line],
-               "set": {"queue": made | {"answers": [answers]}}, "facts": [looks_up(name, "queue", 1), f"0 message {name} to judge .."],
+               "set": {"queue": made | {"answers": [answers]}}, "models": [("named", name)],
+               "facts": [looks_up(name, "queue", NAME_QUEUE), f"0 message {name} to judge .."],
                "want": {"asks": asked(name, [kind] * (answers + 1)), "states": {name: "down exit"}}}
 
 
@@ -152,28 +154,31 @@ def looks_up(who, server, name):
 
 def reports(who):
     """A consumer looks both names up, and has one report to make: after the queue said that it has ended."""
-    return [looks_up(who, "queue", 1), looks_up(who, "judge", 2), f"1 message {who} to judge ..",
+    return [looks_up(who, "queue", NAME_QUEUE), looks_up(who, "judge", NAME_JUDGE), f"1 message {who} to judge ..",
             f"in order: message queue to {who} type 2 ..; message {who} to judge type 1 .."]
 
 
 def in_any_slots(draw, rows):
-    """The services behind the name server, so that neither queue nor judge has the endpoint that is its name, nor that of
-    the machine that is handed out."""
+    """The services behind the name server, so that queue and judge aren't the first two nor the last two: who tries one slot
+    after the other meets somebody else, and neither has the endpoint that is its name."""
     rows = [*rows]
-    while rows[0][0] == "queue" or rows[1][0] == "judge":
+    while {"queue", "judge"} & {it[0] for it in (*rows[:2], *rows[-2:])}:
         draw.shuffle(rows)
     return rows
 
 
 def guests(draw, to_the_end):
-    """Clients of the grader's that ask the queue before anybody has brought an item, and at last look up the judge: of each
-    its name and how many items it asks for. Those that ask to the end wait when the ENDs come. So servers have to keep who
-    waits, however late a student's consumers ask."""
-    return {f"guest{i}": 2 * ITEMS + 1 if to_the_end else draw.randint(1, 2) for i in range(draw.randint(2, 3))}
-
-
-def visit(queue, items):
-    return [*[(ASK, queue, GET)] * items, (ASK, 0, LOOKUP, NAME_JUDGE)]
+    """Clients of the grader's that ask the queue before anybody has brought an item, and at last look up the judge: the plan
+    of each, with the names of servers. Those that ask to the end wait when the ENDs come. The first one registers a name of
+    its own when it has had an item; others look up this name, and the queue's, before anybody has it. So servers have to keep
+    who waits, however late a student's consumers ask."""
+    name = draw.choice(OTHER_NAMES)
+    plans = {f"guest{i}": [(ASK, "queue", GET)] * (2 * ITEMS + 1 if to_the_end else draw.randint(1, 2))
+             for i in range(draw.randint(2, 3))}
+    plans["guest0"].insert(1, (ASK, "names", REGISTER, name))
+    for i in range(draw.randint(1, 2)):
+        plans[f"caller{i}"] = [(ASK, "names", LOOKUP, it) for it in draw.sample([name, NAME_QUEUE], 2)]
+    return {it: [*steps, (ASK, "names", LOOKUP, NAME_JUDGE)] for it, steps in plans.items()}
 
 
 def six(draw, cpus, levels=(7, 7), given=(), takers=("waits", "polls"), **want):
@@ -191,20 +196,20 @@ def six(draw, cpus, levels=(7, 7), given=(), takers=("waits", "polls"), **want):
     if not levels:
         rows = [(name, program, draw.choice([5, 7, 8]), calls) for name, program, _, calls in rows]
     visitors = guests(draw, levels != FULL)
-    rows = in_any_slots(draw, [*rows, *[(it, "actor.out", draw.randint(2, 4), "1") for it in visitors]])
-    slots = {it[0]: slot for slot, it in enumerate(rows, 1)}
-    visits = {it: visit(slots["queue"], count) for it, count in visitors.items()}
-    servers = [0, slots["queue"], slots["judge"]]
+    rows = in_any_slots(draw, [*rows, *[(it, "actor.out", draw.randint(2, 3), "1") for it in visitors]])
+    slots = {"names": 0} | {it[0]: slot for slot, it in enumerate(rows, 1)}
+    plans = {it: plan(*[(what, slots[to], *rest) for what, to, *rest in steps]) for it, steps in visitors.items()}
+    servers = [slots[it] for it in ("names", "queue", "judge")]
     to_servers = f"{sum(1 << it for it in servers):x}"
     config = machine(cpus, service("names", names, all_but(0), "1", 3),
                      *[called(name, program, level, calls, all_but(slots[name]) if slots[name] in servers else to_servers)
                        for name, program, level, calls in rows])
-    return {"config": config, "models": [("names", "names"), ("queue", "queue")],
-            "set": {it: {"items": items[i]} for i, it in enumerate(("ann", "ben"))} | {it: plan(*visits[it]) for it in visits},
+    return {"config": config, "models": [("names", "names"), ("queue", "queue"), *[("named", it) for it in consumers]],
+            "set": {it: {"items": items[i]} for i, it in enumerate(("ann", "ben"))} | plans,
             "facts": [f"1+ message {name} to queue type {ASKS[program]} .." for name, program in consumers.items()]
                      + [fact for it in consumers for fact in reports(it)],
             "want": {"taken": ["queue", "judge"],
-                     "states": {it: "down exit" for it in ("judge", "ann", "ben", *consumers, *visits)}, **want}}
+                     "states": {it: "down exit" for it in ("judge", "ann", "ben", *consumers, *visitors)}, **want}}
 
 
 def by_turns(draw):

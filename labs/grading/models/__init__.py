@@ -4,10 +4,10 @@ from .adders import Adder
 from .common import GENERATION, numbers
 from .driver import Button
 from .memory import compare_arrays
-from .partners import Asker, Exchange
+from .partners import Asker, Exchange, Named
 from .reports import Polls, compare_steps, compare_taken
 from .servers import Names, Queue, Totals
 from .windows import Stored, Windows
 
 MODELS = {"windows": Windows, "store": Stored, "asker": Asker, "exchange": Exchange, "totals": Totals, "names": Names,
-          "queue": Queue, "button": Button, "polls": Polls, "adder": Adder}
+          "queue": Queue, "button": Button, "polls": Polls, "named": Named, "adder": Adder}

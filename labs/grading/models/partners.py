@@ -1,5 +1,6 @@
-"""Processes that send to others: one of lab 2's pair, and who asks the process of slot 0 in labs 4 and 5."""
-from .common import GENERATION, said, wrong
+"""Processes that send to others: one of lab 2's pair, who asks the process of slot 0 in labs 4 and 5, and lab 6's consumers,
+who know others by a name."""
+from .common import GENERATION, numbers, said, wrong
 
 ELOCKED = -101
 SENDS = ("SEND", "SENDREC")
@@ -60,3 +61,30 @@ class Asker:
         """The endpoints that may be used, in words."""
         told = sorted(self.known - {"0"}, key=int)
         return "0, the first endpoint; WHOIS told none" if not told else f"0 or {' or '.join(told)}, which WHOIS told"
+
+
+class Named:
+    """Lab 6's consumer looks names up, and says something to those alone whom it found so."""
+
+    LOOKUP = 2
+
+    def __init__(self, name, who):
+        self.name, self.who = name, who
+        self.known = {"0"}  # the name server, and whom it told
+
+    def follow(self, found):
+        for it in found:
+            words = it.words
+            if words[:4] == ["message", self.who, "to", "names"] and int(words[5]) != self.LOOKUP:
+                raise wrong(self.name, it, f"{self.who} looks names up, and says nothing else to names", said(it))
+            if words[:6] == ["message", "names", "to", self.who, "type", "0"]:
+                self.known.add(str(numbers(it)[0]))
+            elif words[:2] == ["try", self.who] and words[3] not in ("any", "SYSTEM"):
+                self.compare(it)
+
+    def compare(self, event):
+        whom = event.who[1] or event.words[3]
+        if whom not in self.known:
+            told = " or ".join(["0, which is names,", *sorted(self.known - {"0"}, key=int)])
+            raise wrong(self.name, event, f"{event.words[2]} of {self.who} with {told} as a LOOKUP told it",
+                        f"{event.words[2]} with {whom}")

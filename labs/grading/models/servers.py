@@ -139,11 +139,21 @@ class Queue(Served):
     PUT, GET, TRY, END = 1, 2, 3, 4
     NOTHING, ENDED = 1, 2
     ROOM, PRODUCERS = 8, 2
+    REGISTER, NAME = 1, 1  # what it says to the name server
     at_once = True
 
     def __init__(self, name, server):
         super().__init__(name, server)
         self.items, self.ended = [], 0
+
+    def follow(self, found):
+        """It has one name: what it said to the name server is looked at first."""
+        registers = [it for it in found if it.words[:4] == ["message", self.server, "to", "names"]]
+        for i, it in enumerate(registers):
+            if i > 0 or (int(it.words[5]), numbers(it)[0]) != (self.REGISTER, self.NAME):
+                wanted = f"{self.server} registers once, as name {self.NAME}, and says nothing else to names"
+                raise wrong(self.name, it, wanted, said(it))
+        super().follow(found)
 
     def serve(self, event, who, kind, words):
         if not self.PUT <= kind <= self.END:

@@ -2,9 +2,9 @@
 
 ghost use Rattle.std.specs.Prelude.{◌≡◌};
 
-use crate::files::small_reader;
 use crate::kernel_numbers::{EBADREQUEST, ECALLDENIED, EDEADDST, EPERM, EXIT, OK, VIRCOPY};
-use mx_app_db::{Script, start};
+use crate::machines::small_reader;
+use mx_app_start::{Script, start};
 use mx_exec::{Image, Outcome};
 use mx_machine::{Answer, Event, Held, Machine, Out, Refusal, Tool};
 use mx_proc::{ANY, DeathCause, Partner, Process, SYSTEM, State, Table, Terms};

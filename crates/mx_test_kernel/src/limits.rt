@@ -1,6 +1,6 @@
 //! A machine at its limits: the longest history, the most services, and the largest memories.
 
-use mx_app_db::{NamedFile, NamedFiles, Script, start};
+use mx_app_start::{NamedFile, NamedFiles, Script, start};
 use mx_machine::{Answer, Event, Machine};
 use mx_word::Size;
 use std::alloc::Global;
