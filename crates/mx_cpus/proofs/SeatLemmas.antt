@@ -179,7 +179,7 @@ lent_by boot n t l a o is seen who made lent =
     }
 
 -- what a seat that was shown the history has seen is the kernel's
-history_seen : (z : TableId) (k : BootAndHistory) (d : DeskView) (s t : SeatView) → d ≡ desk_beside z k → t ≡ seat_seeing s d.history → k.history ≡ t.seen
+pub history_seen : (z : TableId) (k : BootAndHistory) (d : DeskView) (s t : SeatView) → d ≡ desk_beside z k → t ≡ seat_seeing s d.history → k.history ≡ t.seen
 history_seen z k d s t desk shown = ap (λ (u : SeatView). u.seen) (seat_shown z k d s t desk shown)
 
 pub world_seen : (boot : World) (z : TableId) (k : BootAndHistory) (d : DeskView) (s t : SeatView) → k.boot ≡ boot → d ≡ desk_beside z k → t ≡ seat_seeing s d.history → replay k ≡ world_after boot t.seen

@@ -6,4 +6,5 @@ pub mod Loops
 pub mod Progresses
 pub mod Outsiders
 pub mod CallEnds
+pub mod Raises
 pub use Rattle.mx_loan.specs.Seats

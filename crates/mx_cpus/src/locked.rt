@@ -1,21 +1,25 @@
 //! The kernel with its desk and its spool, as they lie under the lock.
 
-ghost use Rattle.std.specs.Prelude.{◌≡◌, ◌≤◌, true, IfOk, IfErr, drop, length, take, vec_capacity};
+ghost use Rattle.std.specs.Prelude.{◌≡◌, ◌≤◌, ◌++◌, ◌∷◌, [], true, IfOk, IfErr, OnErr, OnOk, drop, length, take, vec_capacity};
 ghost use Rattle.mx_machine.specs.declared.events.Event.TheVariants as events;
-ghost use Rattle.mx_machine.specs.KernelState.{is_for_all};
-ghost use Rattle.mx_machine.specs.History.{replay};
+ghost use Rattle.mx_machine.specs.KernelState.{is_for_all, recorded_as};
+ghost use Rattle.mx_machine.specs.History.{part_of, replay};
 ghost use Rattle.mx_cpus.specs.Calls.{EndsDead, Follows, IsAnsweredCall, IsGiveCall, IsLoanOf, IsLocked};
 ghost use Rattle.mx_cpus.specs.Calls.{IsRefusedCall, IsRestCall, IsSameSeat, IsTakeCall, StandsIn, is_dead, world_after};
-ghost use Rattle.mx_keyboard.specs.Keyboard.{seen_of};
+ghost use Rattle.mx_cpus.specs.Calls.{IsAcceptedHistory};
+ghost use Rattle.mx_cpus.specs.Raises.{HasRaised, IsBitRefused, IsRaiseCall, bit_lines, is_process};
+ghost use Rattle.mx_cpus.specs.Seats.{record_of};
+ghost use Rattle.mx_keyboard.specs.Keyboard.{driver_of, seen_of};
 ghost use Rattle.mx_spool.specs.Written.{console_of_history};
 
 use crate::naming::Naming;
-use mx_keyboard::seen_in;
+use mx_keyboard::{driver_in, seen_in};
 use mx_loan::{ActorSeat, Desk, Loan};
 use mx_machine::{Answer, Event, Kernel, Refusal, recorded_as};
 use mx_proc::Slot;
 use mx_spool::Spool;
-use mx_typist::Seen;
+use mx_typist::{Raise, STROBE, Seen};
+use mx_word::has_bit;
 use std::marker::{Model, PhantomData};
 
 /// What lies under the lock: the kernel, in the state to which its history leads; its desk, which has this history and
@@ -114,7 +118,10 @@ impl<M: Naming> Locked<M> {
         ensures stands { StandsIn self.old.history seat }
         ensures follows { Follows seat result }
         ensures same { IsSameSeat seat result }
+        ensures seen { result.seen ≡ self.old.history }
+        ensures accepted { IsAcceptedHistory M.boot result.seen }
     {
+        self.kernel.facts();
         self.desk.note(seat)
     }
 
@@ -220,6 +227,10 @@ impl<M: Naming> Locked<M> {
         requires event { is_for_all event ≡ true }
         ensures ok { IfOk result.1 (λ x. IsAnsweredCall M.boot seat result.0 event x) }
         ensures err { IfErr result.1 (λ r. IsRefusedCall M.boot seat result.0 event r) }
+        ensures last { OnOk result.1 (result.0.seen
+            ≡ self.old.history ++ record_of seat.actor (recorded_as event) ∷ []) }
+        ensures none { OnErr result.1 (result.0.seen ≡ self.old.history) }
+        ensures shown { result.0.seen ≡ self.new.history }
     {
         // The seat sees the history first, also if the event is refused.
         let seat = self.desk.note(seat);
@@ -230,6 +241,60 @@ impl<M: Naming> Locked<M> {
                 self.kernel.facts();
                 (self.desk.record(seat, recorded_as(event)), Ok(answer))
             }
+            Err(refusal) => (seat, Err(refusal)),
+        }
+    }
+
+    /// Whether a process is the driver of the keyboard.
+    fn is_driver(&self, endpoint: u32) -> bool
+        ensures { result ≡ is_process (driver_of (replay self.now).table) endpoint }
+    {
+        match driver_in(self.kernel.table()) {
+            Some(driver) => driver == endpoint,
+            None => false,
+        }
+    }
+
+    /// Raises the lines of a byte's bits, of those that are 1.
+    fn raise_bits(&mut self, seat: ActorSeat, byte: u8) -> (ActorSeat, Result<(), Refusal>)
+        requires table { seat.table ≡ M.table }
+        requires own { seat.mine ≡ part_of seat.seen seat.actor }
+        requires shown { seat.seen ≡ self.old.history }
+        ensures ok { OnOk result.1 (HasRaised self.old.history (bit_lines byte 8) seat result.0) }
+        ensures shown { OnOk result.1 (result.0.seen ≡ self.new.history) }
+        ensures err { IfErr result.1 (λ e.
+            IsBitRefused M.boot self.old.history byte seat result.0 e) }
+    {
+        let mut seat = seat;
+        for bit in 0u32..8 {
+            if has_bit(u32::from(byte), bit) {
+                let (next, answer) = self.event(seat, Event::Line(8 + bit));
+                seat = next;
+                if let Err(refusal) = answer {
+                    return (seat, Err(refusal));
+                }
+            }
+        }
+        (seat, Ok(()))
+    }
+
+    /// Raises a byte for a process: its lines in a row, those of its bits that are 1 and then the strobe, if the process
+    /// is the keyboard's driver still. Answers whether it is.
+    pub fn raise(&mut self, seat: ActorSeat, raise: Raise) -> (ActorSeat, Result<bool, Refusal>)
+        requires table { seat.table ≡ M.table }
+        ensures { IsRaiseCall M.boot seat result.0 raise result.1 }
+    {
+        let seat = self.show(seat);
+        if !self.is_driver(raise.driver) {
+            return (seat, Ok(false));
+        }
+        let (seat, bits) = self.raise_bits(seat, raise.byte);
+        if let Err(refusal) = bits {
+            return (seat, Err(refusal));
+        }
+        let (seat, strobe) = self.event(seat, Event::Line(u32::from(STROBE)));
+        match strobe {
+            Ok(_) => (seat, Ok(true)),
             Err(refusal) => (seat, Err(refusal)),
         }
     }

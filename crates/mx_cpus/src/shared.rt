@@ -5,11 +5,13 @@ ghost use Rattle.mx_machine.specs.declared.events.Event.TheVariants as events;
 ghost use Rattle.mx_machine.specs.KernelState.{is_for_all};
 ghost use Rattle.mx_cpus.specs.Calls.{EndsDead, IsAnsweredCall, IsGiveCall, IsLoanOf, IsRefusedCall};
 ghost use Rattle.mx_cpus.specs.Calls.{IsRestCall, IsTakeCall, IsAcceptedHistory, StandsIn, world_after};
+ghost use Rattle.mx_cpus.specs.Raises.{IsRaiseCall};
 ghost use Rattle.mx_keyboard.specs.Keyboard.{seen_of};
 ghost use Rattle.mx_spool.specs.Written.{console_of_history};
 
 use crate::{ActorSeat, Given, Glance, HowFar, Kernel, Loan, Locked, Naming};
 use mx_machine::{Answer, Event, Refusal};
+use mx_typist::Raise;
 use std::sync::{Mutex, Wait};
 
 /// The machine that threads share: a kernel under a lock. Each call takes its actor's seat and
@@ -208,5 +210,19 @@ impl<M: Naming> Shared<M> {
         ensures room { vec_capacity bytes.old ≤ vec_capacity bytes.new }
     {
         self.lock.lock(rt).glance(seat, flight, from, bytes)
+    }
+
+    /// Raises a byte for a process, under one lock: its lines in a row, those of its bits that are 1 and then the strobe,
+    /// if the process is the keyboard's driver still. Answers whether it is.
+    pub fn raise(
+        &self,
+        rt: &impl Wait,
+        seat: ActorSeat,
+        raise: Raise,
+    ) -> (ActorSeat, Result<bool, Refusal>)
+        requires table { seat.table ≡ M.table }
+        ensures { IsRaiseCall M.boot seat result.0 raise result.1 }
+    {
+        self.lock.lock(rt).raise(seat, raise)
     }
 }

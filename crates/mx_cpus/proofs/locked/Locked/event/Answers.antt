@@ -1,11 +1,11 @@
-use Rattle.std.proofs.Common.{◌≡◌, ◌∙◌, ◌<◌, sym, ap, subst}
-use Rattle.mx_machine.specs.History.{replay}
+use Rattle.std.proofs.Common.{◌≡◌, ◌∙◌, ◌<◌, ◌++◌, ◌∷◌, [], sym, ap, subst}
+use Rattle.mx_machine.specs.History.{BootAndHistory, replay}
 use Rattle.mx_machine.specs.World.{actors}
 use Rattle.mx_machine.specs.KernelState.{recorded_as}
-use Rattle.mx_loan.specs.Seats.{SeatView}
+use Rattle.mx_loan.specs.Seats.{SeatView, record_of}
 use Rattle.mx_spool.proofs.SpoolLemmas.{spool_at_event}
 use Rattle.mx_cpus.proofs.WorldLemmas.{actor_there, event_outs, for_all_answer}
-use Rattle.mx_cpus.proofs.SeatLemmas.{accepted_by, desk_after_made, known_by, refused_by, seat_of_event}
+use Rattle.mx_cpus.proofs.SeatLemmas.{accepted_by, desk_after_made, history_seen, known_by, refused_by, seat_of_event}
 use Rattle.mx_cpus.proofs.locked.Locked.event.Goals as goal
 
 pub event-requires-clause-actor : goal.event-requires-clause-actor
@@ -49,3 +49,27 @@ pub returns-in-Err-clause-err : goal.returns-in-Err-clause-err
 returns-in-Err-clause-err g c =
     refused_by g.M.Naming.boot g.M.Naming.table c.self.inside.kernel c.self.inside.desk c.args.seat c.note-seat.result c.actor.result c.args.event c.in-Err.refusal c.self.invariant.0 c.self.invariant.2
     c.note-seat.ensures.known c.note-seat.ensures.seat c.actor.ensures c.facts-2.ensures.accepted c.in-Err.ensures.err.0
+
+pub returns-in-Ok-clause-last : goal.returns-in-Ok-clause-last
+returns-in-Ok-clause-last g c =
+    let k = c.self.inside.kernel in
+    let now = seat_of_event g.M.Naming.table k c.self.inside.desk c.note-seat.new.self c.record.new.self c.args.seat c.note-seat.result c.record.result c.recorded_as.result (recorded_as c.args.event) c.self.invariant.2
+    c.note-seat.ensures.seat c.note-seat.ensures.desk c.record.ensures.desk c.record.ensures.seat c.recorded_as.ensures in
+    ap (λ (v : SeatView). v.seen) now
+
+pub returns-in-Ok-clause-shown : goal.returns-in-Ok-clause-shown
+returns-in-Ok-clause-shown g c =
+    let k = c.self.inside.kernel in
+    let who = c.actor.ensures ∙ ap (λ (x : SeatView). x.actor) c.note-seat.ensures.seat in
+    let now = seat_of_event g.M.Naming.table k c.self.inside.desk c.note-seat.new.self c.record.new.self c.args.seat c.note-seat.result c.record.result c.recorded_as.result (recorded_as c.args.event) c.self.invariant.2
+    c.note-seat.ensures.seat c.note-seat.ensures.desk c.record.ensures.desk c.record.ensures.seat c.recorded_as.ensures in
+    ap (λ (v : SeatView). v.seen) now ∙ ap (λ i. k.history ++ record_of i (recorded_as c.args.event) ∷ []) (sym who) ∙ sym (ap (λ (m : BootAndHistory). m.history) c.in-Ok.ensures.ok.1.recorded)
+
+pub returns-in-Err-clause-none : goal.returns-in-Err-clause-none
+returns-in-Err-clause-none g c =
+    sym (history_seen g.M.Naming.table c.self.inside.kernel c.self.inside.desk c.args.seat c.note-seat.result c.self.invariant.2 c.note-seat.ensures.seat)
+
+pub returns-in-Err-clause-shown : goal.returns-in-Err-clause-shown
+returns-in-Err-clause-shown g c =
+    sym (history_seen g.M.Naming.table c.self.inside.kernel c.self.inside.desk c.args.seat c.note-seat.result c.self.invariant.2 c.note-seat.ensures.seat)
+    ∙ sym (ap (λ (m : BootAndHistory). m.history) c.in-Err.ensures.err.1)
