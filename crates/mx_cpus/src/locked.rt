@@ -39,7 +39,7 @@ pub struct HowFar {
 
 /// What an outsider sees at a glance.
 #[derive(Clone, Copy)]
-pub struct Glance {
+pub struct Sighting {
     pub far: HowFar,
     /// The driver of the keyboard, and the process that the last byte was raised for.
     pub seen: Seen,
@@ -152,7 +152,7 @@ impl<M: Naming> Locked<M> {
         flight: Option<u32>,
         from: usize,
         bytes: &mut Vec<u8>,
-    ) -> (ActorSeat, Glance)
+    ) -> (ActorSeat, Sighting)
         requires table { seat.table ≡ M.table }
         ensures rest { IsRestCall M.boot seat result.0 result.1.far.at_rest }
         ensures records { result.1.far.records ≡ length result.0.seen }
@@ -171,7 +171,7 @@ impl<M: Naming> Locked<M> {
             records: history.len(),
             at_rest,
         };
-        (self.desk.note(seat), Glance { far, seen })
+        (self.desk.note(seat), Sighting { far, seen })
     }
 
     /// A processor takes the process that is first to run.

@@ -8,7 +8,7 @@ ghost use Rattle.mx_cpus.specs.Calls.{IsRestCall, IsTakeCall, IsAcceptedHistory,
 ghost use Rattle.mx_keyboard.specs.Keyboard.{seen_of};
 ghost use Rattle.mx_spool.specs.Written.{console_of_history};
 
-use crate::{ActorSeat, Given, Glance, HowFar, Kernel, Loan, Locked, Naming};
+use crate::{ActorSeat, Given, Sighting, HowFar, Kernel, Loan, Locked, Naming};
 use mx_machine::{Answer, Event, Refusal};
 use std::sync::{Mutex, Wait};
 
@@ -197,7 +197,7 @@ impl<M: Naming> Shared<M> {
         flight: Option<u32>,
         from: usize,
         bytes: &mut Vec<u8>,
-    ) -> (ActorSeat, Glance)
+    ) -> (ActorSeat, Sighting)
         requires table { seat.table ≡ M.table }
         ensures rest { IsRestCall M.boot seat result.0 result.1.far.at_rest }
         ensures records { result.1.far.records ≡ length result.0.seen }

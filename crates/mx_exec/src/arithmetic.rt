@@ -158,7 +158,8 @@ pub fn shift_register(
     count: Count,
 ) -> InsnEnd
     ensures { (next : ℕ) → Leads next image.old
-        (after (Insn.Shift operation size (Operand.Register to) count) next image.old) result image.new }
+        (after (Insn.Shift operation size (Operand.Register to) count) next image.old)
+        result image.new }
 {
     let x = image.regs.get(size, to);
     let places = count_of(image, count);
