@@ -2,5 +2,6 @@ pub mod Rows
 pub mod Lasts
 pub mod Chains
 pub mod Rings
+pub mod Judged
 pub mod PlaceLemmas
 pub mod NoteLemmas

@@ -1,20 +1,61 @@
--- The first slot of a chain that comes again in it, one slot more.
-use Rattle.std.proofs.Common.{◌≡◌, ◌∙◌, ◌<◌, ◌+◌, ℕ, Bool, true, false, cond, List, length, get_or, drop, Some, ap, sym}
-use Rattle.std.proofs.lemmas.List.{drop_more}
+-- The first slot of a chain that comes again in it, and the text of a ring, one slot more.
+use Rattle.std.proofs.Common.{◌≡◌, ◌∙◌, ◌<◌, ◌≤◌, ◌+◌, ℕ, Bool, true, false, cond, codes, List, [], ◌∷◌, ◌++◌, append_assoc, length, get_or, drop, Option, None, Some, ap, sym}
+use Rattle.std.specs.Prelude.{◌==◌}
+use Rattle.std.proofs.lemmas.List.{append-nil, at_drop_more, at_drop_all}
+use Rattle.mx_why.specs.declared.seats.End.{End}
+use Rattle.mx_why.specs.Lines.{ring_rest}
+use Rattle.mx_why.specs.Reasons.{waiting_text}
 use Rattle.mx_why.specs.Verdicts.{is_in, ring_in}
 
-from_here : (chain : List ℕ) (i d : ℕ) (again : Bool) → i < length chain → is_in (drop (i + 1) chain) (get_or chain i d) ≡ again
-    → ring_in (drop i chain) ≡ cond again (Some (get_or chain i d)) (ring_in (drop (i + 1) chain))
-from_here chain i d again within e =
-    ap (λ (v : List ℕ). ring_in v) (drop_more chain i d within)
-    ∙ ap (λ b. cond b (Some (get_or chain i d)) (ring_in (drop (i + 1) chain))) e
+from_here : (chain rest : List ℕ) (i x : ℕ) → x ≡ get_or chain i x → i < length chain → rest ≡ drop (i + 1) chain
+    → ring_in (drop i chain) ≡ cond (is_in rest x) (Some x) (ring_in rest)
+from_here chain rest i x here within after =
+    at_drop_more (λ (v : List ℕ). ring_in v) chain i x within
+    ∙ ap (λ (y : ℕ). ring_in (y ∷ drop (i + 1) chain)) (sym here)
+    ∙ ap (λ (v : List ℕ). ring_in (x ∷ v)) (sym after)
 
 -- it comes again
-pub comes_again : (chain : List ℕ) (i d : ℕ) → i < length chain → is_in (drop (i + 1) chain) (get_or chain i d) ≡ true → ring_in (drop i chain) ≡ ring_in chain
-    → Some (get_or chain i d) ≡ ring_in chain
-comes_again chain i d within e so_far = sym (from_here chain i d true within e) ∙ so_far
+pub comes_again : (chain rest : List ℕ) (i x : ℕ) (again : Bool) → ring_in (drop i chain) ≡ ring_in chain → x ≡ get_or chain i x → i < length chain → rest ≡ drop (i + 1) chain
+    → again ≡ is_in rest x → again ≡ true → Some x ≡ ring_in chain
+comes_again chain rest i x again so_far here within after said yes =
+    sym (from_here chain rest i x here within after ∙ ap (λ b. cond b (Some x) (ring_in rest)) (sym said ∙ yes)) ∙ so_far
 
 -- it doesn't
-pub comes_once : (chain : List ℕ) (i d : ℕ) → i < length chain → is_in (drop (i + 1) chain) (get_or chain i d) ≡ false → ring_in (drop i chain) ≡ ring_in chain
-    → ring_in (drop (i + 1) chain) ≡ ring_in chain
-comes_once chain i d within e so_far = sym (from_here chain i d false within e) ∙ so_far
+pub comes_once : (chain rest : List ℕ) (i x : ℕ) (again : Bool) → ring_in (drop i chain) ≡ ring_in chain → x ≡ get_or chain i x → i < length chain → rest ≡ drop (i + 1) chain
+    → again ≡ is_in rest x → again ≡ false → ring_in (drop (i + 1) chain) ≡ ring_in chain
+comes_once chain rest i x again so_far here within after said no =
+    ap (λ (v : List ℕ). ring_in v) (sym after)
+    ∙ sym (from_here chain rest i x here within after ∙ ap (λ b. cond b (Some x) (ring_in rest)) (sym said ∙ no)) ∙ so_far
+
+-- none does
+pub comes_never : (chain : List ℕ) (i : ℕ) → ring_in (drop i chain) ≡ ring_in chain → length chain ≤ i → None ≡ ring_in chain
+comes_never chain i so_far over = sym (at_drop_all (λ (v : List ℕ). ring_in v) chain i over) ∙ so_far
+
+-- ---- the text of a ring
+
+text_from : (e : End) (s : ℕ) (chain : List ℕ) (i x : ℕ) (same : Bool) → x ≡ get_or chain i x → i < length chain → (x == s) ≡ same
+    → ring_rest e s (drop i chain) ≡ cond same [] (codes ", " ++ waiting_text e x ++ ring_rest e s (drop (i + 1) chain))
+text_from e s chain i x same here within e' =
+    at_drop_more (λ (v : List ℕ). ring_rest e s v) chain i x within
+    ∙ ap (λ (y : ℕ). ring_rest e s (y ∷ drop (i + 1) chain)) (sym here)
+    ∙ ap (λ b. cond b [] (codes ", " ++ waiting_text e x ++ ring_rest e s (drop (i + 1) chain))) e'
+
+-- it ends at the slot
+pub text_ends : (e : End) (s : ℕ) (chain out total : List ℕ) (i x : ℕ) → out ++ ring_rest e s (drop i chain) ≡ total → x ≡ get_or chain i x → i < length chain → (x == s) ≡ true
+    → out ≡ total
+text_ends e s chain out total i x so_far here within same =
+    sym (append-nil out) ∙ sym (ap (λ (t : List ℕ). out ++ t) (text_from e s chain i x true here within same)) ∙ so_far
+
+-- it goes on
+pub text_more : (e : End) (s : ℕ) (chain out mid new total : List ℕ) (i x : ℕ) → out ++ ring_rest e s (drop i chain) ≡ total → x ≡ get_or chain i x → i < length chain
+    → (x == s) ≡ false → mid ≡ out ++ codes ", " → new ≡ mid ++ waiting_text e x → new ++ ring_rest e s (drop (i + 1) chain) ≡ total
+text_more e s chain out mid new total i x so_far here within other comma who =
+    let rest = ring_rest e s (drop (i + 1) chain) in
+    ap (λ (t : List ℕ). t ++ rest) (who ∙ ap (λ (t : List ℕ). t ++ waiting_text e x) comma)
+    ∙ append_assoc (out ++ codes ", ") (waiting_text e x) rest
+    ∙ append_assoc out (codes ", ") (waiting_text e x ++ rest)
+    ∙ sym (ap (λ (t : List ℕ). out ++ t) (text_from e s chain i x false here within other)) ∙ so_far
+
+pub text_over : (e : End) (s : ℕ) (chain out total : List ℕ) (i : ℕ) → out ++ ring_rest e s (drop i chain) ≡ total → length chain ≤ i → out ≡ total
+text_over e s chain out total i so_far over =
+    sym (append-nil out) ∙ sym (ap (λ (t : List ℕ). out ++ t) (at_drop_all (λ (v : List ℕ). ring_rest e s v) chain i over)) ∙ so_far

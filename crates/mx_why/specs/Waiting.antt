@@ -44,7 +44,7 @@ chain_of zero e s = []
 chain_of (suc n) e s = and_on (waits_for e s) (chain_of n e)
 
 -- THE CHAIN: of 32 slots, if it closes, as there are no more different ones
-abbrev pub chain : End → ℕ → List ℕ
+unfoldable pub chain : End → ℕ → List ℕ
 chain e s = chain_of 32 e s
 
 -- ---- what may come from outside

@@ -32,6 +32,7 @@ pub(crate) fn push_left_out(out: &mut Vec<u8>, kind: &[u8], count: usize) -> Res
 }
 
 /// Appends those of a chain up to a slot.
+#[tactic(auto, using(crate::proofs::Rings::text_ends, crate::proofs::Rings::text_more, crate::proofs::Rings::text_over))]
 fn push_ring_rest(out: &mut Vec<u8>, end: &End, slot: u32, chain: &[u32]) -> Result<(), AllocError>
     ensures { OnOk result (out.new.items ≡ out.old.items ++ ring_rest end.now slot chain.now) }
 {

@@ -2,7 +2,8 @@
 
 ghost use Rattle.std.specs.Prelude.{◌≡◌, ◌<◌, IfOk, length, nat_le};
 ghost use Rattle.std.specs.List.{list_all};
-ghost use Rattle.mx_why.specs.Verdicts.{alone, behind, closed, from_any, from_nobody, from_own_alarm, has_no_sender, has_sender, is_never, ring_in, verdict, verdicts};
+ghost use Rattle.mx_why.specs.Verdicts.{alone, behind, by_chain, closed, from_any, from_nobody, from_own_alarm, has_no_sender, has_sender, is_never, ring_in, verdict, verdicts};
+ghost use Rattle.mx_why.specs.Waiting.{chain};
 
 use crate::seats::End;
 use crate::waiting::{
@@ -12,7 +13,7 @@ use mx_print_report::{Awaited, Doing};
 use std::alloc::{AllocError, Global};
 
 /// What is said of a process that waits.
-#[derive(Clone, Copy, PartialEq, Eq)]
+#[derive(Clone, Copy)]
 pub enum Verdict {
     /// It waits for itself: it never goes on.
     Itself,
@@ -58,12 +59,14 @@ fn is_lowest(chain: &[u32], slot: u32) -> bool
 }
 
 /// The first slot of a chain that comes again in it.
+#[tactic(auto, using(crate::proofs::Rings::comes_again, crate::proofs::Rings::comes_once, crate::proofs::Rings::comes_never))]
 fn first_of_ring(chain: &[u32]) -> Option<u32>
     ensures { result ≡ ring_in chain.now }
 {
     for index in 0..chain.len() {
-        if is_in(&chain[index + 1..], chain[index]) {
-            return Some(chain[index]);
+        let slot = chain[index];
+        if is_in(&chain[index + 1..], slot) {
+            return Some(slot);
         }
     }
     None
@@ -169,24 +172,33 @@ fn behind(end: &End, last: u32) -> Option<Verdict>
     }
 }
 
+/// What is said of the process of a slot that waits for another.
+#[tactic(auto, using(crate::proofs::Judged::for_closed, crate::proofs::Judged::for_last))]
+fn judge_waiting(alloc: Global, end: &End, slot: u32) -> Result<Option<Verdict>, AllocError>
+    ensures { IfOk result (λ said. said ≡ by_chain end.now slot (chain end.now slot)) }
+{
+    let chain = chain_from(alloc, end, slot)?;
+    let slots = chain.as_slice();
+    if closes(slots) {
+        return Ok(closed(slots, slot));
+    }
+    match slots.last() {
+        Some(last) => Ok(behind(end, *last)),
+        None => Ok(None),
+    }
+}
+
 /// What is said of the process of a slot, if it waits.
-#[tactic(auto, unfolding(crate::specs::Verdicts::verdict))]
+#[tactic(auto, using(crate::proofs::Judged::for_none, crate::proofs::Judged::for_nobody, crate::proofs::Judged::for_another))]
 fn judge(alloc: Global, end: &End, slot: u32) -> Result<Option<Verdict>, AllocError>
     ensures { IfOk result (λ said. said ≡ verdict end.now slot) }
 {
     let Some(doing) = end.doing(slot) else {
         return Ok(None);
     };
-    if partner_of(doing).is_none() {
-        return Ok(alone(end, slot, doing));
-    }
-    let chain = chain_from(alloc, end, slot)?;
-    if closes(chain.as_slice()) {
-        return Ok(closed(chain.as_slice(), slot));
-    }
-    match chain.as_slice().last() {
-        Some(last) => Ok(behind(end, *last)),
-        None => Ok(None),
+    match partner_of(doing) {
+        Some(_) => judge_waiting(alloc, end, slot),
+        None => Ok(alone(end, slot, doing)),
     }
 }
 
