@@ -118,7 +118,8 @@ fn push_only_from(
     out.extend_from_slice(b" receives only from ")?;
     push_awaited(out, end, awaited)?;
     out.extend_from_slice(b",")?;
-    push_since(out, notes, slot)
+    push_since(out, notes, slot)?;
+    Ok(())
 }
 
 /// Appends from whom the process of a slot, which does this, takes a message.
@@ -182,7 +183,8 @@ fn push_no_bit(out: &mut Vec<u8>, end: &End, seat: &Seat, slot: u32) -> Result<(
     push_mask(out, seat.sends)?;
     out.extend_from_slice(b" has no bit for ")?;
     push_slot(out, end, slot)?;
-    push_bit(out, slot)
+    push_bit(out, slot)?;
+    Ok(())
 }
 
 /// Appends from whom the process of a slot receives in place of an answer, and since when.
@@ -199,7 +201,8 @@ fn push_meanwhile_from(
 {
     out.extend_from_slice(b", and receives from ")?;
     push_awaited(out, end, awaited)?;
-    push_since(out, notes, slot)
+    push_since(out, notes, slot)?;
+    Ok(())
 }
 
 /// Appends what the process of a slot, which does this, does in place of an answer.
@@ -236,7 +239,8 @@ fn push_unanswered(
     out.extend_from_slice(b" has its message")?;
     push_since(out, notes, slot)?;
     push_meanwhile(out, end, notes, from, doing)?;
-    out.extend_from_slice(b" without an answer")
+    out.extend_from_slice(b" without an answer")?;
+    Ok(())
 }
 
 /// Appends what the process of a slot does, from which another one receives.

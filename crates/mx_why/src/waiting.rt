@@ -43,7 +43,7 @@ pub(crate) fn waits_for(end: &End, slot: u32) -> Option<u32>
 }
 
 /// Appends the chain from a slot on: for whom it waits, for whom that one waits, and so on. One that closes has 32.
-#[tactic(auto, unfolding(crate::specs::Waiting::chain), using(crate::proofs::Chains::chain_more, crate::proofs::Chains::chain_ends, crate::proofs::Chains::chain_over))]
+#[tactic(auto, unfolding(crate::specs::Waiting::chain), using(crate::proofs::Chains::chain_ends, crate::proofs::Chains::chain_over))]
 fn push_chain(slots: &mut Vec<u32>, end: &End, slot: u32) -> Result<(), AllocError>
     ensures { OnOk result (slots.new.items ≡ slots.old.items ++ chain end.now slot) }
 {
