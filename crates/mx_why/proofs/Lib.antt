@@ -1,4 +1,5 @@
 pub mod Rows
+pub mod Pieces
 pub mod Lasts
 pub mod Chains
 pub mod Rings

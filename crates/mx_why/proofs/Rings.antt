@@ -1,37 +1,10 @@
--- The first slot of a chain that comes again in it, and the text of a ring, one slot more.
-use Rattle.std.proofs.Common.{◌≡◌, ◌∙◌, ◌<◌, ◌≤◌, ◌+◌, ℕ, Bool, true, false, cond, codes, List, [], ◌∷◌, ◌++◌, append_assoc, length, get_or, drop, Option, None, Some, ap, sym}
+-- The text of a ring, one slot more.
+use Rattle.std.proofs.Common.{◌≡◌, ◌∙◌, ◌<◌, ◌≤◌, ◌+◌, ℕ, Bool, true, false, cond, codes, List, [], ◌∷◌, ◌++◌, append_assoc, length, get_or, drop, ap, sym}
 use Rattle.std.specs.Prelude.{◌==◌}
 use Rattle.std.proofs.lemmas.List.{append-nil, at_drop_more, at_drop_all}
 use Rattle.mx_why.specs.declared.seats.End.{End}
 use Rattle.mx_why.specs.Lines.{ring_rest}
 use Rattle.mx_why.specs.Reasons.{waiting_text}
-use Rattle.mx_why.specs.Verdicts.{is_in, ring_in}
-
-from_here : (chain rest : List ℕ) (i x : ℕ) → x ≡ get_or chain i x → i < length chain → rest ≡ drop (i + 1) chain
-    → ring_in (drop i chain) ≡ cond (is_in rest x) (Some x) (ring_in rest)
-from_here chain rest i x here within after =
-    at_drop_more (λ (v : List ℕ). ring_in v) chain i x within
-    ∙ ap (λ (y : ℕ). ring_in (y ∷ drop (i + 1) chain)) (sym here)
-    ∙ ap (λ (v : List ℕ). ring_in (x ∷ v)) (sym after)
-
--- it comes again
-pub comes_again : (chain rest : List ℕ) (i x : ℕ) (again : Bool) → ring_in (drop i chain) ≡ ring_in chain → x ≡ get_or chain i x → i < length chain → rest ≡ drop (i + 1) chain
-    → again ≡ is_in rest x → again ≡ true → Some x ≡ ring_in chain
-comes_again chain rest i x again so_far here within after said yes =
-    sym (from_here chain rest i x here within after ∙ ap (λ b. cond b (Some x) (ring_in rest)) (sym said ∙ yes)) ∙ so_far
-
--- it doesn't
-pub comes_once : (chain rest : List ℕ) (i x : ℕ) (again : Bool) → ring_in (drop i chain) ≡ ring_in chain → x ≡ get_or chain i x → i < length chain → rest ≡ drop (i + 1) chain
-    → again ≡ is_in rest x → again ≡ false → ring_in (drop (i + 1) chain) ≡ ring_in chain
-comes_once chain rest i x again so_far here within after said no =
-    ap (λ (v : List ℕ). ring_in v) (sym after)
-    ∙ sym (from_here chain rest i x here within after ∙ ap (λ b. cond b (Some x) (ring_in rest)) (sym said ∙ no)) ∙ so_far
-
--- none does
-pub comes_never : (chain : List ℕ) (i : ℕ) → ring_in (drop i chain) ≡ ring_in chain → length chain ≤ i → None ≡ ring_in chain
-comes_never chain i so_far over = sym (at_drop_all (λ (v : List ℕ). ring_in v) chain i over) ∙ so_far
-
--- ---- the text of a ring
 
 text_from : (e : End) (s : ℕ) (chain : List ℕ) (i x : ℕ) (same : Bool) → x ≡ get_or chain i x → i < length chain → (x == s) ≡ same
     → ring_rest e s (drop i chain) ≡ cond same [] (codes ", " ++ waiting_text e x ++ ring_rest e s (drop (i + 1) chain))

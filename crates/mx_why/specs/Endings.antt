@@ -118,8 +118,11 @@ then_by left None = if nat_lt 0 left then codes "; not respawned yet" else codes
 unfoldable pub then_text : End → ℕ → Death → List ℕ
 then_text e s d = then_by (restarts_in (seat_in e s)) d.respawn
 
+unfoldable pub several_text : ℕ → List ℕ
+several_text n = codes ", " ++ decimal n ++ codes " times, first"
+
 unfoldable pub times_text : ℕ → List ℕ
-times_text n = if nat_le n 1 then codes "," else codes ", " ++ decimal n ++ codes " times, first"
+times_text n = if nat_le n 1 then codes "," else several_text n
 
 unfoldable pub death_line : End → Note → Death → List ℕ
 death_line e n d =

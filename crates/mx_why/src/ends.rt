@@ -3,7 +3,7 @@
 ghost use Rattle.std.specs.Prelude.{◌≡◌, ◌++◌, ◌<◌, ◌^◌, ◌≤◌, OnOk};
 ghost use Rattle.std.specs.List.{flat_map, list_any, range_with_len};
 ghost use Rattle.mx_look.specs.Doings.{is_ready};
-ghost use Rattle.mx_why.specs.Endings.{after_text, before_text, death_line, death_text, deaths_text, does, ending, full_text, has_held, has_ready, ending_by, ending_text, is_held, is_listed, is_unfinished, listed_at, listed_text, open_text, respawned_text, restarts_in, then_text, times_text, unfinished_text, wanted_records, word_of};
+ghost use Rattle.mx_why.specs.Endings.{after_text, before_text, death_line, death_text, deaths_text, does, ending, full_text, has_held, has_ready, ending_by, ending_text, is_held, is_listed, is_unfinished, listed_at, listed_text, open_text, respawned_text, restarts_in, several_text, then_text, times_text, unfinished_text, wanted_records, word_of};
 ghost use Rattle.mx_why.specs.Seats.{doing_in, seat_in};
 
 use crate::deaths::Death;
@@ -287,17 +287,26 @@ fn push_then(out: &mut Vec<u8>, end: &End, slot: u32, death: Death) -> Result<()
     }
 }
 
+/// Appends that one died several times.
+#[tactic(auto, unfolding(crate::specs::Endings::several_text))]
+fn push_several(out: &mut Vec<u8>, times: usize) -> Result<(), AllocError>
+    ensures { OnOk result (out.new.items ≡ out.old.items ++ several_text times) }
+{
+    out.extend_from_slice(b", ")?;
+    push_long(out, times as u64)?;
+    out.extend_from_slice(b" times, first")
+}
+
 /// Appends how often one died, if not once.
 #[tactic(auto, unfolding(crate::specs::Endings::times_text))]
 fn push_times(out: &mut Vec<u8>, times: usize) -> Result<(), AllocError>
     ensures { OnOk result (out.new.items ≡ out.old.items ++ times_text times) }
 {
     if times <= 1 {
-        return out.extend_from_slice(b",");
+        out.extend_from_slice(b",")
+    } else {
+        push_several(out, times)
     }
-    out.extend_from_slice(b", ")?;
-    push_long(out, times as u64)?;
-    out.extend_from_slice(b" times, first")
 }
 
 /// Appends the line of deaths that are like the one of a note.

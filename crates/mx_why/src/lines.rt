@@ -7,7 +7,7 @@ ghost use Rattle.mx_why.specs.Waiting.{waits_for};
 ghost use Rattle.mx_why.specs.Lines.{awaits_line_text, comma_text, doing_if, due_text, for_ring_text, further_text, idle_at, idle_text, is_idle, is_kind, is_said, is_told, kind_of, left_out_text, line_text, may_come_text, nothing_text, owned_text, ring_rest, ring_text, said_line, verdict_text, wait_at, wait_line, waits_text, waker_text, which_ring_text};
 
 use crate::notes::{Note, has_run};
-use crate::reasons::{push_reason, push_since, push_slot, push_waiting};
+use crate::reasons::{push_reason, push_since, push_slot, push_verb, push_waiting};
 use crate::seats::End;
 use crate::verdicts::Verdict;
 use crate::waiting::{chain_from, waits_for, waking_alarm, waking_line};
@@ -73,10 +73,10 @@ fn push_which_ring(out: &mut Vec<u8>, end: &End, partner: u32, first: u32) -> Re
     ensures { OnOk result (out.new.items ≡ out.old.items ++ which_ring_text end.now partner first) }
 {
     if waits_for_itself(end, partner) {
-        return out.extend_from_slice(b" waits for itself");
+        out.extend_from_slice(b" waits for itself")
+    } else {
+        push_verb(out, end, b" waits too, in the ring of ", first)
     }
-    out.extend_from_slice(b" waits too, in the ring of ")?;
-    push_slot(out, end, first)
 }
 
 /// Appends that one waits for a ring, of which this slot comes first.

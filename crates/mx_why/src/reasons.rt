@@ -47,7 +47,7 @@ fn push_from(out: &mut Vec<u8>, end: &End, words: &[u8], awaited: Awaited) -> Re
 }
 
 /// Appends a verb and the name of a slot's service.
-fn push_verb(out: &mut Vec<u8>, end: &End, verb: &[u8], slot: u32) -> Result<(), AllocError>
+pub(crate) fn push_verb(out: &mut Vec<u8>, end: &End, verb: &[u8], slot: u32) -> Result<(), AllocError>
     ensures { OnOk result (out.new.items ≡ out.old.items ++ (verb.now ++ slot_text end.now slot)) }
 {
     out.extend_from_slice(verb)?;
@@ -118,8 +118,7 @@ fn push_only_from(
     out.extend_from_slice(b" receives only from ")?;
     push_awaited(out, end, awaited)?;
     out.extend_from_slice(b",")?;
-    push_since(out, notes, slot)?;
-    Ok(())
+    push_since(out, notes, slot)
 }
 
 /// Appends from whom the process of a slot, which does this, takes a message.
@@ -183,8 +182,7 @@ fn push_no_bit(out: &mut Vec<u8>, end: &End, seat: &Seat, slot: u32) -> Result<(
     push_mask(out, seat.sends)?;
     out.extend_from_slice(b" has no bit for ")?;
     push_slot(out, end, slot)?;
-    push_bit(out, slot)?;
-    Ok(())
+    push_bit(out, slot)
 }
 
 /// Appends from whom the process of a slot receives in place of an answer, and since when.
@@ -201,8 +199,7 @@ fn push_meanwhile_from(
 {
     out.extend_from_slice(b", and receives from ")?;
     push_awaited(out, end, awaited)?;
-    push_since(out, notes, slot)?;
-    Ok(())
+    push_since(out, notes, slot)
 }
 
 /// Appends what the process of a slot, which does this, does in place of an answer.
@@ -239,8 +236,7 @@ fn push_unanswered(
     out.extend_from_slice(b" has its message")?;
     push_since(out, notes, slot)?;
     push_meanwhile(out, end, notes, from, doing)?;
-    out.extend_from_slice(b" without an answer")?;
-    Ok(())
+    out.extend_from_slice(b" without an answer")
 }
 
 /// Appends what the process of a slot does, from which another one receives.

@@ -59,7 +59,6 @@ fn is_lowest(chain: &[u32], slot: u32) -> bool
 }
 
 /// The first slot of a chain that comes again in it.
-#[tactic(auto, using(crate::proofs::Rings::comes_again, crate::proofs::Rings::comes_once, crate::proofs::Rings::comes_never))]
 fn first_of_ring(chain: &[u32]) -> Option<u32>
     ensures { result ≡ ring_in chain.now }
 {
@@ -173,7 +172,6 @@ fn behind(end: &End, last: u32) -> Option<Verdict>
 }
 
 /// What is said of the process of a slot that waits for another.
-#[tactic(auto, using(crate::proofs::Judged::for_closed, crate::proofs::Judged::for_last))]
 fn judge_waiting(alloc: Global, end: &End, slot: u32) -> Result<Option<Verdict>, AllocError>
     ensures { IfOk result (λ said. said ≡ by_chain end.now slot (chain end.now slot)) }
 {

@@ -1,4 +1,4 @@
-use Rattle.std.proofs.Common.{◌+◌, refl, take}
+use Rattle.std.proofs.Common.{◌+◌, arith, refl, take}
 use Rattle.mx_machine.specs.History.{events_of_history}
 use Rattle.mx_app_start.specs.Machine.{world_of}
 use Rattle.mx_app_step.proofs.RecordLemmas.{is_actor_still, next_accepted, next_world, refused_at}
@@ -28,7 +28,7 @@ loop-index-preserved c =
       accepted = next_accepted w v c.args.records.now i _ c.loop-index-test.true inv.accepted inv.world done.0;
       world = next_world w v c.args.records.now i _ c.loop-index-test.true inv.accepted inv.world (world_of c.look_record.new.machine) done.1;
       noted = next_noted w v c.args.records.now i (i + 1) _ c.look_record.new.transition c.loop-index.notes.items c.push_notes.new.notes.items
-          c.loop-index-test.true refl inv.world c.in-Ok.ensures.transition inv.noted c.in_ok-push_notes.ensures;
+          c.loop-index-test.true refl inv.world c.in-Ok.ensures.transition inv.noted c.in_ok-push_notes-in-Ok.ensures;
     }
 
 pub returns-clause-noted : goal.returns-clause-noted

@@ -10,8 +10,8 @@ loop-slot-preserved c =
     let inv = c.loop-slot.invariant in
     let within : c.loop-slot.slot < length c.loop-slot.said = omega (arith, inv.long) in
     record {
-      long = length-set c.loop-slot.said c.loop-slot.slot c.in_ok-said.said ∙ inv.long;
-      filled = filled_more (verdict c.args.end.now) c.loop-slot.said c.loop-slot.slot c.in_ok-said.said None within c.in_ok-said.ensures inv.filled;
+      long = length-set c.loop-slot.said c.loop-slot.slot c.in_ok-said.field-0 ∙ inv.long;
+      filled = filled_more (verdict c.args.end.now) c.loop-slot.said c.loop-slot.slot c.in_ok-said.field-0 None within c.in_ok-said.ensures inv.filled;
     }
 
 pub returns : goal.returns
