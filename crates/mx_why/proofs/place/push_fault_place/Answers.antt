@@ -26,4 +26,4 @@ returns c =
     let x = c.args.transition.now in
     let line = c.as_slice-text.ensures.value ∙ c.in_ok-push_fault_line.ensures ∙ ap (λ (l : List ℕ). l ++ fault_line (record x { number = 0 })) c.new-line.ensures.items in
     let long : 3 < length c.as_slice-text.result.now = omega (arith, c.if-text-le-MARGIN.false) in
-    on_ok_weaker c.extend_from_slice.result (told x c.as_slice-text.result.now _ c.args.out.now.items c.extend_from_slice.new.self.items line long refl) (extended c.extend_from_slice.result c.extend_from_slice.ensures.items)
+    on_ok_weaker c.extend_from_slice.result (told x c.as_slice-text.result.now (length c.as_slice-text.result.now - 1) c.args.out.now.items c.extend_from_slice.new.self.items line long refl) (extended c.extend_from_slice.result c.extend_from_slice.new.self.items (c.args.out.now.items ++ slice_range c.as_slice-text.result.now 3 (length c.as_slice-text.result.now - 1)) c.args.out.now.items c.extend_from_slice.ensures.items)
