@@ -1,5 +1,5 @@
 -- The chain of who waits for whom, one slot more.
-use Rattle.std.proofs.Common.{◌≡◌, ◌∙◌, ℕ, zero, suc, List, [], ◌∷◌, ◌++◌, append_assoc, Option, None, Some, ap, sym}
+use Rattle.std.proofs.Common.{◌≡◌, ◌∙◌, ℕ, suc, List, [], ◌∷◌, ◌++◌, append_assoc, Option, None, Some, ap, sym}
 use Rattle.std.proofs.lemmas.List.{append-nil}
 use Rattle.mx_why.specs.declared.seats.End.{End}
 use Rattle.mx_why.specs.Waiting.{and_on, chain_of, waits_for}

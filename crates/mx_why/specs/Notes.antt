@@ -2,7 +2,7 @@
 use Rattle.std.specs.Prelude.{ℕ, ◌==◌, ◌&&◌, not, Bool, true, false, List, [], ◌∷◌, filter}
 use Rattle.std.specs.List.{list_any}
 use Rattle.mx_why.specs.declared.notes.Deed.{Deed}
-use Rattle.mx_why.specs.declared.notes.Deed.TheVariants.{Taken, Changed, Died, Respawned}
+use Rattle.mx_why.specs.declared.notes.Deed.TheVariants.{Taken, Died, Respawned}
 use Rattle.mx_why.specs.declared.notes.Note.{Note}
 
 abbrev pub is_taken : Deed → Bool

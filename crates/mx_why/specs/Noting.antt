@@ -1,6 +1,5 @@
 -- THE NOTES that are taken of a history: what became of its slots, record by record (our own).
-use Rattle.std.specs.Prelude.{ℕ, ◌+◌, ◌==◌, ◌&&◌, nat_le, if◌then◌else◌, Bool, true, false, List, [], ◌∷◌, ◌++◌, codes, Option, Some, None}
-use Rattle.std.specs.Fmt.{decimal}
+use Rattle.std.specs.Prelude.{ℕ, ◌+◌, ◌==◌, nat_le, if◌then◌else◌, List, [], ◌∷◌, ◌++◌, codes, Option, Some, None}
 use Rattle.std.specs.List.{flat_map, range_with_len}
 use Rattle.mx_machine.specs.declared.history.Record.{Record}
 use Rattle.mx_machine.specs.declared.history.Recorded.{Recorded}
@@ -12,7 +11,6 @@ use Rattle.mx_proc.specs.declared.process.DeathCause.TheVariants as cause
 use Rattle.mx_print_report.specs.declared.doing.Doing.{Doing}
 use Rattle.mx_print_report.specs.declared.doing.Doing.TheVariants.{Down}
 use Rattle.mx_print_report.specs.Words.{cause_text, name_bytes}
-use Rattle.mx_look.specs.declared.accesses.Access.{Access}
 use Rattle.mx_look.specs.declared.faults.FaultGlance.{FaultGlance}
 use Rattle.mx_look.specs.declared.glance.CpuGlance.{CpuGlance}
 use Rattle.mx_look.specs.declared.reasons.FaultReason.{FaultReason}

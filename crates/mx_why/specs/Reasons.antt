@@ -1,5 +1,5 @@
 -- Who is meant, for whom he waits, and why nothing comes from there, in words (our own).
-use Rattle.std.specs.Prelude.{ℕ, ◌^◌, ◌||◌, ◌&&◌, not, nat_lt, if◌then◌else◌, Bool, true, false, List, [], ◌∷◌, ◌++◌, codes, Option, Some, None}
+use Rattle.std.specs.Prelude.{ℕ, ◌^◌, ◌||◌, ◌&&◌, not, nat_lt, if◌then◌else◌, Bool, true, false, List, [], ◌++◌, codes, Option, Some, None}
 use Rattle.std.specs.Fmt.{decimal}
 use Rattle.mx_insn_words.specs.Numbers.{hexadecimal}
 use Rattle.mx_print_report.specs.declared.doing.Awaited.{Awaited}

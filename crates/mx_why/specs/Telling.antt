@@ -1,5 +1,5 @@
 -- WHAT IS TOLD of a saved history (our own).
-use Rattle.std.specs.Prelude.{◌≡◌, ℕ, ◌+◌, ◌-◌, ◌==◌, if◌then◌else◌, true, false, List, [], ◌++◌, length, Option, Some, None}
+use Rattle.std.specs.Prelude.{◌≡◌, ℕ, ◌+◌, ◌==◌, if◌then◌else◌, true, false, List, [], ◌++◌, length, Option, Some, None}
 use Rattle.mx_app_start.specs.Failure.{PrintsFront}
 use Rattle.mx_app_start.specs.Log.{lines_above}
 use Rattle.mx_app_step.specs.declared.records.Replayed.{Replayed}

@@ -1,7 +1,7 @@
 -- WHO WAITS FOR WHOM, and who may go on by a line or an alarm (our own). At rest nobody runs until a line or an alarm
 -- makes one go on; it may send to others, and take the messages or end the waits of those that wait for it; and these
 -- may do so then. So who isn't reached from there doesn't go on, unless a process is killed.
-use Rattle.std.specs.Prelude.{ℕ, zero, suc, ◌==◌, ◌&&◌, ◌||◌, nat_lt, if◌then◌else◌, Bool, true, false, List, [], ◌∷◌, map, Option, Some, None, is_some, slice_index_or}
+use Rattle.std.specs.Prelude.{ℕ, zero, suc, ◌&&◌, ◌||◌, nat_lt, if◌then◌else◌, Bool, true, false, List, [], ◌∷◌, map, Option, Some, None, is_some, slice_index_or}
 use Rattle.std.specs.List.{range_with_len, list_any}
 use Rattle.mx_word.specs.Bits.{has_bit}
 use Rattle.mx_print_report.specs.declared.doing.Awaited.{Awaited}

@@ -47,7 +47,12 @@ fn push_from(out: &mut Vec<u8>, end: &End, words: &[u8], awaited: Awaited) -> Re
 }
 
 /// Appends a verb and the name of a slot's service.
-pub(crate) fn push_verb(out: &mut Vec<u8>, end: &End, verb: &[u8], slot: u32) -> Result<(), AllocError>
+pub(crate) fn push_verb(
+    out: &mut Vec<u8>,
+    end: &End,
+    verb: &[u8],
+    slot: u32,
+) -> Result<(), AllocError>
     ensures { OnOk result (out.new.items ≡ out.old.items ++ (verb.now ++ slot_text end.now slot)) }
 {
     out.extend_from_slice(verb)?;

@@ -1,4 +1,4 @@
-use Rattle.std.proofs.Common.{◌≡◌, ◌∙◌, List, true, false, filter, ap, sym, arith}
+use Rattle.std.proofs.Common.{◌∙◌, List, filter, ap, sym, arith}
 use Rattle.std.proofs.lemmas.List.{take_all}
 use Rattle.mx_why.specs.declared.notes.Note.{Note}
 use Rattle.mx_why.specs.Deaths.{is_alike}

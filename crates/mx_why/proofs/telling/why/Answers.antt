@@ -1,4 +1,4 @@
-use Rattle.std.proofs.Common.{List, ℕ, ◌≡◌, ◌∙◌, ◌<◌, ap, take, inl, inr}
+use Rattle.std.proofs.Common.{List, ℕ, ◌∙◌, ◌<◌, ap, take, inl, inr}
 use Rattle.std.proofs.KnownBytes.{Appends-nil}
 use Rattle.std.proofs.lemmas.Result.{IfErr-weaker, IfOk-weaker, err_from_is_err_and}
 use Rattle.std.specs.Io.KnownBytes.{Appends}
