@@ -123,29 +123,51 @@ def asked(who, kinds):
     return {f"{who} queue": " ".join(map(str, kinds))}
 
 
-def patient(draw):
-    """A queue that has nothing, one that has something after a while, one that two producers fill, and one that dies."""
+def patient(draw, who):
+    """A consumer with a queue that has nothing, one that has something after a while, one that two producers fill, and one that
+    dies. Where there are two consumers, both are of the same program."""
     names = service("names", "good_names.out", "fffe", "1", 3)
-    waits, polls = (called(it, f"{it}.out", 7, "3", "7") for it in ("waits", "polls"))
     judge = service("judge", "judge.out", all_but(2), "11", 5)
-    yield {"name": "two consumers and no producer",
-           "config": machine(1, names, service("queue", "good_queue.out", all_but(1), "1", 4), judge, waits, polls),
-           "facts": [looks_up(it, "queue", NAME_QUEUE) for it in ASKS], "models": [("named", it) for it in ASKS],
-           "want": {"console": "", "asks": asked("waits", [GET]) | asked("polls", [TRY] * 20 + [GET]),
-                    "states": {"waits": "awaiting 1", "polls": "awaiting 1"}}}
+    line = called(who, f"{who}.out", 7, "3", "7")
+    kind, models = ASKS[who], followed(who, who)
+    yield {"name": f"{who} and no producer",
+           "config": machine(1, names, service("queue", "good_queue.out", all_but(1), "1", 4), judge, line),
+           "facts": [looks_up(who, "queue", NAME_QUEUE)], "models": models,
+           "want": {"console": "", "asks": asked(who, [TRY] * 20 + [GET] if kind == TRY else [GET]),
+                    "states": {who: "awaiting 1"}}}
     patience = draw.randint(5, 19)
     slow = machine(1, names, service("queue", "slow_queue.out", all_but(1), "1", 4), judge)
     made = {"patience": [patience], "items": [draw.randint(1, LARGEST) for _ in range(2)]}
-    for who, line, kinds in (("polls", polls, [TRY] * (patience + 1 + 20) + [GET, TRY]), ("waits", waits, [GET] * 2)):
-        yield {"name": f"{who}, a queue with an item after {patience} answers NOTHING, and then one for a GET",
-               "config": [*slow, line], "set": {"queue": made}, "facts": reports(who), "models": [("named", who)],
-               "want": {"asks": asked(who, kinds), "states": {who: "down exit"}, "taken": ["queue", "judge"]}}
-    yield six(draw, 1, given=("names", "queue")) | {"name": "with a name server and a queue of the grader"}
-    for name, line, kind, answers in (("waits", waits, GET, draw.randint(0, 1)), ("polls", polls, TRY, draw.randint(1, 4))):
-        yield {"name": f"a queue that ends at a request, after {answers} answers", "config": [*slow, line],
-               "set": {"queue": made | {"answers": [answers]}}, "models": [("named", name)],
-               "facts": [looks_up(name, "queue", NAME_QUEUE), f"0 message {name} to judge .."],
-               "want": {"asks": asked(name, [kind] * (answers + 1)), "states": {name: "down exit"}}}
+    kinds = [TRY] * (patience + 1 + 20) + [GET, TRY] if kind == TRY else [GET] * 2
+    yield {"name": f"{who}, a queue with an item after {patience} answers NOTHING, and then one for a GET",
+           "config": [*slow, line], "set": {"queue": made}, "facts": reports(who), "models": models,
+           "want": {"asks": asked(who, kinds), "states": {who: "down exit"}, "taken": ["queue", "judge"]}}
+    yield six(draw, 1, given=("names", "queue"), takers=(who, who)) | {"name": "with a name server and a queue of the grader"}
+    answers = draw.randint(1, 4) if kind == TRY else draw.randint(0, 1)
+    yield {"name": f"a queue that ends at a request, after {answers} answers", "config": [*slow, line],
+           "set": {"queue": made | {"answers": [answers]}}, "models": models,
+           "facts": [looks_up(who, "queue", NAME_QUEUE), f"0 message {who} to judge .."],
+           "want": {"asks": asked(who, [kind] * (answers + 1)), "states": {who: "down exit"}}}
+
+
+def patient_waits(draw):
+    yield from patient(draw, "waits")
+
+
+def patient_polls(draw):
+    yield from patient(draw, "polls")
+
+
+def asks_as_it_should(name, program):
+    """A consumer asks the queue; one that waits does so by GET alone. Of one that polls a model says more."""
+    yield f"1+ message {name} to queue type {ASKS[program]} .."
+    if program == "waits":
+        yield (f"0 message {name} to queue type {PUT}|{TRY}|{END} ..", f"{name} asks the queue by type {GET} alone")
+
+
+def followed(name, program):
+    """The models of a consumer: both know others by a name, and one polls."""
+    return [("named", name), *([("polls", name)] if program == "polls" else [])]
 
 
 def looks_up(who, server, name):
@@ -206,42 +228,49 @@ def six(draw, cpus, levels=(7, 7), given=(), takers=("waits", "polls"), **want):
     config = machine(cpus, service("names", names, all_but(0), "1", 3),
                      *[called(name, program, level, calls, all_but(slots[name]) if slots[name] in servers else to_servers)
                        for name, program, level, calls in rows])
-    return {"config": config, "models": [("names", "names"), ("queue", "queue"), *[("named", it) for it in consumers]],
+    return {"config": config, "models": [("names", "names"), ("queue", "queue"),
+                                         *[it for pair in consumers.items() for it in followed(*pair)]],
             "set": {it: {"items": items[i]} for i, it in enumerate(("ann", "ben"))} | plans,
-            "facts": [f"1+ message {name} to queue type {ASKS[program]} .." for name, program in consumers.items()]
+            "facts": [fact for pair in consumers.items() for fact in asks_as_it_should(*pair)]
                      + [fact for it in consumers for fact in reports(it)],
             "want": {"taken": ["queue", "judge"],
                      "states": {it: LIVES for it in ("names", "queue")}
                                | {it: "down exit" for it in ("judge", "ann", "ben", *consumers, *visitors)}, **want}}
 
 
-def by_turns(draw):
-    """Here `polls` is followed too. With two consumers of one program, and guests that soon go, nobody else takes what they
-    leave."""
-    for name, cpus, levels in ((FULL_ON_ONE, 1, FULL), ("on one processor, where consumers come first", 1, EMPTY),
-                               (on(4), 4, (7, 7))):
-        case = six(draw, cpus, levels)
-        yield case | {"name": name, "models": [*case["models"], ("polls", "polls")]}
+def of_two(draw, **want):
+    """On one processor, where producers come first: two that wait, and two that poll. Guests soon go there, so nobody else takes
+    what a consumer leaves."""
     for name, program in (("two that wait", "waits"), ("two that poll", "polls")):
-        case = six(draw, 1, FULL, takers=(program, program))
-        followed = [("polls", it) for it in (program, "second") if program == "polls"]
-        yield case | {"name": f"{name}, {on(1)}", "models": [*case["models"], *followed]}
+        yield six(draw, 1, FULL, takers=(program, program), **want) | {"name": f"{name}, {FULL_ON_ONE}"}
+
+
+def on_one(draw, **want):
+    """Where consumers come first, one that polls has twenty answers NOTHING in a row."""
+    yield six(draw, 1, EMPTY, **want) | {"name": "on one processor, where consumers come first"}
+    yield from of_two(draw, **want)
+
+
+def by_turns(draw):
+    for name, cpus, levels in ((FULL_ON_ONE, 1, FULL), (on(4), 4, (7, 7))):
+        yield six(draw, cpus, levels) | {"name": name}
+    yield from on_one(draw)
 
 
 def in_other_slots(draw):
     yield six(draw, 2, levels=None) | {"name": on(2)}
-    yield six(draw, 1, FULL) | {"name": FULL_ON_ONE}
+    yield from on_one(draw)
 
 
 def with_reports(draw):
-    yield six(draw, 1, FULL, steps="judge") | {"name": FULL_ON_ONE}
     yield six(draw, 4, steps="judge") | {"name": on(4)}
+    yield from on_one(draw, steps="judge")
 
 
 def by_threads(draw):
     """The runs are of these machines by turns."""
     yield six(draw, 4) | {"name": on(4)}
-    yield six(draw, 1, FULL) | {"name": FULL_ON_ONE}
+    yield from of_two(draw)
 
 
 ADDERS = ("ann", "ben", "cleo")
