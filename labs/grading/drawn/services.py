@@ -40,18 +40,24 @@ def in_awkward_slots(draw, actors, waiting, levels):
             return rows
 
 
+def other_types(draw, least):
+    """Types of no request: over those that there are, 0, and below."""
+    return [draw.randint(least, 99), 0, -draw.randint(1, 99)]
+
+
 def looked_up(draw):
     """Names that are looked up before anybody has them, by several; a name that another one takes, and its successor after
     it; what there is not; a process that ends while it waits."""
     name, other = draw.sample(OTHER_NAMES, 2)
-    first = [(ASK, 0, LOOKUP, name), (ASK, 0, draw.randint(5, 99), 0), (ASK, 0, LOOKUP, draw.randint(8, 99)),
-             (ASK, 0, REGISTER, -draw.randint(1, 9))]
+    wrong = [(ASK, 0, kind, it) for kind in other_types(draw, 3) for it in (0, draw.randint(8, 99))]
+    wrong += [(ASK, 0, kind, it) for kind in (REGISTER, LOOKUP) for it in (draw.randint(8, 99), -draw.randint(1, 9))]
+    first = [(ASK, 0, LOOKUP, name), *draw.sample(wrong, len(wrong))]
     registers = [(ASK, 0, REGISTER, it) for it in draw.sample([other, name], 2)]
     actors = [("first", first, 4, 0), ("second", [(ASK, 0, LOOKUP, name)], 5, 0), ("hasty", [(TELL, 0, LOOKUP, name)], 5, 0),
               ("third", [(ASK, 0, LOOKUP, name), (ASK, 0, LOOKUP, other)], 6, 0),
               ("queue", [(ASK, 0, LOOKUP, 1)], draw.randint(4, 7), 0), ("judge", [(ASK, 0, LOOKUP, 2)], draw.randint(4, 7), 0),
               ("owner", [(POKE, 0), (WORK, draw.randint(2, 5)), *registers], 8, 0),
-              ("heir", [(ASK, 0, REGISTER, name), (ASK, 0, LOOKUP, name), (ASK, 0, LOOKUP, other)], 9, draw.randint(1, 2))]
+              ("heir", [(ASK, 0, REGISTER, name), (ASK, 0, LOOKUP, name), (ASK, 0, LOOKUP, other)], 9, draw.randint(4, 6))]
     actors = in_awkward_slots(draw, actors, ("first", "second", "third"), (4, 7))
     yield served(draw, "names that are looked up before anybody has them, or never has", actors, "names",
                  server=service("names", "names.out", "fffe", "1", 3), want={"states": {"names": LIVES}})
@@ -60,10 +66,14 @@ def looked_up(draw):
 def crowd_looked_up(draw):
     """A name that a crowd waits for, by a server that does the rest too."""
     yield from looked_up(draw)
-    # Name 0: what a server writes over its tables, if it has no room for all, is found there first.
-    crowd = [(f"client{i}", [(ASK, 0, LOOKUP, 0, draw.randint(1, 99))], draw.randint(5, 8), 0) for i in range(CROWD)]
-    crowd.insert(draw.randint(0, CROWD), ("owner", [(WORK, 2), (ASK, 0, REGISTER, 0)], 9, 0))
-    yield served(draw, f"a name that {CROWD} clients wait for", crowd, "names",
+    # Name 0: what a server writes over its tables, if it has no room for all, is found there first. About half wait for it.
+    names = [0] * (CROWD // 2 + 1) + [draw.choice(range(1, 8))] * (CROWD // 2)
+    draw.shuffle(names)
+    crowd = [(f"client{i}", [(ASK, 0, LOOKUP, name, draw.randint(1, 99))], draw.randint(5, 8), 0)
+             for i, name in enumerate(names)]
+    registers = [(ASK, 0, REGISTER, it) for it in draw.sample(sorted(set(names)), 2)]
+    crowd.insert(draw.randint(0, CROWD), ("owner", [(WORK, 2), *registers], 9, 0))
+    yield served(draw, f"two names that {CROWD} clients wait for", crowd, "names",
                  server=service("names", "names.out", "fffffffe", "1", 3), want={"states": {"names": LIVES}})
 
 
@@ -97,23 +107,37 @@ def queued(draw):
     """Room, order and end; and two consumers that wait. How much is brought, and when what is asked for, is drawn."""
     count, before = draw.randint(9, 11), draw.randint(5, 7)
     items = drawn_items(draw, count + 3)
-    filler = [(POKE, 1), (ASK, 1, TRY), (ASK, 1, draw.randint(5, 99)), *[(ASK, 1, PUT, it) for it in items[3:]], (ASK, 1, END)]
+    filler = [(POKE, 1), (ASK, 1, TRY), *[(ASK, 1, it) for it in other_types(draw, 5)], *[(ASK, 1, PUT, it) for it in items[3:]],
+              (ASK, 1, END)]
     taker = [(ASK, 1, draw.choice([GET, TRY])) for _ in range(count)] + [(ASK, 1, GET)] * 2 + [(ASK, 1, TRY)]
     taker.insert(before, (ASK, 1, END))
     yield queue_case(draw, "a producer that fills the queue, and a consumer", ("filler", filler, 5), ("taker", taker, 7))
     yield consumers_wait(draw, "two consumers wait", items[:3])
 
 
+def dead_consumers(draw):
+    """Consumers that are dead when they are answered: while items are there, or while nobody else waits."""
+    for name, first, kinds in (("while items are there", 4, [GET, TRY]), ("while nobody else waits", 6, [GET])):
+        items = [(ASK, 1, PUT, it) for it in drawn_items(draw, draw.randint(3, 6))]
+        hasty = [(f"hasty{i}", [(TELL, 1, draw.choice(kinds))], 5) for i in range(draw.randint(2, 3))]
+        taker = [(ASK, 1, TRY)] * (len(items) + 1)
+        yield queue_case(draw, f"{len(hasty)} consumers that are dead when they are answered, {name}", ("filler", items, first),
+                         *hasty, ("taker", taker, 8))
+
+
 def crowd_queued(draw):
     """A consumer and a producer that die while they wait; a crowd that waits, and its successors after it. By a queue that
     does the rest too."""
     yield from queued(draw)
-    items = drawn_items(draw, 14)
+    waiting = draw.randint(4, 9)
+    items = drawn_items(draw, 13 + waiting)
     yield consumers_wait(draw, "three consumers wait, and one of them dies", items[:3], ("hasty", [(TELL, 1, GET)], 4))
+    yield from dead_consumers(draw)
     full = [(ASK, 1, PUT, it) for it in items[3:11]]
-    yield queue_case(draw, "three producers wait for room, and one of them dies", ("filler", full, 4),
-                     ("first", [(ASK, 1, PUT, items[11])], 5), ("hasty", [(TELL, 1, PUT, items[12])], 6),
-                     ("second", [(ASK, 1, PUT, items[13])], 7), ("taker", [(ASK, 1, GET)] * 11 + [(ASK, 1, TRY)], 8))
+    producers = [(f"more{i}", [(ASK, 1, PUT, items[13 + i])], draw.randint(5, 7)) for i in range(waiting)]
+    yield queue_case(draw, f"{waiting + 2} producers wait for room, and one of them dies", ("filler", full, 4),
+                     ("first", [(ASK, 1, PUT, items[11])], 5), ("hasty", [(TELL, 1, PUT, items[12])], 6), *producers,
+                     ("taker", [(ASK, 1, GET)] * (10 + waiting) + [(ASK, 1, TRY)], 8))
     crowd = [(f"client{i}", [(ASK, 1, GET)], draw.randint(4, 7)) for i in range(CROWD)]
     put = [(ASK, 1, PUT, draw.randint(1, 1000)) for _ in range(CROWD)]
     yield queue_case(draw, f"{CROWD} consumers wait, each end and is replaced", *crowd, ("putter", put, 8), restarts=1)
@@ -143,11 +167,12 @@ def patient(draw, who):
            "config": [*slow, line], "set": {"queue": made}, "facts": reports(who), "models": models,
            "want": {"asks": asked(who, kinds), "states": {who: "down exit"}, "taken": ["queue", "judge"]}}
     yield six(draw, 1, given=("names", "queue"), takers=(who, who)) | {"name": "with a name server and a queue of the grader"}
-    answers = draw.randint(1, 4) if kind == TRY else draw.randint(0, 1)
-    yield {"name": f"a queue that ends at a request, after {answers} answers", "config": [*slow, line],
-           "set": {"queue": made | {"answers": [answers]}}, "models": models,
-           "facts": [looks_up(who, "queue", NAME_QUEUE), f"0 message {who} to judge .."],
-           "want": {"asks": asked(who, [kind] * (answers + 1)), "states": {who: "down exit"}}}
+    # The GET of one that polls may be the request at which the queue ends.
+    for kinds in ([TRY] * draw.randint(2, 5), [TRY] * 20 + [GET]) if kind == TRY else ([GET] * draw.randint(1, 2),):
+        yield {"name": f"a queue that ends at a request, after {len(kinds) - 1} answers", "config": [*slow, line],
+               "set": {"queue": made | {"patience": [20], "answers": [len(kinds) - 1]}}, "models": models,
+               "facts": [looks_up(who, "queue", NAME_QUEUE), f"0 message {who} to judge .."],
+               "want": {"asks": asked(who, kinds), "states": {who: "down exit"}}}
 
 
 def patient_waits(draw):
