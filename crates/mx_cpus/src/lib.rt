@@ -45,7 +45,7 @@ mod threads;
 pub use blank::{Blank, boot};
 pub use calling::outsider;
 pub use gate::{Gate, WatchingGate};
-pub use locked::{Given, Sighting, HowFar, Locked};
+pub use locked::{Given, HowFar, Locked, Sighting};
 pub use loops::{processor, respawner};
 pub use mx_loan::ActorSeat;
 pub(crate) use mx_loan::{Desk, Loan};

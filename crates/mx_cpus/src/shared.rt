@@ -8,7 +8,7 @@ ghost use Rattle.mx_cpus.specs.Calls.{IsRestCall, IsTakeCall, IsAcceptedHistory,
 ghost use Rattle.mx_keyboard.specs.Keyboard.{seen_of};
 ghost use Rattle.mx_spool.specs.Written.{console_of_history};
 
-use crate::{ActorSeat, Given, Sighting, HowFar, Kernel, Loan, Locked, Naming};
+use crate::{ActorSeat, Given, HowFar, Kernel, Loan, Locked, Naming, Sighting};
 use mx_machine::{Answer, Event, Refusal};
 use std::sync::{Mutex, Wait};
 

@@ -24,7 +24,7 @@ enum Call {
 
 /// What a call answers: of a loan its budget and the steps that it counts.
 #[derive(Clone, Copy, PartialEq, Eq)]
-enum Reply {
+pub(crate) enum Reply {
     Done(Answer),
     Refused(Refusal),
     Lent { budget: u32, count: u32 },
@@ -236,7 +236,7 @@ fn reply_of(answer: Result<Answer, Refusal>) -> Reply {
 }
 
 /// Takes, runs for some steps, and gives back.
-fn out_and_back<M: Naming>(
+pub(crate) fn out_and_back<M: Naming>(
     rt: &impl Wait,
     shared: &Shared<M>,
     seat: ActorSeat,

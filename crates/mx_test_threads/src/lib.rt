@@ -9,6 +9,8 @@ mod exchanges;
 #[cfg(test)]
 mod gates;
 #[cfg(test)]
+mod glances;
+#[cfg(test)]
 mod killed;
 #[cfg(test)]
 mod loops;

@@ -1,5 +1,5 @@
 /* A store that gives back bytes of its own, which are drawn, and not those that it got; before it got any, zeros. Each of its
- * lives ends at a request after so many answers. */
+ * lives ends at a request after so many answers, or at once after the last of them. */
 #include "mx.h"
 
 #define STORE_SLOT 0
@@ -8,6 +8,7 @@
 #define BYTES 64
 #define LIVES 24
 #define LONG 1000
+#define AT_ONCE 0x10000         /* in a life that doesn't wait for another request */
 
 volatile uint32_t given[BYTES / 4] = {1};
 volatile uint32_t lives[LIVES] = {LONG};
@@ -34,10 +35,12 @@ static int copy(const message *m)
 int main(void)
 {
     message m;
-    uint32_t left;
+    uint32_t left, at_once;
 
     sys_whois(STORE_SLOT, &self);
     left = self / 1024 < LIVES ? lives[self / 1024] : LONG;
+    at_once = left & AT_ONCE;
+    left -= at_once;
     while (receive(ANY, &m) == OK) {
         if (m.m_type == NOTIFICATION)
             continue;
@@ -45,6 +48,8 @@ int main(void)
             return 1;
         m.m_type = m.m_type == PUT || m.m_type == GET ? copy(&m) : EBADREQUEST;
         send(m.m_source, &m);
+        if (at_once && left == 0)
+            return 1;
     }
     return 1;
 }

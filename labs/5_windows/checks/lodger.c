@@ -1,5 +1,6 @@
 /* A saver with several blocks of bytes, which are drawn: more than half of those that a store has. It writes the first and the
- * last byte of each that it got back, and before that an x for each word that is another. */
+ * last byte of each that it got back, and before that an x for each word that is another. Or it puts nothing, and gets what
+ * another one has put. */
 #include "mx.h"
 
 #define STORE_SLOT 0
@@ -11,6 +12,7 @@
 
 volatile uint32_t plain[COUNT * WORDS] = {1};
 volatile int32_t blocks[COUNT] = {5, 2};
+volatile int32_t puts = 1;
 
 static uint32_t place[WORDS];
 static uint32_t came[COUNT * WORDS];
@@ -54,7 +56,7 @@ static int save(void)
 
     while (sys_whois(STORE_SLOT, &store) != OK)
         ;
-    for (i = 0; i < COUNT && result == OK; i++)
+    for (i = 0; puts && i < COUNT && result == OK; i++)
         result = put(i);
     for (i = 0; i < COUNT && result == OK; i++)
         result = get(i);

@@ -11,6 +11,8 @@
 /* Where the drawn bytes begin, the block that is put first, and the one that is put twice. */
 volatile uint32_t seed[3] = {1, 0, 0};
 volatile uint32_t mistakes = 1;
+volatile int32_t types[3] = {3, 0, -1};         /* of no request */
+volatile uint32_t far[4] = {BLOCKS, 9, 100, -1}; /* blocks that there aren't */
 
 static char before = 'b';
 static char bytes[BYTES + 2];
@@ -77,9 +79,14 @@ static int is_given_back(char *place, uint32_t block, uint32_t text)
  * answered. */
 static void make_mistakes(void)
 {
-    expect(ask(PUT, BLOCKS, bytes + 1) == EINVAL, 'n');
-    expect(ask(GET, 0xffffffff, bytes + 1) == EINVAL, 'n');
-    expect(ask(3, 0, bytes + 1) == EBADREQUEST, 't');
+    int i;
+
+    for (i = 0; i < 4; i++) {
+        expect(ask(PUT, far[i], bytes + 1) == EINVAL, 'n');
+        expect(ask(GET, far[i], bytes + 1) == EINVAL, 'n');
+    }
+    for (i = 0; i < 3; i++)
+        expect(ask(types[i], 0, bytes + 1) == EBADREQUEST, 't');
     expect(ask(PUT, 1, bytes + 2) == EPERM, 'w');
     expect(ask(GET, 1, bytes) == EPERM, 'w');
     expect(is_given_back(bytes + 1, 1, 1), 'k');
@@ -114,9 +121,5 @@ int main(void)
     sys_grant(STORE, other, BYTES, GRANT_READ | GRANT_WRITE);
     for (i = 0; i < 3; i++)
         expect(is_given_back(other, (seed[2] + i) % BLOCKS, i == 0 ? 10 : (seed[2] + i) % BLOCKS), 'g');
-    if (mistakes) {
-        expect(ask(PUT, 0x7fffffff, other) == EINVAL, 'n');
-        expect(ask(0, 0, other) == EBADREQUEST, 't');
-    }
     return 0;
 }

@@ -118,15 +118,25 @@ def hogged(draw, bounces):
     return " ".join(made)
 
 
+def late_bounce(draw):
+    """The sensor in the third tick, and a bounce before that tick: an interrupt of line 5 doesn't say that the time is over."""
+    return f"t {HOGGED} t {HOGGED} s {draw.randint(3, 12)} b 40"
+
+
 def both_lines(draw):
     """Both interrupts come while another process runs, in any order, also twice; then once more with the next press. Then the
-    sensor comes, so whoever forgets a press can't make up for it by a bounce. Each press bounces as is drawn."""
+    sensor comes, so whoever forgets a press can't make up for it by a bounce. Each press bounces as is drawn, and one of the two
+    also late."""
     kinds = ("b s", "s b s", "b b s", f"s {draw.randint(2, 4)} b s")
-    for lines, way, other in zip(kinds, ways(draw, 4, 1), ways(draw, 4)):
+    late = [0, 1, 0, 1]
+    draw.shuffle(late)
+    for lines, way, other, place in zip(kinds, ways(draw, 4, 1), ways(draw, 4), late):
         quiet = [f"t {HOGGED}"] * 3
         quiet.insert(draw.randint(1, 3), f"s {HOGGED}")
-        first = f"{draw.randint(12, 14)} t {lines} 40 s {HOGGED} {hogged(draw, way)} {' '.join(quiet)}"
-        again = f"{'t 22 ' * draw.randint(0, 2)}t {draw.choice(['b s', 's b'])} 40 s {HOGGED} {hogged(draw, other)}"
+        bounces_of = [hogged(draw, way), hogged(draw, other)]
+        bounces_of[place] += f" {late_bounce(draw)}"
+        first = f"{draw.randint(12, 14)} t {lines} 40 s {HOGGED} {bounces_of[0]} {' '.join(quiet)}"
+        again = f"{'t 22 ' * draw.randint(0, 2)}t {draw.choice(['b s', 's b'])} 40 s {HOGGED} {bounces_of[1]}"
         yield button_case("both lines while another process runs", f"{first} {again} t 22 t 22 t 22", True)
 
 

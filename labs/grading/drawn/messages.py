@@ -30,7 +30,7 @@ def one_adder(draw):
 
 def two_adders(draw):
     for cpus in (1, 3):
-        actors = [(it, additions(draw, draw.randint(4, 6)), 7, 0) for it in ("asker", "second")]
+        actors = [(it, additions_and_total(draw, draw.randint(4, 6)), 7, 0) for it in ("asker", "second")]
         yield totals(draw, f"two clients {on(cpus)}", actors, cpus=cpus)
 
 
@@ -49,11 +49,11 @@ def strange_requests(draw):
 
 def dead_clients(draw):
     """A client that is dead when it is answered; one that ends, is replaced and asks again under another endpoint."""
-    hasty, reader = [(TELL, 0, ADD, draw.randint(2, 99))], [(ASK, 0, ADD, draw.randint(2, 99))]
+    hasty, reader = [(TELL, 0, ADD, draw.randint(2, 99))], additions_and_total(draw, 1)
     rest = {"want": {"states": {"server": "receiving any"}}}
     yield totals(draw, "a client ends before it has its answer", [("hasty", hasty, 6, 0), ("reader", reader, 8, 0)],
                  **rest)
-    twice = [(WORK, draw.randint(1, 3)), (ASK, 0, ADD, draw.randint(2, 99))]
+    twice = [(WORK, draw.randint(1, 3)), *additions_and_total(draw, 1)]
     yield totals(draw, "a client ends and is replaced", [("asker", twice, 7, draw.randint(2, 4))], **rest)
 
 

@@ -40,18 +40,24 @@ def in_awkward_slots(draw, actors, waiting, levels):
             return rows
 
 
+def other_types(draw, least):
+    """Types of no request: over those that there are, 0, and below."""
+    return [draw.randint(least, 99), 0, -draw.randint(1, 99)]
+
+
 def looked_up(draw):
     """Names that are looked up before anybody has them, by several; a name that another one takes, and its successor after
     it; what there is not; a process that ends while it waits."""
     name, other = draw.sample(OTHER_NAMES, 2)
-    first = [(ASK, 0, LOOKUP, name), (ASK, 0, draw.randint(5, 99), 0), (ASK, 0, LOOKUP, draw.randint(8, 99)),
-             (ASK, 0, REGISTER, -draw.randint(1, 9))]
+    wrong = [(ASK, 0, kind, it) for kind in other_types(draw, 3) for it in (0, draw.randint(8, 99))]
+    wrong += [(ASK, 0, kind, it) for kind in (REGISTER, LOOKUP) for it in (draw.randint(8, 99), -draw.randint(1, 9))]
+    first = [(ASK, 0, LOOKUP, name), *draw.sample(wrong, len(wrong))]
     registers = [(ASK, 0, REGISTER, it) for it in draw.sample([other, name], 2)]
     actors = [("first", first, 4, 0), ("second", [(ASK, 0, LOOKUP, name)], 5, 0), ("hasty", [(TELL, 0, LOOKUP, name)], 5, 0),
               ("third", [(ASK, 0, LOOKUP, name), (ASK, 0, LOOKUP, other)], 6, 0),
               ("queue", [(ASK, 0, LOOKUP, 1)], draw.randint(4, 7), 0), ("judge", [(ASK, 0, LOOKUP, 2)], draw.randint(4, 7), 0),
               ("owner", [(POKE, 0), (WORK, draw.randint(2, 5)), *registers], 8, 0),
-              ("heir", [(ASK, 0, REGISTER, name), (ASK, 0, LOOKUP, name), (ASK, 0, LOOKUP, other)], 9, draw.randint(1, 2))]
+              ("heir", [(ASK, 0, REGISTER, name), (ASK, 0, LOOKUP, name), (ASK, 0, LOOKUP, other)], 9, draw.randint(4, 6))]
     actors = in_awkward_slots(draw, actors, ("first", "second", "third"), (4, 7))
     yield served(draw, "names that are looked up before anybody has them, or never has", actors, "names",
                  server=service("names", "names.out", "fffe", "1", 3), want={"states": {"names": LIVES}})
@@ -60,10 +66,14 @@ def looked_up(draw):
 def crowd_looked_up(draw):
     """A name that a crowd waits for, by a server that does the rest too."""
     yield from looked_up(draw)
-    # Name 0: what a server writes over its tables, if it has no room for all, is found there first.
-    crowd = [(f"client{i}", [(ASK, 0, LOOKUP, 0, draw.randint(1, 99))], draw.randint(5, 8), 0) for i in range(CROWD)]
-    crowd.insert(draw.randint(0, CROWD), ("owner", [(WORK, 2), (ASK, 0, REGISTER, 0)], 9, 0))
-    yield served(draw, f"a name that {CROWD} clients wait for", crowd, "names",
+    # Name 0: what a server writes over its tables, if it has no room for all, is found there first. About half wait for it.
+    names = [0] * (CROWD // 2 + 1) + [draw.choice(range(1, 8))] * (CROWD // 2)
+    draw.shuffle(names)
+    crowd = [(f"client{i}", [(ASK, 0, LOOKUP, name, draw.randint(1, 99))], draw.randint(5, 8), 0)
+             for i, name in enumerate(names)]
+    registers = [(ASK, 0, REGISTER, it) for it in draw.sample(sorted(set(names)), 2)]
+    crowd.insert(draw.randint(0, CROWD), ("owner", [(WORK, 2), *registers], 9, 0))
+    yield served(draw, f"two names that {CROWD} clients wait for", crowd, "names",
                  server=service("names", "names.out", "fffffffe", "1", 3), want={"states": {"names": LIVES}})
 
 
@@ -97,23 +107,37 @@ def queued(draw):
     """Room, order and end; and two consumers that wait. How much is brought, and when what is asked for, is drawn."""
     count, before = draw.randint(9, 11), draw.randint(5, 7)
     items = drawn_items(draw, count + 3)
-    filler = [(POKE, 1), (ASK, 1, TRY), (ASK, 1, draw.randint(5, 99)), *[(ASK, 1, PUT, it) for it in items[3:]], (ASK, 1, END)]
+    filler = [(POKE, 1), (ASK, 1, TRY), *[(ASK, 1, it) for it in other_types(draw, 5)], *[(ASK, 1, PUT, it) for it in items[3:]],
+              (ASK, 1, END)]
     taker = [(ASK, 1, draw.choice([GET, TRY])) for _ in range(count)] + [(ASK, 1, GET)] * 2 + [(ASK, 1, TRY)]
     taker.insert(before, (ASK, 1, END))
     yield queue_case(draw, "a producer that fills the queue, and a consumer", ("filler", filler, 5), ("taker", taker, 7))
     yield consumers_wait(draw, "two consumers wait", items[:3])
 
 
+def dead_consumers(draw):
+    """Consumers that are dead when they are answered: while items are there, or while nobody else waits."""
+    for name, first, kinds in (("while items are there", 4, [GET, TRY]), ("while nobody else waits", 6, [GET])):
+        items = [(ASK, 1, PUT, it) for it in drawn_items(draw, draw.randint(3, 6))]
+        hasty = [(f"hasty{i}", [(TELL, 1, draw.choice(kinds))], 5) for i in range(draw.randint(2, 3))]
+        taker = [(ASK, 1, TRY)] * (len(items) + 1)
+        yield queue_case(draw, f"{len(hasty)} consumers that are dead when they are answered, {name}", ("filler", items, first),
+                         *hasty, ("taker", taker, 8))
+
+
 def crowd_queued(draw):
     """A consumer and a producer that die while they wait; a crowd that waits, and its successors after it. By a queue that
     does the rest too."""
     yield from queued(draw)
-    items = drawn_items(draw, 14)
+    waiting = draw.randint(4, 9)
+    items = drawn_items(draw, 13 + waiting)
     yield consumers_wait(draw, "three consumers wait, and one of them dies", items[:3], ("hasty", [(TELL, 1, GET)], 4))
+    yield from dead_consumers(draw)
     full = [(ASK, 1, PUT, it) for it in items[3:11]]
-    yield queue_case(draw, "three producers wait for room, and one of them dies", ("filler", full, 4),
-                     ("first", [(ASK, 1, PUT, items[11])], 5), ("hasty", [(TELL, 1, PUT, items[12])], 6),
-                     ("second", [(ASK, 1, PUT, items[13])], 7), ("taker", [(ASK, 1, GET)] * 11 + [(ASK, 1, TRY)], 8))
+    producers = [(f"more{i}", [(ASK, 1, PUT, items[13 + i])], draw.randint(5, 7)) for i in range(waiting)]
+    yield queue_case(draw, f"{waiting + 2} producers wait for room, and one of them dies", ("filler", full, 4),
+                     ("first", [(ASK, 1, PUT, items[11])], 5), ("hasty", [(TELL, 1, PUT, items[12])], 6), *producers,
+                     ("taker", [(ASK, 1, GET)] * (10 + waiting) + [(ASK, 1, TRY)], 8))
     crowd = [(f"client{i}", [(ASK, 1, GET)], draw.randint(4, 7)) for i in range(CROWD)]
     put = [(ASK, 1, PUT, draw.randint(1, 1000)) for _ in range(CROWD)]
     yield queue_case(draw, f"{CROWD} consumers wait, each end and is replaced", *crowd, ("putter", put, 8), restarts=1)
@@ -123,29 +147,52 @@ def asked(who, kinds):
     return {f"{who} queue": " ".join(map(str, kinds))}
 
 
-def patient(draw):
-    """A queue that has nothing, one that has something after a while, one that two producers fill, and one that dies."""
+def patient(draw, who):
+    """A consumer with a queue that has nothing, one that has something after a while, one that two producers fill, and one that
+    dies. Where there are two consumers, both are of the same program."""
     names = service("names", "good_names.out", "fffe", "1", 3)
-    waits, polls = (called(it, f"{it}.out", 7, "3", "7") for it in ("waits", "polls"))
     judge = service("judge", "judge.out", all_but(2), "11", 5)
-    yield {"name": "two consumers and no producer",
-           "config": machine(1, names, service("queue", "good_queue.out", all_but(1), "1", 4), judge, waits, polls),
-           "facts": [looks_up(it, "queue", NAME_QUEUE) for it in ASKS], "models": [("named", it) for it in ASKS],
-           "want": {"console": "", "asks": asked("waits", [GET]) | asked("polls", [TRY] * 20 + [GET]),
-                    "states": {"waits": "awaiting 1", "polls": "awaiting 1"}}}
+    line = called(who, f"{who}.out", 7, "3", "7")
+    kind, models = ASKS[who], followed(who, who)
+    yield {"name": f"{who} and no producer",
+           "config": machine(1, names, service("queue", "good_queue.out", all_but(1), "1", 4), judge, line),
+           "facts": [looks_up(who, "queue", NAME_QUEUE)], "models": models,
+           "want": {"console": "", "asks": asked(who, [TRY] * 20 + [GET] if kind == TRY else [GET]),
+                    "states": {who: "awaiting 1"}}}
     patience = draw.randint(5, 19)
     slow = machine(1, names, service("queue", "slow_queue.out", all_but(1), "1", 4), judge)
     made = {"patience": [patience], "items": [draw.randint(1, LARGEST) for _ in range(2)]}
-    for who, line, kinds in (("polls", polls, [TRY] * (patience + 1 + 20) + [GET, TRY]), ("waits", waits, [GET] * 2)):
-        yield {"name": f"{who}, a queue with an item after {patience} answers NOTHING, and then one for a GET",
-               "config": [*slow, line], "set": {"queue": made}, "facts": reports(who), "models": [("named", who)],
-               "want": {"asks": asked(who, kinds), "states": {who: "down exit"}, "taken": ["queue", "judge"]}}
-    yield six(draw, 1, given=("names", "queue")) | {"name": "with a name server and a queue of the grader"}
-    for name, line, kind, answers in (("waits", waits, GET, draw.randint(0, 1)), ("polls", polls, TRY, draw.randint(1, 4))):
-        yield {"name": f"a queue that ends at a request, after {answers} answers", "config": [*slow, line],
-               "set": {"queue": made | {"answers": [answers]}}, "models": [("named", name)],
-               "facts": [looks_up(name, "queue", NAME_QUEUE), f"0 message {name} to judge .."],
-               "want": {"asks": asked(name, [kind] * (answers + 1)), "states": {name: "down exit"}}}
+    kinds = [TRY] * (patience + 1 + 20) + [GET, TRY] if kind == TRY else [GET] * 2
+    yield {"name": f"{who}, a queue with an item after {patience} answers NOTHING, and then one for a GET",
+           "config": [*slow, line], "set": {"queue": made}, "facts": reports(who), "models": models,
+           "want": {"asks": asked(who, kinds), "states": {who: "down exit"}, "taken": ["queue", "judge"]}}
+    yield six(draw, 1, given=("names", "queue"), takers=(who, who)) | {"name": "with a name server and a queue of the grader"}
+    # The GET of one that polls may be the request at which the queue ends.
+    for kinds in ([TRY] * draw.randint(2, 5), [TRY] * 20 + [GET]) if kind == TRY else ([GET] * draw.randint(1, 2),):
+        yield {"name": f"a queue that ends at a request, after {len(kinds) - 1} answers", "config": [*slow, line],
+               "set": {"queue": made | {"patience": [20], "answers": [len(kinds) - 1]}}, "models": models,
+               "facts": [looks_up(who, "queue", NAME_QUEUE), f"0 message {who} to judge .."],
+               "want": {"asks": asked(who, kinds), "states": {who: "down exit"}}}
+
+
+def patient_waits(draw):
+    yield from patient(draw, "waits")
+
+
+def patient_polls(draw):
+    yield from patient(draw, "polls")
+
+
+def asks_as_it_should(name, program):
+    """A consumer asks the queue; one that waits does so by GET alone. Of one that polls a model says more."""
+    yield f"1+ message {name} to queue type {ASKS[program]} .."
+    if program == "waits":
+        yield (f"0 message {name} to queue type {PUT}|{TRY}|{END} ..", f"{name} asks the queue by type {GET} alone")
+
+
+def followed(name, program):
+    """The models of a consumer: both know others by a name, and one polls."""
+    return [("named", name), *([("polls", name)] if program == "polls" else [])]
 
 
 def looks_up(who, server, name):
@@ -206,42 +253,49 @@ def six(draw, cpus, levels=(7, 7), given=(), takers=("waits", "polls"), **want):
     config = machine(cpus, service("names", names, all_but(0), "1", 3),
                      *[called(name, program, level, calls, all_but(slots[name]) if slots[name] in servers else to_servers)
                        for name, program, level, calls in rows])
-    return {"config": config, "models": [("names", "names"), ("queue", "queue"), *[("named", it) for it in consumers]],
+    return {"config": config, "models": [("names", "names"), ("queue", "queue"),
+                                         *[it for pair in consumers.items() for it in followed(*pair)]],
             "set": {it: {"items": items[i]} for i, it in enumerate(("ann", "ben"))} | plans,
-            "facts": [f"1+ message {name} to queue type {ASKS[program]} .." for name, program in consumers.items()]
+            "facts": [fact for pair in consumers.items() for fact in asks_as_it_should(*pair)]
                      + [fact for it in consumers for fact in reports(it)],
             "want": {"taken": ["queue", "judge"],
                      "states": {it: LIVES for it in ("names", "queue")}
                                | {it: "down exit" for it in ("judge", "ann", "ben", *consumers, *visitors)}, **want}}
 
 
-def by_turns(draw):
-    """Here `polls` is followed too. With two consumers of one program, and guests that soon go, nobody else takes what they
-    leave."""
-    for name, cpus, levels in ((FULL_ON_ONE, 1, FULL), ("on one processor, where consumers come first", 1, EMPTY),
-                               (on(4), 4, (7, 7))):
-        case = six(draw, cpus, levels)
-        yield case | {"name": name, "models": [*case["models"], ("polls", "polls")]}
+def of_two(draw, **want):
+    """On one processor, where producers come first: two that wait, and two that poll. Guests soon go there, so nobody else takes
+    what a consumer leaves."""
     for name, program in (("two that wait", "waits"), ("two that poll", "polls")):
-        case = six(draw, 1, FULL, takers=(program, program))
-        followed = [("polls", it) for it in (program, "second") if program == "polls"]
-        yield case | {"name": f"{name}, {on(1)}", "models": [*case["models"], *followed]}
+        yield six(draw, 1, FULL, takers=(program, program), **want) | {"name": f"{name}, {FULL_ON_ONE}"}
+
+
+def on_one(draw, **want):
+    """Where consumers come first, one that polls has twenty answers NOTHING in a row."""
+    yield six(draw, 1, EMPTY, **want) | {"name": "on one processor, where consumers come first"}
+    yield from of_two(draw, **want)
+
+
+def by_turns(draw):
+    for name, cpus, levels in ((FULL_ON_ONE, 1, FULL), (on(4), 4, (7, 7))):
+        yield six(draw, cpus, levels) | {"name": name}
+    yield from on_one(draw)
 
 
 def in_other_slots(draw):
     yield six(draw, 2, levels=None) | {"name": on(2)}
-    yield six(draw, 1, FULL) | {"name": FULL_ON_ONE}
+    yield from on_one(draw)
 
 
 def with_reports(draw):
-    yield six(draw, 1, FULL, steps="judge") | {"name": FULL_ON_ONE}
     yield six(draw, 4, steps="judge") | {"name": on(4)}
+    yield from on_one(draw, steps="judge")
 
 
 def by_threads(draw):
     """The runs are of these machines by turns."""
     yield six(draw, 4) | {"name": on(4)}
-    yield six(draw, 1, FULL) | {"name": FULL_ON_ONE}
+    yield from of_two(draw)
 
 
 ADDERS = ("ann", "ben", "cleo")

@@ -4,6 +4,7 @@ from .machines import TELL, bystanders, deaths, killed, looked, machine, on, pla
 PUT, GET = 1, 2
 BLOCKS, BYTES = 8, 64
 LODGED = 5  # blocks of a lodger
+AT_ONCE = 1 << 16  # in a keeper's life: it ends after its last answer, and waits for no other request
 STORE = service("store", "store.out", send="fffe", calls="a1", level=4, restarts=20)
 KEEPER = STORE.replace("store.out", "keeper.out")
 THIEF = STORE.replace("store.out", "thief.out").replace("calls a1", "calls b9")
@@ -16,21 +17,29 @@ OF_SAVER = [("windows", "saver"), ("asker", "saver")]
 def probed(draw, name, mistakes, *more, **plans):
     """A client that stores bytes of its own in all blocks, and makes mistakes or none; beside it more services."""
     others, drawn = bystanders(draw, 1)
-    drawn["prober"] = {"seed": [draw.randint(1, 1 << 30), draw.randint(0, 7), draw.randint(0, 7)], "mistakes": [mistakes]}
+    types = draw.sample([draw.randint(3, 99), 0, -draw.randint(1, 99)], 3)
+    far = [BLOCKS, draw.randint(9, 99), draw.randint(100, (1 << 31) - 1), -draw.randint(1, 1 << 31)]
+    drawn["prober"] = {"seed": [draw.randint(1, 1 << 30), draw.randint(0, 7), draw.randint(0, 7)], "mistakes": [mistakes],
+                       "types": types, "far": draw.sample(far, 4)}
     line = service("prober", "prober.out", calls="191")
     return {"name": name, "config": machine(1, STORE, *others, *more, line), "set": drawn | plans, "models": OF_STORE,
-            "want": {"console": "." * (31 if mistakes else 22)}}
+            "want": {"console": "." * (37 if mistakes else 22)}}
 
 
 def blocks(draw):
     yield probed(draw, "a client that stores and gets back", 0)
+    yield inherited(draw)
 
 
 def mistakes(draw):
-    """A client whose requests are wrong too, beside one that doesn't wait for its answer."""
+    """A client whose requests are wrong too, beside two that don't wait for their answers."""
     hasty = service("hasty", "actor.out", calls="1", level=6)
     step = (TELL, 0, draw.choice([PUT, GET]), draw.randint(8, 99))
-    yield probed(draw, "a client that makes mistakes, and one that ends before it has its answer", 1, hasty, hasty=plan(step))
+    # Of a better level than the store's: it is dead when the store asks for the copy.
+    dead = service("dead", "actor.out", calls="1", level=2)
+    other = (TELL, 0, draw.choice([PUT, GET]), draw.randrange(BLOCKS))
+    yield probed(draw, "a client that makes mistakes, and two that end before they have their answers", 1, hasty, dead,
+                 hasty=plan(step), dead=plan(other))
 
 
 def letters(draw, count):
@@ -80,6 +89,15 @@ def kept(data, lives=()):
     return {"given": dwords(data), "lives": deaths(lives)}
 
 
+def inherited(draw):
+    """A saver, and after its end another one that gets what the first one put: a block is nobody's own."""
+    case = lodged(draw, "a client that gets what another one has stored", 1)
+    heir = service("heir", "lodger.out", calls="191", level=9)
+    want = {"console": 2 * case["want"]["console"], "states": {"lodger": "down exit", "heir": "down exit"}}
+    return case | {"config": [*case["config"], heir], "want": want,
+                   "set": case["set"] | {"heir": case["set"]["lodger"] | {"puts": [0]}}}
+
+
 def ended_once(draw, cpus):
     """A store that ends at the first request. Who doesn't go on loses nothing here; but whoever asks its successor opens no
     more for that one, and nobody writes what no store gave."""
@@ -99,7 +117,7 @@ def saved(draw, cpus):
     yield saving(f"a store with bytes of its own, {on(cpus)}", cpus, KEEPER, {**plans, "store": kept(data)}, ends(data),
                  memory=zeros)
     yield lodged(draw, f"a client with bytes of its own, {on(cpus)}", cpus)
-    yield ended_once(draw, cpus)
+    yield ended_once(draw, cpus) | {"memory": zeros}
 
 
 def saved_on_one(draw):
@@ -111,7 +129,7 @@ def saved_on_two(draw):
     yield from saved(draw, 2)
     line = service("hurried", "hurried.out", calls="191")
     yield {"name": "a client that runs on another processor while it is served", "config": machine(2, STORE, line),
-           "set": {"hurried": {"work": [draw.randint(12, 20)]}}, "models": OF_STORE, "want": {"console": ".."}}
+           "set": {"hurried": {"work": [draw.randint(34, 44)]}}, "models": OF_STORE, "want": {"console": ".."}}
 
 
 def thieves(draw):
@@ -130,8 +148,8 @@ def killed_store(draw):
     data = letters(draw, BYTES)
     _, plans = bystanders(draw, 1)
     for name, lives in (("a kill at every position, of a store that also ends once by itself", 1),
-                        ("a store that ends {} times at a request", draw.randint(5, 9))):
-        ends_at = [draw.randint(0, 1) for _ in range(lives)]
+                        ("a store that ends {} times at a request", draw.randint(14, 18))):
+        ends_at = [draw.choice([0, 1, AT_ONCE | 1]) for _ in range(lives)]
         case = saving(name.format(lives), 1, KEEPER, {**plans, "store": kept(data, ends_at)}, ends(data))
-        yield case | {"facts": [*SAVED, looked("saver", ends_at)]} | (killed(draw) if lives == 1 else {})
+        yield case | {"facts": [*SAVED, looked("saver", ends_at)]} | (killed(draw, down=(22, 28)) if lives == 1 else {})
     yield lodged(draw, "a kill of your store at every position", 1, **killed(draw))

@@ -50,12 +50,13 @@ class Asker:
             if words[:6] == ["call", self.who, "WHOIS", "0", "answer", "0"]:
                 self.known.add((words[6:] + ["0"])[0])
             elif words[:2] == ["try", self.who] and words[3] != "SYSTEM":
-                self.compare(it)
+                self.compare(it, words[2], it.who[1])
+            elif words[:3] == ["call", self.who, "GRANT"]:
+                self.compare(it, "GRANT", words[3])
 
-    def compare(self, event):
-        whom = event.who[1]
+    def compare(self, event, what, whom):
         if whom is not None and int(whom) % GENERATION == 0 and whom not in self.known:
-            raise wrong(self.name, event, f"{event.words[2]} with {self.allowed()}", f"{event.words[2]} with {whom}")
+            raise wrong(self.name, event, f"{what} with {self.allowed()}", f"{what} with {whom}")
 
     def allowed(self):
         """The endpoints that may be used, in words."""

@@ -28,6 +28,7 @@ class Served:
                 raise wrong(self.name, it, f"{self.server} never ends", said(it))
             if it.words[0] == "down":
                 self.dead.add(it.who[0])
+                self.end(it.who[0])
             elif it.words[0] == "notify" and it.words[3] == self.server:
                 self.notified.add(it.who[0])
             elif it.words[:3] == ["try", self.server, "SEND"] and it.who[1] in self.notified:
@@ -43,6 +44,9 @@ class Served:
         for who, (request, answer) in self.due.items():
             if who not in self.dead:
                 raise wrong(self.name, request, f"{told(request)}: an answer {shown(answer)}", "no answer")
+
+    def end(self, who):
+        """A process is dead: what was for it, if anything was."""
 
     def others(self, event):
         """The servers that a message is from or to: what a server says to the name server is no answer of its own."""
@@ -176,6 +180,14 @@ class Queue(Served):
         if longer:
             return f"since the item is for {longer.words[1]}, who waits longer (record {longer.record})"
         return f"since the queue has no item, and {self.ended} of {self.PRODUCERS} ENDs have come"
+
+    def end(self, who):
+        """An item that was due to who is dead now stays the oldest one."""
+        request, answer = self.due.get(who, (None, None))
+        if request and self.is_given(request, answer):
+            del self.due[who]
+            self.items.insert(0, answer[1][0])
+            self.serve_waiting()
 
     def is_given(self, request, answer):
         """Whether an answer that is due gives an item."""

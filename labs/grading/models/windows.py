@@ -68,6 +68,7 @@ class Stored:
     def __init__(self, name, store):
         self.name, self.store = name, store
         self.asked = {}  # of each endpoint that waits for an answer: its request, and the answer's type if it is known
+        self.dead = set()
 
     def follow(self, found):
         for it in found:
@@ -82,15 +83,16 @@ class Stored:
                 self.copy(it, *words[3:8], int(words[9]))
             elif words[:2] == ["message", self.store]:
                 self.answer(it)
-        for request, _ in self.asked.values():
-            raise wrong(self.name, request, f"an answer to {said(request)}", "no answer")
+        for who, (request, _) in self.asked.items():
+            if who not in self.dead:
+                raise wrong(self.name, request, f"an answer to {said(request)}", "no answer")
 
     def is_for_one(self, trap, whom):
         """Whether a trap waits for one client, while others wait too."""
         return trap == "SENDREC" or (trap == "RECEIVE" and whom != "any")
 
     def end(self, name, endpoint):
-        self.asked.pop(endpoint, None)
+        self.dead.add(endpoint)
         if name == self.store:
             self.asked = {}
 
