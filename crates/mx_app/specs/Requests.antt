@@ -3,7 +3,7 @@ use Rattle.std.specs.Prelude.{◌≡◌, ◌⊎◌, ℕ, ◌-◌, Bool, true, fa
 use Rattle.mx_app_command.specs.Files.{writes_over}
 use Rattle.mx_app_command.specs.declared.command_line.CommandRequest.{CommandRequest}
 use Rattle.mx_app_command.specs.declared.command_line.RecordRange.{RecordRange}
-use Rattle.mx_app_command.specs.declared.command_line.CommandRequest.TheVariants.{One, As, Show, Explain, Step, Run, Turns, Live, Sweep, Replay, Trace, Draw, Page, Look, Db}
+use Rattle.mx_app_command.specs.declared.command_line.CommandRequest.TheVariants.{One, As, Show, Explain, Step, Run, Turns, Live, Sweep, Replay, Trace, Draw, Page, Look, Why, Db}
 use Rattle.mx_app_db.specs.ScriptLine.{ScriptLine}
 use Rattle.mx_app_db.specs.declared.script.DebugLine.{DebugLine}
 use Rattle.mx_app_failure.specs.declared.failure.Failure.{Failure as Kind}
@@ -51,6 +51,7 @@ use Rattle.mx_walk.specs.Parts.{walk_shown}
 use Rattle.mx_walk.specs.Walks.{Walk}
 use Rattle.mx_app_db.specs.DebugLines.{DebuggedWorld, debug_lines_made}
 use Rattle.mx_app_db.specs.LineTexts.{debug_lines_text}
+use Rattle.mx_why.specs.Telling.{IsWhyPrinted}
 use Rattle.mx_app.specs.Deeds.{Deeds, IsAlone, nothing_done}
 use Rattle.mx_app.specs.Explained.{ExplainsConfig}
 use Rattle.mx_app.specs.Named.{Assembles, ShowsFile}
@@ -156,6 +157,13 @@ Traces config log range qs Prints (Ok how) =
     × IsTracePrinted (world_at_boot c vs) (take range.to records) range.from how Prints
 Traces config log range qs Prints (Err f) = IsTold IsSaved TellsSaved config log qs f
 
+-- what became of all records
+abbrev pub Whys : List ℕ → List ℕ → List Asked → (List ℕ → Type 0) → Result Replayed Kind → Type 0
+Whys config log qs Prints (Ok how) =
+    (c : Config) × (vs : List Service) × (records : List Record) × IsStart IsSaved config log qs c vs records
+    × IsWhyPrinted (world_at_boot c vs) (take 4294967295 records) c.log how Prints
+Whys config log qs Prints (Err f) = IsTold IsSaved TellsSaved config log qs f
+
 -- the records of a trace, as a picture
 abbrev pub Draws : List ℕ → List ℕ → RecordRange → List Asked → (List ℕ → Type 0) → Result Replayed Kind → Type 0
 Draws config log range qs Prints (Ok how) =
@@ -226,6 +234,8 @@ PerformsUntyped (Draw config log range) qs ws Prints r =
 PerformsUntyped (Page config log range) qs ws Prints r =
     (d : Result Replayed Kind) × (ws ≡ []) × Pages config.now log.now range qs Prints d × (r ≡ done_after_replay d)
 PerformsUntyped (Look config log) qs ws Prints r = ⊥
+PerformsUntyped (Why config log) qs ws Prints r =
+    (d : Result Replayed Kind) × (ws ≡ []) × Whys config.now log.now qs Prints d × (r ≡ done_after_replay d)
 PerformsUntyped (Db config script) qs ws Prints r =
     (d : Result (Unit {0}) Kind) × (ws ≡ []) × Debugs config.now script.now qs Prints d × (r ≡ done_after_work d)
 

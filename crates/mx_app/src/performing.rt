@@ -22,6 +22,7 @@ use mx_app_turns::{
 };
 use mx_turns::Ending;
 use mx_walk::Progress;
+use mx_why::why;
 use std::alloc::Global;
 use std::io::Write;
 use std::sync::Wait;
@@ -312,6 +313,11 @@ fn perform_apart<
             let reader = &mut channels.reader;
             let out = &mut channels.out;
             done_after_replay(page(alloc, reader, records, out))
+        }
+        CommandRequest::Why { config, log } => {
+            let reader = &mut channels.reader;
+            let out = &mut channels.out;
+            done_after_replay(why(alloc, reader, config, log, out))
         }
         CommandRequest::Look { config, log } => {
             let asks = io.asks;

@@ -38,7 +38,10 @@ sweep_left name rows is asked =
     elim asked [
       | inl reads ↦ elim reads [
         | inl e ↦ absurd (one_name name (codes "replay") (codes "sweep") refl is e)
-        | inr e ↦ absurd (one_name name (codes "look") (codes "sweep") refl is e)
+        | inr two ↦ elim two [
+          | inl e ↦ absurd (one_name name (codes "look") (codes "sweep") refl is e)
+          | inr e ↦ absurd (one_name name (codes "why") (codes "sweep") refl is e)
+        ]
       ]
       | inr rest ↦ elim rest [
         | inl records ↦ elim records.0 [

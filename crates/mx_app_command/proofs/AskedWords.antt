@@ -377,7 +377,11 @@ page_fits words fine = let given = looking_values (codes "page") words fine in
 
 look_fits : Fits (following_whole (codes "look"))
 look_fits words fine = let given = following_values (codes "look") words fine in
-    ((λ e. (given.0, inr (inr (given.1, inr (inl (inr refl)))))), (λ e. absurd (true≢false e)))
+    ((λ e. (given.0, inr (inr (given.1, inr (inl (inr (inl refl))))))), (λ e. absurd (true≢false e)))
+
+why_fits : Fits (following_whole (codes "why"))
+why_fits words fine = let given = following_values (codes "why") words fine in
+    ((λ e. (given.0, inr (inr (given.1, inr (inl (inr (inr refl))))))), (λ e. absurd (true≢false e)))
 
 db_fits : Fits (whole_of (of_two (codes "db") (codes "CONFIG") (codes "SCRIPT")))
 db_fits words fine = let given = two_texts_given (codes "db") (codes "CONFIG") (codes "SCRIPT") (refl, refl, refl) (refl, refl, refl) refl refl words fine in
@@ -388,7 +392,7 @@ explain_fits words fine = let given = one_text_given (codes "explain") (codes "C
     ((λ e. (given, inl refl)), (λ e. absurd (true≢false e)))
 
 all_fit : AllByRecursion Fits whole.subs
-all_fit = (one_fits, (as_fits, (dis_fits, (nm_fits, (explain_fits, (step_fits, (run_fits, (turns_fits, (sweep_fits, (replay_fits, (trace_fits, (draw_fits, (page_fits, (look_fits, (db_fits, tt)))))))))))))))
+all_fit = (one_fits, (as_fits, (dis_fits, (nm_fits, (explain_fits, (step_fits, (run_fits, (turns_fits, (sweep_fits, (replay_fits, (trace_fits, (draw_fits, (page_fits, (look_fits, (why_fits, (db_fits, tt))))))))))))))))
 
 -- ---- the words of a command line
 

@@ -13,7 +13,7 @@ use Rattle.mx_app_command.specs.declared.command_line.CommandRequest.{CommandReq
 use Rattle.mx_app_command.specs.declared.command_line.Listing.{Listing}
 use Rattle.mx_app_command.specs.declared.command_line.Listing.TheVariants.{Instructions, Symbols}
 use Rattle.mx_app_command.specs.declared.command_line.RecordRange.{RecordRange}
-use Rattle.mx_app_command.specs.declared.command_line.CommandRequest.TheVariants.{One, As, Show, Explain, Step, Run, Turns, Live, Sweep, Replay, Trace, Draw, Page, Look, Db}
+use Rattle.mx_app_command.specs.declared.command_line.CommandRequest.TheVariants.{One, As, Show, Explain, Step, Run, Turns, Live, Sweep, Replay, Trace, Draw, Page, Look, Why, Db}
 
 -- ---- the grammar
 
@@ -161,6 +161,7 @@ mx_grammar = record {
       ∷ looking_shape (codes "draw")
       ∷ looking_shape (codes "page")
       ∷ following_shape (codes "look")
+      ∷ following_shape (codes "why")
       ∷ of_two (codes "db") (codes "CONFIG") (codes "SCRIPT")
       ∷ [];
 }
@@ -256,6 +257,8 @@ AsksBy (Page config log range) name rows =
     × HasRange rows range
 AsksBy (Look config log) name rows =
     (name ≡ codes "look") × HasText (codes "CONFIG") rows config.now × HasText (codes "LOG") rows log.now
+AsksBy (Why config log) name rows =
+    (name ≡ codes "why") × HasText (codes "CONFIG") rows config.now × HasText (codes "LOG") rows log.now
 AsksBy (Db config script) name rows =
     (name ≡ codes "db") × HasText (codes "CONFIG") rows config.now × HasText (codes "SCRIPT") rows script.now
 
@@ -319,7 +322,7 @@ pub record MayHaveSweep (rows : List Row) : Type 0 where
 -- those with a history but for `run`: `turns`, `trace`, `draw` and `page` may have two numbers, `sweep` four
 abbrev pub IsOtherHistoryAsked : Text → List Row → Type 0
 IsOtherHistoryAsked name rows =
-    ((name ≡ codes "replay") ⊎ (name ≡ codes "look"))
+    ((name ≡ codes "replay") ⊎ ((name ≡ codes "look") ⊎ (name ≡ codes "why")))
     ⊎ ((((name ≡ codes "trace") ⊎ ((name ≡ codes "draw") ⊎ (name ≡ codes "page"))) × MayHaveRange rows)
     ⊎ (((name ≡ codes "turns") × MayHaveTurns rows)
     ⊎ ((name ≡ codes "sweep") × MayHaveSweep rows)))
@@ -342,7 +345,8 @@ is_following name =
     bytes_eq name (codes "replay")
     || (bytes_eq name (codes "trace")
     || (bytes_eq name (codes "draw")
-    || (bytes_eq name (codes "page") || (bytes_eq name (codes "look") || bytes_eq name (codes "db")))))
+    || (bytes_eq name (codes "page")
+    || (bytes_eq name (codes "look") || (bytes_eq name (codes "why") || bytes_eq name (codes "db"))))))
 
 abbrev pub is_machine : Text → Bool
 is_machine name =

@@ -133,6 +133,11 @@ pub enum CommandRequest<'a> {
         config: &'a str,
         log: &'a str,
     },
+    /// `why CONFIG LOG`.
+    Why {
+        config: &'a str,
+        log: &'a str,
+    },
     /// `db CONFIG SCRIPT`.
     Db {
         config: &'a str,
@@ -401,7 +406,8 @@ fn reading_request<'a>(
 ) -> CommandRequest<'a>
     requires config { HasText (codes "CONFIG") (rows_of (found_of matches.now)) config.now }
     requires log { HasText (codes "LOG") (rows_of (found_of matches.now)) log.now }
-    requires asked { ((name.now ≡ codes "replay") ⊎ (name.now ≡ codes "look"))
+    requires asked { ((name.now ≡ codes "replay")
+        ⊎ ((name.now ≡ codes "look") ⊎ (name.now ≡ codes "why")))
         ⊎ (((name.now ≡ codes "trace")
         ⊎ ((name.now ≡ codes "draw") ⊎ (name.now ≡ codes "page")))
         × MayHaveRange (rows_of (found_of matches.now))) }
@@ -411,6 +417,8 @@ fn reading_request<'a>(
         CommandRequest::Replay { config, log }
     } else if name == "look" {
         CommandRequest::Look { config, log }
+    } else if name == "why" {
+        CommandRequest::Why { config, log }
     } else {
         records_request(name, config, log, matches)
     }
@@ -475,6 +483,7 @@ fn is_following(name: &str) -> bool
         || name == "draw"
         || name == "page"
         || name == "look"
+        || name == "why"
         || name == "db"
 }
 

@@ -379,7 +379,7 @@ static TURN_COMMANDS: [Subcommand<'static>; 2] = [
 ];
 
 /// Those that follow a history or a script.
-static HISTORY_COMMANDS: [Subcommand<'static>; 6] = [
+static HISTORY_COMMANDS: [Subcommand<'static>; 7] = [
     Subcommand {
         name: "replay",
         help: "Runs a saved history again and prints the report",
@@ -409,6 +409,12 @@ static HISTORY_COMMANDS: [Subcommand<'static>; 6] = [
         help: "Looks at a saved history forward and back, by commands on standard input",
         arguments: &[CONFIG, LOG, SUMS, EXPLAIN, SILENT],
         example: Example::Look,
+    },
+    Subcommand {
+        name: "why",
+        help: "Says what became of a saved history: who waits for ever, who died, who never ran",
+        arguments: &[CONFIG, LOG, SUMS, EXPLAIN, SILENT],
+        example: Example::Why,
     },
     Subcommand {
         name: "db",

@@ -32,6 +32,8 @@ pub(crate) enum Example {
     Page,
     /// A session over a history.
     Look,
+    /// What became of a history.
+    Why,
     /// A debugger's script.
     Db,
 }
@@ -54,6 +56,7 @@ impl Example {
             Example::Draw => DRAW_EXAMPLE,
             Example::Page => PAGE_EXAMPLE,
             Example::Look => LOOK_EXAMPLE,
+            Example::Why => WHY_EXAMPLE,
             Example::Db => DB_EXAMPLE,
         }
     }
@@ -387,6 +390,21 @@ $ mx trace pair.config pair.log --from 6 --to 6
 6   message drv 0 to cli 1 type 0
 6   drv 0: out -> ready, result 0 OK
 6   cli 1: awaiting 0 -> ready, result 0 OK
+
+Status: 0 done; 1 a text or a program's file is refused, or an event, whose line is
+named; 2 a mistake in the words; 3 a file can't be read; 4 no memory. Formats:
+docs/use/REFERENCE.md.";
+
+/// What became of a history.
+const WHY_EXAMPLE: &str = "In the folder examples/machines/button:
+
+$ mx turns button.config /tmp/button.log >/tmp/button.txt
+$ mx why button.config /tmp/button.log
+ends: rest after 4 records
+waits: button receives from HARDWARE since record 4: nobody raises its line 5
+
+A line that begins with never: is of a process that no event but a kill makes go on; one
+with waits: of a process that an interrupt line or an alarm may make go on.
 
 Status: 0 done; 1 a text or a program's file is refused, or an event, whose line is
 named; 2 a mistake in the words; 3 a file can't be read; 4 no memory. Formats:

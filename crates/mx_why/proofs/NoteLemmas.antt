@@ -1,0 +1,70 @@
+-- The notes of records, one record more.
+use Rattle.std.proofs.Common.{◌≡◌, ◌∙◌, ◌<◌, ◌≤◌, ℕ, ◌+◌, List, [], ◌∷◌, ◌++◌, length, take, get_or, append_assoc, Some, None, ap, sym, subst, arith}
+use Rattle.std.proofs.lemmas.List.{append-nil, take_more, take_all, length-take-le}
+use Rattle.mx_machine.specs.declared.history.Record.{Record}
+use Rattle.mx_machine.specs.History.{AreAccepted, world_after_events, events_of, events_of_history}
+use Rattle.mx_machine.specs.World.{World}
+use Rattle.mx_look.specs.declared.transition.Transition.{Transition}
+use Rattle.mx_app_step.proofs.RecordLemmas.{after_both}
+use Rattle.mx_app_step.specs.Traces.{transition_of}
+use Rattle.mx_app_start.specs.Config.{Config}
+use Rattle.mx_app_start.specs.Service.{Service}
+use Rattle.mx_app_step.specs.Records.{refused_record_line}
+use Rattle.mx_app_step.specs.declared.records.Replayed.{Replayed}
+use Rattle.mx_app_step.specs.declared.records.Replayed.TheVariants.{Whole, Refused}
+use Rattle.mx_app_start.specs.Log.{lines_above}
+use Rattle.mx_machine.specs.declared.events.Refusal.{Refusal}
+use Rattle.mx_machine.specs.Boot.{world_at_boot}
+use Rattle.mx_why.specs.Seeing.{end_of}
+use Rattle.mx_why.specs.Telling.{IsNoted, IsWhyPrinted, lines_text}
+use Rattle.mx_why.specs.declared.notes.Note.{Note}
+use Rattle.mx_why.specs.Noting.{notes_from, notes_of, notes_of_records}
+
+notes_more : (w : World) (n k : ℕ) (xs : List Record) (x : Record) → k ≡ n + length xs
+    → notes_from w n (xs ++ x ∷ []) ≡ notes_from w n xs ++ notes_of (transition_of (world_after_events w (events_of_history xs)) k x)
+notes_more w n k [] x e =
+    let here : n ≡ k = omega (arith, e) in
+    append-nil (notes_of (transition_of w n x)) ∙ ap (λ (m : ℕ). notes_of (transition_of w m x)) here
+notes_more w n k (y ∷ ys) x e =
+    let u = world_after_events w (events_of y.actor y.event) in
+    let next : k ≡ n + 1 + length ys = omega (arith, e) in
+    ap (λ (t : List Note). notes_of (transition_of w n y) ++ t) (notes_more u (n + 1) k ys x next)
+    ∙ sym (append_assoc (notes_of (transition_of w n y)) (notes_from u (n + 1) ys) (notes_of (transition_of (world_after_events u (events_of_history ys)) k x)))
+    ∙ ap (λ (v : World). (notes_of (transition_of w n y) ++ notes_from u (n + 1) ys) ++ notes_of (transition_of v k x)) (sym (after_both w (events_of y.actor y.event) (events_of_history ys)))
+
+pub next_noted : (w v : World) (records : List Record) (i n : ℕ) (d : Record) (x : Transition) (before after : List Note) → i < length records
+    → n ≡ i + 1 → v ≡ world_after_events w (events_of_history (take i records)) → x ≡ transition_of v n (get_or records i d)
+    → before ≡ notes_of_records w (take i records) → after ≡ before ++ notes_of x
+    → after ≡ notes_of_records w (take (i + 1) records)
+next_noted w v records i n d x before after within e world is so_far more =
+    let at : n ≡ 1 + length (take i records) = omega (arith, e, length-take-le i records (omega arith)) in
+    more ∙ ap (λ (t : List Note). t ++ notes_of x) so_far
+    ∙ ap (λ (s : Transition). notes_of_records w (take i records) ++ notes_of s) (is ∙ ap (λ (y : World). transition_of y n (get_or records i d)) world)
+    ∙ sym (ap (λ (rs : List Record). notes_from w 1 rs) (take_more records i d within) ∙ notes_more w 1 n (take i records) (get_or records i d) at)
+
+pub all_noted : (w u : World) (records : List Record) (i : ℕ) (ns : List Note) → length records ≤ i
+    → AreAccepted w (events_of_history (take i records)) → u ≡ world_after_events w (events_of_history (take i records)) → ns ≡ notes_of_records w (take i records)
+    → AreAccepted w (events_of_history records) × (u ≡ world_after_events w (events_of_history records)) × (ns ≡ notes_of_records w records)
+all_noted w u records i ns over accepted world noted =
+    let all : take i records ≡ records = take_all i records over in
+    (subst (λ (rs : List Record). AreAccepted w (events_of_history rs)) all accepted, world ∙ ap (λ (rs : List Record). world_after_events w (events_of_history rs)) all, noted ∙ ap (λ (rs : List Record). notes_of_records w rs) all)
+
+pub why_printed : (Prints : List ℕ → Type 0) (c : Config) (vs : List Service) (records slice : List Record) (w : World) (log : ℕ) (replayed : Replayed)
+    → slice ≡ take 4294967295 records → w ≡ world_at_boot c vs → log ≡ c.log → IsWhyPrinted w slice log replayed Prints
+    → IsWhyPrinted (world_at_boot c vs) (take 4294967295 records) c.log replayed Prints
+why_printed Prints c vs records slice w log replayed same e most h =
+    subst (λ n. IsWhyPrinted (world_at_boot c vs) (take 4294967295 records) n replayed Prints) most
+    (subst (λ (v : World). IsWhyPrinted v (take 4294967295 records) log replayed Prints) e (subst (λ (rs : List Record). IsWhyPrinted w rs log replayed Prints) same h))
+
+pub lines_printed : (Prints : List ℕ → Type 0) (w u : World) (records : List Record) (ns slice : List Note) (log count : ℕ) → slice ≡ ns → count ≡ length records
+    → IsNoted w u records None ns → Prints (lines_text (end_of u) slice count log) → IsWhyPrinted w records log Whole Prints
+lines_printed Prints w u records ns slice log count same many (accepted, world, noted) h = (
+  accepted,
+  subst (λ (v : World). Prints (lines_text (end_of v) (notes_of_records w records) (length records) log)) world
+      (subst (λ n. Prints (lines_text (end_of u) (notes_of_records w records) n log)) many
+      (subst (λ (ms : List Note). Prints (lines_text (end_of u) ms count log)) (same ∙ noted) h)),
+)
+
+pub refusal_printed : (Prints : List ℕ → Type 0) (w u : World) (records : List Record) (ns : List Note) (log n line : ℕ) (r : Refusal) → line ≡ lines_above w.table.rules + n
+    → IsNoted w u records (Some (n, r)) ns → Prints (refused_record_line line r) → IsWhyPrinted w records log Refused Prints
+refusal_printed Prints w u records ns log n line r is refused h = (n, r, refused, subst (λ k. Prints (refused_record_line k r)) is h)

@@ -1,0 +1,57 @@
+use Rattle.std.proofs.Common.{◌≡◌, ◌+◌, List, ℕ, Option, inl, inr, length, refl, rules, subst}
+use Rattle.std.proofs.KnownBytes.{Appends-nil}
+use Rattle.std.specs.Io.KnownBytes.{Appends}
+use Rattle.mx_app_start.specs.Failure.{PrintsFront}
+use Rattle.mx_app_start.specs.Log.{lines_above}
+use Rattle.mx_app_start.specs.Machine.{world_of}
+use Rattle.mx_app_step.proofs.FrontLemmas.{err_always}
+use Rattle.mx_app_step.specs.declared.records.Replayed.TheVariants.{Whole, Refused}
+use Rattle.mx_machine.specs.declared.events.Refusal.{Refusal}
+use Rattle.mx_why.specs.Telling.{IsNoted}
+use Rattle.mx_why.proofs.NoteLemmas.{lines_printed, refusal_printed}
+use Rattle.mx_why.proofs.telling.print_history.Goals as goal
+
+pub returns-in_err-note_records-clause-begun : goal.returns-in_err-note_records-clause-begun
+returns-in_err-note_records-clause-begun g c = err_always c.from_residual.result _ (inl (Appends-nil _))
+
+pub returns-in_err-print_lines-in-None-clause-begun : goal.returns-in_err-print_lines-in-None-clause-begun
+returns-in_err-print_lines-in-None-clause-begun g c =
+    let w = world_of c.args.machine.now in
+    let u = world_of c.note_records.new.machine in
+    let ns = c.note_records.new.notes.items in
+    let front : List ℕ → Type 0 = λ text. PrintsFront (λ t. Appends (g.W.Write.contents c.args.out.now) (g.W.Write.contents c.print_lines.new.out) t) text in
+    let noted = subst (λ (o : Option (ℕ × Refusal)). IsNoted w u c.args.records.now o ns) c.in-None.is c.in_ok-note_records.ensures.noted in
+    err_always c.from_residual-in_err-print_lines-in-None.result _
+    (inr (Whole, lines_printed front w u c.args.records.now ns c.as_slice.result.now c.args.log (length c.args.records.now) c.as_slice.ensures.value refl noted c.in_err-print_lines-in-None.ensures.front))
+
+pub returns-in-None-clause-printed : goal.returns-in-None-clause-printed
+returns-in-None-clause-printed g c =
+    let w = world_of c.args.machine.now in
+    let u = world_of c.note_records.new.machine in
+    let ns = c.note_records.new.notes.items in
+    let noted = subst (λ (o : Option (ℕ × Refusal)). IsNoted w u c.args.records.now o ns) c.in-None.is c.in_ok-note_records.ensures.noted in
+    lines_printed (λ (t : List ℕ). Appends (g.W.Write.contents c.args.out.now) (g.W.Write.contents c.print_lines.new.out) t) w u c.args.records.now ns c.as_slice.result.now c.args.log (length c.args.records.now)
+    c.as_slice.ensures.value refl noted c.in_ok-print_lines-in-None.ensures.bytes
+
+pub returns-in_err-print_refusal-in-Some-clause-begun : goal.returns-in_err-print_refusal-in-Some-clause-begun
+returns-in_err-print_refusal-in-Some-clause-begun g c =
+    let w = world_of c.args.machine.now in
+    let u = world_of c.note_records.new.machine in
+    let ns = c.note_records.new.notes.items in
+    let n = c.in-Some.number in
+    let front : List ℕ → Type 0 = λ text. PrintsFront (λ t. Appends (g.W.Write.contents c.args.out.now) (g.W.Write.contents c.print_refusal.new.out) t) text in
+    let noted = subst (λ (o : Option (ℕ × Refusal)). IsNoted w u c.args.records.now o ns) c.in-Some.is c.in_ok-note_records.ensures.noted in
+    let line : c.lines_above-above.result + n ≡ lines_above w.table.rules + n = search rules in
+    err_always c.from_residual-in_err-print_refusal-in-Some.result _
+    (inr (Refused, refusal_printed front w u c.args.records.now ns c.args.log n (c.lines_above-above.result + n) c.in-Some.refusal line noted c.in_err-print_refusal-in-Some.ensures.front))
+
+pub returns-clause-printed : goal.returns-clause-printed
+returns-clause-printed g c =
+    let w = world_of c.args.machine.now in
+    let u = world_of c.note_records.new.machine in
+    let ns = c.note_records.new.notes.items in
+    let n = c.in-Some.number in
+    let noted = subst (λ (o : Option (ℕ × Refusal)). IsNoted w u c.args.records.now o ns) c.in-Some.is c.in_ok-note_records.ensures.noted in
+    let line : c.lines_above-above.result + n ≡ lines_above w.table.rules + n = search rules in
+    refusal_printed (λ (t : List ℕ). Appends (g.W.Write.contents c.args.out.now) (g.W.Write.contents c.print_refusal.new.out) t) w u c.args.records.now ns c.args.log n (c.lines_above-above.result + n) c.in-Some.refusal
+    line noted c.in_ok-print_refusal-in-Some.ensures.bytes

@@ -1,0 +1,11 @@
+pub mod Seats
+pub mod Seeing
+pub mod Waiting
+pub mod Verdicts
+pub mod Notes
+pub mod Noting
+pub mod Deaths
+pub mod Reasons
+pub mod Lines
+pub mod Endings
+pub mod Telling

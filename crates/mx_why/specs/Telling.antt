@@ -1,0 +1,54 @@
+-- WHAT IS TOLD of a saved history (our own).
+use Rattle.std.specs.Prelude.{◌≡◌, ℕ, ◌+◌, ◌==◌, if◌then◌else◌, true, false, List, [], ◌++◌, length, Option, Some, None}
+use Rattle.mx_app_start.specs.Failure.{PrintsFront}
+use Rattle.mx_app_start.specs.Log.{lines_above}
+use Rattle.mx_app_step.specs.declared.records.Replayed.{Replayed}
+use Rattle.mx_app_step.specs.declared.records.Replayed.TheVariants as replayed
+use Rattle.mx_app_step.specs.Records.{IsRefusedAt, refused_record_line}
+use Rattle.mx_machine.specs.declared.events.Refusal.{Refusal}
+use Rattle.mx_machine.specs.declared.history.Record.{Record}
+use Rattle.mx_machine.specs.History.{AreAccepted, world_after_events, events_of_history}
+use Rattle.mx_machine.specs.World.{World}
+use Rattle.mx_why.specs.declared.notes.Note.{Note}
+use Rattle.mx_why.specs.declared.seats.End.{End}
+use Rattle.mx_why.specs.Deaths.{deaths}
+use Rattle.mx_why.specs.Endings.{deaths_text, ending_text}
+use Rattle.mx_why.specs.Lines.{idle_text, waits_text}
+use Rattle.mx_why.specs.Noting.{notes_of_records}
+use Rattle.mx_why.specs.Seeing.{end_of}
+use Rattle.mx_why.specs.Verdicts.{verdicts}
+
+-- the lines but the first
+unfoldable pub later_lines : End → List Note → List ℕ
+later_lines e ns =
+    waits_text e ns (verdicts e) true ++ waits_text e ns (verdicts e) false ++ deaths_text e ns (deaths ns)
+    ++ idle_text e ns
+
+-- ALL LINES: of a machine that has done nothing, how it ended alone
+unfoldable pub lines_text : End → List Note → ℕ → ℕ → List ℕ
+lines_text e ns n log = ending_text e n log ++ (if n == 0 then [] else later_lines e ns)
+
+-- what is known after records: their notes, or which one is refused
+abbrev pub IsNoted : World → World → List Record → Option (ℕ × Refusal) → List Note → Type 0
+IsNoted w u records None ns =
+    AreAccepted w (events_of_history records) × (u ≡ world_after_events w (events_of_history records))
+    × (ns ≡ notes_of_records w records)
+IsNoted w u records (Some p) ns = IsRefusedAt w records p.0 p.1
+
+-- of records, by the world where they lead and by their notes
+abbrev pub why_text : World → List Record → ℕ → List ℕ
+why_text w records log =
+    lines_text (end_of (world_after_events w (events_of_history records))) (notes_of_records w records) (length records)
+    log
+
+-- WHAT IS PRINTED of records: the lines, or which one is refused
+abbrev pub IsWhyPrinted : World → List Record → ℕ → Replayed → (List ℕ → Type 0) → Type 0
+IsWhyPrinted w records log replayed.Whole Prints =
+    AreAccepted w (events_of_history records) × Prints (why_text w records log)
+IsWhyPrinted w records log replayed.Refused Prints =
+    (n : ℕ) × (r : Refusal) × IsRefusedAt w records n r
+    × Prints (refused_record_line (lines_above w.table.rules + n) r)
+
+-- a front of it is printed
+abbrev pub IsWhyBegun : World → List Record → ℕ → (List ℕ → Type 0) → Type 0
+IsWhyBegun w records log Prints = (how : Replayed) × IsWhyPrinted w records log how (PrintsFront Prints)

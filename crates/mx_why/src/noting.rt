@@ -1,0 +1,150 @@
+//! Taking notes of a transition.
+
+ghost use Rattle.std.specs.Prelude.{◌≡◌, ◌++◌, ◌∷◌, [], OnOk};
+ghost use Rattle.mx_why.specs.declared.notes.Deed.TheVariants.{Died};
+ghost use Rattle.mx_why.specs.Noting.{change_note, change_notes, died_text, noted, notes_of, of_change, of_down, take_note};
+
+use crate::notes::{Deed, Note, NoteText};
+use crate::place::push_death;
+use mx_look::{Transition, about, has_changed, is_down, slot_in};
+use mx_machine::Recorded;
+use mx_print_report::Doing;
+use mx_proc::DeathCause;
+use std::alloc::AllocError;
+
+/// Appends a note with this text.
+fn push_note(
+    notes: &mut Vec<Note>,
+    transition: &Transition,
+    slot: u32,
+    deed: Deed,
+    text: Vec<u8>,
+) -> Result<(), AllocError>
+    ensures { OnOk result (notes.new.items ≡ notes.old.items
+        ++ noted transition.now slot deed text.items ∷ []) }
+{
+    let number = transition.number;
+    let text = NoteText::from_vec(text);
+    notes.push(Note {
+        number,
+        slot,
+        deed,
+        text,
+    })?;
+    Ok(())
+}
+
+/// Appends a note without a text.
+fn push_bare(
+    notes: &mut Vec<Note>,
+    transition: &Transition,
+    slot: u32,
+    deed: Deed,
+) -> Result<(), AllocError>
+    ensures { OnOk result (notes.new.items ≡ notes.old.items
+        ++ noted transition.now slot deed [] ∷ []) }
+{
+    let text = Vec::new(*notes.allocator());
+    push_note(notes, transition, slot, deed, text)
+}
+
+/// Appends the note of a death.
+fn push_died(
+    notes: &mut Vec<Note>,
+    transition: &Transition,
+    slot: u32,
+    cause: DeathCause,
+) -> Result<(), AllocError>
+    ensures { OnOk result (notes.new.items ≡ notes.old.items
+        ++ noted transition.now slot Died (died_text transition.now slot cause) ∷ []) }
+{
+    let mut text = Vec::new(*notes.allocator());
+    push_death(&mut text, transition, slot, cause)?;
+    push_note(notes, transition, slot, Deed::Died, text)
+}
+
+/// Appends the note of a process that is down.
+fn push_down(
+    notes: &mut Vec<Note>,
+    transition: &Transition,
+    slot: u32,
+    cause: DeathCause,
+) -> Result<(), AllocError>
+    ensures { OnOk result (notes.new.items ≡ notes.old.items
+        ++ of_down transition.now slot cause ∷ []) }
+{
+    match cause {
+        DeathCause::Exit => push_bare(notes, transition, slot, Deed::Changed),
+        _ => push_died(notes, transition, slot, cause),
+    }
+}
+
+/// Appends the note of a process that did one thing and does another.
+fn push_changed(
+    notes: &mut Vec<Note>,
+    transition: &Transition,
+    slot: u32,
+    before: Doing,
+    after: Doing,
+) -> Result<(), AllocError>
+    ensures { OnOk result (notes.new.items ≡ notes.old.items
+        ++ of_change transition.now slot before after ∷ []) }
+{
+    match after {
+        Doing::Down(cause) => push_down(notes, transition, slot, cause),
+        _ if is_down(before) => push_bare(notes, transition, slot, Deed::Respawned),
+        _ => push_bare(notes, transition, slot, Deed::Changed),
+    }
+}
+
+/// Appends the note of a slot whose process does something else, if it does.
+#[tactic(auto, unfolding(crate::specs::Noting::change_note))]
+fn push_change(notes: &mut Vec<Note>, transition: &Transition, slot: u32) -> Result<(), AllocError>
+    ensures { OnOk result (notes.new.items ≡ notes.old.items
+        ++ change_note transition.now slot) }
+{
+    if !has_changed(transition, slot) {
+        return Ok(());
+    }
+    match (
+        slot_in(&transition.before, slot),
+        slot_in(&transition.after, slot),
+    ) {
+        (Some(before), Some(after)) => {
+            push_changed(notes, transition, slot, before.doing, after.doing)
+        }
+        _ => Ok(()),
+    }
+}
+
+/// Appends the note of a take, if the record is one.
+fn push_taken(notes: &mut Vec<Note>, transition: &Transition) -> Result<(), AllocError>
+    ensures { OnOk result (notes.new.items ≡ notes.old.items
+        ++ take_note transition.now) }
+{
+    match (transition.event, about(transition)) {
+        (Recorded::Take, Some(slot)) => push_bare(notes, transition, slot, Deed::Taken),
+        _ => Ok(()),
+    }
+}
+
+/// Appends the notes of changes.
+fn push_changes(notes: &mut Vec<Note>, transition: &Transition) -> Result<(), AllocError>
+    ensures { OnOk result (notes.new.items ≡ notes.old.items
+        ++ change_notes transition.now) }
+{
+    for slot in 0..32u32 {
+        push_change(notes, transition, slot)?;
+    }
+    Ok(())
+}
+
+/// Appends the notes of a record.
+#[tactic(auto, unfolding(crate::specs::Noting::notes_of))]
+pub(crate) fn push_notes(notes: &mut Vec<Note>, transition: &Transition) -> Result<(), AllocError>
+    ensures { OnOk result (notes.new.items ≡ notes.old.items
+        ++ notes_of transition.now) }
+{
+    push_taken(notes, transition)?;
+    push_changes(notes, transition)
+}

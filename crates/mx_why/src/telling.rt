@@ -1,0 +1,209 @@
+//! What became of a saved history, from files' names to the lines.
+
+ghost use Rattle.std.specs.Prelude.{◌≡◌, ◌<◌, ◌≤◌, ◌^◌, ◌++◌, ◌⊎◌, [], List, All, IfOk, IfErr, IfSome, OnOk, false, length, take, true};
+ghost use Rattle.std.specs.Io.KnownBytes.{Appends};
+ghost use Rattle.mx_app_start.specs.Failure.{IsWanting, PrintsFront};
+ghost use Rattle.mx_app_start.specs.Machine.{world_of};
+ghost use Rattle.mx_app_start.specs.Service.{Service};
+ghost use Rattle.mx_app_start.specs.Config.{Config};
+ghost use Rattle.mx_app_start.specs.Asked.{Asked};
+ghost use Rattle.mx_app_start.specs.Course.{IsSaved, TellsSaved};
+ghost use Rattle.mx_app_start.specs.Setup.{IsStart};
+ghost use Rattle.mx_app_start.specs.Telling.{IsTold, PrintsBefore};
+ghost use Rattle.mx_machine.specs.declared.history.Record.{Record as Noted};
+ghost use Rattle.mx_machine.specs.Boot.{world_at_boot};
+ghost use Rattle.mx_machine.specs.World.{actors};
+ghost use Rattle.mx_why.specs.Deaths.{deaths};
+ghost use Rattle.mx_why.specs.Endings.{deaths_text};
+ghost use Rattle.mx_why.specs.Lines.{idle_text, waits_text};
+ghost use Rattle.mx_why.specs.Seeing.{end_of};
+ghost use Rattle.mx_why.specs.Telling.{IsNoted, IsWhyBegun, IsWhyPrinted, later_lines, lines_text};
+ghost use Rattle.mx_why.specs.Verdicts.{verdicts};
+
+use crate::deaths::deaths_of;
+use crate::ends::{push_deaths, push_ending};
+use crate::lines::{push_idle, push_waits};
+use crate::notes::Note;
+use crate::noting::push_notes;
+use crate::seats::End;
+use crate::seeing::end_of;
+use crate::verdicts::verdicts_on;
+use mx_app_step::{
+    Failure, History, Reader, Replayed, first_records, look_record, print_refusal, print_text,
+    resting_transition, start,
+};
+use mx_boot::lines_above;
+use mx_machine::{Machine, Record, Refusal};
+use std::alloc::{AllocError, Global};
+use std::io::Write;
+
+/// Makes records and takes their notes, up to the first that is refused. Answers the number of this
+/// one, the first having the number 1, and why.
+fn note_records(
+    machine: &mut Machine,
+    records: &[Record],
+    notes: &mut Vec<Note>,
+) -> Result<Option<(usize, Refusal)>, AllocError>
+    requires few { length records.now < 2 ^ 32 }
+    requires actors { All (λ (x : Noted). x.actor < actors (world_of machine.old)) records.now }
+    requires none { notes.old.items ≡ [] }
+    ensures noted { IfOk result (λ refused. IsNoted (world_of machine.old) (world_of machine.new)
+        records.now refused notes.new.items) }
+    ensures few { IfOk result (λ refused. IfSome refused (λ p. p.0 ≤ length records.now)) }
+{
+    let mut transition = resting_transition(machine);
+    for (index, entry) in records.iter().enumerate() {
+        let number = index as u32 + 1;
+        match look_record(machine, number, *entry, &mut transition) {
+            Ok(()) => push_notes(notes, &transition)?,
+            Err(refusal) => return Ok(Some((number as usize, refusal))),
+        }
+    }
+    Ok(None)
+}
+
+/// Appends the lines of those that wait.
+fn push_waiting_lines(
+    out: &mut Vec<u8>,
+    alloc: Global,
+    end: &End,
+    notes: &[Note],
+) -> Result<(), AllocError>
+    ensures { OnOk result (out.new.items ≡ out.old.items
+        ++ (waits_text end.now notes.now (verdicts end.now) true
+        ++ waits_text end.now notes.now (verdicts end.now) false)) }
+{
+    let said = verdicts_on(alloc, end)?;
+    push_waits(out, end, notes, &said, true)?;
+    push_waits(out, end, notes, &said, false)
+}
+
+/// Appends the lines of deaths.
+fn push_death_lines(
+    out: &mut Vec<u8>,
+    alloc: Global,
+    end: &End,
+    notes: &[Note],
+) -> Result<(), AllocError>
+    ensures { OnOk result (out.new.items ≡ out.old.items
+        ++ deaths_text end.now notes.now (deaths notes.now)) }
+{
+    let found = deaths_of(alloc, notes)?;
+    push_deaths(out, end, notes, found.as_slice())
+}
+
+/// Appends all lines but the first.
+#[tactic(auto, unfolding(crate::specs::Telling::later_lines))]
+fn push_later(out: &mut Vec<u8>, alloc: Global, end: &End, notes: &[Note]) -> Result<(), AllocError>
+    ensures { OnOk result (out.new.items ≡ out.old.items ++ later_lines end.now notes.now) }
+{
+    push_waiting_lines(out, alloc, end, notes)?;
+    push_death_lines(out, alloc, end, notes)?;
+    push_idle(out, end, notes)
+}
+
+/// Appends all lines of a history of so many records, which could have had at most `log`.
+#[tactic(auto, unfolding(crate::specs::Telling::lines_text))]
+fn push_lines(
+    out: &mut Vec<u8>,
+    alloc: Global,
+    end: &End,
+    notes: &[Note],
+    records: usize,
+    log: u32,
+) -> Result<(), AllocError>
+    ensures { OnOk result (out.new.items ≡ out.old.items
+        ++ lines_text end.now notes.now records log) }
+{
+    push_ending(out, end, records, log)?;
+    if records == 0 {
+        return Ok(());
+    }
+    push_later(out, alloc, end, notes)
+}
+
+/// Prints all lines of a machine that has made so many records, of which these are the notes.
+fn print_lines<W: Write>(
+    alloc: Global,
+    machine: &Machine,
+    notes: &[Note],
+    records: usize,
+    log: u32,
+    out: &mut W,
+) -> Result<(), Failure>
+    ensures err { IfErr result IsWanting }
+    ensures front { IfErr result (λ _. PrintsFront
+        (λ front. Appends (W.contents out.old) (W.contents out.new) front)
+        (lines_text (end_of (world_of machine.now)) notes.now records log)) }
+    ensures bytes { OnOk result (Appends (W.contents out.old) (W.contents out.new)
+        (lines_text (end_of (world_of machine.now)) notes.now records log)) }
+{
+    let end = end_of(machine);
+    let mut text = Vec::new(alloc);
+    push_lines(&mut text, alloc, &end, notes, records, log)?;
+    print_text(text.as_slice(), out)
+}
+
+/// Makes records and prints the lines. At an event that is refused it prints the number of the
+/// record's line and the refusal.
+fn print_history<W: Write>(
+    alloc: Global,
+    machine: &mut Machine,
+    records: &[Record],
+    log: u32,
+    out: &mut W,
+) -> Result<Replayed, Failure>
+    requires few { length records.now < 2 ^ 32 }
+    requires actors { All (λ (x : Noted). x.actor < actors (world_of machine.old)) records.now }
+    ensures err { IfErr result IsWanting }
+    ensures begun { IfErr result (λ _. Appends (W.contents out.old) (W.contents out.new) []
+        ⊎ IsWhyBegun (world_of machine.old) records.now log (λ text.
+        Appends (W.contents out.old) (W.contents out.new) text)) }
+    ensures printed { IfOk result (λ replayed.
+        IsWhyPrinted (world_of machine.old) records.now log replayed (λ text.
+        Appends (W.contents out.old) (W.contents out.new) text)) }
+{
+    let above = lines_above(machine.rules());
+    let mut notes = Vec::new(alloc);
+    match note_records(machine, records, &mut notes)? {
+        None => {
+            print_lines(alloc, machine, notes.as_slice(), records.len(), log, out)?;
+            Ok(Replayed::Whole)
+        }
+        Some((number, refusal)) => {
+            print_refusal(alloc, above + number, refusal, out)?;
+            Ok(Replayed::Refused)
+        }
+    }
+}
+
+/// Starts the machine of a saved history, makes its records (of more than 4,294,967,295 the first), and
+/// prints what became of it. At an event that is refused it prints the number of the record's line and
+/// the refusal. Before a failure a front of this is printed; nothing, if no machine is started.
+pub fn why<R: Reader, W: Write>(
+    alloc: Global,
+    reader: &mut R,
+    config: &str,
+    log: &str,
+    out: &mut W,
+) -> Result<Replayed, Failure>
+    ensures printed { IfOk result (λ replayed. (qs : List Asked) × (c : Config)
+        × (vs : List Service) × (records : List Noted)
+        × (R.asked reader.new ≡ R.asked reader.old ++ qs)
+        × IsStart IsSaved config.now log.now qs c vs records
+        × IsWhyPrinted (world_at_boot c vs) (take 4294967295 records) c.log replayed (λ text.
+        Appends (W.contents out.old) (W.contents out.new) text)) }
+    ensures fault { IfErr result (λ f. (qs : List Asked)
+        × (R.asked reader.new ≡ R.asked reader.old ++ qs)
+        × IsTold IsSaved TellsSaved config.now log.now qs f) }
+    ensures begun { IfErr result (λ _. PrintsBefore IsSaved config.now log.now
+        (R.asked reader.old) (R.asked reader.new)
+        (λ text. Appends (W.contents out.old) (W.contents out.new) text)
+        (λ c vs records. IsWhyBegun (world_at_boot c vs) (take 4294967295 records) c.log
+        (λ text. Appends (W.contents out.old) (W.contents out.new) text))) }
+{
+    let mut started = start::<History, R>(alloc, reader, config, log)?;
+    let most = started.config.log;
+    let records = first_records(started.lines.as_slice(), u32::MAX);
+    print_history(alloc, &mut started.machine, records, most, out)
+}
