@@ -21,7 +21,7 @@ coming_append (x ∷ xs) ys = ap (with_first (outside_event x.event)) (coming_ap
 
 first_some : (o : Option Event) (xs : List Event) → is_some o ≡ true → length (with_first o xs) ≡ 1 + length xs
 first_some None xs h = absurd (true≢false (sym h))
-first_some (Some e) xs h = omega arith
+first_some (Some e) xs h = let one : length (e ∷ xs) ≡ 1 + length xs = omega arith in one
 
 first_none : (o : Option Event) (xs : List Event) → is_some o ≡ false → length (with_first o xs) ≡ length xs
 first_none None xs h = refl
