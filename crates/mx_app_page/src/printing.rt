@@ -52,7 +52,7 @@ fn shown_in(alloc: Global, machine: &Machine) -> Result<Shown, AllocError>
 }
 
 /// The number of the rules.
-fn rules_number(rules: Rules) -> u32
+pub(crate) fn rules_number(rules: Rules) -> u32
     ensures { result ≡ rules_number rules }
 {
     match rules {
@@ -62,7 +62,7 @@ fn rules_number(rules: Rules) -> u32
 }
 
 /// Appends one half of the fixed part.
-fn push_half(out: &mut Vec<u8>, half: &str) -> Result<(), AllocError>
+pub(crate) fn push_half(out: &mut Vec<u8>, half: &str) -> Result<(), AllocError>
     ensures { OnOk result (out.new.items ≡ out.old.items ++ half.now) }
 {
     out.extend_from_slice(half.as_bytes())
@@ -70,7 +70,11 @@ fn push_half(out: &mut Vec<u8>, half: &str) -> Result<(), AllocError>
 
 /// What stands above the rows: the fixed part, and the line for the run, which shows the machine as it is.
 #[tactic(auto, unfolding(mx_machine::specs::Machine::world_of))]
-fn front_text(alloc: Global, machine: &Machine, terms: RunTerms<'_>) -> Result<Vec<u8>, AllocError>
+pub(crate) fn front_text(
+    alloc: Global,
+    machine: &Machine,
+    terms: RunTerms<'_>,
+) -> Result<Vec<u8>, AllocError>
     ensures { IfOk result (λ text. text.items
         ≡ front_text (run_of terms.entry) (world_of machine.now)) }
 {
@@ -115,7 +119,7 @@ fn print_row<W: Write>(
 
 /// Prints the rows of records, up to the first that is refused. `above` records come before them. Answers how many rows
 /// stand above the refused one, and why it is refused.
-fn print_rows<W: Write>(
+pub(crate) fn print_rows<W: Write>(
     alloc: Global,
     machine: &mut Machine,
     records: &[Record],
@@ -196,7 +200,7 @@ fn refused_line(
 }
 
 /// Prints what stands below the rows, and that the record of this number is refused.
-fn print_refused<W: Write>(
+pub(crate) fn print_refused<W: Write>(
     alloc: Global,
     rules: Rules,
     rows: u32,
