@@ -1,6 +1,6 @@
 //! The page of a history, from files' names to its text.
 
-ghost use Rattle.std.specs.Prelude.{◌≡◌, ◌<◌, ◌≤◌, ◌+◌, ◌-◌, ◌^◌, ◌++◌, List, All, IfOk, IfErr, IfSome, OnOk, length, take, drop, option_map};
+ghost use Rattle.std.specs.Prelude.{◌≡◌, ◌<◌, ◌≤◌, ◌+◌, ◌-◌, ◌^◌, ◌++◌, List, All, IfOk, IfErr, IfSome, None, OnOk, length, take, drop, option_map};
 ghost use Rattle.std.specs.Io.KnownBytes.{Appends};
 ghost use Rattle.mx_app_step.specs.Failure.{IsWanting, PrintsFront};
 ghost use Rattle.mx_app_step.specs.Machine.{world_of};
@@ -12,6 +12,7 @@ ghost use Rattle.mx_app_step.specs.Setup.{IsStart};
 ghost use Rattle.mx_app_step.specs.Telling.{IsTold, PrintsBefore};
 ghost use Rattle.mx_machine.specs.declared.history.Record.{Record as Noted};
 ghost use Rattle.mx_machine.specs.Boot.{world_at_boot};
+ghost use Rattle.mx_machine.specs.History.{events_of_history, world_after_events};
 ghost use Rattle.mx_machine.specs.World.{actors};
 ghost use Rattle.mx_look.specs.Glances.{glance_of};
 ghost use Rattle.mx_look_page.specs.Heads.{run_of};
@@ -135,6 +136,8 @@ pub(crate) fn print_rows<W: Write>(
         AreRowsPrinted (world_of machine.old) above records.now refused (λ text.
         Appends (W.contents out.old) (W.contents out.new) text)) }
     ensures few { IfOk result (λ refused. IfSome refused (λ p. p.0 < length records.now)) }
+    ensures world { IfOk result (λ refused. refused ≡ None → world_of machine.new
+        ≡ world_after_events (world_of machine.old) (events_of_history records.now)) }
 {
     let mut text = Vec::new(alloc);
     let mut scratch = Vec::new(alloc);

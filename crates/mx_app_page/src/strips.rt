@@ -230,7 +230,8 @@ fn print_swept<T: Threads + Sync, W: Write>(
 /// Starts the machine of a saved history, and prints a document that shows it in a browser, with the strip of a sweep:
 /// for each position that is wanted, whether the run with the fault there ends as without it, and how. Threads try
 /// several positions at once; what is printed is the same for each number of them. If an event is refused, the document
-/// has the records before it, and no strip. What `wanted` says of a file to save isn't looked at.
+/// has the records before it, and no strip. Of more records than 32 bits count there is no page: memory is out. What
+/// `wanted` says of a file to save isn't looked at.
 pub fn swept_page<T: Threads + Sync, R: Reader, W: Write>(
     rt: &T,
     alloc: Global,
@@ -251,6 +252,9 @@ pub fn swept_page<T: Threads + Sync, R: Reader, W: Write>(
         other,
         lines: records,
     } = started;
+    if records.len() >= u32::MAX as usize {
+        return Err(Failure::NoMemory);
+    }
     let sweep = Sweep {
         config: &config,
         other,
