@@ -423,7 +423,7 @@ With --fault the page has all records, and below them a strip of the positions A
 a letter for each way in which the run ends with the fault there, and a tick where it
 ends otherwise than without it. mx sweep prints the same as text:
 
-$ echo 'kill 40' >/tmp/kill
+$ echo 'kill slot 0' >/tmp/kill
 $ mx page restart.config restart.log --fault /tmp/kill --turns 200 >/tmp/swept.html
 
 Status: 0 done; 1 a text or a program's file is refused, or an event, which the page
