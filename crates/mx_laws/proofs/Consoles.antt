@@ -5,7 +5,10 @@ use Rattle.std.proofs.lemmas.Bool.{eq-eqb, ne_eqb}
 use Rattle.std.proofs.lemmas.List.{append-nil, drop-append-le}
 use Rattle.circular_buffer.specs.Buffer.{keep_last}
 use Rattle.circular_buffer.proofs.Places.{slice_get-last}
-use Rattle.mx_proc.specs.Console.{ConsoleState}
+use Rattle.mx_kcall.specs.Service.{Service}
+use Rattle.mx_machine.specs.Boot.{first_table, world_at_boot}
+use Rattle.mx_machine.specs.declared.config.Config.{Config}
+use Rattle.mx_proc.specs.Console.{ConsoleState, empty_console}
 use Rattle.mx_machine.specs.declared.events.Event.TheVariants.{Step, Take, Back, Line, Tick, Kill, Respawn}
 use Rattle.mx_machine.specs.declared.history.Record.{Record}
 use Rattle.mx_machine.specs.declared.history.Recorded.{Recorded}
@@ -16,10 +19,10 @@ use Rattle.mx_machine.specs.World.{World}
 use Rattle.mx_look.specs.Kept.{last_byte}
 use Rattle.mx_look.specs.declared.transition.Transition.{Transition}
 use Rattle.mx_look_page.specs.Rows.{byte_part, byte_part_by}
-use Rattle.mx_walk.specs.Positions.{steps_of}
+use Rattle.mx_machine.specs.Steps.{steps_of}
 use Rattle.mx_app_step.specs.Traces.{steps_before, transition_of}
 use Rattle.mx_app_step.proofs.RecordLemmas.{after_both}
-use Rattle.mx_app_live.proofs.ConsoleLemmas.{event_writes, pushed}
+use Rattle.mx_spool.proofs.ConsoleLemmas.{event_writes, pushed}
 use Rattle.mx_laws.specs.Consoles.{BytesGiveConsole, HasLast, RowTellsByte, told_byte, told_bytes, with_bytes}
 
 abbrev console_at : World → ConsoleState
@@ -131,6 +134,11 @@ one_told w n x last =
     let h = own_writes w x.actor x.event in
     told_if before after h.0 h.1 h.2 (subst HasLast (sym same) last)
     ∙ ap (λ (c : ConsoleState). with_bytes c (option_to_list (told_between before after))) same
+
+-- at boot nothing is there
+pub at_boot : (config : Config) (services : List Service) → console_at (world_at_boot config services) ≡ empty_console
+unfolding first_table
+at_boot config services = refl
 
 -- ---- all of them
 
