@@ -27,4 +27,5 @@ mod Latest
 mod Getting
 mod Ordered
 mod AreMade
+mod Consoles
 mod StillLemmas

@@ -10,4 +10,5 @@ pub mod Entries
 pub mod DiaryLaws
 pub mod Told
 pub mod Made
+pub mod Consoles
 pub mod Still
