@@ -2,7 +2,7 @@
 use Rattle.std.proofs.Common.{◌≡◌, ◌∙◌, true, false, List, codes, ap, inl, inr, sym, refl, true≢false}
 use Rattle.std.specs.Str.{bytes_eq}
 use Rattle.clap.specs.Words.{Row, Text}
-use Rattle.mx_app_command.specs.Words.{IsHistoryAsked, IsMachineAsked, IsOtherHistoryAsked, MayHaveSweep}
+use Rattle.mx_app_command.specs.Words.{IsHistoryAsked, IsMachineAsked, IsOtherHistoryAsked, IsRecordsAsked, MayHaveStrip, MayHaveSweep}
 
 not_named : (name word : Text) → bytes_eq word word ≡ true → bytes_eq name word ≡ false → name ≡ word → ⊥
 not_named name word same h e = true≢false (sym same ∙ ap (λ (t : Text). bytes_eq t word) (sym e) ∙ h)
@@ -48,7 +48,7 @@ sweep_left name rows is asked =
           | inl e ↦ absurd (one_name name (codes "trace") (codes "sweep") refl is e)
           | inr two ↦ elim two [
             | inl e ↦ absurd (one_name name (codes "draw") (codes "sweep") refl is e)
-            | inr e ↦ absurd (one_name name (codes "page") (codes "sweep") refl is e)
+            | inr p ↦ absurd (one_name name (codes "page") (codes "sweep") refl is p.0)
           ]
         ]
         | inr more ↦ elim more [
@@ -57,3 +57,13 @@ sweep_left name rows is asked =
         ]
       ]
     ]
+
+-- what prints records and is neither a trace nor a picture is a page
+pub page_left : (name : Text) (rows : List Row) → bytes_eq name (codes "trace") ≡ false → bytes_eq name (codes "draw") ≡ false → IsRecordsAsked name rows → (name ≡ codes "page") × MayHaveStrip rows
+page_left name rows trace draw asked = elim asked [
+  | inl e ↦ absurd (not_named name (codes "trace") refl trace e)
+  | inr two ↦ elim two [
+    | inl e ↦ absurd (not_named name (codes "draw") refl draw e)
+    | inr page ↦ page
+  ]
+]
