@@ -103,8 +103,12 @@ page_whole r s strip x y z u front rows below =
     Appends-trans x z u (front_text r s.boot ++ rows_text s.boot 1 s.records) (positions_text s [] strip.positions strip.from ++ strip_back_text (length s.records) strip)
     (Appends-trans x y z (front_text r s.boot) (rows_text s.boot 1 s.records) front rows) below
 
-pub strip_is : (s : SweepOf) (x y : Strip) → x.fault ≡ y.fault → x.turns ≡ y.turns → x.from ≡ y.from → x.positions ≡ y.positions → x ≡ y
-strip_is s x y f t from n = λ i. record { fault = f i; turns = t i; from = from i; positions = n i }
+-- what a sweep is of, with another actor that acts for the outside
+abbrev pub of_other : SweepOf → ℕ → SweepOf
+of_other s n = record { boot = s.boot; other = n; records = s.records; fault = s.fault; bound = s.bound }
+
+pub strip_is : (x y : Strip) → x.fault ≡ y.fault → x.turns ≡ y.turns → x.from ≡ y.from → x.positions ≡ y.positions → x ≡ y
+strip_is x y f t from n = λ i. record { fault = f i; turns = t i; from = from i; positions = n i }
 
 pub swept_printed : (Prints : List ℕ → Type 0) (q r : Run) (t s : SweepOf) (x y : Strip) (how : Replayed) → q ≡ r → t ≡ s → x ≡ y
     → IsSweptPagePrinted q t x how Prints → IsSweptPagePrinted r s y how Prints
