@@ -32,8 +32,8 @@ print_below-requires-clause-swept g c κs within =
     let same = same_services m c.print_rows.new.machine w records c.into_services-services.result.items refl after own in
     swept m sweep.config.now sweep.other records c.requires.ready sweep _ (same_boot sweep.config.now w c.into_services-services.result.items c.requires.ready.booted same) refl refl refl rows.0
 
-pub returns-in-None-clause-printed : goal.returns-in-None-clause-printed
-returns-in-None-clause-printed g c =
+pub returns-in_ok-print_below-in-None-clause-printed : goal.returns-in_ok-print_below-in-None-clause-printed
+returns-in_ok-print_below-in-None-clause-printed g c =
     let m = c.args.machine in
     let w = world_of m in
     let sweep = c.args.sweep in
@@ -56,8 +56,8 @@ returns-in-None-clause-printed g c =
     let below = subst (λ (b : World). Appends z u (positions_text (sweep_of sweep b) [] (range.end - range.from) range.from ++ strip_back_text (length records) strip)) boot c.in_ok-print_below-in-None.ensures.bytes in
     (rows.0, page_whole r (sweep_of sweep w) strip x y z u front rows.1 below)
 
-pub returns-clause-printed : goal.returns-clause-printed
-returns-clause-printed g c =
+pub returns-in_ok-print_refused-in-Some-clause-printed : goal.returns-in_ok-print_refused-in-Some-clause-printed
+returns-in_ok-print_refused-in-Some-clause-printed g c =
     let m = c.args.machine in
     let w = world_of m in
     let sweep = c.args.sweep in
