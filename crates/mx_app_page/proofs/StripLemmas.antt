@@ -106,6 +106,10 @@ page_whole r s strip x y z u front rows below =
     subst (λ (t : List ℕ). Appends x u t) (sym (append_assoc top positions back))
     (Appends-trans x z u top (positions ++ back) (Appends-trans x y z (front_text r s.boot) (rows_text s.boot 1 s.records) front rows) below)
 
+-- what a sweep is of, with this actor for what comes from outside
+abbrev pub of_other : SweepOf → ℕ → SweepOf
+of_other s n = record { boot = s.boot; other = n; records = s.records; fault = s.fault; bound = s.bound }
+
 pub strip_is : (x y : Strip) → x.fault ≡ y.fault → x.turns ≡ y.turns → x.from ≡ y.from → x.positions ≡ y.positions → x ≡ y
 strip_is x y f t from n = λ i. record { fault = f i; turns = t i; from = from i; positions = n i }
 
