@@ -1,15 +1,15 @@
-use Rattle.std.proofs.Common.{◌≡◌, ◌∙◌, ◌++◌, ◌-◌, ℕ, List, [], Option, ap, length, refl, subst, sym, Some, arith, ◌+◌}
+use Rattle.std.proofs.Common.{◌≡◌, ◌∙◌, ◌++◌, ◌-◌, ℕ, List, [], Option, ap, length, refl, subst, Some, arith, ◌+◌}
 use Rattle.std.specs.Io.KnownBytes.{Appends}
-use Rattle.mx_machine.specs.History.{BootAndHistory, events_of_history, world_after_events}
+use Rattle.mx_machine.specs.History.{BootAndHistory}
 use Rattle.mx_machine.specs.World.{World}
 use Rattle.mx_machine.specs.declared.events.Refusal.{Refusal}
 use Rattle.mx_app_step.specs.Machine.{world_of}
 use Rattle.mx_app_step.specs.declared.records.Replayed.TheVariants as replayed
 use Rattle.mx_app_turns.specs.Begun.{sweep_of}
 use Rattle.mx_app_turns.proofs.ReadyLemmas.{swept}
-use Rattle.mx_look_page.specs.Heads.{Run, run_of}
+use Rattle.mx_look_page.specs.Heads.{Run}
 use Rattle.mx_look_page.specs.Strips.{Strip}
-use Rattle.mx_app_page.specs.Pages.{AreRowsPrinted, IsPagePrinted, back_text, front_text, refused_line, run_of_files}
+use Rattle.mx_app_page.specs.Pages.{AreRowsPrinted, back_text, front_text, refused_line, run_of_files}
 use Rattle.mx_app_page.specs.Strips.{positions_text, strip_back_text}
 use Rattle.mx_app_page.proofs.AboveLemmas.{page_of_rows}
 use Rattle.mx_app_page.proofs.MadeLemmas.{refused_printed}

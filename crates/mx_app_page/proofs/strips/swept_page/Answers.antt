@@ -3,7 +3,6 @@ use Rattle.std.proofs.lemmas.Result.{IfOk-weaker}
 use Rattle.std.specs.Io.KnownBytes.{Appends}
 use Rattle.std.specs.Prelude.{IsErrAnd}
 use Rattle.mx_machine.specs.Boot.{world_at_boot}
-use Rattle.mx_machine.specs.World.{World}
 use Rattle.mx_machine.specs.declared.history.Record.{Record}
 use Rattle.mx_app_failure.specs.declared.failure.Failure.{Failure as Kind}
 use Rattle.mx_app_failure.specs.Failure.{IsWanting}
@@ -13,8 +12,8 @@ use Rattle.mx_app_step.specs.Machine.{world_of}
 use Rattle.mx_app_step.specs.Service.{Service}
 use Rattle.mx_app_step.specs.declared.records.Replayed.{Replayed}
 use Rattle.mx_turns.specs.declared.faults.FaultLine.{FaultLine}
-use Rattle.mx_app_turns.specs.Begun.{IsReady, sweep_of}
-use Rattle.mx_app_turns.specs.Sweeping.{IsBegun, IsNotBegun, SweepOf, of}
+use Rattle.mx_app_turns.specs.Begun.{IsReady}
+use Rattle.mx_app_turns.specs.Sweeping.{IsBegun, IsNotBegun, of}
 use Rattle.mx_app_turns.proofs.ReadyLemmas.{same_sweep}
 use Rattle.mx_look_page.specs.Strips.{Strip}
 use Rattle.mx_app_page.specs.Pages.{run_of_files}
