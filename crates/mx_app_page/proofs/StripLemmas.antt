@@ -1,5 +1,5 @@
 -- The lines of positions, one more, and what is printed of them and of the rows above them.
-use Rattle.std.proofs.Common.{◌≡◌, ◌∙◌, ◌<◌, ◌≤◌, ℕ, zero, suc, ◌+◌, ◌-◌, min, Bool, List, [], ◌∷◌, ◌++◌, length, append_assoc, Option, None, refl, ap, sym, subst, arith}
+use Rattle.std.proofs.Common.{◌≡◌, ◌∙◌, ◌≤◌, ℕ, zero, suc, ◌+◌, ◌-◌, Bool, List, [], ◌++◌, length, append_assoc, Option, ap, sym, subst, arith}
 use Rattle.std.proofs.KnownBytes.{Appends-nil, Appends-trans}
 use Rattle.std.proofs.lemmas.List.{append-nil}
 use Rattle.std.specs.Io.KnownBytes.{Appends}
@@ -11,7 +11,7 @@ use Rattle.mx_machine.specs.World.{World}
 use Rattle.mx_machine.specs.declared.config.Config.{Config}
 use Rattle.mx_machine.specs.declared.history.Record.{Record}
 use Rattle.mx_app_step.specs.declared.records.Replayed.{Replayed}
-use Rattle.mx_app_turns.specs.Sweeping.{SweepOf, is_alike_at, positions_in, text_at}
+use Rattle.mx_app_turns.specs.Sweeping.{SweepOf, is_alike_at, text_at}
 use Rattle.mx_look_page.specs.Heads.{Run}
 use Rattle.mx_look_page.specs.Strips.{Strip, position_text}
 use Rattle.mx_app_page.specs.Pages.{front_text, rows_text}
@@ -105,6 +105,10 @@ page_whole r s strip x y z u front rows below =
     let back = strip_back_text (length s.records) strip in
     subst (λ (t : List ℕ). Appends x u t) (sym (append_assoc top positions back))
     (Appends-trans x z u top (positions ++ back) (Appends-trans x y z (front_text r s.boot) (rows_text s.boot 1 s.records) front rows) below)
+
+-- what a sweep is of, with this actor for what comes from outside
+abbrev pub of_other : SweepOf → ℕ → SweepOf
+of_other s n = record { boot = s.boot; other = n; records = s.records; fault = s.fault; bound = s.bound }
 
 pub strip_is : (x y : Strip) → x.fault ≡ y.fault → x.turns ≡ y.turns → x.from ≡ y.from → x.positions ≡ y.positions → x ≡ y
 strip_is x y f t from n = λ i. record { fault = f i; turns = t i; from = from i; positions = n i }

@@ -1,5 +1,5 @@
 -- THE PAGE OF A HISTORY WITH THE STRIP OF A SWEEP (our own): below the rows stands a line for each position.
-use Rattle.std.specs.Prelude.{◌≡◌, ◌⊎◌, ℕ, zero, suc, ◌+◌, List, [], ◌∷◌, ◌++◌, length, Result, Ok, Err}
+use Rattle.std.specs.Prelude.{◌⊎◌, ℕ, zero, suc, ◌+◌, List, [], ◌++◌, length, Result, Ok, Err}
 use Rattle.mx_machine.specs.declared.history.Record.{Record}
 use Rattle.mx_machine.specs.History.{AreAccepted, events_of_history}
 use Rattle.mx_app_failure.specs.declared.failure.Failure.{Failure as Kind}

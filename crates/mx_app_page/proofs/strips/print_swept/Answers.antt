@@ -1,15 +1,15 @@
-use Rattle.std.proofs.Common.{◌≡◌, ◌∙◌, ◌++◌, ◌-◌, ℕ, List, [], Option, ap, length, refl, subst, sym}
+use Rattle.std.proofs.Common.{◌≡◌, ◌∙◌, ◌++◌, ◌-◌, ℕ, List, [], Option, ap, length, refl, subst, Some, arith, ◌+◌}
 use Rattle.std.specs.Io.KnownBytes.{Appends}
-use Rattle.mx_machine.specs.History.{BootAndHistory, events_of_history, world_after_events}
+use Rattle.mx_machine.specs.History.{BootAndHistory}
 use Rattle.mx_machine.specs.World.{World}
 use Rattle.mx_machine.specs.declared.events.Refusal.{Refusal}
 use Rattle.mx_app_step.specs.Machine.{world_of}
 use Rattle.mx_app_step.specs.declared.records.Replayed.TheVariants as replayed
 use Rattle.mx_app_turns.specs.Begun.{sweep_of}
 use Rattle.mx_app_turns.proofs.ReadyLemmas.{swept}
-use Rattle.mx_look_page.specs.Heads.{Run, run_of}
+use Rattle.mx_look_page.specs.Heads.{Run}
 use Rattle.mx_look_page.specs.Strips.{Strip}
-use Rattle.mx_app_page.specs.Pages.{AreRowsPrinted, IsPagePrinted, front_text, run_of_files}
+use Rattle.mx_app_page.specs.Pages.{AreRowsPrinted, back_text, front_text, refused_line, run_of_files}
 use Rattle.mx_app_page.specs.Strips.{positions_text, strip_back_text}
 use Rattle.mx_app_page.proofs.AboveLemmas.{page_of_rows}
 use Rattle.mx_app_page.proofs.MadeLemmas.{refused_printed}
@@ -71,5 +71,7 @@ returns-in_ok-print_refused-in-Some-clause-printed g c =
     let rows = subst (λ (o : Option (ℕ × Refusal)). AreRowsPrinted w 0 records o (λ t. Appends y z t)) c.in-Some.is c.in_ok-print_rows.ensures.printed in
     let text = c.as_slice.ensures.value ∙ c.in_ok-front.ensures ∙ ap (λ (q : Run). front_text q w) c.terms_of-terms.ensures.run in
     let front = subst (λ (t : List ℕ). Appends x y t) text c.in_ok-print_text.ensures.bytes in
-    let made = refused_printed c.rules-rules.result r w 0 records x y z front u c.in-Some.rows c.in-Some.refusal rows c.in_ok-print_refused-in-Some.ensures.bytes in
+    let number : c.in-Some.rows + 1 ≡ 0 + c.in-Some.rows + 1 = omega arith in
+    let back = subst (λ n. Appends z u (back_text c.in-Some.rows (Some (refused_line c.rules-rules.result n c.in-Some.refusal)))) number c.in_ok-print_refused-in-Some.ensures.bytes in
+    let made = refused_printed c.rules-rules.result r w 0 records x y z front u c.in-Some.rows c.in-Some.refusal rows back in
     page_of_rows (λ (n : ℕ). r) w w records [] records 0 0 c.rules-rules.result refl refl refl tt refl c.rules-rules.ensures (λ t. Appends x u t) replayed.Refused made

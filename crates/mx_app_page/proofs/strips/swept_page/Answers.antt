@@ -1,9 +1,8 @@
-use Rattle.std.proofs.Common.{◌≡◌, ◌∙◌, ◌+◌, ◌-◌, ℕ, List, Result, Ok, Err, IfErr, IfOk, ap, inl, inr, length, min, refl, subst, sym}
+use Rattle.std.proofs.Common.{◌≡◌, ◌∙◌, ◌+◌, ◌-◌, ℕ, List, Result, Ok, Err, IfErr, IfOk, ap, inl, inr, length, min, refl, subst, sym, rules, vec_len}
 use Rattle.std.proofs.lemmas.Result.{IfOk-weaker}
 use Rattle.std.specs.Io.KnownBytes.{Appends}
 use Rattle.std.specs.Prelude.{IsErrAnd}
 use Rattle.mx_machine.specs.Boot.{world_at_boot}
-use Rattle.mx_machine.specs.World.{World}
 use Rattle.mx_machine.specs.declared.history.Record.{Record}
 use Rattle.mx_app_failure.specs.declared.failure.Failure.{Failure as Kind}
 use Rattle.mx_app_failure.specs.Failure.{IsWanting}
@@ -13,8 +12,8 @@ use Rattle.mx_app_step.specs.Machine.{world_of}
 use Rattle.mx_app_step.specs.Service.{Service}
 use Rattle.mx_app_step.specs.declared.records.Replayed.{Replayed}
 use Rattle.mx_turns.specs.declared.faults.FaultLine.{FaultLine}
-use Rattle.mx_app_turns.specs.Begun.{IsReady, sweep_of}
-use Rattle.mx_app_turns.specs.Sweeping.{IsBegun, IsNotBegun, SweepOf, of}
+use Rattle.mx_app_turns.specs.Begun.{IsReady}
+use Rattle.mx_app_turns.specs.Sweeping.{IsBegun, IsNotBegun, of}
 use Rattle.mx_app_turns.proofs.ReadyLemmas.{same_sweep}
 use Rattle.mx_look_page.specs.Strips.{Strip}
 use Rattle.mx_app_page.specs.Pages.{run_of_files}
@@ -47,14 +46,14 @@ returns-in_err-begun g c =
           c.in_err-begun.field-0.0 c.from_residual.result c.from_residual.ensures.1 h.2,
     )
 
-pub returns-then : goal.returns-then
-returns-then g c =
+pub returns-then-len : goal.returns-then-len
+returns-then-len g c =
     let b = c.in_ok-begun.ensures.begun in
     let begun = c.in_ok-begun.begun in
     (b.0, b.3, inr (b.1, b.2, begun.started.lines.items, begun.fault.items, b.4, inr refl))
 
 pub print_swept-requires-clause-ready : goal.print_swept-requires-clause-ready
-print_swept-requires-clause-ready g c =
+print_swept-requires-clause-ready g c κs within =
     let started = c.in_ok-begun.begun.started in
     subst (λ (rs : List Record). IsReady started.machine started.config started.other rs) (sym c.as_slice.ensures.value) c.in_ok-begun.ensures.ready
 
@@ -74,7 +73,8 @@ returns g c =
     let run = ap (λ (k : Config). run_of_files names.config.now names.log.now 0 k) b.7 in
     let same = same_sweep w (world_at_boot b.1 b.2) started.other c.as_slice.result.now records c.as_slice-2.result.now begun.fault.items wanted.bound b.5 c.as_slice.ensures.value c.as_slice-2.ensures.value
     ∙ ap (λ n. of_other s n) b.6 in
-    let end = c.range_of.ensures.1 ∙ ap (λ n. min wanted.to n + 1) c.len-2.ensures in
+    let many : vec_len started.lines ≡ length records = search rules in
+    let end : range.end ≡ min wanted.to (length records) + 1 = c.range_of.ensures.1 ∙ ap (λ n. min wanted.to n + 1) (c.len-2.ensures ∙ many) in
     let told = strip_is strip (strip_in s names.fault.now wanted.from wanted.to) refl refl c.range_of.ensures.0 (ap (λ n. n - range.from) end ∙ ap (λ n. min wanted.to (length records) + 1 - n) c.range_of.ensures.0) in (
       b.0,
       b.3,
