@@ -38,7 +38,7 @@ positions_more s before (suc n) k m at =
     let rest = positions_text s (text_at s k) n (k + 1) in
     let next : m ≡ k + 1 + n = omega (arith, at) in
     ap (λ (t : List ℕ). line ++ t) (positions_more s (text_at s k) n (k + 1) m next)
-    ∙ ap (λ (e : List ℕ). line ++ rest ++ position_text e (text_at s m) (is_alike_at s m)) (last_same s n k)
+    ∙ ap (λ (e : List ℕ). line ++ (rest ++ position_text e (text_at s m) (is_alike_at s m))) (last_same s n k)
     ∙ sym (append_assoc line rest (position_text (text_at s (k + n)) (text_at s m) (is_alike_at s m)))
 
 -- ---- those of a sweep so far
@@ -83,7 +83,7 @@ nothing_printed s from end old few =
 -- ---- the machine of the rows
 
 kernel_services : (m : MachineState) → (world_of m).services ≡ m.kernel.boot.services
-unfolding world_of
+unfolding world_of replay
 kernel_services m = services_stay m.kernel.boot (events_of_history m.kernel.history)
 
 -- what it was made of is what it was made of before its records
@@ -100,11 +100,14 @@ same_boot config w services booted same = ap (world_at_boot config) same ∙ sym
 pub page_whole : (r : Run) (s : SweepOf) (strip : Strip) (x y z u : Option (List ℕ)) → Appends x y (front_text r s.boot) → Appends y z (rows_text s.boot 1 s.records)
     → Appends z u (positions_text s [] strip.positions strip.from ++ strip_back_text (length s.records) strip) → Appends x u (swept_page_text r s strip)
 page_whole r s strip x y z u front rows below =
-    Appends-trans x z u (front_text r s.boot ++ rows_text s.boot 1 s.records) (positions_text s [] strip.positions strip.from ++ strip_back_text (length s.records) strip)
-    (Appends-trans x y z (front_text r s.boot) (rows_text s.boot 1 s.records) front rows) below
+    let top = front_text r s.boot ++ rows_text s.boot 1 s.records in
+    let positions = positions_text s [] strip.positions strip.from in
+    let back = strip_back_text (length s.records) strip in
+    subst (λ (t : List ℕ). Appends x u t) (sym (append_assoc top positions back))
+    (Appends-trans x z u top (positions ++ back) (Appends-trans x y z (front_text r s.boot) (rows_text s.boot 1 s.records) front rows) below)
 
-pub strip_is : (s : SweepOf) (x y : Strip) → x.fault ≡ y.fault → x.turns ≡ y.turns → x.from ≡ y.from → x.positions ≡ y.positions → x ≡ y
-strip_is s x y f t from n = λ i. record { fault = f i; turns = t i; from = from i; positions = n i }
+pub strip_is : (x y : Strip) → x.fault ≡ y.fault → x.turns ≡ y.turns → x.from ≡ y.from → x.positions ≡ y.positions → x ≡ y
+strip_is x y f t from n = λ i. record { fault = f i; turns = t i; from = from i; positions = n i }
 
 pub swept_printed : (Prints : List ℕ → Type 0) (q r : Run) (t s : SweepOf) (x y : Strip) (how : Replayed) → q ≡ r → t ≡ s → x ≡ y
     → IsSweptPagePrinted q t x how Prints → IsSweptPagePrinted r s y how Prints

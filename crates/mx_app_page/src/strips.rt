@@ -245,7 +245,8 @@ pub fn swept_page<T: Threads + Sync, R: Reader, W: Write>(
         wanted.entry.from wanted.entry.to wanted.entry.bound qs
         (λ text. Appends (W.contents out.old) (W.contents out.new) text) result }
 {
-    let Begun { started, fault } = begin_sweep(alloc, reader, names)?;
+    let begun = begin_sweep(alloc, reader, names)?;
+    let Begun { started, fault } = begun;
     let Started {
         machine,
         config,

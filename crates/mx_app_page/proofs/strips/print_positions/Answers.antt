@@ -5,6 +5,7 @@ use Rattle.mx_turns.specs.Ahead.{IsTold, boot_of}
 use Rattle.mx_turns.specs.declared.trials.Findings.{Findings}
 use Rattle.mx_app_turns.specs.Begun.{sweep_of}
 use Rattle.mx_app_turns.specs.Sweeping.{findings_at, text_at}
+use Rattle.mx_look_page.specs.Strips.{position_text}
 use Rattle.mx_app_page.specs.Strips.{positions_text}
 use Rattle.mx_app_page.proofs.StripLemmas.{PrintedSoFar, none_printed, one_printed}
 use Rattle.mx_app_page.proofs.strips.print_positions.Goals as goal
@@ -31,9 +32,10 @@ loop-preserved g c =
     let made = c.in_ok-told.ensures in
     let here = subst (λ n. IsTold c.args.sweep (boot_of c.loop.ahead) n told) inv.there made.told in
     let is = subst (λ (w : World). (let s = sweep_of c.args.sweep w in (told.text.items ≡ text_at s k) × (told.findings ≡ findings_at s k))) inv.boot (here.text, here.findings) in
+    let line = subst (λ (t : List ℕ). Appends (g.W.Write.contents c.loop.out) (g.W.Write.contents c.print_position.new.out) (position_text t told.text.items told.findings.is_alike)) c.as_slice.ensures.value c.in_ok-print_position.ensures.bytes in
     record {
       so_far = one_printed s c.args.sweep.range.from k (g.W.Write.contents c.args.out.now) (g.W.Write.contents c.loop.out) (g.W.Write.contents c.print_position.new.out) c.loop.before.items told.text.items told.findings.is_alike
-          inv.so_far is.0 (ap (λ (f : Findings). f.is_alike) is.1) c.in_ok-print_position.ensures.bytes;
+          inv.so_far is.0 (ap (λ (f : Findings). f.is_alike) is.1) line;
       within = omega (arith, c.loop-test.true);
       ahead = made.ahead;
       there = made.next ∙ ap (λ n. n + 1) inv.there;

@@ -9,13 +9,13 @@ use Rattle.mx_app_page.specs.Strips.{positions_text}
 use Rattle.mx_app_page.proofs.StripLemmas.{nothing_printed}
 use Rattle.mx_app_page.proofs.strips.print_strip.Goals as goal
 
-pub returns-then-clause-bytes : goal.returns-then-clause-bytes
-returns-then-clause-bytes g c =
+pub returns-then-sweep-clause-bytes : goal.returns-then-sweep-clause-bytes
+returns-then-sweep-clause-bytes g c =
     let range = c.args.sweep.range in
-    nothing_printed (sweep_of c.args.sweep (world_at_boot c.args.sweep.config.now c.args.services.items)) range.from range.end (g.W.Write.contents c.args.out.now) c.if.true
+    nothing_printed (sweep_of c.args.sweep (world_at_boot c.args.sweep.config.now c.args.services.items)) range.from range.end (g.W.Write.contents c.args.out.now) c.if-sweep.true
 
 pub new-requires-clause-swept : goal.new-requires-clause-swept
-new-requires-clause-swept g c κs within =
+new-requires-clause-swept g c =
     let booted = ap (λ (k : BootAndHistory). k.boot) c.in_ok-machine.ensures.kernel ∙ c.in_ok-machine.ensures.world in
     subst (λ (w : World). IsSwept c.args.sweep w) (sym booted) c.requires.swept
 

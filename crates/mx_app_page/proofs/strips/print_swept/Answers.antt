@@ -32,8 +32,8 @@ print_below-requires-clause-swept g c κs within =
     let same = same_services m c.print_rows.new.machine w records c.into_services-services.result.items refl after own in
     swept m sweep.config.now sweep.other records c.requires.ready sweep _ (same_boot sweep.config.now w c.into_services-services.result.items c.requires.ready.booted same) refl refl refl rows.0
 
-pub returns-in-None-clause-printed : goal.returns-in-None-clause-printed
-returns-in-None-clause-printed g c =
+pub returns-in_ok-print_below-in-None-clause-printed : goal.returns-in_ok-print_below-in-None-clause-printed
+returns-in_ok-print_below-in-None-clause-printed g c =
     let m = c.args.machine in
     let w = world_of m in
     let sweep = c.args.sweep in
@@ -53,11 +53,11 @@ returns-in-None-clause-printed g c =
     let boot = same_boot sweep.config.now w c.into_services-services.result.items c.requires.ready.booted same in
     let text = c.as_slice.ensures.value ∙ c.in_ok-front.ensures ∙ ap (λ (q : Run). front_text q w) c.terms_of-terms.ensures.run in
     let front = subst (λ (t : List ℕ). Appends x y t) text c.in_ok-print_text.ensures.bytes in
-    let below = subst (λ (b : World). Appends z u (positions_text (sweep_of sweep b) [] (range.end - range.from) range.from ++ strip_back_text (length records) strip)) boot c.in_ok-print_below.ensures.bytes in
+    let below = subst (λ (b : World). Appends z u (positions_text (sweep_of sweep b) [] (range.end - range.from) range.from ++ strip_back_text (length records) strip)) boot c.in_ok-print_below-in-None.ensures.bytes in
     (rows.0, page_whole r (sweep_of sweep w) strip x y z u front rows.1 below)
 
-pub returns-clause-printed : goal.returns-clause-printed
-returns-clause-printed g c =
+pub returns-in_ok-print_refused-in-Some-clause-printed : goal.returns-in_ok-print_refused-in-Some-clause-printed
+returns-in_ok-print_refused-in-Some-clause-printed g c =
     let m = c.args.machine in
     let w = world_of m in
     let sweep = c.args.sweep in
@@ -71,5 +71,5 @@ returns-clause-printed g c =
     let rows = subst (λ (o : Option (ℕ × Refusal)). AreRowsPrinted w 0 records o (λ t. Appends y z t)) c.in-Some.is c.in_ok-print_rows.ensures.printed in
     let text = c.as_slice.ensures.value ∙ c.in_ok-front.ensures ∙ ap (λ (q : Run). front_text q w) c.terms_of-terms.ensures.run in
     let front = subst (λ (t : List ℕ). Appends x y t) text c.in_ok-print_text.ensures.bytes in
-    let made = refused_printed c.rules-rules.result r w 0 records x y z front u c.in-Some.rows c.in-Some.refusal rows c.in_ok-print_refused.ensures.bytes in
+    let made = refused_printed c.rules-rules.result r w 0 records x y z front u c.in-Some.rows c.in-Some.refusal rows c.in_ok-print_refused-in-Some.ensures.bytes in
     page_of_rows (λ (n : ℕ). r) w w records [] records 0 0 c.rules-rules.result refl refl refl tt refl c.rules-rules.ensures (λ t. Appends x u t) replayed.Refused made
