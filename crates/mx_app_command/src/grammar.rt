@@ -450,7 +450,7 @@ static HISTORY_COMMANDS: [Subcommand<'static>; 7] = [
     },
     Subcommand {
         name: "why",
-        help: "Says what became of a saved history: who waits for ever (tested, not proved), who died, who never ran",
+        help: "Says what became of a saved history: who waits for ever (tested, not proved), who died, what was refused",
         arguments: &[CONFIG, LOG, SUMS, EXPLAIN, SILENT],
         example: Example::Why,
     },
