@@ -81,7 +81,7 @@ abbrev pub IsCalled : List ℕ → Option (List ℕ) → List Asked → Config �
 IsCalled config None qs c vs xs = IsSetup config qs c vs × (xs ≡ [])
 IsCalled config (Some name) qs c vs xs =
     (before : List Asked) × (q : Asked) × (qs ≡ before ++ q ∷ []) × IsSetup config before c vs
-    × AreCallsGiven name q c.others xs
+    × AreCallsGiven name q c xs
 
 -- the first fault of these files
 abbrev pub IsNotCalled : List ℕ → Option (List ℕ) → List Asked → Kind → Type 0
@@ -90,7 +90,7 @@ IsNotCalled config (Some name) qs f =
     IsSetupFault config qs f
     ⊎ ((before : List Asked) × (q : Asked) × (c : Config) × (vs : List Service) × (qs ≡ before ++ q ∷ [])
     × IsSetup config before c vs
-    × IsCallsFault name q c.others f)
+    × IsCallsFault name q c f)
 
 -- WHAT REPORTING A RUN DOES: it writes the history's text, whole, then prints the report, and answers how the run ended;
 -- or it answers why not all of this was done

@@ -176,16 +176,16 @@ fn calls_of<R: Reader>(
     alloc: Global,
     reader: &mut R,
     name: &str,
-    others: u8,
+    config: &Config,
 ) -> Result<Vec<OutsideCall>, Failure>
     ensures calls { IfOk result (λ calls. (q : Asked)
         × (R.asked reader.new ≡ R.asked reader.old ++ q ∷ [])
-        × AreCallsGiven name.now q others calls.items) }
+        × AreCallsGiven name.now q config.now calls.items) }
     ensures fault { IfErr result (λ f. (q : Asked)
-        × (R.asked reader.new ≡ R.asked reader.old ++ q ∷ []) × IsCallsFault name.now q others f) }
+        × (R.asked reader.new ≡ R.asked reader.old ++ q ∷ []) × IsCallsFault name.now q config.now f) }
 {
     let text = text_of(alloc, reader, name, About::Course)?;
-    match outside_calls(alloc, text.as_str(), others) {
+    match outside_calls(alloc, text.as_str(), config) {
         Ok(calls) => Ok(calls),
         Err(error) => Err(Failure::misstated(error, About::Course, text)),
     }
@@ -214,7 +214,7 @@ fn begin<R: Reader>(
             calls: Vec::new(alloc),
         }),
         Some(name) => {
-            let calls = calls_of(alloc, reader, name, config.others)?;
+            let calls = calls_of(alloc, reader, name, &config)?;
             Ok(Begun {
                 config,
                 services,

@@ -19,8 +19,8 @@ use crate::event_files::OutsideEvents;
 use mx_app_failure::Failure;
 use mx_app_start::{Channels, FileWriter, Reader, setup_of, spare_programs, start};
 use mx_app_step::{print_kernel_report, write_history};
-use mx_machine::{Config, Event, Kernel, Machine};
-use mx_turns::{Ending, Outside, make_turns};
+use mx_machine::{Config, Kernel, Machine};
+use mx_turns::{Ending, Outside, OutsideLine, make_turns};
 use mx_walk::{Progress, boot};
 use std::alloc::Global;
 use std::io::Write;
@@ -47,7 +47,7 @@ pub struct TurnsWanted {
 struct Begun {
     config: Config,
     machine: Machine,
-    events: Vec<Event>,
+    events: Vec<OutsideLine>,
 }
 
 /// The machine of a configuration that no file of outside events drives.
