@@ -18,10 +18,12 @@ show_first_steps() {
 refuse_own_text() {
     [ "${1-}" = as ] || return 0
     text='' file='' explains=''
+    [ ! -t 2 ] || explains=yes
     for word in "$@"; do
         case $word in
             as) ;;
             --explain) explains=yes ;;
+            --no-explain) explains='' ;;
             *)
                 [ -z "$file" ] || return 0
                 if [ -z "$text" ]; then text=$word; else file=$word; fi ;;
@@ -53,6 +55,7 @@ refuse_same() {
 refuse_own_files() {
     case ${1-} in step | run | turns | sweep) ;; *) return 0 ;; esac
     command=$1 config='' second='' third='' label=LOG save='' events='' sums='' compared='' explains='' option=''
+    [ ! -t 2 ] || explains=yes
     shift
     for word in "$@"; do
         case $option in
@@ -63,7 +66,8 @@ refuse_own_files() {
         esac
         case $word in
             --explain) explains=yes ;;
-            --numbered | --no-explain | --strict | --live | --raw) ;;
+            --no-explain) explains='' ;;
+            --numbered | --strict | --live | --raw) ;;
             --save=*) save=${word#*=} ;;
             --events=*) events=${word#*=} ;;
             --sums=*) sums=${word#*=} ;;

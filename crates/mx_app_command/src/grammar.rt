@@ -126,14 +126,14 @@ const TICKS: CommandArgument<'static> = CommandArgument {
 /// What happens from outside while turns are made.
 const EVENTS: CommandArgument<'static> = CommandArgument {
     name: "EVENTS",
-    help: "A file of outside events, one for each turn: line L, tick or kill E; not with --ticks",
+    help: "A file of outside events, one for each turn: line L, tick, kill E or respawn S; not with --ticks",
     form: ArgumentForm::After("events"),
 };
 
 /// What the second other actor does in a run.
 const CALLS: CommandArgument<'static> = CommandArgument {
     name: "EVENTS",
-    help: "A file of what the second other actor does: line L, tick, kill E, or wait N for N records",
+    help: "A file of what the second other actor does: line L, tick, kill E, respawn S, or wait N for N records",
     form: ArgumentForm::After("events"),
 };
 
