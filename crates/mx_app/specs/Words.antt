@@ -57,7 +57,7 @@ course_text =
 -- and of an option of `--live` without it
 abbrev pub not_live_text : List ℕ
 not_live_text =
-    codes "error: the arguments '--hertz <H>', '--raw' and '--stop <FILE>' need '--live'\n\n"
+    codes "error: the arguments '--hertz <H>' and '--raw' need '--live'\n\n"
     ++ codes "Usage: mx turns [OPTIONS] <CONFIG> <LOG>\n\nFor more information, try '--help'.\n"
 
 -- what standard error gets: of a mistake what clap says, which isn't pinned here; of a failure its line, and the line

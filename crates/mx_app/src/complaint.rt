@@ -26,7 +26,7 @@ For more information, try '--help'.
 
 /// What is printed of `turns` with an option of `--live`, and without it.
 const NOT_LIVE: &str =
-    "error: the arguments '--hertz <H>', '--raw' and '--stop <FILE>' need '--live'
+    "error: the arguments '--hertz <H>' and '--raw' need '--live'
 
 Usage: mx turns [OPTIONS] <CONFIG> <LOG>
 
@@ -42,7 +42,7 @@ pub enum Complaint {
     TicksAndEvents,
     /// They are those of `turns --live` with `--ticks`, `--events` or `--turns`.
     LiveWithCourse,
-    /// They are those of `turns` with `--hertz`, `--raw` or `--stop`, and without `--live`.
+    /// They are those of `turns` with `--hertz` or `--raw`, and without `--live`.
     NotLive,
     /// What they ask for failed.
     Failed(LineFailure),

@@ -158,10 +158,10 @@ const HERTZ: CommandArgument<'static> = CommandArgument {
     form: ArgumentForm::NumberAfter("hertz"),
 };
 
-/// The file that ends a session.
+/// The file that stops a run, turns or a session.
 const STOP: CommandArgument<'static> = CommandArgument {
     name: "FILE",
-    help: "With --live: ends the session, and saves LOG, once the file FILE is there",
+    help: "Stops, and saves LOG up to there, once the file FILE is there",
     form: ArgumentForm::After("stop"),
 };
 
@@ -328,6 +328,7 @@ static MACHINE_COMMANDS: [Subcommand<'static>; 3] = [
             RECORDED,
             TICKS,
             CALLS,
+            STOP,
             WRITTEN_SUMS,
             EXPLAIN,
             SILENT,

@@ -20,10 +20,10 @@ abbrev pub record_wanted : CommandRequest → List ℕ
 record_wanted (Step config script save numbered) =
     codes "an event: take C, step C K, back C, line L, tick, kill E or respawn S"
 record_wanted (Db config script) = script_lines
-record_wanted (Run config log ticks events) =
+record_wanted (Run config log ticks events stop) =
     codes "line L, tick, kill E, respawn S or wait N, where a service's name may stand for E and S; --events "
     ++ codes "wants others 2 or more in CONFIG"
-record_wanted (Turns config log ticks events bound) =
+record_wanted (Turns config log ticks events bound stop) =
     codes "an outside event: line L, tick, kill E or respawn S, where a service's name may stand for E and S"
 record_wanted (Sweep config log fault bound from to jobs strict save) =
     codes "in LOG a record and its line feed; in FAULT an event of a script, kill slot S, kill NAME or "
@@ -36,8 +36,8 @@ record_wanted r =
 abbrev pub own_looks : CommandRequest → About → LineLooks
 own_looks (Step config script save numbered) about = Script
 own_looks (Db config script) about = Script
-own_looks (Run config log ticks events) about = Unknown
-own_looks (Turns config log ticks events bound) about = Unknown
+own_looks (Run config log ticks events stop) about = Unknown
+own_looks (Turns config log ticks events bound stop) about = Unknown
 own_looks (Sweep config log fault bound from to jobs strict save) Fault = Script
 own_looks r about = History
 

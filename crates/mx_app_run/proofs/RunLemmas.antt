@@ -41,17 +41,17 @@ use Rattle.mx_app_run.specs.Shows.{shows}
 use Rattle.mx_app_run.specs.Run.{ComesTo, EndsDriven, IsCalled, IsNotCalled, IsRun, IsRunHistory, ReportsRun, run_ending}
 
 -- a run ends at a kernel whose loops have ended
-pub run_of : (WasShown : Part → Type 0) (c : Config) (vs : List Service) (ticks : ℕ) (xs : List OutsideCall) (whole : Bool) (k : BootAndHistory) (boot : World) (z : TableId) (seats : List SeatView)
-    → boot ≡ world_at_boot c vs → seats ≡ all_seats c z → k.boot ≡ boot → EndsDriven boot (shows WasShown c.log) (length boot.cpus) ticks xs whole seats k.history
-    → AreAccepted k.boot (events_of_history k.history) → All (IsWritable (actors (replay k))) k.history → IsRun WasShown c vs ticks xs whole k
-run_of WasShown c vs ticks xs whole k boot z seats booted all is ends accepted written =
+pub run_of : (WasShown : Part → Type 0) (stops : Bool) (c : Config) (vs : List Service) (ticks : ℕ) (xs : List OutsideCall) (whole : Bool) (k : BootAndHistory) (boot : World) (z : TableId) (seats : List SeatView)
+    → boot ≡ world_at_boot c vs → seats ≡ all_seats c z → k.boot ≡ boot → EndsDriven boot (shows WasShown c.log stops) (length boot.cpus) ticks xs whole seats k.history
+    → AreAccepted k.boot (events_of_history k.history) → All (IsWritable (actors (replay k))) k.history → IsRun WasShown stops c vs ticks xs whole k
+run_of WasShown stops c vs ticks xs whole k boot z seats booted all is ends accepted written =
     let many : length boot.cpus ≡ c.cpus = ap (λ (w : World). length w.cpus) booted ∙ length-replicate c.cpus None in
     record {
       history = record { boot = is ∙ booted; accepted = accepted; written = written };
       table = z;
-      loops = subst (λ (w : World). EndsDriven w (shows WasShown c.log) c.cpus ticks xs whole (all_seats c z) k.history) booted
-          (subst (λ n. EndsDriven boot (shows WasShown c.log) n ticks xs whole (all_seats c z) k.history) many
-          (subst (λ (l : List SeatView). EndsDriven boot (shows WasShown c.log) (length boot.cpus) ticks xs whole l k.history) all ends));
+      loops = subst (λ (w : World). EndsDriven w (shows WasShown c.log stops) c.cpus ticks xs whole (all_seats c z) k.history) booted
+          (subst (λ n. EndsDriven boot (shows WasShown c.log stops) n ticks xs whole (all_seats c z) k.history) many
+          (subst (λ (l : List SeatView). EndsDriven boot (shows WasShown c.log stops) (length boot.cpus) ticks xs whole l k.history) all ends));
     }
 
 -- one service for each line
@@ -116,7 +116,7 @@ by_rules : (c : Config) (vs : List Service) (k : BootAndHistory) → IsRunHistor
 by_rules c vs k run = ap (λ (r : Rules). saved_text r k.history) (ap (λ (w : World). w.table.rules) run.boot ∙ rules_at_boot c vs)
 
 -- a run whose kernel is reported
-pub run_reported : (WasShown : Part → Type 0) (c : Config) (vs : List Service) (ticks : ℕ) (xs : List OutsideCall) (whole : Bool) (k : BootAndHistory) → IsRun WasShown c vs ticks xs whole k → (log : List ℕ) (ws : List Written) (Prints : List ℕ → Type 0) (ending : RunEnding) (r : Result RunEnding Kind)
+pub run_reported : (WasShown : Part → Type 0) (c : Config) (vs : List Service) (ticks : ℕ) (xs : List OutsideCall) (whole : Bool) (k : BootAndHistory) → IsRun WasShown stops c vs ticks xs whole k → (log : List ℕ) (ws : List Written) (Prints : List ℕ → Type 0) (ending : RunEnding) (r : Result RunEnding Kind)
     → ending ≡ run_ending c.log ticks xs whole k → ReportsRun log (text_kept k) (report_text (replay k).table (replay k).services) ws Prints ending r → ComesTo WasShown c vs xs log ticks ws Prints r
 run_reported WasShown c vs ticks xs whole k run log ws Prints ending r is h =
     let report = report_text (replay k).table (replay k).services in

@@ -15,6 +15,7 @@ use Rattle.mx_turns.specs.declared.outside.OutsideLine.TheVariants.{Plain}
 use Rattle.mx_turns.specs.declared.turns.Ending.{Ending}
 use Rattle.mx_turns.specs.Shown.{turns_shown}
 use Rattle.mx_turns.specs.Turns.{turns}
+use Rattle.mx_app_turns.specs.declared.turning.TurnsEnd.{TurnsEnd}
 use Rattle.mx_walk.specs.declared.progress.Part.{Part}
 use Rattle.mx_app_failure.specs.declared.failure.Failure.{Failure as Kind}
 use Rattle.mx_app_failure.specs.declared.failure.Failure.TheVariants.{NoMemory}
@@ -52,6 +53,20 @@ pub record IsTurned (c : Config) (vs : List Service) (n : ℕ) (coming : List Ou
 abbrev pub ShowsTurns : Config → List Service → ℕ → List OutsideLine → List Part → Type 0
 ShowsTurns c vs n coming ps = ps ≡ turns_shown c.log n (world_at_boot c vs) coming
 
+-- ---- turns that may be stopped
+
+-- how many turns they were, of at most n: all that were asked for, or fewer, if they were stopped
+pub record AreSome (n : ℕ) (how : TurnsEnd) (made : ℕ) : Type 0 where
+  pub most : made ≤ n
+  pub all : how.is_stopped ≡ false → made ≡ n
+
+-- THE TURNS, of which at most n were made
+abbrev pub IsTurnedTo : Config → List Service → ℕ → List OutsideLine → BootAndHistory → TurnsEnd → Type 0
+IsTurnedTo c vs n coming k how = (made : ℕ) × AreSome n how made × IsTurned c vs made coming k how.ending
+
+abbrev pub ShowsTurnsTo : Config → List Service → ℕ → TurnsEnd → List OutsideLine → List Part → Type 0
+ShowsTurnsTo c vs n how coming ps = (made : ℕ) × AreSome n how made × ShowsTurns c vs made coming ps
+
 -- ---- `mx turns`
 
 -- what is to come: the file's events, if a file is named, and then the ticks
@@ -73,20 +88,20 @@ IsNotBegun config (Some name) qs f = IsNotStarted AreOutside TellsOutside config
 -- the text of the history of a machine's turns, whole, and prints the report on the machine after them; or it fails,
 -- and this is why
 abbrev pub MakesTurns : List ℕ → Option (List ℕ) → List ℕ → ℕ → ℕ → List Asked → List Written → List Part
-    → (List ℕ → Type 0) → Result Ending Kind → Type 0
+    → (List ℕ → Type 0) → Result TurnsEnd Kind → Type 0
 MakesTurns config events log ticks n qs ws ps Prints (Ok ending) =
     (c : Config) × (vs : List Service) × (xs : List OutsideLine) × (k : BootAndHistory) × IsBegun config events qs c vs xs
-    × (names_program c log ≡ false) × IsTurned c vs n (coming xs ticks) k ending
-    × ShowsTurns c vs n (coming xs ticks) ps
+    × (names_program c log ≡ false) × IsTurnedTo c vs n (coming xs ticks) k ending
+    × ShowsTurnsTo c vs n ending (coming xs ticks) ps
     × (ws ≡ kept log (saved_text c.rules k.history) ∷ []) × Prints (report_text (replay k).table (replay k).services)
 MakesTurns config events log ticks n qs ws ps Prints (Err f) =
     ((ws ≡ []) × (ps ≡ []) × Prints [] × IsNotBegun config events qs f)
     ⊎ (((c : Config) × (vs : List Service) × (xs : List OutsideLine) × IsBegun config events qs c vs xs × (ps ≡ [])
     × SparesProgram c log ws Prints f)
-    ⊎ ((c : Config) × (vs : List Service) × (xs : List OutsideLine) × (k : BootAndHistory) × (ending : Ending)
+    ⊎ ((c : Config) × (vs : List Service) × (xs : List OutsideLine) × (k : BootAndHistory) × (ending : TurnsEnd)
     × IsBegun config events qs c vs xs
-    × (names_program c log ≡ false) × IsTurned c vs n (coming xs ticks) k ending
-    × ShowsTurns c vs n (coming xs ticks) ps
+    × (names_program c log ≡ false) × IsTurnedTo c vs n (coming xs ticks) k ending
+    × ShowsTurnsTo c vs n ending (coming xs ticks) ps
     × IsUnreported log (saved_text c.rules k.history) ws Prints f))
 
 -- ---- its replay

@@ -19,5 +19,5 @@ pub use event_files::{OutsideEvents, outside_events, outside_line_of};
 pub use fault_files::fault_lines;
 pub use nothing_tested::Untested;
 pub use sweeping::{SweepNames, SweepWanted, Swept, sweep};
-pub use turning::{TurnsNames, TurnsWanted, turns};
+pub use turning::{TurnsEnd, TurnsNames, TurnsWanted, turns};
 pub use turns_laws::{bound_is_not_met, turns_again};

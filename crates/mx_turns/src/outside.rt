@@ -1,6 +1,6 @@
 //! What comes from outside while a machine makes its turns.
 
-ghost use Rattle.std.specs.Prelude.{◌≡◌, slice_get};
+ghost use Rattle.std.specs.Prelude.{◌≡◌, drop, slice_get};
 ghost use Rattle.mx_app_step.specs.Machine.{world_of};
 ghost use Rattle.mx_turns.specs.Made.{outside_events};
 ghost use Rattle.mx_turns.specs.Turns.{endpoint_now, event_now, next_now};
@@ -58,6 +58,24 @@ pub struct Outside<'a> {
 }
 
 impl<'a> Outside<'a> {
+    /// What is to come after so many turns.
+    pub fn after(self, made: u64) -> Outside<'a>
+        ensures { outside_events result.entry ≡ drop made (outside_events self.entry) }
+    {
+        let listed = self.events.len() as u64;
+        if made <= listed {
+            return Outside {
+                events: &self.events[made as usize..],
+                ticks: self.ticks,
+            };
+        }
+        let ticked = (made - listed).min(u64::from(self.ticks)) as u32;
+        Outside {
+            events: &[],
+            ticks: self.ticks - ticked,
+        }
+    }
+
     /// What is at a place in their order, the first being at 0.
     pub fn get(self, place: u64) -> Option<OutsideLine>
         ensures { result ≡ slice_get (outside_events self.entry) place }
