@@ -13,7 +13,7 @@ use Rattle.mx_app_explain.specs.FoundWords.{field_told, nothing_told}
 use Rattle.mx_app_explain.specs.Hints.{words_told}
 use Rattle.mx_app_explain.specs.LineLooks.{hint_at}
 use Rattle.mx_app_explain.specs.declared.line_looks.LineLooks.{LineLooks}
-use Rattle.mx_app_explain.specs.declared.line_looks.LineLooks.TheVariants.{Script, History, Unknown}
+use Rattle.mx_app_explain.specs.declared.line_looks.LineLooks.TheVariants.{Script, History}
 
 -- the lines of the file, by the command
 abbrev pub record_wanted : CommandRequest → List ℕ
@@ -32,12 +32,12 @@ record_wanted r =
     codes "a record and its line feed: A take, A back N, A line L, A tick, A kill E or A respawn S; or "
     ++ codes "rules 2 on line 1"
 
--- what they look like; a file of outside events has lines of its own
+-- what they look like: all but a history's are much as a script's
 abbrev pub own_looks : CommandRequest → About → LineLooks
 own_looks (Step config script save numbered) about = Script
 own_looks (Db config script) about = Script
-own_looks (Run config log ticks events stop) about = Unknown
-own_looks (Turns config log ticks events bound stop) about = Unknown
+own_looks (Run config log ticks events stop) about = Script
+own_looks (Turns config log ticks events bound stop) about = Script
 own_looks (Sweep config log fault bound from to jobs strict save) Fault = Script
 own_looks r about = History
 

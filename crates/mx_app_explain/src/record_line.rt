@@ -23,9 +23,14 @@ fn own_looks(request: CommandRequest<'_>, about: &About) -> LineLooks
     ensures { result ≡ own_looks request.entry about.now }
 {
     match (request, about) {
-        (CommandRequest::Step { .. } | CommandRequest::Db { .. }, _) => LineLooks::Script,
         (CommandRequest::Sweep { .. }, About::Fault) => LineLooks::Script,
-        (CommandRequest::Run { .. } | CommandRequest::Turns { .. }, _) => LineLooks::Unknown,
+        (
+            CommandRequest::Step { .. }
+            | CommandRequest::Db { .. }
+            | CommandRequest::Run { .. }
+            | CommandRequest::Turns { .. },
+            _,
+        ) => LineLooks::Script,
         _ => LineLooks::History,
     }
 }

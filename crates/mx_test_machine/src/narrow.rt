@@ -165,6 +165,7 @@ static MACHINES: &[Row] = &[
             log: "new",
             ticks: 0,
             events: None,
+            stop: None,
         },
         printed: FAULTED,
     },
