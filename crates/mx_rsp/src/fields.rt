@@ -51,7 +51,7 @@ pub(crate) fn two_numbers(text: &[u8]) -> Option<(u32, u32)>
 }
 
 /// A number, or all, or any one.
-fn which(text: &[u8]) -> Option<Which>
+fn which_named(text: &[u8]) -> Option<Which>
     ensures { result ≡ which_of text.now }
 {
     if text == b"-1".as_slice() {
@@ -70,10 +70,10 @@ fn process(text: &[u8]) -> Option<Which>
     ensures { result ≡ process_by text.now (cut 46 text.now) }
 {
     match cut(text, b'.') {
-        None => which(text),
+        None => which_named(text),
         Some((process, thread)) => {
-            which(thread)?;
-            which(process)
+            which_named(thread)?;
+            which_named(process)
         }
     }
 }
@@ -83,7 +83,7 @@ pub(crate) fn who(text: &[u8]) -> Option<Which>
     ensures { result ≡ who_of text.now }
 {
     match after(b"p", text) {
-        None => which(text),
+        None => which_named(text),
         Some(pair) => process(pair),
     }
 }

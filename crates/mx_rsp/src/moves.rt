@@ -54,7 +54,7 @@ fn within(rest: &[u8]) -> Option<Action>
 }
 
 /// An action.
-fn action(text: &[u8]) -> Option<Action>
+fn one_action(text: &[u8]) -> Option<Action>
     ensures { result ≡ action_of text.now }
 {
     let (letter, rest) = text.split_first()?;
@@ -74,11 +74,11 @@ fn one_move(text: &[u8]) -> Option<Move>
 {
     match cut(text, b':') {
         None => Some(Move {
-            action: action(text)?,
+            action: one_action(text)?,
             who: Which::All,
         }),
         Some((first, thread)) => {
-            let action = action(first)?;
+            let action = one_action(first)?;
             let who = who(thread)?;
             Some(Move { action, who })
         }
@@ -95,7 +95,7 @@ fn continues(action: Action) -> bool
 }
 
 /// Who goes on, and how.
-pub(crate) fn resume(text: &[u8]) -> Option<Resume>
+pub(crate) fn resume_asked(text: &[u8]) -> Option<Resume>
     ensures { result ≡ resume_of text.now }
 {
     match cut(text, b';') {

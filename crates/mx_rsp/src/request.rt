@@ -7,7 +7,7 @@ ghost use Rattle.hex.specs.Hex.{decode_of};
 ghost use Rattle.mx_rsp.specs.declared.words.Verb.TheVariants as verbs;
 
 use crate::fields::{Which, after, cut, number, two_numbers, who};
-use crate::moves::{Resume, resume};
+use crate::moves::{Resume, resume_asked};
 use crate::words::{Verb, Word, verb_of, word_of};
 use hex::FromHexError;
 use mx_word::Bytes;
@@ -129,7 +129,7 @@ fn request_by(verb: Verb, text: &[u8]) -> Option<Request>
         Verb::ThreadText => Some(Request::ThreadText(who(text)?)),
         Verb::Description => description(text),
         Verb::File => file(text),
-        Verb::Resume => Some(Request::Go(resume(text)?)),
+        Verb::Resume => Some(Request::Go(resume_asked(text)?)),
         Verb::ForReading => Some(Request::ForReading(who(text)?)),
         Verb::ForGoing => Some(Request::ForGoing(who(text)?)),
         Verb::IsAlive => Some(Request::IsAlive(who(text)?)),
