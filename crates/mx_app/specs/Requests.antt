@@ -3,7 +3,7 @@ use Rattle.std.specs.Prelude.{◌≡◌, ◌⊎◌, ℕ, ◌-◌, Bool, true, fa
 use Rattle.mx_app_command.specs.Files.{writes_over}
 use Rattle.mx_app_command.specs.declared.command_line.CommandRequest.{CommandRequest}
 use Rattle.mx_app_command.specs.declared.command_line.RecordRange.{RecordRange}
-use Rattle.mx_app_command.specs.declared.command_line.CommandRequest.TheVariants.{One, As, Show, Explain, Step, Run, Turns, Live, Sweep, Replay, Trace, Draw, Page, Look, Why, Db}
+use Rattle.mx_app_command.specs.declared.command_line.CommandRequest.TheVariants.{One, As, Show, Explain, Step, Run, Turns, Live, Sweep, Replay, Trace, Draw, Page, Look, Gdb, Why, Db}
 use Rattle.mx_app_db.specs.ScriptLine.{ScriptLine}
 use Rattle.mx_app_db.specs.declared.script.DebugLine.{DebugLine}
 use Rattle.mx_app_failure.specs.declared.failure.Failure.{Failure as Kind}
@@ -62,7 +62,7 @@ use Rattle.mx_app.specs.declared.performing.Done.{Done}
 
 -- done with this status, and with no more to tell
 abbrev pub with_status : ℕ → Done
-with_status n = record { status = n; ending = None; untested = None }
+with_status n = record { status = n; ending = None; untested = None; absent = None }
 
 abbrev pub done_after_work : Result (Unit {0}) Kind → Result Done Kind
 done_after_work (Ok u) = Ok (with_status 0)
@@ -76,7 +76,7 @@ done_after_replay (Err f) = Err f
 
 -- turns are done, however they ended
 abbrev pub done_after_turns : Result Ending Kind → Result Done Kind
-done_after_turns (Ok ending) = Ok (record { status = 0; ending = Some (driven.Turns ending); untested = None })
+done_after_turns (Ok ending) = Ok (record { status = 0; ending = Some (driven.Turns ending); untested = None; absent = None })
 done_after_turns (Err f) = Err f
 
 -- the status of a session is 130 if it was stopped
@@ -96,7 +96,7 @@ run_status runs.Stopped = 5
 
 abbrev pub done_after_run : Result RunEnding Kind → Result Done Kind
 done_after_run (Ok ending) =
-    Ok (record { status = run_status ending; ending = Some (driven.Run ending); untested = None })
+    Ok (record { status = run_status ending; ending = Some (driven.Run ending); untested = None; absent = None })
 done_after_run (Err f) = Err f
 
 -- a sweep is done; its status is 1 if the history is refused, and, if it is strict, if an outcome differs or nothing
@@ -105,7 +105,7 @@ abbrev pub done_after_sweep : Bool → Result Swept Kind → Result Done Kind
 done_after_sweep strict (Ok swept.Alike) = Ok (with_status 0)
 done_after_sweep strict (Ok swept.Differs) = Ok (with_status (if strict then 1 else 0))
 done_after_sweep strict (Ok (swept.Nothing why)) =
-    Ok (record { status = (if strict then 1 else 0); ending = None; untested = Some why })
+    Ok (record { status = (if strict then 1 else 0); ending = None; untested = Some why; absent = None })
 done_after_sweep strict (Ok swept.Refused) = Ok (with_status 1)
 done_after_sweep strict (Err f) = Err f
 

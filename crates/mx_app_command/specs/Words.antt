@@ -13,7 +13,7 @@ use Rattle.mx_app_command.specs.declared.command_line.CommandRequest.{CommandReq
 use Rattle.mx_app_command.specs.declared.command_line.Listing.{Listing}
 use Rattle.mx_app_command.specs.declared.command_line.Listing.TheVariants.{Instructions, Symbols}
 use Rattle.mx_app_command.specs.declared.command_line.RecordRange.{RecordRange}
-use Rattle.mx_app_command.specs.declared.command_line.CommandRequest.TheVariants.{One, As, Show, Explain, Step, Run, Turns, Live, Sweep, Replay, Trace, Draw, Page, Look, Why, Db}
+use Rattle.mx_app_command.specs.declared.command_line.CommandRequest.TheVariants.{One, As, Show, Explain, Step, Run, Turns, Live, Sweep, Replay, Trace, Draw, Page, Look, Gdb, Why, Db}
 
 -- ---- the grammar
 
@@ -110,6 +110,13 @@ looking_shape name =
     (required_text (codes "CONFIG") ∷ required_text (codes "LOG") ∷ number_after (codes "from") (codes "A")
     ∷ number_after (codes "to") (codes "B") ∷ sums_rule ∷ [])
 
+-- `gdb CONFIG LOG --slot S --sums SUMS`
+abbrev pub gdb_shape : Shape
+gdb_shape =
+    subcommand (codes "gdb")
+    (required_text (codes "CONFIG") ∷ required_text (codes "LOG") ∷ number_after (codes "slot") (codes "S")
+    ∷ sums_rule ∷ [])
+
 -- one of the subcommands is wanted
 abbrev pub top_app : App
 top_app = record {
@@ -161,6 +168,7 @@ mx_grammar = record {
       ∷ looking_shape (codes "draw")
       ∷ looking_shape (codes "page")
       ∷ following_shape (codes "look")
+      ∷ gdb_shape
       ∷ following_shape (codes "why")
       ∷ of_two (codes "db") (codes "CONFIG") (codes "SCRIPT")
       ∷ [];
@@ -257,6 +265,9 @@ AsksBy (Page config log range) name rows =
     × HasRange rows range
 AsksBy (Look config log) name rows =
     (name ≡ codes "look") × HasText (codes "CONFIG") rows config.now × HasText (codes "LOG") rows log.now
+AsksBy (Gdb config log slot) name rows =
+    (name ≡ codes "gdb") × HasText (codes "CONFIG") rows config.now × HasText (codes "LOG") rows log.now
+    × HasNumberIf (codes "S") rows slot
 AsksBy (Why config log) name rows =
     (name ≡ codes "why") × HasText (codes "CONFIG") rows config.now × HasText (codes "LOG") rows log.now
 AsksBy (Db config script) name rows =
@@ -319,11 +330,12 @@ pub record MayHaveSweep (rows : List Row) : Type 0 where
   pub range : MayHaveRange rows
   pub jobs : MayHaveNumber (codes "J") rows
 
--- those with a history but for `run`: `turns`, `trace`, `draw` and `page` may have two numbers, `sweep` four
+-- those with a history but for `run`: `gdb` may have a number, `turns`, `trace`, `draw` and `page` two, `sweep` four
 abbrev pub IsOtherHistoryAsked : Text → List Row → Type 0
 IsOtherHistoryAsked name rows =
     ((name ≡ codes "replay") ⊎ ((name ≡ codes "look") ⊎ (name ≡ codes "why")))
-    ⊎ ((((name ≡ codes "trace") ⊎ ((name ≡ codes "draw") ⊎ (name ≡ codes "page"))) × MayHaveRange rows)
+    ⊎ (((((name ≡ codes "trace") ⊎ ((name ≡ codes "draw") ⊎ (name ≡ codes "page"))) × MayHaveRange rows)
+    ⊎ ((name ≡ codes "gdb") × MayHaveNumber (codes "S") rows))
     ⊎ (((name ≡ codes "turns") × MayHaveTurns rows)
     ⊎ ((name ≡ codes "sweep") × MayHaveSweep rows)))
 
@@ -346,7 +358,8 @@ is_following name =
     || (bytes_eq name (codes "trace")
     || (bytes_eq name (codes "draw")
     || (bytes_eq name (codes "page")
-    || (bytes_eq name (codes "look") || (bytes_eq name (codes "why") || bytes_eq name (codes "db"))))))
+    || (bytes_eq name (codes "look")
+    || (bytes_eq name (codes "gdb") || (bytes_eq name (codes "why") || bytes_eq name (codes "db")))))))
 
 abbrev pub is_machine : Text → Bool
 is_machine name =

@@ -133,6 +133,13 @@ pub enum CommandRequest<'a> {
         config: &'a str,
         log: &'a str,
     },
+    /// `gdb CONFIG LOG`, with `--slot S` or without.
+    Gdb {
+        config: &'a str,
+        log: &'a str,
+        /// The only slot that gdb is to have.
+        slot: Option<u32>,
+    },
     /// `why CONFIG LOG`.
     Why {
         config: &'a str,
@@ -408,9 +415,10 @@ fn reading_request<'a>(
     requires log { HasText (codes "LOG") (rows_of (found_of matches.now)) log.now }
     requires asked { ((name.now ≡ codes "replay")
         ⊎ ((name.now ≡ codes "look") ⊎ (name.now ≡ codes "why")))
-        ⊎ (((name.now ≡ codes "trace")
+        ⊎ ((((name.now ≡ codes "trace")
         ⊎ ((name.now ≡ codes "draw") ⊎ (name.now ≡ codes "page")))
-        × MayHaveRange (rows_of (found_of matches.now))) }
+        × MayHaveRange (rows_of (found_of matches.now)))
+        ⊎ ((name.now ≡ codes "gdb") × MayHaveNumber (codes "S") (rows_of (found_of matches.now)))) }
     ensures { AsksBy result name.now (rows_of (found_of matches.now)) }
 {
     if name == "replay" {
@@ -419,6 +427,12 @@ fn reading_request<'a>(
         CommandRequest::Look { config, log }
     } else if name == "why" {
         CommandRequest::Why { config, log }
+    } else if name == "gdb" {
+        CommandRequest::Gdb {
+            config,
+            log,
+            slot: number_if_asked(matches, "S"),
+        }
     } else {
         records_request(name, config, log, matches)
     }
@@ -483,6 +497,7 @@ fn is_following(name: &str) -> bool
         || name == "draw"
         || name == "page"
         || name == "look"
+        || name == "gdb"
         || name == "why"
         || name == "db"
 }

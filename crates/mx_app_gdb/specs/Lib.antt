@@ -1,0 +1,9 @@
+pub mod Addresses
+pub mod Console
+pub mod Halts
+pub mod Marks
+pub mod Points
+pub mod Replies
+pub mod Stops
+pub mod SymbolFiles
+pub mod Threads

@@ -1,0 +1,108 @@
+//! Steps of a slot's process. Between two of them others may be on the processor.
+
+use crate::halts::{Halted, Halts};
+use crate::marks::{ComingOut, Ending};
+use crate::moving::{make_next, search_on, stands, stands_in};
+use crate::ranges::Range;
+use mx_print_answers::image_in;
+use mx_proc::Slot;
+use mx_walk::{Progress, Walker};
+use mx_word::NoMemory;
+use std::alloc::Global;
+
+/// Goes on to where the next event is a step of a slot's process. Answers why it halts before, if it does.
+fn go_to_step<P: Progress>(
+    alloc: Global,
+    walker: Walker,
+    halts: &Halts,
+    slot: Slot,
+    progress: &mut P,
+) -> Result<(Walker, Option<Halted>), NoMemory> {
+    if stands(&walker, slot) {
+        return Ok((walker, None));
+    }
+    let (mut walker, mut halted) = make_next(alloc, walker, halts, progress)?;
+    while halted.is_none() && !stands(&walker, slot) {
+        halted = search_on(alloc, &mut walker, halts, Ending::new(), progress)?;
+    }
+    Ok((walker, halted))
+}
+
+/// Goes on while the next event is a step of a slot's process within a range of code. Answers why it halts, if it does.
+fn leave_range<P: Progress>(
+    alloc: Global,
+    walker: Walker,
+    halts: &Halts,
+    slot: Slot,
+    range: Range,
+    progress: &mut P,
+) -> Result<(Walker, Option<Halted>), NoMemory> {
+    let mut walker = walker;
+    let mut halted = None;
+    while halted.is_none() && stands_in(&walker, slot, range) {
+        let mark = ComingOut::new(slot, range);
+        halted = search_on(alloc, &mut walker, halts, mark, progress)?;
+    }
+    Ok((walker, halted))
+}
+
+/// Whether a slot's process is there where its steps within a range end: out of the range, or at a breakpoint.
+fn is_over(walker: &Walker, halts: &Halts, slot: Slot, range: Range) -> bool {
+    match image_in(walker.machine(), slot) {
+        Some(image) => {
+            !range.has(image.eip) || halts.points.breakpoints.has_breakpoint(slot, image.eip)
+        }
+        None => true,
+    }
+}
+
+/// Makes the next step, which is one of a slot's process, and those after it within a range. Answers why it halts, if it
+/// doesn't go on within the range once the process is on a processor again.
+fn step_within<P: Progress>(
+    alloc: Global,
+    walker: Walker,
+    halts: &Halts,
+    slot: Slot,
+    range: Range,
+    progress: &mut P,
+) -> Result<(Walker, Option<Halted>), NoMemory> {
+    let (walker, halted) = make_next(alloc, walker, halts, progress)?;
+    if halted.is_some() {
+        return Ok((walker, halted));
+    }
+    let (walker, halted) = leave_range(alloc, walker, halts, slot, range, progress)?;
+    if halted.is_some() {
+        return Ok((walker, halted));
+    }
+    let (walker, halted) = go_to_step(alloc, walker, halts, slot, progress)?;
+    if halted.is_some() {
+        return Ok((walker, halted));
+    }
+    let there = if is_over(&walker, halts, slot, range) {
+        Some(Halted::There(slot))
+    } else {
+        None
+    };
+    Ok((walker, there))
+}
+
+/// Makes the next step of a slot's process, and those after it within a range, and goes on to where its next one comes.
+pub(crate) fn step_on<P: Progress>(
+    alloc: Global,
+    walker: Walker,
+    halts: &Halts,
+    slot: Slot,
+    range: Range,
+    progress: &mut P,
+) -> Result<(Walker, Halted), NoMemory> {
+    let (mut walker, mut halted) = go_to_step(alloc, walker, halts, slot, progress)?;
+    while halted.is_none() {
+        let (gone, why) = step_within(alloc, walker, halts, slot, range, progress)?;
+        walker = gone;
+        halted = why;
+    }
+    match halted {
+        Some(halted) => Ok((walker, halted)),
+        None => unreachable!(),
+    }
+}
