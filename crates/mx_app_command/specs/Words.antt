@@ -330,14 +330,14 @@ pub record MayHaveSweep (rows : List Row) : Type 0 where
   pub range : MayHaveRange rows
   pub jobs : MayHaveNumber (codes "J") rows
 
--- those with a history but for `run`: `gdb` may have a number, `turns`, `trace`, `draw` and `page` two, `sweep` four
+-- those with a history but for `run`: `gdb` may have a number, `trace`, `draw` and `page` two, `turns` three, `sweep` four
 abbrev pub IsOtherHistoryAsked : Text → List Row → Type 0
 IsOtherHistoryAsked name rows =
     ((name ≡ codes "replay") ⊎ ((name ≡ codes "look") ⊎ (name ≡ codes "why")))
-    ⊎ (((((name ≡ codes "trace") ⊎ ((name ≡ codes "draw") ⊎ (name ≡ codes "page"))) × MayHaveRange rows)
-    ⊎ ((name ≡ codes "gdb") × MayHaveNumber (codes "S") rows))
+    ⊎ ((((name ≡ codes "trace") ⊎ ((name ≡ codes "draw") ⊎ (name ≡ codes "page"))) × MayHaveRange rows)
     ⊎ (((name ≡ codes "turns") × MayHaveTurns rows)
-    ⊎ ((name ≡ codes "sweep") × MayHaveSweep rows)))
+    ⊎ (((name ≡ codes "sweep") × MayHaveSweep rows)
+    ⊎ ((name ≡ codes "gdb") × MayHaveNumber (codes "S") rows))))
 
 -- those with a history: `run` may have a number
 abbrev pub IsHistoryAsked : Text → List Row → Type 0

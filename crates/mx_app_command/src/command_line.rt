@@ -415,10 +415,9 @@ fn reading_request<'a>(
     requires log { HasText (codes "LOG") (rows_of (found_of matches.now)) log.now }
     requires asked { ((name.now ≡ codes "replay")
         ⊎ ((name.now ≡ codes "look") ⊎ (name.now ≡ codes "why")))
-        ⊎ ((((name.now ≡ codes "trace")
+        ⊎ (((name.now ≡ codes "trace")
         ⊎ ((name.now ≡ codes "draw") ⊎ (name.now ≡ codes "page")))
-        × MayHaveRange (rows_of (found_of matches.now)))
-        ⊎ ((name.now ≡ codes "gdb") × MayHaveNumber (codes "S") (rows_of (found_of matches.now)))) }
+        × MayHaveRange (rows_of (found_of matches.now))) }
     ensures { AsksBy result name.now (rows_of (found_of matches.now)) }
 {
     if name == "replay" {
@@ -427,15 +426,20 @@ fn reading_request<'a>(
         CommandRequest::Look { config, log }
     } else if name == "why" {
         CommandRequest::Why { config, log }
-    } else if name == "gdb" {
-        CommandRequest::Gdb {
-            config,
-            log,
-            slot: number_if_asked(matches, "S"),
-        }
     } else {
         records_request(name, config, log, matches)
     }
+}
+
+/// What the words of `gdb` ask for.
+fn gdb_request<'a>(config: &'a str, log: &'a str, matches: &ArgMatches<'a>) -> CommandRequest<'a>
+    requires config { HasText (codes "CONFIG") (rows_of (found_of matches.now)) config.now }
+    requires log { HasText (codes "LOG") (rows_of (found_of matches.now)) log.now }
+    requires slot { MayHaveNumber (codes "S") (rows_of (found_of matches.now)) }
+    ensures { AsksBy result (codes "gdb") (rows_of (found_of matches.now)) }
+{
+    let slot = number_if_asked(matches, "S");
+    CommandRequest::Gdb { config, log, slot }
 }
 
 /// What the words of a subcommand with a history ask for, of one that isn't `run`.
@@ -454,6 +458,8 @@ fn other_history_request<'a>(
         turns_request(config, log, matches)
     } else if name == "sweep" {
         sweep_request(config, log, matches)
+    } else if name == "gdb" {
+        gdb_request(config, log, matches)
     } else {
         reading_request(name, config, log, matches)
     }

@@ -1,7 +1,10 @@
 //! Steps that end in a fault.
 
 ghost use Rattle.std.specs.Prelude.{◌≡◌};
-ghost use Rattle.mx_app_gdb.specs.Marks.{fault_of};
+ghost use Rattle.mx_machine.specs.Machine.{world_of};
+ghost use Rattle.mx_machine.specs.World.{held_by};
+ghost use Rattle.mx_app_gdb.specs.Halts.{fault_here};
+ghost use Rattle.mx_app_gdb.specs.Marks.{fault_of, is_at_fault};
 
 use crate::halts::Halted;
 use crate::threads::Counted;
@@ -25,7 +28,9 @@ pub(crate) fn fault_of(counted: Counted, slot: Slot, out: &Out) -> Option<u8>
 }
 
 /// Whether the last step of what a processor holds ended in a fault that counts.
-pub(crate) fn is_at_fault(machine: &Machine, cpu: u8, counted: Counted) -> bool {
+pub(crate) fn is_at_fault(machine: &Machine, cpu: u8, counted: Counted) -> bool
+    ensures { result ≡ is_at_fault counted (held_by (world_of machine.now) cpu) }
+{
     match (machine.slot_on(cpu), machine.out(cpu)) {
         (Some(slot), Some(out)) => fault_of(counted, slot, out).is_some(),
         _ => false,
@@ -33,7 +38,9 @@ pub(crate) fn is_at_fault(machine: &Machine, cpu: u8, counted: Counted) -> bool 
 }
 
 /// The fault in which the step right before a position ended, if it is one that counts.
-pub(crate) fn fault_here(walker: &Walker, counted: Counted) -> Option<Halted> {
+pub(crate) fn fault_here(walker: &Walker, counted: Counted) -> Option<Halted>
+    ensures { result ≡ fault_here counted walker.now }
+{
     let here = walker.here();
     if here.steps == 0 {
         return None;

@@ -1,5 +1,9 @@
 //! Going back.
 
+ghost use Rattle.std.specs.Prelude.{◌≡◌, IfErr, IfOk, Some};
+ghost use Rattle.mx_walk.specs.Parts.{HasGrown};
+ghost use Rattle.mx_app_gdb.specs.Moves.{IsGoneBack, IsSteppedBack};
+
 use crate::halts::{Halted, Halts};
 use crate::marks::Moving;
 use crate::moving::next_made;
@@ -17,7 +21,11 @@ pub(crate) fn step_back<P: Progress>(
     halts: &Halts,
     slot: Slot,
     progress: &mut P,
-) -> Result<(Walker, Halted), NoMemory> {
+) -> Result<(Walker, Halted), NoMemory>
+    ensures same { IfOk result (λ r. r.0 ≡ record walker { here = r.0.here }) }
+    ensures halted { IfOk result (λ r. IsSteppedBack walker halts.now slot (r.0.here, Some r.1)) }
+    ensures grown { IfErr result (λ _. HasGrown (P.shown progress.old) (P.shown progress.new)) }
+{
     let (walker, is_there) = walker.seek_back(alloc, &mut Moving::new(slot), progress)?;
     if !is_there {
         return Ok((walker, Halted::AtBegin(slot)));
@@ -72,7 +80,11 @@ pub(crate) fn go_back<P: Progress>(
     walker: Walker,
     halts: &Halts,
     progress: &mut P,
-) -> Result<(Walker, Halted), NoMemory> {
+) -> Result<(Walker, Halted), NoMemory>
+    ensures same { IfOk result (λ r. r.0 ≡ record walker { here = r.0.here }) }
+    ensures halted { IfOk result (λ r. IsGoneBack walker halts.now (r.0.here, Some r.1)) }
+    ensures grown { IfErr result (λ _. HasGrown (P.shown progress.old) (P.shown progress.new)) }
+{
     let mut mark = points_mark(alloc, &halts.points)?;
     let (walker, is_there) = walker.seek_back(alloc, &mut mark, progress)?;
     let next = if is_there { next_made(&walker) } else { None };

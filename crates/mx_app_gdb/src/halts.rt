@@ -1,9 +1,10 @@
 //! What a move halts at.
 
-ghost use Rattle.std.specs.Prelude.{◌≡◌, IfOk, map};
+ghost use Rattle.std.specs.Prelude.{◌≡◌, IfOk, None, Some, if◌then◌else◌, map};
 ghost use Rattle.mx_app_look.specs.Changes.{as_seen, seen_in};
 ghost use Rattle.mx_walk.specs.Walks.{world_here};
 ghost use Rattle.mx_app_gdb.specs.Halts.{halted_here};
+ghost use Rattle.mx_app_gdb.specs.Points.{counted_points};
 
 use crate::faults::fault_here;
 use crate::points::counted_points;
@@ -50,7 +51,14 @@ impl Halts {
         threads: Threads,
         mover: Slot,
         others: bool,
-    ) -> Result<Halts, AllocError> {
+    ) -> Result<Halts, AllocError>
+        ensures points { IfOk result (λ h. h.points ≡ counted_points points.now h.counted) }
+        ensures seen { IfOk result (λ h. map as_seen h.seen.items
+            ≡ map (seen_in (world_here walker.now)) h.points.watches) }
+        ensures counted { IfOk result (λ h. h.counted
+            ≡ record { threads = threads; only = (if others then None else Some mover) }) }
+        ensures mover { IfOk result (λ h. h.mover ≡ mover) }
+    {
         let only = if others { None } else { Some(mover) };
         let counted = Counted { threads, only };
         let points = counted_points(points, counted);

@@ -3,6 +3,7 @@
 
 ghost use Rattle.std.specs.Prelude.{◌≡◌, Some};
 ghost use Rattle.mx_machine.specs.Machine.{world_of};
+ghost use Rattle.mx_machine.specs.World.{held_by};
 ghost use Rattle.mx_walk.specs.Stopping.{is_step};
 ghost use Rattle.mx_app_gdb.specs.Marks.{moves, stands_within};
 
@@ -156,7 +157,9 @@ fn is_within(slot: Slot, range: Range, on: Slot, out: &Out) -> bool
 }
 
 /// Whether a processor has the slot's process, its next instruction is within a range, and it can step.
-pub(crate) fn stands_within(machine: &Machine, cpu: u8, slot: Slot, range: Range) -> bool {
+pub(crate) fn stands_within(machine: &Machine, cpu: u8, slot: Slot, range: Range) -> bool
+    ensures { result ≡ stands_within slot range (held_by (world_of machine.now) cpu) }
+{
     match (machine.slot_on(cpu), machine.out(cpu)) {
         (Some(on), Some(out)) => is_within(slot, range, on, out),
         _ => false,

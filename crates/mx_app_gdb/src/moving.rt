@@ -1,7 +1,10 @@
 //! The parts of a move: the next event, and a search on.
 
-ghost use Rattle.std.specs.Prelude.{◌≡◌, IfOk};
-ghost use Rattle.mx_walk.specs.Walks.{Walk};
+ghost use Rattle.std.specs.Prelude.{◌≡◌, ◌++◌, IfErr, IfOk, MatchOption, None, OnOk, Some};
+ghost use Rattle.mx_walk.specs.Parts.{HasGrown, walk_between};
+ghost use Rattle.mx_walk.specs.Positions.{next_position};
+ghost use Rattle.mx_app_look.specs.Searches.{next_made};
+ghost use Rattle.mx_app_gdb.specs.Moves.{stands};
 
 use crate::halts::{Halted, Halts, halted_here};
 use crate::marks::{Faulting, moves, stands_within};
@@ -13,7 +16,11 @@ use mx_word::NoMemory;
 use std::alloc::Global;
 
 /// The event after a position, if it can be made.
-pub(crate) fn next_made(walker: &Walker) -> Option<NextEvent> {
+pub(crate) fn next_made(walker: &Walker) -> Option<NextEvent>
+    ensures { MatchOption result (next_made walker.now ≡ None)
+        (λ next. (next_made walker.now ≡ Some (next.actor, next.event))
+        × (next.position ≡ next_position walker.now.records walker.now.here)) }
+{
     if is_up_to(walker.last(), walker.here()) {
         return None;
     }
@@ -21,7 +28,9 @@ pub(crate) fn next_made(walker: &Walker) -> Option<NextEvent> {
 }
 
 /// Whether the next event is a step of a slot's process.
-pub(crate) fn stands(walker: &Walker, slot: Slot) -> bool {
+pub(crate) fn stands(walker: &Walker, slot: Slot) -> bool
+    ensures { result ≡ stands walker.now slot }
+{
     match next_made(walker) {
         Some(next) => moves(walker.machine(), next.actor, next.event, slot),
         None => false,
@@ -42,7 +51,10 @@ pub(crate) fn make_next<P: Progress>(
     walker: Walker,
     halts: &Halts,
     progress: &mut P,
-) -> Result<(Walker, Option<Halted>), NoMemory> {
+) -> Result<(Walker, Option<Halted>), NoMemory>
+    ensures same { IfOk result (λ r. r.0 ≡ record walker { here = r.0.here }) }
+    ensures grown { IfErr result (λ _. HasGrown (P.shown progress.old) (P.shown progress.new)) }
+{
     match next_made(&walker) {
         Some(next) => {
             let walker = walker.go_to(alloc, next.position, progress)?;
@@ -64,7 +76,11 @@ pub(crate) fn search_on<M: Mark + Drop, P: Progress>(
     halts: &Halts,
     mark: M,
     progress: &mut P,
-) -> Result<Option<Halted>, NoMemory> {
+) -> Result<Option<Halted>, NoMemory>
+    ensures same { walker.new ≡ record walker.old { here = walker.new.here } }
+    ensures shown { P.shown progress.new ≡ P.shown progress.old
+        ++ walk_between walker.old.records walker.old.here walker.new.here }
+{
     let places = break_places(alloc, &halts.points)?;
     let points = halts_mark(alloc, &halts.points)?;
     let others = Either::new(Faulting::new(halts.counted), mark);

@@ -1,5 +1,10 @@
 //! What a request is answered, and what the stub has in hand after it.
 
+ghost use Rattle.std.specs.Prelude.{◌≡◌, ◌++◌, IfErr, IfOk, OnOk, option_map};
+ghost use Rattle.mx_app_step.specs.Failure.{IsWanting};
+ghost use Rattle.mx_walk.specs.Parts.{HasGrown};
+ghost use Rattle.mx_app_gdb.specs.Replied.{IsReplied, after_word, here_reply, range_of, word_reply};
+
 use crate::console::console;
 use crate::going::go_on;
 use crate::going_back::{go_back, step_back};
@@ -126,7 +131,9 @@ fn say_done(alloc: Global, stub: Stub, is_done: bool) -> Result<(Stub, Reply), F
 }
 
 /// The range of an action.
-fn range_of(action: Action) -> Range {
+fn range_of(action: Action) -> Range
+    ensures { result ≡ range_of action }
+{
     match action {
         Action::StepWithin(first, end) => Range { first, end },
         Action::Step | Action::Continue => NOWHERE,
@@ -279,7 +286,9 @@ fn detach_from(alloc: Global, stub: Stub, number: u32) -> Result<(Stub, Reply), 
 }
 
 /// The reply to a word that asks for something here.
-fn push_word(alloc: Global, out: &mut Vec<u8>, stub: &Stub, word: Word) -> Result<(), AllocError> {
+fn push_word(alloc: Global, out: &mut Vec<u8>, stub: &Stub, word: Word) -> Result<(), AllocError>
+    ensures { OnOk result (out.new.items ≡ out.old.items ++ word_reply stub.now word) }
+{
     match word {
         Word::WhyHalted => {
             let halted = Halted::There(stub.threads.reads);
@@ -298,7 +307,9 @@ fn push_word(alloc: Global, out: &mut Vec<u8>, stub: &Stub, word: Word) -> Resul
 }
 
 /// What comes after the reply to a word.
-fn after_word(word: Word) -> After {
+fn after_word(word: Word) -> After
+    ensures { result ≡ after_word word }
+{
     match word {
         Word::NoAcks => After::NoAcks,
         Word::Detach | Word::End => After::Over,
@@ -338,7 +349,9 @@ fn push_here(
     out: &mut Vec<u8>,
     stub: &Stub,
     request: &Request,
-) -> Result<(), AllocError> {
+) -> Result<(), AllocError>
+    ensures { OnOk result (out.new.items ≡ out.old.items ++ here_reply stub.now request.now) }
+{
     match request {
         Request::ThreadText(which) => push_thread_line(alloc, out, stub, *which),
         Request::Description(offset, length) => push_target(out, *offset, *length),
@@ -366,7 +379,12 @@ pub(crate) fn reply_to<P: Progress>(
     stub: Stub,
     request: &Request,
     progress: &mut P,
-) -> Result<(Stub, Reply), Failure> {
+) -> Result<(Stub, Reply), Failure>
+    ensures err { IfErr result IsWanting }
+    ensures replied { IfOk result (λ r. IsReplied stub request.now r.0
+        (option_map (λ v. v.items) r.1.text) r.1.after) }
+    ensures grown { HasGrown (P.shown progress.old) (P.shown progress.new) }
+{
     match request {
         Request::Plain(word) => answer_word(alloc, stub, *word, progress),
         Request::Supported(names) => tell_features(alloc, stub, *names),

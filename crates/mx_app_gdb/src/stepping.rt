@@ -1,5 +1,11 @@
 //! Steps of a slot's process. Between two of them others may be on the processor.
 
+ghost use Rattle.std.specs.Prelude.{◌≡◌, IfErr, IfOk, Some};
+ghost use Rattle.mx_print_answers.specs.Slots.{image_in};
+ghost use Rattle.mx_walk.specs.Parts.{HasGrown};
+ghost use Rattle.mx_walk.specs.Walks.{world_here};
+ghost use Rattle.mx_app_gdb.specs.Moves.{IsCome, IsStepped, ends_of};
+
 use crate::halts::{Halted, Halts};
 use crate::marks::{ComingOut, Ending};
 use crate::moving::{make_next, search_on, stands, stands_in};
@@ -17,7 +23,11 @@ fn go_to_step<P: Progress>(
     halts: &Halts,
     slot: Slot,
     progress: &mut P,
-) -> Result<(Walker, Option<Halted>), NoMemory> {
+) -> Result<(Walker, Option<Halted>), NoMemory>
+    ensures same { IfOk result (λ r. r.0 ≡ record walker { here = r.0.here }) }
+    ensures come { IfOk result (λ r. IsCome walker halts.now slot (r.0.here, r.1)) }
+    ensures grown { IfErr result (λ _. HasGrown (P.shown progress.old) (P.shown progress.new)) }
+{
     if stands(&walker, slot) {
         return Ok((walker, None));
     }
@@ -46,13 +56,21 @@ fn leave_range<P: Progress>(
     Ok((walker, halted))
 }
 
-/// Whether a slot's process is there where its steps within a range end: out of the range, or at a breakpoint.
-fn is_over(walker: &Walker, halts: &Halts, slot: Slot, range: Range) -> bool {
+/// Why the steps of a slot's process end where its next one comes, if they do: it is at a breakpoint, or out of the range.
+fn why_over(walker: &Walker, halts: &Halts, slot: Slot, range: Range) -> Option<Halted>
+    ensures { result ≡ ends_of halts.now slot range (image_in (world_here walker.now) slot) }
+{
     match image_in(walker.machine(), slot) {
         Some(image) => {
-            !range.has(image.eip) || halts.points.breakpoints.has_breakpoint(slot, image.eip)
+            if halts.points.breakpoints.has_breakpoint(slot, image.eip) {
+                Some(Halted::AtBreak(slot))
+            } else if range.has(image.eip) {
+                None
+            } else {
+                Some(Halted::There(slot))
+            }
         }
-        None => true,
+        None => Some(Halted::There(slot)),
     }
 }
 
@@ -78,12 +96,8 @@ fn step_within<P: Progress>(
     if halted.is_some() {
         return Ok((walker, halted));
     }
-    let there = if is_over(&walker, halts, slot, range) {
-        Some(Halted::There(slot))
-    } else {
-        None
-    };
-    Ok((walker, there))
+    let why = why_over(&walker, halts, slot, range);
+    Ok((walker, why))
 }
 
 /// Makes the next step of a slot's process, and those after it within a range, and goes on to where its next one comes.
@@ -94,7 +108,11 @@ pub(crate) fn step_on<P: Progress>(
     slot: Slot,
     range: Range,
     progress: &mut P,
-) -> Result<(Walker, Halted), NoMemory> {
+) -> Result<(Walker, Halted), NoMemory>
+    ensures same { IfOk result (λ r. r.0 ≡ record walker { here = r.0.here }) }
+    ensures halted { IfOk result (λ r. IsStepped walker halts.now slot range (r.0.here, Some r.1)) }
+    ensures grown { IfErr result (λ _. HasGrown (P.shown progress.old) (P.shown progress.new)) }
+{
     let (mut walker, mut halted) = go_to_step(alloc, walker, halts, slot, progress)?;
     while halted.is_none() {
         let (gone, why) = step_within(alloc, walker, halts, slot, range, progress)?;

@@ -1,7 +1,8 @@
 //! What gdb is told of a halt.
 
 ghost use Rattle.std.specs.Prelude.{◌≡◌};
-ghost use Rattle.mx_app_gdb.specs.Stops.{reason_of, signal_of, slot_halted, stop_at};
+ghost use Rattle.mx_machine.specs.Machine.{world_of};
+ghost use Rattle.mx_app_gdb.specs.Stops.{reason_of, signal_of, signal_of_fault, slot_halted, stop_at};
 
 use crate::addresses::shown_address;
 use crate::halts::Halted;
@@ -16,7 +17,9 @@ use mx_word::Register;
 const TRAP: u8 = 5;
 
 /// The signal that gdb has for a fault: of arithmetic, of a breakpoint, of an instruction, or of memory.
-fn signal_of_fault(vector: u8) -> u8 {
+fn signal_of_fault(vector: u8) -> u8
+    ensures { result ≡ signal_of_fault vector }
+{
     match vector {
         0 | 4 => 8,
         6 => 4,
@@ -62,7 +65,9 @@ pub(crate) fn slot_halted(halted: Halted) -> Slot
 }
 
 /// What gdb is told of a halt, with the registers that it asks for first.
-pub(crate) fn stop_at(machine: &Machine, threads: Threads, halted: Halted) -> Stop {
+pub(crate) fn stop_at(machine: &Machine, threads: Threads, halted: Halted) -> Stop
+    ensures { result ≡ stop_at (world_of machine.now) threads halted }
+{
     let slot = slot_halted(halted);
     let (esp, ebp, eip) = match image_in(machine, slot) {
         Some(image) => (

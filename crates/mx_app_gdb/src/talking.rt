@@ -1,7 +1,11 @@
 //! The talk with gdb: from the files' names, through the bytes that come, to the end.
 
-ghost use Rattle.std.specs.Prelude.{◌≡◌, IfErr};
-ghost use Rattle.mx_app_step.specs.Failure.{IsUntyped};
+ghost use Rattle.std.specs.Prelude.{◌≡◌, ◌++◌, ◌∷◌, [], IfErr, IfOk, List, OnOk, Option, ℕ};
+ghost use Rattle.std.specs.Io.KnownBytes.{Appends};
+ghost use Rattle.mx_app_start.specs.Asked.{byte_line};
+ghost use Rattle.mx_app_step.specs.Failure.{IsUntyped, IsWanting};
+ghost use Rattle.mx_walk.specs.declared.progress.Part.{Part as Parts};
+ghost use Rattle.mx_app_gdb.specs.Talks.{IsByteHeard, IsTalk, if_acks};
 
 use crate::alive::Alive;
 use crate::replying::{After, Reply, reply_to};
@@ -46,7 +50,10 @@ struct Talk {
 }
 
 /// Writes a byte about a packet, if packets are acknowledged.
-fn acknowledge<W: Write>(acks: bool, byte: &[u8], out: &mut W) -> Result<(), Failure> {
+fn acknowledge<W: Write>(acks: bool, byte: &[u8], out: &mut W) -> Result<(), Failure>
+    ensures err { IfErr result IsWanting }
+    ensures bytes { OnOk result (Appends (W.contents out.old) (W.contents out.new) (if_acks acks byte.now)) }
+{
     if acks { print_text(byte, out) } else { Ok(()) }
 }
 
@@ -106,7 +113,13 @@ fn hear<P: Progress, W: Write>(
     byte: u8,
     progress: &mut P,
     out: &mut W,
-) -> Result<Option<Talk>, Failure> {
+) -> Result<Option<Talk>, Failure>
+    ensures err { IfErr result IsWanting }
+    ensures heard { IfOk result (λ next. (text : List ℕ) × (ps : List Parts)
+        × IsByteHeard talk byte next text ps
+        × (P.shown progress.new ≡ P.shown progress.old ++ ps)
+        × Appends (W.contents out.old) (W.contents out.new) text) }
+{
     let mut talk = talk;
     match talk.reader.hear(alloc, byte)? {
         Heard::Nothing => Ok(Some(talk)),
@@ -127,6 +140,8 @@ fn hear<P: Progress, W: Write>(
 /// Takes the next byte, if the input isn't at its end.
 fn next_byte<L: LineReader>(lines: &mut L) -> Result<Option<u8>, Failure>
     ensures err { IfErr result IsUntyped }
+    ensures given { IfOk result (λ byte. L.given lines.new
+        ≡ L.given lines.old ++ byte_line byte ∷ []) }
 {
     match lines.next_byte() {
         Ok(byte) => Ok(byte),
@@ -141,7 +156,13 @@ fn converse<L: LineReader, P: Progress, W: Write>(
     lines: &mut L,
     progress: &mut P,
     out: &mut W,
-) -> Result<(), Failure> {
+) -> Result<(), Failure>
+    ensures talked { OnOk result ((typed : List (Option (List ℕ))) × (text : List ℕ)
+        × (ps : List Parts) × (L.given lines.new ≡ L.given lines.old ++ typed)
+        × IsTalk talk typed text ps
+        × (P.shown progress.new ≡ P.shown progress.old ++ ps)
+        × Appends (W.contents out.old) (W.contents out.new) text) }
+{
     let mut talk = talk;
     for _ in 0..u64::MAX {
         let Some(byte) = next_byte(lines)? else {

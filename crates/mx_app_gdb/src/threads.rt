@@ -1,7 +1,8 @@
 //! Which processes gdb has, and which of them it asks about.
 
-ghost use Rattle.std.specs.Prelude.{◌≡◌};
-ghost use Rattle.mx_app_gdb.specs.Threads.{counts, goes_by, is_seen, named_slot, read_by, thread_of};
+ghost use Rattle.std.specs.Prelude.{◌≡◌, Some};
+ghost use Rattle.mx_app_gdb.specs.Threads.{counts, goes_by, is_only, is_seen, named_slot, read_by, thread_of};
+ghost use Rattle.mx_app_gdb.specs.Replied.{has_any, left_by};
 
 use mx_proc::Slot;
 use mx_rsp::{ThreadName, Which};
@@ -24,7 +25,9 @@ pub struct Threads {
 }
 
 /// Whether a slot may be seen, where only one may, or each.
-fn is_only(only: Option<Slot>, slot: Slot) -> bool {
+fn is_only(only: Option<Slot>, slot: Slot) -> bool
+    ensures { result ≡ is_only only slot }
+{
     match only {
         Some(one) => one == slot,
         None => true,
@@ -87,7 +90,9 @@ impl Threads {
     }
 
     /// With a slot that gdb has left.
-    pub fn without(self, slot: Slot) -> Threads {
+    pub fn without(self, slot: Slot) -> Threads
+        ensures { result ≡ left_by self (Some slot) }
+    {
         let mut gone = self.gone;
         if slot < 32 {
             gone[slot as usize] = true;
@@ -96,7 +101,9 @@ impl Threads {
     }
 
     /// Whether gdb has any process.
-    pub fn has_any(self) -> bool {
+    pub fn has_any(self) -> bool
+        ensures { result ≡ has_any self }
+    {
         for slot in 0..32u8 {
             if self.is_seen(slot) {
                 return true;
