@@ -34,6 +34,9 @@ use Rattle.mx_app_db.specs.Traces.{IsTracePrinted}
 use Rattle.mx_app_db.specs.Replayed.{Replayed}
 use Rattle.mx_app_db.specs.Replayed.TheVariants as replayed
 use Rattle.mx_app_draw.specs.Scenes.{IsDrawingPrinted}
+use Rattle.mx_app_gdb.specs.Talks.{IsTalked}
+use Rattle.mx_app_gdb.specs.declared.talking.TalkEnding.{TalkEnding}
+use Rattle.mx_app_gdb.specs.declared.talking.TalkEnding.TheVariants as talks
 use Rattle.mx_app_page.specs.Pages.{IsPagePrinted, run_of_files}
 use Rattle.mx_app_live.specs.declared.session.SessionEnding.{SessionEnding}
 use Rattle.mx_app_live.specs.declared.session.SessionEnding.TheVariants as session
@@ -191,6 +194,20 @@ Looks config log asks qs typed ps Prints (Ok u) =
     × Prints (begun_text asks k ++ text)
 Looks config log asks qs typed ps Prints (Err f) = HasFailed config log qs ps f
 
+-- a talk with gdb over a history: what is written is determined by the bytes that come, up to one that ends it or to the
+-- end of the input
+abbrev pub Talks : List ℕ → List ℕ → Option ℕ → List Asked → List (Option (List ℕ)) → List Part → (List ℕ → Type 0)
+    → Result TalkEnding Kind → Type 0
+Talks config log slot qs typed ps Prints (Ok ending) = IsTalked config log slot qs typed ps Prints ending
+Talks config log slot qs typed ps Prints (Err f) = HasFailed config log qs ps f
+
+-- the status is 0, unless it didn't begin
+abbrev pub done_after_gdb : Result TalkEnding Kind → Result Done Kind
+done_after_gdb (Ok talks.Over) = Ok (with_status 0)
+done_after_gdb (Ok (talks.NoService s)) =
+    Ok (record { status = 2; ending = None; untested = None; absent = Some s })
+done_after_gdb (Err f) = Err f
+
 -- ---- requests
 
 -- a file is read, shown, and none is written
@@ -234,19 +251,23 @@ PerformsUntyped (Draw config log range) qs ws Prints r =
 PerformsUntyped (Page config log range) qs ws Prints r =
     (d : Result Replayed Kind) × (ws ≡ []) × Pages config.now log.now range qs Prints d × (r ≡ done_after_replay d)
 PerformsUntyped (Look config log) qs ws Prints r = ⊥
+PerformsUntyped (Gdb config log slot) qs ws Prints r = ⊥
 PerformsUntyped (Why config log) qs ws Prints r =
     (d : Result Replayed Kind) × (ws ≡ []) × Whys config.now log.now qs Prints d × (r ≡ done_after_replay d)
 PerformsUntyped (Db config script) qs ws Prints r =
     (d : Result (Unit {0}) Kind) × (ws ≡ []) × Debugs config.now script.now qs Prints d × (r ≡ done_after_work d)
 
 -- what is done of a request that writes over nothing that it reads, by what a command did, by what is printed, and by
--- how it ends. Only `look` takes lines, and somebody sits only at a live machine; `look`, turns and a sweep show
--- progress. What the threads of a run show is no list, since they have no order: WasShown holds of it.
+-- how it ends. Only `look` takes lines, and `gdb` bytes; somebody sits only at a live machine; these two, turns and a
+-- sweep show progress. What the threads of a run show is no list, since they have no order: WasShown holds of it.
 abbrev pub PerformsApart : (Part → Type 0) → CommandRequest → Bool → Deeds → (List ℕ → Type 0) → Result Done Kind
     → Type 0
 PerformsApart WasShown (Look config log) asks did Prints r =
     IsAlone did × (d : Result (Unit {0}) Kind) × (did.written ≡ [])
     × Looks config.now log.now asks did.asked did.typed did.shown Prints d × (r ≡ done_after_work d)
+PerformsApart WasShown (Gdb config log slot) asks did Prints r =
+    IsAlone did × (d : Result TalkEnding Kind) × (did.written ≡ [])
+    × Talks config.now log.now slot did.asked did.typed did.shown Prints d × (r ≡ done_after_gdb d)
 PerformsApart WasShown (Run config log ticks events) asks did Prints r =
     IsAlone did × (did.typed ≡ []) × (did.shown ≡ []) × (d : Result RunEnding Kind)
     × Runs WasShown config.now (option_map (λ s. s.now) events) log.now ticks did.asked did.written Prints d

@@ -1,18 +1,34 @@
 -- The talk: bytes that come, and bytes that are written (our own).
 use Rattle.std.specs.Prelude.{◌≡◌, ◌⊎◌, ℕ, ◌%◌, ◌==◌, ◌^◌, ◌-◌, Bool, true, false, if◌then◌else◌}
-use Rattle.std.specs.Prelude.{List, [], ◌∷◌, ◌++◌, codes, length, Option, Some, None}
+use Rattle.std.specs.Prelude.{List, [], ◌∷◌, ◌++◌, codes, length, map, min, nat_lt, replicate, unwrap_or, Option, Some, None}
 use Rattle.std.specs.List.{flat_map}
 use Rattle.mx_rsp.specs.declared.hearing.Heard.{Heard}
 use Rattle.mx_rsp.specs.declared.hearing.Heard.TheVariants.{Again, Nothing, Packet, TooLong, Wrong}
 use Rattle.mx_rsp.specs.Hearing.{heard_of, reading_after}
 use Rattle.mx_rsp.specs.Packets.{packet}
 use Rattle.mx_rsp.specs.Requests.{request_of}
+use Rattle.mx_app_failure.specs.declared.failure.Failure.{Failure as Kind}
+use Rattle.mx_app_look.specs.Sessions.{HasFailed, IsBegun, sight_at}
+use Rattle.mx_app_step.specs.Asked.{Asked}
+use Rattle.mx_app_step.specs.Config.{Config}
+use Rattle.mx_app_step.specs.Course.{IsSaved}
+use Rattle.mx_app_step.specs.Service.{Service}
+use Rattle.mx_app_step.specs.Setup.{IsStart}
+use Rattle.mx_machine.specs.Boot.{world_at_boot}
+use Rattle.mx_machine.specs.declared.config.ServiceLine.{ServiceLine}
+use Rattle.mx_machine.specs.declared.history.Record.{Record}
 use Rattle.mx_walk.specs.declared.progress.Part.{Part}
+use Rattle.mx_walk.specs.Parts.{walk_shown}
+use Rattle.mx_walk.specs.Walks.{Walk}
 use Rattle.mx_app_gdb.specs.declared.replying.After.{After}
 use Rattle.mx_app_gdb.specs.declared.replying.After.TheVariants.{More, NoAcks, Over}
 use Rattle.mx_app_gdb.specs.declared.stub.Stub.{Stub}
 use Rattle.mx_app_gdb.specs.declared.talking.Talk.{Talk}
-use Rattle.mx_app_gdb.specs.Replied.{IsReplied}
+use Rattle.mx_app_gdb.specs.declared.talking.TalkEnding.{TalkEnding}
+use Rattle.mx_app_gdb.specs.declared.talking.TalkEnding.TheVariants.{NoService, Over as Ended}
+use Rattle.mx_app_gdb.specs.declared.threads.Threads.{Threads}
+use Rattle.mx_app_gdb.specs.Replied.{IsReplied, files_of}
+use Rattle.mx_app_gdb.specs.SymbolFiles.{symbol_file}
 
 -- ---- one packet
 
@@ -82,3 +98,41 @@ IsTalkOf (Some t) (Some l ∷ xs) text ps =
 
 abbrev pub IsTalk : Talk → List (Option (List ℕ)) → List ℕ → List Part → Type 0
 IsTalk t typed text ps = IsTalkOf (Some t) typed text ps
+
+-- ---- where it begins
+
+-- the processes of so many slots, or one of them alone
+abbrev pub threads_at : ℕ → Option ℕ → Threads
+threads_at n only = record {
+  count = n; reads = unwrap_or only 0; goes = None; names = false; only = only; gone = replicate 32 false;
+}
+
+-- nothing is set, no byte has come, and packets are acknowledged
+pub record IsTalkBegun (c : Config) (k : Walk) (slot : Option ℕ) (t : Talk) : Type 0 where
+  pub sight : t.stub.sight ≡ sight_at k
+  pub files : files_of t.stub ≡ map (λ (l : ServiceLine). symbol_file l.file) c.lines
+  pub threads : t.stub.threads ≡ threads_at (length c.lines) slot
+  pub reader : t.reader ≡ []
+  pub acks : t.acks ≡ true
+  pub last : t.last.items ≡ []
+
+-- the slot that gdb wants alone has a service
+abbrev pub is_service : ℕ → Option ℕ → Bool
+is_service n None = true
+is_service n (Some s) = nat_lt s n
+
+-- ---- A TALK FROM FILES: what is read, what comes, the progress that is shown, and what is written, as it ends
+
+abbrev pub IsTalked : List ℕ → List ℕ → Option ℕ → List Asked → List (Option (List ℕ)) → List Part
+    → (List ℕ → Type 0) → TalkEnding → Type 0
+IsTalked config log slot qs typed ps Prints Ended =
+    (c : Config) × (vs : List Service) × (records : List Record) × (k : Walk) × (t : Talk) × (text : List ℕ)
+    × (later : List Part) × IsStart IsSaved config log qs c vs records × IsBegun (world_at_boot c vs) records k
+    × (is_service (length c.lines) slot ≡ true) × IsTalkBegun c k slot t × IsTalk t typed text later
+    × (ps ≡ walk_shown k.records k.last ++ later)
+    × Prints (alive_text (walk_shown k.records k.last) ++ text)
+IsTalked config log slot qs typed ps Prints (NoService s) =
+    (c : Config) × (vs : List Service) × (records : List Record) × (k : Walk)
+    × IsStart IsSaved config log qs c vs records × IsBegun (world_at_boot c vs) records k
+    × (slot ≡ Some s) × (is_service (length c.lines) slot ≡ false) × (typed ≡ [])
+    × (ps ≡ walk_shown k.records k.last) × Prints (alive_text (walk_shown k.records k.last))

@@ -5,7 +5,9 @@ ghost use Rattle.std.specs.Io.KnownBytes.{Appends};
 ghost use Rattle.mx_app_start.specs.Asked.{byte_line};
 ghost use Rattle.mx_app_step.specs.Failure.{IsUntyped, IsWanting};
 ghost use Rattle.mx_walk.specs.declared.progress.Part.{Part as Parts};
-ghost use Rattle.mx_app_gdb.specs.Talks.{IsByteHeard, IsTalk, if_acks};
+ghost use Rattle.mx_app_look.specs.Sessions.{HasFailed};
+ghost use Rattle.mx_app_step.specs.Asked.{Asked};
+ghost use Rattle.mx_app_gdb.specs.Talks.{IsByteHeard, IsTalk, IsTalked, if_acks};
 
 use crate::alive::Alive;
 use crate::replying::{After, Reply, reply_to};
@@ -227,6 +229,17 @@ pub fn gdb<R: FileReader + Drop, F: Drop, W: Write + Drop, L: LineReader, P: Pro
     wanted: TalkWanted<'_>,
 ) -> Result<TalkEnding, Failure>
     ensures files { channels.new.files ≡ channels.old.files }
+    ensures talked { IfOk result (λ ending. (qs : List Asked) × (typed : List (Option (List ℕ)))
+        × (ps : List Parts) × (R.asked channels.new.reader ≡ R.asked channels.old.reader ++ qs)
+        × (L.given lines.new ≡ L.given lines.old ++ typed)
+        × (P.shown progress.new ≡ P.shown progress.old ++ ps)
+        × IsTalked wanted.entry.config.now wanted.entry.log.now wanted.entry.slot qs typed ps
+        (λ text. Appends (W.contents channels.old.out) (W.contents channels.new.out) text) ending) }
+    ensures fault { IfErr result (λ f. (qs : List Asked) × (typed : List (Option (List ℕ)))
+        × (ps : List Parts) × (R.asked channels.new.reader ≡ R.asked channels.old.reader ++ qs)
+        × (L.given lines.new ≡ L.given lines.old ++ typed)
+        × (P.shown progress.new ≡ P.shown progress.old ++ ps)
+        × HasFailed wanted.entry.config.now wanted.entry.log.now qs ps f) }
 {
     let mut alive = Alive::new(progress, &mut channels.out);
     let stub = start_stub(alloc, &mut channels.reader, &mut alive, wanted)?;
