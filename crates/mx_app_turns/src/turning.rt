@@ -44,10 +44,10 @@ pub struct TurnsWanted {
 /// A machine at boot, the configuration that it booted by, and the outside events of a file. The
 /// machine has an actor that is no processor.
 #[derive(Drop)]
-struct Begun {
-    config: Config,
-    machine: Machine,
-    events: Vec<Event>,
+pub struct Begun {
+    pub config: Config,
+    pub machine: Machine,
+    pub events: Vec<Event>,
 }
 
 /// The machine of a configuration that no file of outside events drives.
@@ -73,7 +73,7 @@ fn begin_alone<R: Reader>(alloc: Global, reader: &mut R, name: &str) -> Result<B
 }
 
 /// Boots the machine of a configuration, after the file of outside events is read, if one is named.
-fn begin<R: Reader>(
+pub fn begin_turns<R: Reader>(
     alloc: Global,
     reader: &mut R,
     name: &str,
@@ -173,7 +173,7 @@ pub fn turns<R: Reader + Drop, F: FileWriter + Drop, W: Write + Drop, P: Progres
         names.entry.log.now wanted.ticks wanted.bound qs ws ps
         (λ text. Appends (W.contents channels.old.out) (W.contents channels.new.out) text) result }
 {
-    let mut begun = begin(alloc, &mut channels.reader, names.config, names.events)?;
+    let mut begun = begin_turns(alloc, &mut channels.reader, names.config, names.events)?;
     spare_programs(&begun.config, names.log)?;
     let ending = drive(&mut begun, wanted, progress);
     save_and_report(alloc, channels, begun.machine.kernel(), names.log)?;
