@@ -83,7 +83,7 @@ pub(crate) fn push_departures(
     met: &[Met],
 ) -> Result<(), AllocError> {
     for departure in departures {
-        push_departure(text, services, *departure, met[departure.at as usize])?;
+        push_departure(text, services, *departure, met[departure.at])?;
     }
     Ok(())
 }

@@ -1,5 +1,5 @@
 -- OPEN OFFERS of a turn: those of which something would come (our own).
-use Rattle.std.specs.Prelude.{ℕ, ◌&&◌, not, if◌then◌else◌, Option, Some, None, is_none, option_map, slice_get}
+use Rattle.std.specs.Prelude.{ℕ, ◌&&◌, not, if◌then◌else◌, Bool, true, false, Option, Some, None, is_none, option_map, slice_get}
 use Rattle.mx_machine.specs.declared.events.Event.{Event}
 use Rattle.mx_machine.specs.Proc.declared.process.Process.{Process}
 use Rattle.mx_machine.specs.Proc.Queues.{first_ready}
@@ -10,6 +10,11 @@ use Rattle.mx_machine.specs.Service.{Service}
 use Rattle.mx_machine.specs.World.{World, HeldProcess, held_by}
 use Rattle.mx_explore.specs.declared.offers.Offer.{Offer}
 use Rattle.mx_explore.specs.declared.offers.Offer.TheVariants.{Take, Back, Outside, Respawn}
+
+-- it is that of an outside event
+abbrev pub is_outside : Offer → Bool
+is_outside (Outside e) = true
+is_outside x = false
 
 -- a processor that holds nothing may take who is ready
 abbrev pub open_take : World → ℕ → Option Offer

@@ -1,5 +1,5 @@
 -- RUNS IN WHICH OPEN OFFERS ARE PASSED: the order of turns, departed from in some places (our own).
-use Rattle.std.specs.Prelude.{ℕ, zero, suc, ◌+◌, ◌-◌, ◌==◌, ◌≡◌, nat_lt, ◌&&◌, ◌||◌, not, if◌then◌else◌, Bool, true, false, List, [], ◌∷◌, ◌++◌, drop, foldl, length, map, Option, Some, None, slice_get}
+use Rattle.std.specs.Prelude.{ℕ, zero, suc, ◌-◌, ◌==◌, ◌≡◌, nat_lt, ◌&&◌, ◌||◌, not, if◌then◌else◌, Bool, true, false, List, [], ◌∷◌, ◌++◌, drop, foldl, length, map, Option, Some, None, slice_get}
 use Rattle.std.specs.List.{range_with_len}
 use Rattle.mx_app_step.specs.Kept.{kept_of}
 use Rattle.mx_machine.specs.declared.events.Event.{Event}
@@ -9,18 +9,16 @@ use Rattle.mx_machine.specs.World.{World}
 use Rattle.mx_turns.specs.Turns.{is_over, offered, run_of, world_after}
 use Rattle.mx_turns.specs.declared.turns.Ending.{Ending}
 use Rattle.mx_turns.specs.declared.turns.Ending.TheVariants.{Rest, Turns, Full}
-use Rattle.mx_explore.specs.Offers.{open_back, open_outside, open_respawn, open_take}
+use Rattle.mx_explore.specs.Offers.{is_outside, open_back, open_outside, open_respawn, open_take}
 use Rattle.mx_explore.specs.declared.offers.Offer.{Offer}
 use Rattle.mx_explore.specs.declared.offers.Offer.TheVariants.{Take, Back, Outside, Respawn}
 use Rattle.mx_explore.specs.declared.passing.Departure.{Departure}
 use Rattle.mx_explore.specs.declared.passing.Met.{Met}
 
--- Where a run is.
-pub record Passage : Type 0 where
-  pub kernel : BootAndHistory
-  pub world : World
-  -- the outside events to come
-  pub coming : List Event
+-- ---- departures
+
+-- Where a run is in its schedule.
+pub record Standing : Type 0 where
   -- the departures that it hasn't come to, and for how many turns more an outside event waits
   pub ahead : List Departure
   pub waits : ℕ
@@ -29,6 +27,54 @@ pub record Passage : Type 0 where
   pub after : ℕ
   -- whether each turn in which an event went on to wait had a record before it
   pub kept : Bool
+
+-- at the beginning of a run
+abbrev pub standing_at_boot : List Departure → Standing
+standing_at_boot ds = record { ahead = ds; waits = 0; met = []; after = 0; kept = true }
+
+-- an outside event goes on waiting, for a departure that began at an earlier offer
+abbrev pub goes_on : Standing → Offer → Bool
+goes_on s x = nat_lt 0 s.waits && is_outside x
+
+-- a departure has this number, and lasts for one turn, or for several if the offer is the outside's
+abbrev pub is_at : ℕ → Offer → Departure → Bool
+is_at n x d = (d.at == n) && ((d.turns == 1) || nat_lt 1 d.turns && is_outside x)
+
+-- a departure begins at the offer that is met next
+abbrev pub begins_by : Standing → Offer → Option Departure → Bool
+begins_by s x None = false
+begins_by s x (Some d) = (s.waits == 0) && is_at (length s.met) x d
+
+abbrev pub begins : Standing → Offer → Bool
+begins s x = begins_by s x (slice_get s.ahead 0)
+
+-- AN OPEN OFFER IS PASSED
+abbrev pub passes : Standing → Offer → Bool
+passes s x = goes_on s x || begins s x
+
+abbrev pub turns_of : Option Departure → ℕ
+turns_of None = 0
+turns_of (Some d) = d.turns
+
+-- where the run is after it met this offer
+abbrev pub noted : Standing → Met → Standing
+noted s m =
+    let met = s.met ++ m ∷ [] in
+    if goes_on s m.offer then
+    record s { waits = s.waits - 1; met = met; after = length met; kept = s.kept && m.is_begun }
+    else if begins s m.offer then
+    record s { ahead = drop 1 s.ahead; waits = turns_of (slice_get s.ahead 0) - 1; met = met; after = length met }
+    else record s { met = met }
+
+-- ---- a run
+
+-- Where a run is.
+pub record Passage : Type 0 where
+  pub kernel : BootAndHistory
+  pub world : World
+  -- the outside events to come
+  pub coming : List Event
+  pub standing : Standing
   -- whether the history was too full for an event
   pub full : Bool
 
@@ -52,17 +98,14 @@ open_at p (BackBy c) = open_back p.world c
 open_at p FromOutside = if p.full then None else open_outside (slice_get p.coming 0)
 open_at p (NewIn s) = if p.full then None else open_respawn p.world s
 
-abbrev pub is_outside : Offer → Bool
-is_outside (Outside e) = true
-is_outside x = false
-
--- AN OFFER THAT IS MADE: the events of it, in which `other` makes what no processor does
+-- THE EVENTS OF AN OFFER, in which `other` makes what no processor does
 abbrev pub events_of : ℕ → Offer → List (ℕ × Event)
 events_of other (Take c s) = (c, events.Take) ∷ []
 events_of other (Back c s) = run_of c
 events_of other (Outside e) = (other, e) ∷ []
 events_of other (Respawn s) = (other, events.Respawn s) ∷ []
 
+-- an offer is made
 abbrev pub made : ℕ → Passage → Offer → Passage
 made other p x =
     let o = offered p.world (events_of other x) in
@@ -73,43 +116,28 @@ made other p x =
       full = p.full || o.full;
     }
 
--- an outside event goes on waiting, for a departure that began at an earlier offer
-abbrev pub goes_on : Passage → Offer → Bool
-goes_on p x = nat_lt 0 p.waits && is_outside x
+-- what is noted of an open offer, in a turn before which there were so many records
+abbrev pub met_in : World → ℕ → Offer → Met
+met_in w begun x = record { offer = x; records = w.records; is_begun = nat_lt begun w.records }
 
--- a departure has this number, and lasts for one turn, or the offer is the outside's
-abbrev pub is_at : ℕ → Offer → Departure → Bool
-is_at n x d = (d.at == n) && nat_lt 0 d.turns && ((d.turns == 1) || is_outside x)
-
--- a departure begins at the offer that is met next
-abbrev pub begins : Passage → Offer → List Departure → Bool
-begins p x [] = false
-begins p x (d ∷ ds) = (p.waits == 0) && is_at (length p.met) x d
-
-abbrev pub turns_of : List Departure → ℕ
-turns_of [] = 0
-turns_of (d ∷ ds) = d.turns
-
--- AN OPEN OFFER IS MET, in a turn before which there were so many records: it is passed, or made
+-- AN OPEN OFFER IS MET: it is passed, or made
 abbrev pub meets : ℕ → ℕ → Passage → Offer → Passage
 meets other begun p x =
-    let is_begun = nat_lt begun p.world.records in
-    let met = p.met ++ record { offer = x; records = p.world.records; is_begun = is_begun } ∷ [] in
-    if goes_on p x then
-      record p { waits = p.waits - 1; met = met; after = length met; kept = p.kept && is_begun }
-    else if begins p x p.ahead then
-      record p { ahead = drop 1 p.ahead; waits = turns_of p.ahead - 1; met = met; after = length met }
-    else made other (record p { met = met }) x
+    let q = record p { standing = noted p.standing (met_in p.world begun x) } in
+    if passes p.standing x then q else made other q x
 
 abbrev pub meets_if : ℕ → ℕ → Passage → Option Offer → Passage
 meets_if other begun p None = p
 meets_if other begun p (Some x) = meets other begun p x
 
+abbrev pub at_place : ℕ → ℕ → Passage → Place → Passage
+at_place other begun p place = meets_if other begun p (open_at p place)
+
 -- A TURN: what is open at each place, one after another
 abbrev pub passed_turn : Passage → Passage
 passed_turn p =
     let cpus = length p.world.cpus in
-    foldl (λ q place. meets_if cpus p.world.records q (open_at q place)) p (places cpus (length p.world.services))
+    foldl (at_place cpus p.world.records) p (places cpus (length p.world.services))
 
 -- AT MOST n TURNS: where the run is after them, and how they end
 abbrev pub passed_turns : ℕ → Passage → Passage × Ending
@@ -120,25 +148,21 @@ passed_turns (suc n) p =
 
 -- a run at its beginning
 abbrev pub from_boot : World → List Event → List Departure → Passage
-from_boot boot coming departures =
+from_boot boot coming ds =
     record {
       kernel = record { boot = boot; history = [] };
       world = boot;
       coming = coming;
-      ahead = departures;
-      waits = 0;
-      met = [];
-      after = 0;
-      kept = true;
+      standing = standing_at_boot ds;
       full = false;
     }
 
--- THE RUN OF A SCHEDULE, of at most n turns
+-- THE RUN OF A LIST OF DEPARTURES, of at most n turns
 abbrev pub run_of_schedule : ℕ → World → List Event → List Departure → Passage × Ending
 run_of_schedule n boot coming ds = passed_turns n (from_boot boot coming ds)
 
 -- A SCHEDULE: its run meets each of its departures, up to the last turn of each
 pub record IsSchedule (n : ℕ) (boot : World) (coming : List Event) (ds : List Departure) : Type 0 where
-  pub begun : (run_of_schedule n boot coming ds).0.ahead ≡ []
-  pub ended : (run_of_schedule n boot coming ds).0.waits ≡ 0
-  pub kept : (run_of_schedule n boot coming ds).0.kept ≡ true
+  pub begun : (run_of_schedule n boot coming ds).0.standing.ahead ≡ []
+  pub ended : (run_of_schedule n boot coming ds).0.standing.waits ≡ 0
+  pub kept : (run_of_schedule n boot coming ds).0.standing.kept ≡ true

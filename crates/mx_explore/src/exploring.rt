@@ -67,9 +67,14 @@ impl<P: Progress> Explorer<'_, '_, P> {
     /// Runs the schedule, and counts its outcome.
     fn run(&mut self, alloc: Global, services: Vec<Service>) -> Result<Tried, NoMemory> {
         let machine = self.boot.machine(alloc, services, &[])?;
-        let bound = u64::from(self.terms.bound);
         let departures = self.departures.as_slice();
-        let ran = run_passing(alloc, machine, self.terms.outside, bound, departures)?;
+        let ran = run_passing(
+            alloc,
+            machine,
+            self.terms.outside,
+            self.terms.bound,
+            departures,
+        )?;
         if self.terms.part == 0 || !departures.is_empty() {
             let outcome = outcome_of(alloc, &ran, departures)?;
             self.tally.count(outcome)?;
@@ -84,7 +89,6 @@ impl<P: Progress> Explorer<'_, '_, P> {
             ending: _,
             met,
             after,
-            is_met: _,
         } = ran;
         let services = machine.into_kernel().into_services();
         Ok(Tried {
@@ -139,10 +143,7 @@ impl<P: Progress> Explorer<'_, '_, P> {
     ) -> Result<Vec<Service>, NoMemory> {
         let mut services = services;
         for turns in 1..=self.terms.bound {
-            let departure = Departure {
-                at: at as u32,
-                turns,
-            };
+            let departure = Departure { at, turns };
             let Ok(()) = self.departures.push(departure) else {
                 return Err(NoMemory);
             };
@@ -205,7 +206,7 @@ impl Explored {
         let services = mem::replace(&mut self.services, Vec::new(alloc));
         let machine = self.boot.machine(alloc, services, &[])?;
         let departures = self.tally.outcomes[place].departures.as_slice();
-        let ran = run_passing(alloc, machine, terms.outside, u64::from(terms.bound), departures)?;
+        let ran = run_passing(alloc, machine, terms.outside, terms.bound, departures)?;
         Ok(ran)
     }
 

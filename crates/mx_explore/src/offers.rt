@@ -2,7 +2,7 @@
 
 ghost use Rattle.std.specs.Prelude.{◌≡◌};
 ghost use Rattle.mx_machine.specs.Machine.{world_of};
-ghost use Rattle.mx_explore.specs.Offers.{open_back, open_outside, open_respawn, open_take};
+ghost use Rattle.mx_explore.specs.Offers.{is_outside, open_back, open_outside, open_respawn, open_take};
 
 use mx_machine::{Event, Machine};
 use mx_proc::Slot;
@@ -24,7 +24,9 @@ pub enum Offer {
 
 impl Offer {
     /// Whether it is that of an outside event.
-    pub(crate) fn is_outside(self) -> bool {
+    pub(crate) fn is_outside(self) -> bool
+        ensures { result ≡ is_outside self }
+    {
         matches!(self, Offer::Outside(_))
     }
 }
