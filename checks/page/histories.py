@@ -44,10 +44,11 @@ def made(mx, room):
     def run(folder, *words):
         subprocess.run([mx, *words], cwd=folder, stdout=subprocess.DEVNULL, check=True)
 
-    restart, smp = (os.path.join(MACHINES, it) for it in ("restart", "smp"))
-    logs = {it: os.path.join(room, f"{it}.log") for it in ("smp", "killed", "hostile", "refused")}
+    restart, smp, kills = (os.path.join(MACHINES, it) for it in ("restart", "smp", "kills"))
+    logs = {it: os.path.join(room, f"{it}.log") for it in ("smp", "killed", "count", "hostile", "refused")}
     run(smp, "turns", "smp.config", logs["smp"], "--ticks", "40")
     run(FILES, "step", "session.config", "killed.script", "--save", logs["killed"])
+    run(kills, "turns", "count.config", logs["count"])
     hostile(mx, room)
     run(room, "turns", "hostile.config", logs["hostile"])
     with open(os.path.join(restart, "restart.log"), encoding="ascii") as file:
@@ -60,6 +61,7 @@ def made(mx, room):
         History("restart", restart, "restart.config", "restart.log"),
         History("smp", smp, "smp.config", logs["smp"]),
         History("killed", FILES, "session.config", logs["killed"]),
+        History("count", kills, "count.config", logs["count"]),
         History("hostile", room, "hostile.config", logs["hostile"]),
         History("refused", restart, "restart.config", logs["refused"]),
     ]

@@ -192,3 +192,18 @@ def data(names, config, trace, first=1, last=None):
     rows = [machine.perform(lines) for lines in blocks[above:]]
     tail = {"records": len(rows), **({"refused": refused} if refused else {})}
     return [head, *rows, tail]
+
+
+def position(printed):
+    """Of what `mx sweep` prints of one position: how it ends, and whether that is as without the fault."""
+    lines = printed.splitlines(keepends=True)
+    end = "".join(it for it in lines[1:-1] if not it.startswith("  not as without the fault, "))
+    return end, lines[-1] == "1 positions, 1 blocks, 1 as without the fault\n"
+
+
+def with_strip(lines, fault, turns, first, positions):
+    """The lines of a page's data with the strip of a sweep, by what its positions from `first` on tell."""
+    ends = [None, *(end for end, _ in positions)]
+    strip = [{"same": int(same), **({} if end == before else {"t": end})} for before, (end, same) in zip(ends, positions)]
+    sweep = {"fault": fault, "turns": turns, "from": first, "positions": len(positions)}
+    return [*lines[:-1], *strip, {**lines[-1], "sweep": sweep}]

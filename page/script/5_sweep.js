@@ -2,7 +2,20 @@
 // Position K is the one after record K, and stands in K's column. Each way to end has a letter; a position that
 // ends otherwise than without the fault is filled and ticked.
 
-const blocks = tail.sweep ? tail.sweep.blocks : [], ends = [...new Set(blocks.map(block => block.text))];
+const blocks = readBlocks(), ends = [...new Set(blocks.map(block => block.text))];
+// Positions in a row with the same end are a block; same has those of them that end as without the fault.
+function readBlocks() {
+  const made = [];
+  for (let at = rowsEnd, k = tail.sweep ? tail.sweep.from : 0; at < lastLine; k++) {
+    const end = text.indexOf("\n", at), line = JSON.parse(text.slice(at, end));
+    if (line.t !== undefined) made.push({from: k, text: line.t, same: []});
+    const block = made.at(-1);
+    block.to = k;
+    if (line.same) block.same.push(k);
+    at = end + 1;
+  }
+  return made;
+}
 const endOf = block => ends.indexOf(block.text);
 const blockOf = k => blocks.find(block => block.from <= k && k <= block.to);
 const letterOf = end => end < 26 ? String.fromCharCode(65 + end) : String(end + 1);
@@ -40,15 +53,14 @@ function showSweep() {
   $("sweeppanel").hidden = false;
   if (!block) return box.replaceChildren(html("p", "", "no position here"));
   const how = block.same.includes(selected) ? "as without the fault." : "OTHERWISE than without the fault.";
-  const fault = tail.sweep.fault.trim().split("\n").join(", ");
   const others = blocks.filter(it => it.text === block.text && it !== block).map(it => it.from + " to " + it.to);
-  const same = blocks.reduce((sum, it) => sum + it.same.length, 0), tried = blocks.at(-1).to + 1;
+  const same = blocks.reduce((sum, it) => sum + it.same.length, 0), {fault, positions} = tail.sweep;
   const lines = [
     html("p", "", `fault: ${fault}. At position ${selected} (after record ${selected}) it ends ${how}`),
     html("p", "", `End ${letterOf(endOf(block))}, of ${rangeOf(block)}:`),
     html("pre", "", block.text)
   ];
   if (others.length) lines.push(html("p", "small", "The same end at positions " + others.join(", ")));
-  lines.push(html("p", "small", `${same} of ${tried} positions end as without the fault.`));
+  lines.push(html("p", "small", `${same} of ${positions} positions end as without the fault.`));
   box.replaceChildren(...lines);
 }

@@ -35,6 +35,7 @@ use Rattle.mx_app_db.specs.DebugLines.{DebuggedWorld, debug_lines_made}
 use Rattle.mx_app_db.specs.LineTexts.{debug_lines_text}
 use Rattle.mx_app_draw.specs.Scenes.{IsDrawingPrinted}
 use Rattle.mx_app_page.specs.Pages.{IsPagePrinted, run_of_files}
+use Rattle.mx_app_page.specs.Strips.{PrintsSweptPage}
 use Rattle.mx_app_look.specs.Sessions.{HasFailed, IsBegun, IsSession, IsWhole, begun_text, sight_at}
 use Rattle.mx_app_run.specs.Run.{Runs}
 use Rattle.mx_app_turns.specs.Sweeping.{Sweeps}
@@ -261,6 +262,12 @@ module _ (asked now : List Asked) (files : List Written) where
       → WritesNone (λ qs ws. (e : Result Replayed Kind) × (ws ≡ []) × Whys config log qs (λ text. Appends x y text) e × (r ≡ done_after_replay e))
   whys config log x y (Ok how) r p f e = (p.0, [], p.4, sym (append-nil files), (Ok how, refl, (p.1, p.2, p.3, p.5, p.6), e))
   whys config log x y (Err why) r p f e = (f.0, [], f.1, sym (append-nil files), (Err why, refl, f.2, e))
+
+  pub swept_pages : (config log fault : List ℕ) (from to bound : ℕ) (x y : Option (List ℕ)) (d : Result Replayed Kind) (r : Result Done Kind)
+      → (qs : List Asked) × (now ≡ asked ++ qs) × PrintsSweptPage config log fault from to bound qs (λ text. Appends x y text) d
+      → r ≡ done_after_replay d
+      → WritesNone (λ qs ws. (e : Result Replayed Kind) × (ws ≡ []) × PrintsSweptPage config log fault from to bound qs (λ text. Appends x y text) e × (r ≡ done_after_replay e))
+  swept_pages config log fault from to bound x y d r p e = (p.0, [], p.1, sym (append-nil files), (d, refl, p.2, e))
 
 -- ---- whether it writes over what it reads
 

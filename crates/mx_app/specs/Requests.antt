@@ -3,7 +3,7 @@ use Rattle.std.specs.Prelude.{◌≡◌, ◌⊎◌, ℕ, ◌-◌, Bool, true, fa
 use Rattle.mx_app_command.specs.Files.{writes_over}
 use Rattle.mx_app_command.specs.declared.command_line.CommandRequest.{CommandRequest}
 use Rattle.mx_app_command.specs.declared.command_line.RecordRange.{RecordRange}
-use Rattle.mx_app_command.specs.declared.command_line.CommandRequest.TheVariants.{One, As, Show, Explain, Step, Run, Turns, Live, Sweep, Replay, Trace, Draw, Page, Look, Why, Db}
+use Rattle.mx_app_command.specs.declared.command_line.CommandRequest.TheVariants.{One, As, Show, Explain, Step, Run, Turns, Live, Sweep, Replay, Trace, Draw, Page, SweptPage, Look, Why, Db}
 use Rattle.mx_app_db.specs.ScriptLine.{ScriptLine}
 use Rattle.mx_app_db.specs.declared.script.DebugLine.{DebugLine}
 use Rattle.mx_app_failure.specs.declared.failure.Failure.{Failure as Kind}
@@ -35,6 +35,7 @@ use Rattle.mx_app_db.specs.Replayed.{Replayed}
 use Rattle.mx_app_db.specs.Replayed.TheVariants as replayed
 use Rattle.mx_app_draw.specs.Scenes.{IsDrawingPrinted}
 use Rattle.mx_app_page.specs.Pages.{IsPagePrinted, run_of_files}
+use Rattle.mx_app_page.specs.Strips.{PrintsSweptPage}
 use Rattle.mx_app_live.specs.declared.session.SessionEnding.{SessionEnding}
 use Rattle.mx_app_live.specs.declared.session.SessionEnding.TheVariants as session
 use Rattle.mx_app_live.specs.Living.{Lives}
@@ -233,6 +234,9 @@ PerformsUntyped (Draw config log range) qs ws Prints r =
     (d : Result Replayed Kind) × (ws ≡ []) × Draws config.now log.now range qs Prints d × (r ≡ done_after_replay d)
 PerformsUntyped (Page config log range) qs ws Prints r =
     (d : Result Replayed Kind) × (ws ≡ []) × Pages config.now log.now range qs Prints d × (r ≡ done_after_replay d)
+PerformsUntyped (SweptPage config log fault bound from to jobs) qs ws Prints r =
+    (d : Result Replayed Kind) × (ws ≡ [])
+    × PrintsSweptPage config.now log.now fault.now from to bound qs Prints d × (r ≡ done_after_replay d)
 PerformsUntyped (Look config log) qs ws Prints r = ⊥
 PerformsUntyped (Why config log) qs ws Prints r =
     (d : Result Replayed Kind) × (ws ≡ []) × Whys config.now log.now qs Prints d × (r ≡ done_after_replay d)

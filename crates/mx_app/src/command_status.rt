@@ -60,6 +60,7 @@ fn complain<W: Write>(alloc: Global, mistake: Mistake, out: &mut W) -> Result<Do
         Mistake::TicksAndEvents => Err(Complaint::TicksAndEvents),
         Mistake::LiveWithCourse => Err(Complaint::LiveWithCourse),
         Mistake::NotLive => Err(Complaint::NotLive),
+        Mistake::NoFault => Err(Complaint::NoFault),
     }
 }
 

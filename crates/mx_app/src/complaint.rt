@@ -33,6 +33,14 @@ Usage: mx turns [OPTIONS] <CONFIG> <LOG>
 For more information, try '--help'.
 ";
 
+/// What is printed of `page` with an option of `--fault`, and without it.
+const NO_FAULT: &str = "error: the arguments '--turns <N>' and '--jobs <J>' need '--fault <FAULT>'
+
+Usage: mx page [OPTIONS] <CONFIG> <LOG>
+
+For more information, try '--help'.
+";
+
 /// Why the program didn't do what its words ask for.
 #[derive(Drop)]
 pub enum Complaint {
@@ -44,6 +52,8 @@ pub enum Complaint {
     LiveWithCourse,
     /// They are those of `turns` with `--hertz`, `--raw` or `--stop`, and without `--live`.
     NotLive,
+    /// They are those of `page` with `--turns` or `--jobs`, and without `--fault`.
+    NoFault,
     /// What they ask for failed.
     Failed(LineFailure),
     /// It failed: with the line that explains the failure, without its end.
@@ -60,6 +70,7 @@ impl Complaint {
         match self {
             Complaint::Mistaken(_) => 2,
             Complaint::TicksAndEvents | Complaint::LiveWithCourse | Complaint::NotLive => 2,
+            Complaint::NoFault => 2,
             Complaint::Failed(failure) => failure.status(),
             Complaint::Explained(failure, _) => failure.status(),
             Complaint::Unexplained(failure) => failure.status(),
@@ -79,6 +90,7 @@ impl fmt::Display for Complaint {
             Complaint::TicksAndEvents => f.write_str(BOTH),
             Complaint::LiveWithCourse => f.write_str(LIVE_COURSE),
             Complaint::NotLive => f.write_str(NOT_LIVE),
+            Complaint::NoFault => f.write_str(NO_FAULT),
             Complaint::Failed(failure) => write!(f, "{failure}\n"),
             Complaint::Explained(failure, line) => write!(f, "{failure}\n{line}\n"),
             Complaint::Unexplained(failure) => {

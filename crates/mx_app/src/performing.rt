@@ -14,7 +14,7 @@ use mx_app_draw::draw;
 use mx_app_failure::{About, Failure, FileProblem};
 use mx_app_live::{LiveNames, Outside, SessionEnding, Sitting, live};
 use mx_app_look::{SessionWanted, look};
-use mx_app_page::page;
+use mx_app_page::{page, swept_page};
 use mx_app_run::{RunEnding, RunWanted, run};
 use mx_app_start::{FileWriter, LineReader, Reader, SharedProgress};
 use mx_app_turns::{
@@ -318,6 +318,27 @@ fn perform_apart<
             let reader = &mut channels.reader;
             let out = &mut channels.out;
             done_after_replay(why(alloc, reader, config, log, out))
+        }
+        CommandRequest::SweptPage {
+            config,
+            log,
+            fault,
+            bound,
+            from,
+            to,
+            jobs,
+        } => {
+            let names = SweepNames { config, log, fault };
+            let wanted = SweepWanted {
+                from,
+                to,
+                bound,
+                jobs,
+                save: None,
+            };
+            let reader = &mut channels.reader;
+            let out = &mut channels.out;
+            done_after_replay(swept_page(rt, alloc, reader, names, wanted, out))
         }
         CommandRequest::Look { config, log } => {
             let asks = io.asks;

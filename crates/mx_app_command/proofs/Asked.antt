@@ -1,8 +1,8 @@
 -- What is left of the subcommands on a machine.
-use Rattle.std.proofs.Common.{◌≡◌, ◌∙◌, true, false, List, codes, ap, inl, inr, sym, refl, true≢false}
+use Rattle.std.proofs.Common.{◌≡◌, ◌∙◌, ◌⊎◌, true, false, List, codes, ap, inl, inr, sym, refl, true≢false}
 use Rattle.std.specs.Str.{bytes_eq}
 use Rattle.clap.specs.Words.{Row, Text}
-use Rattle.mx_app_command.specs.Words.{IsHistoryAsked, IsMachineAsked, IsOtherHistoryAsked, MayHaveSweep}
+use Rattle.mx_app_command.specs.Words.{IsHistoryAsked, IsMachineAsked, IsOtherHistoryAsked, IsRecordsAsked, MayHaveRange, MayHaveStrip, MayHaveSweep}
 
 not_named : (name word : Text) → bytes_eq word word ≡ true → bytes_eq name word ≡ false → name ≡ word → ⊥
 not_named name word same h e = true≢false (sym same ∙ ap (λ (t : Text). bytes_eq t word) (sym e) ∙ h)
@@ -48,12 +48,37 @@ sweep_left name rows is asked =
           | inl e ↦ absurd (one_name name (codes "trace") (codes "sweep") refl is e)
           | inr two ↦ elim two [
             | inl e ↦ absurd (one_name name (codes "draw") (codes "sweep") refl is e)
-            | inr e ↦ absurd (one_name name (codes "page") (codes "sweep") refl is e)
+            | inr p ↦ absurd (one_name name (codes "page") (codes "sweep") refl is p.0)
           ]
         ]
         | inr more ↦ elim more [
           | inl turns ↦ absurd (one_name name (codes "turns") (codes "sweep") refl is turns.0)
           | inr sweep ↦ sweep.1
+        ]
+      ]
+    ]
+
+-- what prints records and is neither a trace nor a picture is a page
+pub page_left : (name : Text) (rows : List Row) → bytes_eq name (codes "trace") ≡ false → bytes_eq name (codes "draw") ≡ false → IsRecordsAsked name rows → (name ≡ codes "page") × MayHaveStrip rows
+page_left name rows trace draw asked = elim asked [
+  | inl e ↦ absurd (not_named name (codes "trace") refl trace e)
+  | inr two ↦ elim two [
+    | inl e ↦ absurd (not_named name (codes "draw") refl draw e)
+    | inr page ↦ page
+  ]
+]
+
+-- a subcommand with a history that is neither `turns` nor `sweep` only reads one
+pub reading_left : (name : Text) (rows : List Row) → bytes_eq name (codes "turns") ≡ false → bytes_eq name (codes "sweep") ≡ false → IsOtherHistoryAsked name rows
+    → ((name ≡ codes "replay") ⊎ ((name ≡ codes "look") ⊎ (name ≡ codes "why"))) ⊎ (IsRecordsAsked name rows × MayHaveRange rows)
+reading_left name rows turns sweep asked =
+    elim asked [
+      | inl reads ↦ inl reads
+      | inr rest ↦ elim rest [
+        | inl records ↦ inr records
+        | inr more ↦ elim more [
+          | inl t ↦ absurd (not_named name (codes "turns") refl turns t.0)
+          | inr s ↦ absurd (not_named name (codes "sweep") refl sweep s.0)
         ]
       ]
     ]

@@ -15,7 +15,7 @@ use Rattle.clap.specs.Faults.{defaults_fault, entered_fault, level_fault, settle
 use Rattle.clap.specs.Walk.{answers_to, finished, nothing_held, rows_after, settled, stop_after, walk, walk_from}
 use Rattle.clap.specs.declared.builder.value_parser.ValueParser.TheVariants.{Signed}
 use Rattle.clap.proofs.ValueTestLemmas.{accepts-Accepts}
-use Rattle.mx_app_command.specs.Words.{HasNumber, IsAsked, IsGiven, MayHaveNumber, MayHaveRange, following_shape, jobs_after, looking_shape, mx_grammar, number_after, of_one, of_two, one_shape, run_shape, step_shape, sweep_shape, turns_shape, required_text, required_number}
+use Rattle.mx_app_command.specs.Words.{HasNumber, IsAsked, IsGiven, MayHaveNumber, MayHaveRange, following_shape, jobs_after, looking_shape, mx_grammar, number_after, of_one, of_two, one_shape, page_shape, run_shape, step_shape, sweep_shape, turns_shape, required_text, required_number}
 use Rattle.mx_app_command.proofs.Given.{IsOnly, SetsValue, all_found, has_wanted, no_fault, value_given, value_if_given}
 
 -- the grammar as a parse sees it: with the help flag, and each argument's place
@@ -371,9 +371,36 @@ draw_fits : Fits (looking_whole (codes "draw"))
 draw_fits words fine = let given = looking_values (codes "draw") words fine in
     ((λ e. (given.0, inr (inr (given.1, inr (inr (inl (inr (inl refl), given.2))))))), (λ e. absurd (true≢false e)))
 
-page_fits : Fits (looking_whole (codes "page"))
-page_fits words fine = let given = looking_values (codes "page") words fine in
-    ((λ e. (given.0, inr (inr (given.1, inr (inr (inl (inr (inr refl), given.2))))))), (λ e. absurd (true≢false e)))
+abbrev page_whole : Shape
+page_whole = whole_of page_shape
+
+only_page_config : IsOnly config_rule page_whole.rules
+only_page_config = ((λ e. refl), ((λ e. never e), ((λ e. never e), ((λ e. never e), ((λ e. never e), ((λ e. never e), ((λ e. never e), ((λ e. never e), ((λ e. never e), ((λ e. never e), ((λ e. never e), tt)))))))))))
+
+only_page_log : IsOnly log_rule page_whole.rules
+only_page_log = ((λ e. never e), ((λ e. refl), ((λ e. never e), ((λ e. never e), ((λ e. never e), ((λ e. never e), ((λ e. never e), ((λ e. never e), ((λ e. never e), ((λ e. never e), ((λ e. never e), tt)))))))))))
+
+only_page_from : IsOnly from_rule page_whole.rules
+only_page_from = ((λ e. never e), ((λ e. never e), ((λ e. refl), ((λ e. never e), ((λ e. never e), ((λ e. never e), ((λ e. never e), ((λ e. never e), ((λ e. never e), ((λ e. never e), ((λ e. never e), tt)))))))))))
+
+only_page_to : IsOnly to_rule page_whole.rules
+only_page_to = ((λ e. never e), ((λ e. never e), ((λ e. never e), ((λ e. refl), ((λ e. never e), ((λ e. never e), ((λ e. never e), ((λ e. never e), ((λ e. never e), ((λ e. never e), ((λ e. never e), tt)))))))))))
+
+only_page_bound : IsOnly (with_index 6 (filled (number_after (codes "turns") (codes "N")))) page_whole.rules
+only_page_bound = ((λ e. never e), ((λ e. never e), ((λ e. never e), ((λ e. never e), ((λ e. never e), ((λ e. refl), ((λ e. never e), ((λ e. never e), ((λ e. never e), ((λ e. never e), ((λ e. never e), tt)))))))))))
+
+only_page_jobs : IsOnly (with_index 7 (filled (jobs_after (codes "jobs") (codes "J")))) page_whole.rules
+only_page_jobs = ((λ e. never e), ((λ e. never e), ((λ e. never e), ((λ e. never e), ((λ e. never e), ((λ e. never e), ((λ e. refl), ((λ e. never e), ((λ e. never e), ((λ e. never e), ((λ e. never e), tt)))))))))))
+
+page_fits : Fits page_whole
+page_fits words fine =
+    let config = value_given config_rule (required_sets (codes "CONFIG") 1) page_whole only_page_config words refl (inl refl) refl fine in
+    let log = value_given log_rule (required_sets (codes "LOG") 2) page_whole only_page_log words refl (inr (inl refl)) refl fine in
+    let from = number_if_given page_whole (codes "from") (codes "A") 3 only_page_from words fine in
+    let to = number_if_given page_whole (codes "to") (codes "B") 4 only_page_to words fine in
+    let bound = number_if_given page_whole (codes "turns") (codes "N") 6 only_page_bound words fine in
+    let jobs = jobs_if_given page_whole (codes "jobs") (codes "J") 7 only_page_jobs words fine in
+    ((λ e. (ap is_some config.1, inr (inr (ap is_some log.1, inr (inr (inl (inr (inr (refl, (bound, jobs))), (from, to)))))))), (λ e. absurd (true≢false e)))
 
 look_fits : Fits (following_whole (codes "look"))
 look_fits words fine = let given = following_values (codes "look") words fine in

@@ -4,7 +4,7 @@ use Rattle.std.specs.Str.{bytes_eq}
 use Rattle.mx_app_command.specs.declared.files.NamedWord.{NamedWord}
 use Rattle.mx_app_command.specs.declared.files.ReadWords.{ReadWords}
 use Rattle.mx_app_command.specs.declared.command_line.CommandRequest.{CommandRequest}
-use Rattle.mx_app_command.specs.declared.command_line.CommandRequest.TheVariants.{One, As, Show, Explain, Step, Run, Turns, Live, Sweep, Replay, Trace, Draw, Page, Look, Why, Db}
+use Rattle.mx_app_command.specs.declared.command_line.CommandRequest.TheVariants.{One, As, Show, Explain, Step, Run, Turns, Live, Sweep, Replay, Trace, Draw, Page, SweptPage, Look, Why, Db}
 
 -- A word of the command line that names a file: the word as help has it, and the name.
 pub record FileWord : Type 0 where
@@ -33,6 +33,14 @@ abbrev pub with_events : List ℕ → Option (List ℕ) → FilesRead
 with_events config None = one_file (codes "CONFIG") config
 with_events config (Some events) = with_course config (codes "EVENTS") events
 
+-- a configuration, a history of its machine, and the fault of a sweep
+abbrev pub with_fault : List ℕ → List ℕ → List ℕ → FilesRead
+with_fault config log fault = record {
+  first = file_word (codes "CONFIG") config;
+  course = Some (file_word (codes "LOG") log);
+  fault = Some (file_word (codes "FAULT") fault);
+}
+
 -- THE FILES THAT ARE READ
 abbrev pub files_read : CommandRequest → FilesRead
 files_read (One file steps) = one_file (codes "FILE") file.now
@@ -43,16 +51,12 @@ files_read (Step config script save numbered) = with_course config.now (codes "S
 files_read (Run config log ticks events) = with_events config.now (option_map (λ s. s.now) events)
 files_read (Turns config log ticks events bound) = with_events config.now (option_map (λ s. s.now) events)
 files_read (Live config log raw hertz stop) = one_file (codes "CONFIG") config.now
-files_read (Sweep config log fault bound from to jobs strict save) =
-    record {
-      first = file_word (codes "CONFIG") config.now;
-      course = Some (file_word (codes "LOG") log.now);
-      fault = Some (file_word (codes "FAULT") fault.now);
-    }
+files_read (Sweep config log fault bound from to jobs strict save) = with_fault config.now log.now fault.now
 files_read (Replay config log) = with_course config.now (codes "LOG") log.now
 files_read (Trace config log range) = with_course config.now (codes "LOG") log.now
 files_read (Draw config log range) = with_course config.now (codes "LOG") log.now
 files_read (Page config log range) = with_course config.now (codes "LOG") log.now
+files_read (SweptPage config log fault bound from to jobs) = with_fault config.now log.now fault.now
 files_read (Look config log) = with_course config.now (codes "LOG") log.now
 files_read (Why config log) = with_course config.now (codes "LOG") log.now
 files_read (Db config script) = with_course config.now (codes "SCRIPT") script.now

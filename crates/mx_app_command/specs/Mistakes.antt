@@ -4,7 +4,7 @@ use Rattle.std.specs.Str.{bytes_eq}
 use Rattle.clap.specs.Words.{HasKind, Row, Text, fault_of, first_of, kind_of, subcommand_of}
 use Rattle.clap.specs.declared.error.kind.ErrorKind.TheVariants.{OutOfMemory}
 use Rattle.mx_app_command.specs.declared.command_line.Mistake.{Mistake}
-use Rattle.mx_app_command.specs.declared.command_line.Mistake.TheVariants.{Grammar, TicksAndEvents, LiveWithCourse, NotLive}
+use Rattle.mx_app_command.specs.declared.command_line.Mistake.TheVariants.{Grammar, TicksAndEvents, LiveWithCourse, NotLive, NoFault}
 use Rattle.mx_app_command.specs.Words.{is_on, mx_grammar}
 
 -- these are the words of `turns` with both `--ticks` and `--events`
@@ -29,12 +29,19 @@ lacks_live name rows =
     && (not (is_on (codes "live") rows)
     && (is_there (codes "H") rows || (is_on (codes "raw") rows || is_there (codes "FILE") rows)))
 
+-- those of `page` with `--turns` or `--jobs`, and without `--fault`
+abbrev pub lacks_fault : Text → List Row → Bool
+lacks_fault name rows =
+    bytes_eq name (codes "page")
+    && (not (is_there (codes "FAULT") rows) && (is_there (codes "N") rows || is_there (codes "J") rows))
+
 -- what is wrong with the words of a subcommand that the grammar takes
 abbrev pub mistake_in : Text → List Row → Option Mistake
 mistake_in name rows =
     if has_both name rows then Some TicksAndEvents
     else if has_course name rows then Some LiveWithCourse
     else if lacks_live name rows then Some NotLive
+    else if lacks_fault name rows then Some NoFault
     else None
 
 -- what is wrong with those of the subcommand that is met, if one is

@@ -13,7 +13,7 @@ use Rattle.mx_app_command.specs.declared.command_line.CommandRequest.{CommandReq
 use Rattle.mx_app_command.specs.declared.command_line.Listing.{Listing}
 use Rattle.mx_app_command.specs.declared.command_line.Listing.TheVariants.{Instructions, Symbols}
 use Rattle.mx_app_command.specs.declared.command_line.RecordRange.{RecordRange}
-use Rattle.mx_app_command.specs.declared.command_line.CommandRequest.TheVariants.{One, As, Show, Explain, Step, Run, Turns, Live, Sweep, Replay, Trace, Draw, Page, Look, Why, Db}
+use Rattle.mx_app_command.specs.declared.command_line.CommandRequest.TheVariants.{One, As, Show, Explain, Step, Run, Turns, Live, Sweep, Replay, Trace, Draw, Page, SweptPage, Look, Why, Db}
 
 -- ---- the grammar
 
@@ -110,6 +110,14 @@ looking_shape name =
     (required_text (codes "CONFIG") ∷ required_text (codes "LOG") ∷ number_after (codes "from") (codes "A")
     ∷ number_after (codes "to") (codes "B") ∷ sums_rule ∷ [])
 
+-- `page CONFIG LOG --from A --to B --fault FAULT --turns N --jobs J --sums SUMS`; what needs what, `Mistakes` has
+abbrev pub page_shape : Shape
+page_shape =
+    subcommand (codes "page")
+    (required_text (codes "CONFIG") ∷ required_text (codes "LOG") ∷ number_after (codes "from") (codes "A")
+    ∷ number_after (codes "to") (codes "B") ∷ after_name (codes "fault") (codes "FAULT")
+    ∷ number_after (codes "turns") (codes "N") ∷ jobs_after (codes "jobs") (codes "J") ∷ sums_rule ∷ [])
+
 -- one of the subcommands is wanted
 abbrev pub top_app : App
 top_app = record {
@@ -159,7 +167,7 @@ mx_grammar = record {
       ++ following_shape (codes "replay")
       ∷ looking_shape (codes "trace")
       ∷ looking_shape (codes "draw")
-      ∷ looking_shape (codes "page")
+      ∷ page_shape
       ∷ following_shape (codes "look")
       ∷ following_shape (codes "why")
       ∷ of_two (codes "db") (codes "CONFIG") (codes "SCRIPT")
@@ -254,7 +262,12 @@ AsksBy (Draw config log range) name rows =
     × HasRange rows range
 AsksBy (Page config log range) name rows =
     (name ≡ codes "page") × HasText (codes "CONFIG") rows config.now × HasText (codes "LOG") rows log.now
-    × HasRange rows range
+    × MayHaveText (codes "FAULT") rows None × HasRange rows range
+AsksBy (SweptPage config log fault bound from to jobs) name rows =
+    (name ≡ codes "page") × HasText (codes "CONFIG") rows config.now × HasText (codes "LOG") rows log.now
+    × HasText (codes "FAULT") rows fault.now
+    × HasNumberOr 1000 (codes "N") rows bound × HasNumberOr 0 (codes "A") rows from
+    × HasNumberOr 4294967295 (codes "B") rows to × HasNumberIf (codes "J") rows jobs
 AsksBy (Look config log) name rows =
     (name ≡ codes "look") × HasText (codes "CONFIG") rows config.now × HasText (codes "LOG") rows log.now
 AsksBy (Why config log) name rows =
@@ -319,11 +332,20 @@ pub record MayHaveSweep (rows : List Row) : Type 0 where
   pub range : MayHaveRange rows
   pub jobs : MayHaveNumber (codes "J") rows
 
+-- a page may have the numbers of turns and of jobs
+abbrev pub MayHaveStrip : List Row → Type 0
+MayHaveStrip rows = MayHaveNumber (codes "N") rows × MayHaveNumber (codes "J") rows
+
+-- those that print records: `page` may have a strip
+abbrev pub IsRecordsAsked : Text → List Row → Type 0
+IsRecordsAsked name rows =
+    (name ≡ codes "trace") ⊎ ((name ≡ codes "draw") ⊎ ((name ≡ codes "page") × MayHaveStrip rows))
+
 -- those with a history but for `run`: `turns`, `trace`, `draw` and `page` may have two numbers, `sweep` four
 abbrev pub IsOtherHistoryAsked : Text → List Row → Type 0
 IsOtherHistoryAsked name rows =
     ((name ≡ codes "replay") ⊎ ((name ≡ codes "look") ⊎ (name ≡ codes "why")))
-    ⊎ ((((name ≡ codes "trace") ⊎ ((name ≡ codes "draw") ⊎ (name ≡ codes "page"))) × MayHaveRange rows)
+    ⊎ ((IsRecordsAsked name rows × MayHaveRange rows)
     ⊎ (((name ≡ codes "turns") × MayHaveTurns rows)
     ⊎ ((name ≡ codes "sweep") × MayHaveSweep rows)))
 

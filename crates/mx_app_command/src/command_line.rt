@@ -2,8 +2,8 @@
 
 ghost use Rattle.std.specs.Prelude.{◌≡◌, ◌&&◌, ◌⊎◌, ℕ, Bool, IfErr, IfOk, MatchResult, None, [], codes, is_none, is_some, map, option_map, true};
 ghost use Rattle.clap.specs.Words.{FailsBy, HasMatchesOf, fault_of, first_of, found_of, kind_of, rows_of, subcommand_of, takes};
-ghost use Rattle.mx_app_command.specs.Words.{Asks, AsksBy, AsksForSilence, AsksForSums, AsksToExplain, HasNumber, HasNumberIf, HasNumberOr, HasRange, HasText, IsAsked, IsFlag, IsHistoryAsked, IsMachineAsked, IsOtherHistoryAsked, IsProgramAsked, IsScriptAsked, MayHaveNumber, MayHaveRange, MayHaveSweep, MayHaveText, MayHaveTurns, is_following, is_machine, is_on, mx_grammar};
-ghost use Rattle.mx_app_command.specs.Mistakes.{IsMistake, IsOutOfMemory, has_both, has_course, lacks_live, mistake_given, mistake_in};
+ghost use Rattle.mx_app_command.specs.Words.{Asks, AsksBy, AsksForSilence, AsksForSums, AsksToExplain, HasNumber, HasNumberIf, HasNumberOr, HasRange, HasText, IsAsked, IsFlag, IsHistoryAsked, IsMachineAsked, IsOtherHistoryAsked, IsProgramAsked, IsRecordsAsked, IsScriptAsked, MayHaveNumber, MayHaveRange, MayHaveStrip, MayHaveSweep, MayHaveText, MayHaveTurns, is_following, is_machine, is_on, mx_grammar};
+ghost use Rattle.mx_app_command.specs.Mistakes.{IsMistake, IsOutOfMemory, has_both, has_course, lacks_fault, lacks_live, mistake_given, mistake_in};
 
 use crate::grammar::grammar;
 use clap::error::ErrorKind;
@@ -128,6 +128,20 @@ pub enum CommandRequest<'a> {
         log: &'a str,
         range: RecordRange,
     },
+    /// `page CONFIG LOG --fault FAULT`, with `--turns N`, `--from A`, `--to B` and `--jobs J` or without.
+    SweptPage {
+        config: &'a str,
+        log: &'a str,
+        fault: &'a str,
+        /// The most turns after each position.
+        bound: u32,
+        /// The first position.
+        from: u32,
+        /// The last.
+        to: u32,
+        /// How many threads try positions.
+        jobs: Option<u32>,
+    },
     /// `look CONFIG LOG`.
     Look {
         config: &'a str,
@@ -168,6 +182,8 @@ pub enum Mistake {
     LiveWithCourse,
     /// `turns` has `--hertz`, `--raw` or `--stop`, and no `--live`.
     NotLive,
+    /// `page` has `--turns` or `--jobs`, and no `--fault`.
+    NoFault,
 }
 
 impl From<Error> for Mistake {
@@ -373,6 +389,43 @@ fn run_request<'a>(config: &'a str, log: &'a str, matches: &ArgMatches<'a>) -> C
     }
 }
 
+/// What the words of `page` ask for: with a fault, the page with the strip of its sweep.
+fn page_request<'a>(
+    name: &str,
+    config: &'a str,
+    log: &'a str,
+    matches: &ArgMatches<'a>,
+) -> CommandRequest<'a>
+    requires config { HasText (codes "CONFIG") (rows_of (found_of matches.now)) config.now }
+    requires log { HasText (codes "LOG") (rows_of (found_of matches.now)) log.now }
+    requires name { name.now ≡ codes "page" }
+    requires range { MayHaveRange (rows_of (found_of matches.now)) }
+    requires strip { MayHaveStrip (rows_of (found_of matches.now)) }
+    ensures { AsksBy result name.now (rows_of (found_of matches.now)) }
+{
+    match value_if_asked(matches, "FAULT") {
+        None => {
+            let range = range_asked(matches);
+            CommandRequest::Page { config, log, range }
+        }
+        Some(fault) => {
+            let bound = number_or(matches, "N", TURNS_AFTER);
+            let from = number_or(matches, "A", 0);
+            let to = number_or(matches, "B", u32::MAX);
+            let jobs = number_if_asked(matches, "J");
+            CommandRequest::SweptPage {
+                config,
+                log,
+                fault,
+                bound,
+                from,
+                to,
+                jobs,
+            }
+        }
+    }
+}
+
 /// What the words of a subcommand that prints records ask for.
 fn records_request<'a>(
     name: &str,
@@ -382,18 +435,18 @@ fn records_request<'a>(
 ) -> CommandRequest<'a>
     requires config { HasText (codes "CONFIG") (rows_of (found_of matches.now)) config.now }
     requires log { HasText (codes "LOG") (rows_of (found_of matches.now)) log.now }
-    requires name { (name.now ≡ codes "trace")
-        ⊎ ((name.now ≡ codes "draw") ⊎ (name.now ≡ codes "page")) }
+    requires asked { IsRecordsAsked name.now (rows_of (found_of matches.now)) }
     requires range { MayHaveRange (rows_of (found_of matches.now)) }
     ensures { AsksBy result name.now (rows_of (found_of matches.now)) }
 {
-    let range = range_asked(matches);
     if name == "trace" {
+        let range = range_asked(matches);
         CommandRequest::Trace { config, log, range }
     } else if name == "draw" {
+        let range = range_asked(matches);
         CommandRequest::Draw { config, log, range }
     } else {
-        CommandRequest::Page { config, log, range }
+        page_request(name, config, log, matches)
     }
 }
 
@@ -408,8 +461,7 @@ fn reading_request<'a>(
     requires log { HasText (codes "LOG") (rows_of (found_of matches.now)) log.now }
     requires asked { ((name.now ≡ codes "replay")
         ⊎ ((name.now ≡ codes "look") ⊎ (name.now ≡ codes "why")))
-        ⊎ (((name.now ≡ codes "trace")
-        ⊎ ((name.now ≡ codes "draw") ⊎ (name.now ≡ codes "page")))
+        ⊎ (IsRecordsAsked name.now (rows_of (found_of matches.now))
         × MayHaveRange (rows_of (found_of matches.now))) }
     ensures { AsksBy result name.now (rows_of (found_of matches.now)) }
 {
@@ -553,6 +605,15 @@ fn lacks_live(name: &str, matches: &ArgMatches<'_>) -> bool
         && (is_given(matches, "H") || is_on(matches, "raw") || is_given(matches, "FILE"))
 }
 
+/// Whether these are the words of `page` with `--turns` or `--jobs`, and without `--fault`.
+fn lacks_fault(name: &str, matches: &ArgMatches<'_>) -> bool
+    ensures { result ≡ lacks_fault name.now (rows_of (found_of matches.now)) }
+{
+    name == "page"
+        && !is_given(matches, "FAULT")
+        && (is_given(matches, "N") || is_given(matches, "J"))
+}
+
 /// What is wrong with the words of a subcommand that its grammar takes.
 fn mistake_of(name: &str, matches: &ArgMatches<'_>) -> Option<Mistake>
     ensures { result ≡ mistake_in name.now (rows_of (found_of matches.now)) }
@@ -563,6 +624,8 @@ fn mistake_of(name: &str, matches: &ArgMatches<'_>) -> Option<Mistake>
         Some(Mistake::LiveWithCourse)
     } else if lacks_live(name, matches) {
         Some(Mistake::NotLive)
+    } else if lacks_fault(name, matches) {
+        Some(Mistake::NoFault)
     } else {
         None
     }

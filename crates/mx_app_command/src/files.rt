@@ -1,7 +1,7 @@
 //! The files that a request names: those that it reads, and the one that it writes.
 
 ghost use Rattle.std.specs.Prelude.{◌≡◌, codes, option_map};
-ghost use Rattle.mx_app_command.specs.Files.{file_word, file_written, files_in, files_read, has_name, names, names_file, one_file, with_course, with_events, word_of, writes_over};
+ghost use Rattle.mx_app_command.specs.Files.{file_word, file_written, files_in, files_read, has_name, names, names_file, one_file, with_course, with_events, with_fault, word_of, writes_over};
 
 use crate::command_line::CommandRequest;
 
@@ -63,6 +63,17 @@ fn with_events<'a>(config: &'a str, events: Option<&'a str>) -> ReadWords<'a>
     }
 }
 
+/// A configuration, a history of its machine, and the fault of a sweep.
+fn with_fault<'a>(config: &'a str, log: &'a str, fault: &'a str) -> ReadWords<'a>
+    ensures { files_in result ≡ with_fault config.entry.now log.entry.now fault.entry.now }
+{
+    ReadWords {
+        first: word("CONFIG", config),
+        course: Some(word("LOG", log)),
+        fault: Some(word("FAULT", fault)),
+    }
+}
+
 /// Whether a word that may be there names this file.
 fn names(word: Option<NamedWord<'_>>, name: &str) -> bool
     ensures { result ≡ names (option_map word_of word.entry) name.now }
@@ -102,11 +113,13 @@ impl<'a> CommandRequest<'a> {
                 log,
                 fault,
                 ..
-            } => ReadWords {
-                first: word("CONFIG", config),
-                course: Some(word("LOG", log)),
-                fault: Some(word("FAULT", fault)),
-            },
+            } => with_fault(config, log, fault),
+            CommandRequest::SweptPage {
+                config,
+                log,
+                fault,
+                ..
+            } => with_fault(config, log, fault),
             CommandRequest::Replay { config, log } => with_course(config, "LOG", log),
             CommandRequest::Trace { config, log, .. } => with_course(config, "LOG", log),
             CommandRequest::Draw { config, log, .. } => with_course(config, "LOG", log),

@@ -235,6 +235,41 @@ const TO: CommandArgument<'static> = CommandArgument {
     form: ArgumentForm::NumberAfter("to"),
 };
 
+/// What happens at each position of a history, for a page with the strip of a sweep.
+const PAGE_FAULT: CommandArgument<'static> = CommandArgument {
+    name: "FAULT",
+    help: "Adds the strip of a sweep: what happens at each position, as at mx sweep",
+    form: ArgumentForm::After("fault"),
+};
+
+/// The first record on a page, or the first position of its strip.
+const PAGE_FROM: CommandArgument<'static> = CommandArgument {
+    name: "A",
+    help: "The first record that is shown, 1 by default; with --fault the first position, 0 by default",
+    form: ArgumentForm::NumberAfter("from"),
+};
+
+/// The last record on a page, or the last position of its strip.
+const PAGE_TO: CommandArgument<'static> = CommandArgument {
+    name: "B",
+    help: "The last record that is shown, or with --fault the last position; the history's end by default",
+    form: ArgumentForm::NumberAfter("to"),
+};
+
+/// How many turns are made after each position of a page's strip.
+const PAGE_TURNS: CommandArgument<'static> = CommandArgument {
+    name: "N",
+    help: "With --fault: how many turns at most after the fault, 1000 by default",
+    form: ArgumentForm::NumberAfter("turns"),
+};
+
+/// How many threads try the positions of a page's strip.
+const PAGE_JOBS: CommandArgument<'static> = CommandArgument {
+    name: "J",
+    help: "With --fault: how many threads try positions, 1 to 64; as many as processors without it",
+    form: ArgumentForm::JobsAfter("jobs"),
+};
+
 /// What happens to it, and what is looked at.
 const COMMANDS: CommandArgument<'static> = CommandArgument {
     name: "SCRIPT",
@@ -401,7 +436,10 @@ static HISTORY_COMMANDS: [Subcommand<'static>; 7] = [
     Subcommand {
         name: "page",
         help: "Runs a saved history again and prints a page that shows it in a browser",
-        arguments: &[CONFIG, LOG, FROM, TO, SUMS, EXPLAIN, SILENT],
+        arguments: &[
+            CONFIG, LOG, PAGE_FROM, PAGE_TO, PAGE_FAULT, PAGE_TURNS, PAGE_JOBS, SUMS, EXPLAIN,
+            SILENT,
+        ],
         example: Example::Page,
     },
     Subcommand {

@@ -437,6 +437,13 @@ goes through the whole run. For each record the page has what mx trace prints of
 what each process does then, who is ready and who waits for whom, and the console
 until then. ? shows the keys and what can be searched. restart.html#85 opens record 85.
 
+With --fault the page has all records, and below them a strip of the positions A to B:
+a letter for each way in which the run ends with the fault there, and a tick where it
+ends otherwise than without it. mx sweep prints the same as text:
+
+$ echo 'kill slot 0' >/tmp/kill
+$ mx page restart.config restart.log --fault /tmp/kill --turns 200 >/tmp/swept.html
+
 Status: 0 done; 1 a text or a program's file is refused, or an event, which the page
 names; 2 a mistake in the words; 3 a file can't be read; 4 no memory. Formats:
 docs/use/REFERENCE.md.";

@@ -70,7 +70,7 @@ fn record_wanted(request: CommandRequest<'_>) -> &'static str
             "line L, tick, kill E or wait N; --events wants others 2 or more in CONFIG"
         }
         CommandRequest::Turns { .. } => "an outside event: line L, tick or kill E",
-        CommandRequest::Sweep { .. } => {
+        CommandRequest::Sweep { .. } | CommandRequest::SweptPage { .. } => {
             "in LOG a record and its line feed; in FAULT an event of a script, or kill slot S"
         }
         _ => {

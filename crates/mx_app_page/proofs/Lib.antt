@@ -3,3 +3,4 @@ mod MadeLemmas
 mod AboveLemmas
 mod PageStart
 mod ReadingLemmas
+mod StripLemmas

@@ -57,7 +57,7 @@ after_event w a Tick = refl
 after_event w a (Kill e) = refl
 after_event w a (Respawn s) = after_respawn w s _
 
-services_stay : (w : World) (xs : List (ℕ × Event)) → (world_after_events w xs).services ≡ w.services
+pub services_stay : (w : World) (xs : List (ℕ × Event)) → (world_after_events w xs).services ≡ w.services
 services_stay w [] = refl
 services_stay w (x ∷ xs) = services_stay (world_after_event w x.0 x.1) xs ∙ after_event w x.0 x.1
 

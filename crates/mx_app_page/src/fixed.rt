@@ -5,7 +5,7 @@ pub(crate) const FRONT: &str = "<!DOCTYPE html>
 <html lang=\"en\">
 <head>
 <meta charset=\"utf-8\">
-<meta http-equiv=\"Content-Security-Policy\" content=\"default-src 'none'; script-src 'sha256-NmhXoJ2eczLQbfjIyyt+5Ue8QQqxybyYYYwU90uZaVQ='; style-src 'sha256-4hEkOXDjTcQghcveGEjU0Uqth/e0LzKWzM+SGE5Fs14='; base-uri 'none'; form-action 'none'; require-trusted-types-for 'script'; trusted-types 'none'\">
+<meta http-equiv=\"Content-Security-Policy\" content=\"default-src 'none'; script-src 'sha256-+79+kRwaHKKOrm/O7022nuERSeppcpXlr6wsgjiz3MU='; style-src 'sha256-4hEkOXDjTcQghcveGEjU0Uqth/e0LzKWzM+SGE5Fs14='; base-uri 'none'; form-action 'none'; require-trusted-types-for 'script'; trusted-types 'none'\">
 <meta name=\"viewport\" content=\"width=device-width, initial-scale=1\">
 <meta name=\"referrer\" content=\"no-referrer\">
 <title>A run of mx</title>
@@ -276,7 +276,8 @@ pub(crate) const BACK: &str = "</script>
 const $ = id => document.getElementById(id);
 
 // ---- the data
-// The first line is for the run, the last one for how it ends, and each line between them is a record's row.
+// The first line is for the run, the last one for how it ends, and each line between them is a record's row; below the
+// rows there may be lines for the positions of a sweep.
 // A row is parsed once while the page is read, for what is drawn of all records; what the panels show of one
 // record is parsed again when it is asked for. So the memory of a page is the text and some bytes a record.
 
@@ -361,6 +362,12 @@ class Words {
 const text = $(\"data\").textContent;
 const firstRow = text.indexOf(\"\\n\") + 1, lastLine = text.lastIndexOf(\"\\n\", text.length - 2) + 1;
 const head = JSON.parse(text.slice(0, firstRow)), tail = JSON.parse(text.slice(lastLine));
+// Where the rows end: between them and the last line stands a line for each position of a sweep, if the page has one.
+const rowsEnd = lineAbove(lastLine, tail.sweep ? tail.sweep.positions : 0);
+function lineAbove(at, count) {
+  for (let i = 0; i < count; i++) at = text.lastIndexOf(\"\\n\", at - 2) + 1;
+  return at;
+}
 // How many records come before the first row, how many there are with these, and how many services.
 const base = head.first, total = base + tail.records, N = head.services.length;
 
@@ -422,7 +429,7 @@ function noteRow(k, row) {
 // Reads rows for at most so many milliseconds. Returns whether all are read.
 function load(limit) {
   const until = performance.now() + limit;
-  while (readTo < lastLine) {
+  while (readTo < rowsEnd) {
     const end = text.indexOf(\"\\n\", readTo), k = ++loaded;
     starts[k] = readTo;
     noteRow(k, JSON.parse(text.slice(readTo, end)));
@@ -784,7 +791,20 @@ const recordInOverview = x =>
 // Position K is the one after record K, and stands in K's column. Each way to end has a letter; a position that
 // ends otherwise than without the fault is filled and ticked.
 
-const blocks = tail.sweep ? tail.sweep.blocks : [], ends = [...new Set(blocks.map(block => block.text))];
+const blocks = readBlocks(), ends = [...new Set(blocks.map(block => block.text))];
+// Positions in a row with the same end are a block; same has those of them that end as without the fault.
+function readBlocks() {
+  const made = [];
+  for (let at = rowsEnd, k = tail.sweep ? tail.sweep.from : 0; at < lastLine; k++) {
+    const end = text.indexOf(\"\\n\", at), line = JSON.parse(text.slice(at, end));
+    if (line.t !== undefined) made.push({from: k, text: line.t, same: []});
+    const block = made.at(-1);
+    block.to = k;
+    if (line.same) block.same.push(k);
+    at = end + 1;
+  }
+  return made;
+}
 const endOf = block => ends.indexOf(block.text);
 const blockOf = k => blocks.find(block => block.from <= k && k <= block.to);
 const letterOf = end => end < 26 ? String.fromCharCode(65 + end) : String(end + 1);
@@ -822,16 +842,15 @@ function showSweep() {
   $(\"sweeppanel\").hidden = false;
   if (!block) return box.replaceChildren(html(\"p\", \"\", \"no position here\"));
   const how = block.same.includes(selected) ? \"as without the fault.\" : \"OTHERWISE than without the fault.\";
-  const fault = tail.sweep.fault.trim().split(\"\\n\").join(\", \");
   const others = blocks.filter(it => it.text === block.text && it !== block).map(it => it.from + \" to \" + it.to);
-  const same = blocks.reduce((sum, it) => sum + it.same.length, 0), tried = blocks.at(-1).to + 1;
+  const same = blocks.reduce((sum, it) => sum + it.same.length, 0), {fault, positions} = tail.sweep;
   const lines = [
     html(\"p\", \"\", `fault: ${fault}. At position ${selected} (after record ${selected}) it ends ${how}`),
     html(\"p\", \"\", `End ${letterOf(endOf(block))}, of ${rangeOf(block)}:`),
     html(\"pre\", \"\", block.text)
   ];
   if (others.length) lines.push(html(\"p\", \"small\", \"The same end at positions \" + others.join(\", \")));
-  lines.push(html(\"p\", \"small\", `${same} of ${tried} positions end as without the fault.`));
+  lines.push(html(\"p\", \"small\", `${same} of ${positions} positions end as without the fault.`));
   box.replaceChildren(...lines);
 }
 

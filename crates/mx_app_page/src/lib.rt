@@ -11,6 +11,8 @@
 mod fixed;
 mod printing;
 mod reading;
+mod strips;
 
 pub use printing::page;
 pub use reading::rows_tell_enough;
+pub use strips::swept_page;

@@ -1,6 +1,6 @@
 //! The page of a history, from files' names to its text.
 
-ghost use Rattle.std.specs.Prelude.{◌≡◌, ◌<◌, ◌≤◌, ◌+◌, ◌-◌, ◌^◌, ◌++◌, List, All, IfOk, IfErr, IfSome, OnOk, length, take, drop, option_map};
+ghost use Rattle.std.specs.Prelude.{◌≡◌, ◌<◌, ◌≤◌, ◌+◌, ◌-◌, ◌^◌, ◌++◌, List, All, IfOk, IfErr, IfSome, None, OnOk, length, take, drop, option_map};
 ghost use Rattle.std.specs.Io.KnownBytes.{Appends};
 ghost use Rattle.mx_app_step.specs.Failure.{IsWanting, PrintsFront};
 ghost use Rattle.mx_app_step.specs.Machine.{world_of};
@@ -12,6 +12,7 @@ ghost use Rattle.mx_app_step.specs.Setup.{IsStart};
 ghost use Rattle.mx_app_step.specs.Telling.{IsTold, PrintsBefore};
 ghost use Rattle.mx_machine.specs.declared.history.Record.{Record as Noted};
 ghost use Rattle.mx_machine.specs.Boot.{world_at_boot};
+ghost use Rattle.mx_machine.specs.History.{events_of_history, world_after_events};
 ghost use Rattle.mx_machine.specs.World.{actors};
 ghost use Rattle.mx_look.specs.Glances.{glance_of};
 ghost use Rattle.mx_look_page.specs.Heads.{run_of};
@@ -52,7 +53,7 @@ fn shown_in(alloc: Global, machine: &Machine) -> Result<Shown, AllocError>
 }
 
 /// The number of the rules.
-fn rules_number(rules: Rules) -> u32
+pub(crate) fn rules_number(rules: Rules) -> u32
     ensures { result ≡ rules_number rules }
 {
     match rules {
@@ -62,7 +63,7 @@ fn rules_number(rules: Rules) -> u32
 }
 
 /// Appends one half of the fixed part.
-fn push_half(out: &mut Vec<u8>, half: &str) -> Result<(), AllocError>
+pub(crate) fn push_half(out: &mut Vec<u8>, half: &str) -> Result<(), AllocError>
     ensures { OnOk result (out.new.items ≡ out.old.items ++ half.now) }
 {
     out.extend_from_slice(half.as_bytes())
@@ -70,7 +71,11 @@ fn push_half(out: &mut Vec<u8>, half: &str) -> Result<(), AllocError>
 
 /// What stands above the rows: the fixed part, and the line for the run, which shows the machine as it is.
 #[tactic(auto, unfolding(mx_machine::specs::Machine::world_of))]
-fn front_text(alloc: Global, machine: &Machine, terms: RunTerms<'_>) -> Result<Vec<u8>, AllocError>
+pub(crate) fn front_text(
+    alloc: Global,
+    machine: &Machine,
+    terms: RunTerms<'_>,
+) -> Result<Vec<u8>, AllocError>
     ensures { IfOk result (λ text. text.items
         ≡ front_text (run_of terms.entry) (world_of machine.now)) }
 {
@@ -115,7 +120,7 @@ fn print_row<W: Write>(
 
 /// Prints the rows of records, up to the first that is refused. `above` records come before them. Answers how many rows
 /// stand above the refused one, and why it is refused.
-fn print_rows<W: Write>(
+pub(crate) fn print_rows<W: Write>(
     alloc: Global,
     machine: &mut Machine,
     records: &[Record],
@@ -131,6 +136,8 @@ fn print_rows<W: Write>(
         AreRowsPrinted (world_of machine.old) above records.now refused (λ text.
         Appends (W.contents out.old) (W.contents out.new) text)) }
     ensures few { IfOk result (λ refused. IfSome refused (λ p. p.0 < length records.now)) }
+    ensures world { IfOk result (λ refused. refused ≡ None → world_of machine.new
+        ≡ world_after_events (world_of machine.old) (events_of_history records.now)) }
 {
     let mut text = Vec::new(alloc);
     let mut scratch = Vec::new(alloc);
@@ -196,7 +203,7 @@ fn refused_line(
 }
 
 /// Prints what stands below the rows, and that the record of this number is refused.
-fn print_refused<W: Write>(
+pub(crate) fn print_refused<W: Write>(
     alloc: Global,
     rules: Rules,
     rows: u32,

@@ -15,6 +15,6 @@ mod turns_laws;
 pub use event_files::{OutsideEvents, outside_event_of, outside_events};
 pub use fault_files::fault_lines;
 pub use nothing_tested::Untested;
-pub use sweeping::{SweepNames, SweepWanted, Swept, sweep};
-pub use turning::{Begun, TurnsNames, TurnsWanted, begin_turns, turns};
+pub use sweeping::{Begun, SweepNames, SweepWanted, Swept, begin_sweep, jobs_of, range_of, sweep};
+pub use turning::{TurnsBegun, TurnsNames, TurnsWanted, begin_turns, turns};
 pub use turns_laws::{bound_is_not_met, turns_again};

@@ -85,9 +85,9 @@ pub enum Swept {
 
 /// A machine at boot, with a saved history and a fault.
 #[derive(Drop)]
-struct Begun {
-    started: Started<Record>,
-    fault: Vec<FaultLine>,
+pub struct Begun {
+    pub started: Started<Record>,
+    pub fault: Vec<FaultLine>,
 }
 
 /// Reads the lines of the fault's file.
@@ -108,7 +108,11 @@ fn fault_of<R: Reader>(alloc: Global, reader: &mut R, name: &str) -> Result<Vec<
 }
 
 /// Boots the machine of a saved history, after the fault's file is read too.
-fn begin<R: Reader>(alloc: Global, reader: &mut R, names: SweepNames<'_>) -> Result<Begun, Failure>
+pub fn begin_sweep<R: Reader>(
+    alloc: Global,
+    reader: &mut R,
+    names: SweepNames<'_>,
+) -> Result<Begun, Failure>
     ensures begun { IfOk result (λ b. (qs : List Asked) × (c : Configured) × (vs : List Service)
         × (R.asked reader.new ≡ R.asked reader.old ++ qs)
         × IsBegun names.entry.config.now names.entry.log.now names.entry.fault.now qs c vs
@@ -314,7 +318,7 @@ const MOST_JOBS: usize = 64;
 
 /// How many threads try positions: as many as were asked for, or else as many as there are processors, if the system
 /// says so.
-fn jobs_of<T: Threads>(rt: &T, wanted: Option<u32>) -> usize
+pub fn jobs_of<T: Threads>(rt: &T, wanted: Option<u32>) -> usize
     ensures some { 0 < result }
     ensures few { result ≤ 64 }
 {
@@ -373,7 +377,7 @@ fn print_positions<T: Threads + Sync, P: Progress, W: Write>(
 }
 
 /// The positions that are swept of a history, by the number of its records.
-fn range_of(wanted: SweepWanted<'_>, records: usize) -> Range
+pub fn range_of(wanted: SweepWanted<'_>, records: usize) -> Range
     ensures { (result.from ≡ wanted.entry.from)
         × (result.end ≡ min wanted.entry.to records + 1) }
 {
@@ -642,7 +646,7 @@ pub fn sweep<
         wanted.entry.bound qs ws ps
         (λ text. Appends (W.contents channels.old.out) (W.contents channels.new.out) text) result }
 {
-    let begun = begin(alloc, &mut channels.reader, names)?;
+    let begun = begin_sweep(alloc, &mut channels.reader, names)?;
     spare_if_saved(&begun.started.config, wanted.save)?;
     sweep_begun(rt, alloc, channels, progress, begun, wanted)
 }

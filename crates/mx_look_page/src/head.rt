@@ -29,7 +29,11 @@ pub struct RunTerms<'a> {
 }
 
 /// Appends a member with a number.
-fn push_counted_member(out: &mut Vec<u8>, name: &[u8], number: u32) -> Result<(), AllocError>
+pub(crate) fn push_counted_member(
+    out: &mut Vec<u8>,
+    name: &[u8],
+    number: u32,
+) -> Result<(), AllocError>
     ensures { OnOk result (out.new.items ≡ out.old.items
         ++ number_part name.now number) }
 {
@@ -45,7 +49,11 @@ fn push_small_member(out: &mut Vec<u8>, name: &[u8], number: u8) -> Result<(), A
 }
 
 /// Appends a member with a text.
-fn push_text_member(out: &mut Vec<u8>, name: &[u8], bytes: &[u8]) -> Result<(), AllocError>
+pub(crate) fn push_text_member(
+    out: &mut Vec<u8>,
+    name: &[u8],
+    bytes: &[u8],
+) -> Result<(), AllocError>
     ensures { OnOk result (out.new.items ≡ out.old.items ++ text_part name.now bytes.now) }
 {
     push_member(out, name)?;

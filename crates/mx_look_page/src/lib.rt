@@ -17,8 +17,10 @@ mod head;
 mod json;
 mod row;
 mod shown;
+mod strip;
 
 pub use head::{RunTerms, push_head, push_tail};
 pub use json::push_text;
 pub use row::push_row;
 pub use shown::{Shown, SlotState};
+pub use strip::{StripTerms, push_position, push_strip_tail};

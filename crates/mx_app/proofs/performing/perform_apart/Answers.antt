@@ -3,7 +3,7 @@ use Rattle.std.specs.Prelude.{option_map}
 use Rattle.mx_app_command.specs.declared.command_line.CommandRequest.TheVariants.{Step}
 use Rattle.mx_app_program.specs.One.{IsPrinted}
 use Rattle.mx_app_program.specs.Shown.{IsListingOf, IsShown}
-use Rattle.mx_app.proofs.Doing.{as_asked, as_known, as_typed, assembled, debugs, draws, explains, lived, looks, pages, replays, runs, saved, shows, steps, swept, traces, turned, whys}
+use Rattle.mx_app.proofs.Doing.{as_asked, as_known, as_typed, assembled, debugs, draws, explains, lived, looks, pages, replays, runs, saved, shows, steps, swept, swept_pages, traces, turned, whys}
 use Rattle.mx_app.proofs.performing.perform_apart.Goals as goal
 
 pub returns-in-One-clause-done : goal.returns-in-One-clause-done
@@ -97,6 +97,12 @@ returns-in-Why-clause-done g c =
     as_asked (g.P.SharedProgress.was_shown c.args.io.now.progress) c.args.io.now.asks _ _ _ _ _ _ c.args.request
     (as_known _ _ _ _ _ _ _ _ c.in-Why.is
     (whys _ _ _ c.in-Why.config.now c.in-Why.log.now _ _ c.why.result c.done_after_replay-in-Why.result c.why.ensures.printed c.why.ensures.fault c.done_after_replay-in-Why.ensures))
+
+pub returns-in-SweptPage-clause-done : goal.returns-in-SweptPage-clause-done
+returns-in-SweptPage-clause-done g c =
+    as_asked (g.P.SharedProgress.was_shown c.args.io.now.progress) c.args.io.now.asks _ _ _ _ _ _ c.args.request
+    (as_known _ _ _ _ _ _ _ _ c.in-SweptPage.is
+    (swept_pages _ _ _ c.in-SweptPage.config.now c.in-SweptPage.log.now c.in-SweptPage.fault.now c.in-SweptPage.from c.in-SweptPage.to c.in-SweptPage.bound _ _ c.swept_page.result c.done_after_replay-in-SweptPage.result c.swept_page.ensures c.done_after_replay-in-SweptPage.ensures))
 
 pub returns-in-Look-clause-done : goal.returns-in-Look-clause-done
 returns-in-Look-clause-done g c =

@@ -1,5 +1,7 @@
-use Rattle.std.proofs.Common.{◌∙◌, ◌+◌, ap, refl, rules, sym, take}
-use Rattle.mx_machine.specs.History.{events_of_history}
+use Rattle.std.proofs.Common.{◌∙◌, ◌+◌, List, ap, arith, refl, rules, sym, take}
+use Rattle.std.proofs.lemmas.List.{take_all}
+use Rattle.mx_machine.specs.History.{events_of_history, world_after_events}
+use Rattle.mx_machine.specs.declared.history.Record.{Record}
 use Rattle.mx_look.specs.Glances.{glance_of}
 use Rattle.mx_look.specs.declared.transition.Transition.{Transition}
 use Rattle.mx_app_step.specs.Machine.{world_of}
@@ -57,3 +59,8 @@ returns-in_err-print_row-clause-begun g c =
 
 pub show-requires : goal.show-requires
 show-requires g c = ap (λ (x : Transition). x.after) c.in_default.ensures.transition ∙ ap glance_of (sym c.in_default.ensures.ok.1)
+
+pub returns-clause-world : goal.returns-clause-world
+returns-clause-world g c none =
+    c.loop-index.invariant.world
+    ∙ ap (λ (rs : List Record). world_after_events (world_of c.args.machine.now) (events_of_history rs)) (take_all c.loop-index.index c.args.records.now (omega (arith, c.loop-index-test.false)))

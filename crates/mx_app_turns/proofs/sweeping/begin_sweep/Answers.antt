@@ -4,7 +4,7 @@ use Rattle.mx_app_start.proofs.SetupLemmas.{asked_on}
 use Rattle.mx_app_step.proofs.ReplayLemmas.{saved_by_actors}
 use Rattle.mx_app_step.specs.Machine.{world_of}
 use Rattle.mx_app_turns.proofs.ReadyLemmas.{ready}
-use Rattle.mx_app_turns.proofs.sweeping.begin.Goals as goal
+use Rattle.mx_app_turns.proofs.sweeping.begin_sweep.Goals as goal
 
 pub returns-in_err-started-clause-fault : goal.returns-in_err-started-clause-fault
 returns-in_err-started-clause-fault g c =
