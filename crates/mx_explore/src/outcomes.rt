@@ -1,5 +1,11 @@
 //! Outcomes of schedules: which there are, how many schedules lead to each, and the first of them.
 
+ghost use Rattle.std.specs.Prelude.{◌≡◌, ◌++◌, ◌+◌, ◌-◌, ◌^◌, IfOk, IfSome, OnOk, bytes_eq, min};
+ghost use Rattle.mx_machine.specs.Machine.{world_of};
+ghost use Rattle.mx_machine.specs.History.{replay};
+ghost use Rattle.mx_explore.specs.Outcomes.{Found, IsTally, first_of, is_before, is_less, outcome_text, state_lines};
+ghost use Rattle.mx_explore.specs.Tallies.{IsCounted, IsUnsorted};
+
 use crate::passing::{Departure, Ran};
 use mx_machine::Kernel;
 use mx_print_report::{Naming, doing_of, push_console, push_count, push_doing, push_name};
@@ -22,7 +28,10 @@ pub struct Outcome {
 }
 
 /// Appends a line for each service: its name, and what its process does.
-fn push_states(text: &mut Vec<u8>, kernel: &Kernel) -> Result<(), AllocError> {
+fn push_states(text: &mut Vec<u8>, kernel: &Kernel) -> Result<(), AllocError>
+    ensures { OnOk result (text.new.items ≡ text.old.items
+        ++ state_lines (replay kernel.now).table 0 (replay kernel.now).services) }
+{
     let table = kernel.table();
     for slot in 0..table.slot_count() {
         text.extend_from_slice(b"  ")?;
@@ -36,7 +45,9 @@ fn push_states(text: &mut Vec<u8>, kernel: &Kernel) -> Result<(), AllocError> {
 }
 
 /// The text of an outcome.
-fn outcome_text(alloc: Global, kernel: &Kernel, ending: Ending) -> Result<Vec<u8>, AllocError> {
+fn outcome_text(alloc: Global, kernel: &Kernel, ending: Ending) -> Result<Vec<u8>, AllocError>
+    ensures { IfOk result (λ text. text.items ≡ outcome_text (replay kernel.now) ending) }
+{
     let console = &kernel.table().devices().console;
     let mut text = Vec::new(alloc);
     push_states(&mut text, kernel)?;
@@ -74,7 +85,9 @@ fn order_of(one: Departure, other: Departure) -> Ordering {
 }
 
 /// Whether a list of departures is less than another that is as long.
-fn is_less(one: &[Departure], other: &[Departure]) -> bool {
+fn is_less(one: &[Departure], other: &[Departure]) -> bool
+    ensures { result ≡ is_less one.now other.now }
+{
     for at in 0..one.len().min(other.len()) {
         match order_of(one[at], other[at]) {
             Ordering::Less => return true,
@@ -87,7 +100,9 @@ fn is_less(one: &[Departure], other: &[Departure]) -> bool {
 
 impl Outcome {
     /// Whether its first schedule comes before another's.
-    pub(crate) fn is_before(&self, other: &Outcome) -> bool {
+    pub(crate) fn is_before(&self, other: &Outcome) -> bool
+        ensures { result ≡ is_before (first_of self.now) (first_of other.now) }
+    {
         let (mine, others) = (self.departures.len(), other.departures.len());
         if mine != others {
             return mine < others;
