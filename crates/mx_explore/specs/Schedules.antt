@@ -1,5 +1,5 @@
 -- EVERY SCHEDULE that departs in few places (our own).
-use Rattle.std.specs.Prelude.{ℕ, ◌==◌, ◌≡◌, ◌≤◌, ◌<◌, ◌%◌, Bool, List, [], ◌∷◌, All, Contains, length, map}
+use Rattle.std.specs.Prelude.{ℕ, ◌==◌, ◌≡◌, ◌≤◌, ◌%◌, ◌&&◌, Bool, true, false, List, [], ◌∷◌, All, Contains, length, map}
 use Rattle.std.specs.List.{IsDistinct}
 use Rattle.mx_machine.specs.declared.events.Event.{Event}
 use Rattle.mx_machine.specs.World.{World}
@@ -7,6 +7,12 @@ use Rattle.mx_explore.specs.declared.passing.Departure.{Departure}
 use Rattle.mx_explore.specs.declared.outcomes.Outcome.{Outcome}
 use Rattle.mx_explore.specs.Outcomes.{IsTally, found_by}
 use Rattle.mx_explore.specs.Passing.{IsSchedule}
+
+-- two lists of departures are the same
+abbrev pub is_same : List Departure → List Departure → Bool
+is_same [] [] = true
+is_same (d ∷ ds) (e ∷ es) = (d.at == e.at) && (d.turns == e.turns) && is_same ds es
+is_same ds es = false
 
 -- a schedule is in a part of so many by its first departure; the one without a departure is in part 0
 abbrev pub is_in_part : ℕ → ℕ → List Departure → Bool
@@ -20,7 +26,7 @@ pub record AreAll (n : ℕ) (boot : World) (coming : List Event) (k part parts :
   pub part : All (λ ds. is_in_part part parts ds ≡ true) dss
   pub every : (ds : List Departure) → IsSchedule n boot coming ds → length ds ≤ k
       → is_in_part part parts ds ≡ true → Contains dss ds
-  pub once : IsOnce dss
+  pub once : IsDistinct is_same dss
 
 -- WHAT IS FOUND: the tally of all of them
 abbrev pub IsExplored : ℕ → World → List Event → ℕ → ℕ → ℕ → List Outcome → Type 0
