@@ -5,8 +5,9 @@ use Rattle.std.proofs.lemmas.List.{take-append-drop}
 use Rattle.mx_machine.specs.declared.events.Event.{Event}
 use Rattle.mx_machine.specs.declared.history.Record.{Record}
 use Rattle.mx_turns.specs.declared.coming.Coming.{Coming}
+use Rattle.mx_turns.specs.declared.faulted_run.Place.{Place}
 use Rattle.mx_turns.specs.Sweep.{coming, outside_event, with_first}
-use Rattle.mx_turns.specs.Swept.{IsComing}
+use Rattle.mx_turns.specs.Swept.{IsAlong, IsComing, IsPlace}
 use Rattle.mx_turns.proofs.AlongLemmas.{taken_on}
 
 first_append : (o : Option Event) (xs ys : List Event) → with_first o (xs ++ ys) ≡ with_first o xs ++ ys
@@ -56,10 +57,16 @@ module _ (records : List Record) (k : ℕ) where
         let listed = ap length is.all in
         omega (arith, all, both, listed, is.past)
 
-    pub left : drop c.past c.all.items ≡ coming (drop k records)
+    left : drop c.past c.all.items ≡ coming (drop k records)
     left =
         ap (λ n. drop n c.all.items) is.past ∙ ap (drop (length (coming (take k records)))) (is.all ∙ sym parts)
         ∙ drop-append_seam (coming (take k records)) (coming (drop k records))
+
+-- a place, whose events are the part of the list that is left
+pub is_place : (records : List Record) (p : Place) (c : Coming) → IsComing records p.position c → IsAlong records p.position p.along.now → p.checkpoint.now ≡ p.along.now → p.events.now ≡ drop c.past c.all.items
+    → p.position ≤ length records → IsPlace records p
+is_place records p c is along same events within =
+    record { along = along; same = same; events = events ∙ left records p.position c is; within = within }
 
 -- ---- from one position to a later one
 
