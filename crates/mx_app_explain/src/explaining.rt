@@ -107,8 +107,8 @@ fn line_detail<'a>(
 fn folder_of(name: &str) -> Option<&str>
     ensures { option_map (λ s. s.now) result ≡ folder_of name.now }
 {
-    match name.rfind('/') {
-        Some(stroke) => Some(&name[..stroke]),
+    match name.rsplit_once('/') {
+        Some((folder, _)) => Some(folder),
         None => None,
     }
 }

@@ -137,7 +137,12 @@ fn fails(transition: &Transition, slot: u32) -> bool
 fn any_fails(transition: &Transition) -> bool
     ensures { result ≡ any_fails transition.now }
 {
-    (0..SLOTS).any(|slot| fails(transition, slot))
+    for slot in 0..SLOTS {
+        if fails(transition, slot) {
+            return true;
+        }
+    }
+    false
 }
 
 /// Whether it happens in a record.

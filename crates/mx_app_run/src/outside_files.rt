@@ -54,6 +54,7 @@ fn call_of(config: &Config, line: &[u8]) -> Option<OutsideCall>
 }
 
 /// Reads the lines of a file for the machine of a configuration.
+#[derive(Clone, Copy)]
 struct CallReader<'a> {
     config: &'a Config,
 }
@@ -86,7 +87,7 @@ pub fn outside_calls(
     ensures unread { IfErr result (λ e.
         TellsUnsaid (call_line config.now) (lines text.now) e) }
 {
-    read_commented(alloc, CallReader { config }, text.as_bytes())
+    read_commented(alloc, &CallReader { config }, text.as_bytes())
 }
 
 /// 1 for a tick, and 0 for another call.

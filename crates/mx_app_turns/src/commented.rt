@@ -15,17 +15,17 @@ use mx_text::{BootError, next_field};
 use std::alloc::{AllocError, Global};
 
 /// Reads lines that may be empty, or have a comment, which `#` begins: what is before it is read by another reader.
-pub(crate) struct Commented<R: ReadsLine> {
-    reader: R,
+#[derive(Drop)]
+pub(crate) struct Commented<'r, R: ReadsLine> {
+    reader: &'r R,
 }
 
-impl<R: ReadsLine> ReadsLine for Commented<R> {
-    ghost use Rattle.std.specs.Prelude.{Option};
+impl<'r, R: ReadsLine> ReadsLine for Commented<'r, R> {
     ghost use Rattle.mx_app_turns.specs.Commented.{note_of};
 
     type Said = Option<R::Said>;
 
-    ghost says = { λ c line. note_of (R.says c.reader) line };
+    ghost says = { λ c line. note_of (R.says c.reader.now) line };
 
     fn read(&self, line: &[u8]) -> Option<Option<R::Said>> {
         let said = before_comment(line);
@@ -53,13 +53,13 @@ fn all_said<T: Drop>(alloc: Global, notes: Vec<Option<T>>) -> Result<Vec<T>, All
 /// line that isn't well formed. Out of memory is reported after all lines are judged.
 pub fn read_commented<R: ReadsLine>(
     alloc: Global,
-    reader: R,
+    reader: &R,
     text: &[u8],
 ) -> Result<Vec<R::Said>, BootError>
 where
     R::Said: Drop,
-    ensures read { IfOk result (λ found. AreSaid (R.says reader) (lines text.now) found.items) }
-    ensures unread { IfErr result (λ e. TellsUnsaid (R.says reader) (lines text.now) e) }
+    ensures read { IfOk result (λ found. AreSaid (R.says reader.now) (lines text.now) found.items) }
+    ensures unread { IfErr result (λ e. TellsUnsaid (R.says reader.now) (lines text.now) e) }
 {
     let notes = read_lines(alloc, &Commented { reader }, text)?;
     match all_said(alloc, notes) {

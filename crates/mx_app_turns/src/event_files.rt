@@ -33,6 +33,7 @@ pub fn outside_line_of(config: &Config, kind: EventKind, rest: &[u8]) -> Option<
 }
 
 /// Reads the lines of a file of outside events, for the machine of a configuration.
+#[derive(Clone, Copy)]
 struct EventReader<'a> {
     config: &'a Config,
 }
@@ -64,7 +65,7 @@ pub fn outside_events(
     ensures unread { IfErr result (λ e.
         TellsUnsaid (outside_line config.now.lines) (lines text.now) e) }
 {
-    read_commented(alloc, EventReader { config }, text.as_bytes())
+    read_commented(alloc, &EventReader { config }, text.as_bytes())
 }
 
 /// The lines of a file of outside events, as what drives a machine.

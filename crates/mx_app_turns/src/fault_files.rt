@@ -69,6 +69,7 @@ fn fault_line_of(config: &Config, kind: EventKind, rest: &[u8]) -> Option<FaultL
 }
 
 /// Reads the lines of a fault, for the machine of a configuration.
+#[derive(Clone, Copy)]
 struct FaultReader<'a> {
     config: &'a Config,
 }
@@ -100,5 +101,5 @@ pub fn fault_lines(
     ensures unread { IfErr result (λ e.
         TellsUnsaid (fault_line config.now.lines) (lines text.now) e) }
 {
-    read_commented(alloc, FaultReader { config }, text.as_bytes())
+    read_commented(alloc, &FaultReader { config }, text.as_bytes())
 }
