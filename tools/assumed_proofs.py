@@ -1,6 +1,6 @@
 """Proofs that are taken for granted, in a scratch copy of a crate. A check of some functions also proves those that they
-call, in the same crate, although only the contracts of these count for it. Here each gets a proof that is one hole, the
-same for all. The check has to pass over holes; what it says of a function then doesn't rest on other functions' bodies."""
+call, in the same crate, although only the contracts of these count for it. Here each has no body any more, and its proof is
+one hole, the same for all. The check has to pass over holes; what it says of a function then rests on no other's body."""
 import os
 
 MODULE = "Assumed"
@@ -15,9 +15,11 @@ def hole_of(crate):
     return f"Rattle.{crate}.proofs.{MODULE}.assumed"
 
 
-def assume(folder, crate, paths):
-    """Assumes the proofs of functions of the crate in this folder, by the paths of the proofs."""
-    for path in paths:
+def assume(folder, crate, functions):
+    """Assumes the proofs of functions of the crate in this folder, which are given by their files and names."""
+    for file in sorted({file for file, _ in functions}):
+        drop_bodies(os.path.join(folder, file), [it for (where, _), it in functions.items() if where == file])
+    for path, _, _ in functions.values():
         place = os.path.join(folder, "proofs", *path)
         os.makedirs(place, exist_ok=True)
         for name in BY_HAND:
@@ -29,6 +31,15 @@ def assume(folder, crate, paths):
     known = open(lib, encoding="utf-8").read() if os.path.exists(lib) else ""
     if f"mod {MODULE}\n" not in known:
         write(lib, f"{known}mod {MODULE}\n")
+
+
+def drop_bodies(path, functions):
+    """Writes a file of source with nothing in these functions' bodies that a check could look at."""
+    with open(path, encoding="utf-8") as file:
+        text = file.read()
+    for _, begin, end in sorted(functions, key=lambda it: -it.begin):
+        text = f"{text[:begin]}unreachable!()\n{text[end:]}"
+    write(path, text)
 
 
 def write(path, text):

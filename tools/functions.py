@@ -1,10 +1,13 @@
-"""Functions in source texts: which one holds a place, and how a check calls it."""
+"""Functions in source texts: which one holds a place, how a check calls it, and where its body is."""
 import os
 import re
+from collections import namedtuple
 
 HEAD = re.compile(r"(\s*)(?:pub(?:\(crate\))? )?(?:const )?fn (\w+)")
 HEADS = re.compile(r"^ *(?:pub(?:\([^)]*\))? )?(?:const )?fn \w+", re.M)
 ITEM = re.compile(r"(macro_rules!|(pub(\(crate\))? )?(struct|enum|trait|static|const) |\})")
+# The path of a function's proof, and where the lines of its body begin and end in its file's text.
+Function = namedtuple("Function", "path begin end")
 TYPE = re.compile(r"^(?:pub(?:\([^)]*\))? )?(?:struct|enum) (\w+)", re.M)
 
 
@@ -50,20 +53,30 @@ def module_of(name):
 
 
 def functions_of(folder):
-    """The functions of the crate in a folder, each as (file, name) with the path of its proof. Those without a body are left
-    out, and those that call themselves or are in a cycle of calls: their proofs are at other places."""
+    """The functions of the crate in a folder, by (file, name). Those are left out whose body isn't there or is in one line
+    with the head, and those that call themselves or are in a cycle of calls: their proofs are at other places."""
     sources, modules, found = sources_of(folder), {}, {}
     for file, source in sources.items():
         for name in TYPE.findall(source):
             modules.setdefault(name, set()).add(module_of(file))
     for file, source in sources.items():
-        heads = list(HEADS.finditer(source))
-        for head, following in zip(heads, [it.start() for it in heads[1:]] + [len(source)]):
-            name = function_at(source, head.end() - 1)
-            if name and not is_recursive(source, head, following, name.rpartition("::")[2]):
+        for head in HEADS.finditer(source):
+            name, body = function_at(source, head.end() - 1), body_of(source, head.start())
+            if name and body and not is_recursive(source, head, body[1], name.rpartition("::")[2]):
                 for module in modules_with(name, file, modules):
-                    found[file, name] = tuple(f"{module}{name}".split("::"))
+                    found[file, name] = Function(tuple(f"{module}{name}".split("::")), *body)
     return found
+
+
+def body_of(source, start):
+    """Where the lines of a body begin and end, of the function whose head begins here, or None. The text is as `rt fmt` lays
+    it out: a body ends with a brace as far in as its head, and begins with one, or with a line's last if there is no clause."""
+    indent = re.match(" *", source[start:])[0]
+    line = source[start : source.find("\n", start)]
+    end = source.find(f"\n{indent}}}\n", start) + 1
+    begin = source.find(f"\n{indent}{{\n", start, end)
+    begin = begin + len(indent) + 3 if begin >= 0 else source.find("{\n", start, end) + 2
+    return None if line.endswith(("}", ";")) or not end or begin < 2 else (begin, end)
 
 
 def modules_with(name, file, modules):
