@@ -8,7 +8,6 @@ use Rattle.mx_look.specs.Deliveries.{delivery_to}
 use Rattle.mx_look.specs.Doings.{is_down, is_ready, seen_is}
 use Rattle.mx_look.specs.Going.{gone_on}
 use Rattle.mx_look.specs.declared.slot_glances.SlotGlance.{SlotGlance}
-use Rattle.mx_text.specs.Fields.{◌>>=◌}
 use Rattle.mx_look.specs.Transition.{slot_in}
 use Rattle.mx_look.specs.Glances.{glance_of}
 use Rattle.mx_machine.specs.declared.events.Event.{Event}
@@ -59,9 +58,13 @@ reply_type (Some reply) = Some (slice_index reply 1)
 abbrev pub answer_in : SlotGlance → Option ℕ
 answer_in u = if is_ready u.doing then reply_type u.image.words else None
 
+abbrev pub answer_at : Option SlotGlance → Option ℕ
+answer_at None = None
+answer_at (Some u) = answer_in u
+
 abbrev pub answer_by : Transition → ℕ → Option CpuGlance → Option ℕ
 answer_by x slot None = None
-answer_by x slot (Some h) = if h.slot == slot then slot_in x.after slot >>= answer_in else None
+answer_by x slot (Some h) = if h.slot == slot then answer_at (slot_in x.after slot) else None
 
 -- the answer to the kernel call that a slot's process makes
 abbrev pub answer_to : Transition → ℕ → Option ℕ
