@@ -25,8 +25,7 @@ For more information, try '--help'.
 ";
 
 /// What is printed of `turns` with an option of `--live`, and without it.
-const NOT_LIVE: &str =
-    "error: the arguments '--hertz <H>' and '--raw' need '--live'
+const NOT_LIVE: &str = "error: the arguments '--hertz <H>' and '--raw' need '--live'
 
 Usage: mx turns [OPTIONS] <CONFIG> <LOG>
 

@@ -554,9 +554,7 @@ fn has_course(name: &str, matches: &ArgMatches<'_>) -> bool
 fn lacks_live(name: &str, matches: &ArgMatches<'_>) -> bool
     ensures { result ≡ lacks_live name.now (rows_of (found_of matches.now)) }
 {
-    name == "turns"
-        && !is_on(matches, "live")
-        && (is_given(matches, "H") || is_on(matches, "raw"))
+    name == "turns" && !is_on(matches, "live") && (is_given(matches, "H") || is_on(matches, "raw"))
 }
 
 /// What is wrong with the words of a subcommand that its grammar takes.

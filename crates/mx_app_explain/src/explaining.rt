@@ -130,11 +130,7 @@ fn plain_hint<'a>(request: CommandRequest<'a>, about: &About, problem: FileProbl
 }
 
 /// What was wanted of a file of which no line is at fault.
-fn plain_detail<'a>(
-    request: CommandRequest<'a>,
-    about: &About,
-    problem: FileProblem,
-) -> Detail<'a>
+fn plain_detail<'a>(request: CommandRequest<'a>, about: &About, problem: FileProblem) -> Detail<'a>
     ensures { detail_told result ≡ plain_detail request.entry about.now problem }
 {
     Detail {

@@ -32,7 +32,10 @@ fn is_config_word(word: &[u8]) -> bool
 fn is_debug_word(word: &[u8]) -> bool
     ensures { result ≡ is_debug_word word.now }
 {
-    matches!(word, b"break" | b"clear" | b"go" | b"regs" | b"mem" | b"messages")
+    matches!(
+        word,
+        b"break" | b"clear" | b"go" | b"regs" | b"mem" | b"messages"
+    )
 }
 
 /// Whether a script's line begins with this word.

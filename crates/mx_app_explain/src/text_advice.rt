@@ -334,8 +334,24 @@ fn is_bit_word(word: &[u8]) -> bool
 {
     matches!(
         word,
-        b"bt" | b"bts" | b"btr" | b"btc" | b"bsf" | b"bsr" | b"rcl" | b"rcr" | b"shld" | b"shrd"
-            | b"aaa" | b"aad" | b"aam" | b"aas" | b"daa" | b"das" | b"xlat" | b"xlatb"
+        b"bt"
+            | b"bts"
+            | b"btr"
+            | b"btc"
+            | b"bsf"
+            | b"bsr"
+            | b"rcl"
+            | b"rcr"
+            | b"shld"
+            | b"shrd"
+            | b"aaa"
+            | b"aad"
+            | b"aam"
+            | b"aas"
+            | b"daa"
+            | b"das"
+            | b"xlat"
+            | b"xlatb"
     )
 }
 
@@ -345,9 +361,31 @@ fn is_other_word(word: &[u8]) -> bool
 {
     matches!(
         word,
-        b"lock" | b"enter" | b"bound" | b"les" | b"lds" | b"lfs" | b"lgs" | b"lss" | b"iret"
-            | b"iretd" | b"retf" | b"ins" | b"insb" | b"insw" | b"insd" | b"outs" | b"outsb"
-            | b"outsw" | b"outsd" | b"wait" | b"arpl" | b"lar" | b"lsl" | b"verr" | b"verw"
+        b"lock"
+            | b"enter"
+            | b"bound"
+            | b"les"
+            | b"lds"
+            | b"lfs"
+            | b"lgs"
+            | b"lss"
+            | b"iret"
+            | b"iretd"
+            | b"retf"
+            | b"ins"
+            | b"insb"
+            | b"insw"
+            | b"insd"
+            | b"outs"
+            | b"outsb"
+            | b"outsw"
+            | b"outsd"
+            | b"wait"
+            | b"arpl"
+            | b"lar"
+            | b"lsl"
+            | b"verr"
+            | b"verw"
     )
 }
 

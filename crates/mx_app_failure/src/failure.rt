@@ -123,7 +123,8 @@ impl Access {
     {
         match kind {
             io::ErrorKind::NotFound | io::ErrorKind::NotADirectory => Access::Missing,
-            io::ErrorKind::PermissionDenied | io::ErrorKind::ReadOnlyFilesystem => Access::Forbidden,
+            io::ErrorKind::PermissionDenied | io::ErrorKind::ReadOnlyFilesystem =>
+                Access::Forbidden,
             io::ErrorKind::IsADirectory => Access::Folder,
             io::ErrorKind::StorageFull
             | io::ErrorKind::QuotaExceeded
@@ -312,7 +313,8 @@ impl Failure {
     {
         match self {
             Failure::Of(failure) => match failure.problem {
-                FileProblem::Refused(_, _) | FileProblem::Faulty(_) | FileProblem::Misstated(_) => 1,
+                FileProblem::Refused(_, _) | FileProblem::Faulty(_) | FileProblem::Misstated(_) =>
+                    1,
                 _ => 3,
             },
             Failure::NotText => 2,

@@ -7,8 +7,8 @@ ghost use Rattle.mx_look.specs.Transition.{slot_in};
 ghost use Rattle.mx_app_look.specs.Happenings.{answer_in, answer_to, any_fails, calls, comes_from, dies, fails, has_type, happens, is_delivered, is_error, called_by};
 
 use mx_look::{
-    CpuGlance, Glance, SlotGlance, Transition, delivery_to, gone_on, is_down, is_ready, kernel_call,
-    slot_in,
+    CpuGlance, Glance, SlotGlance, Transition, delivery_to, gone_on, is_down, is_ready,
+    kernel_call, slot_in,
 };
 use mx_proc::{Delivery, slot_of};
 

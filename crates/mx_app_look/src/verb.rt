@@ -72,7 +72,8 @@ const LONGEST: usize = 4096;
 const COLUMN: &[u8] = b"                            ";
 
 /// What help has after its lines of verbs.
-const NOTES: &[u8] = b"A record is one event; back N is N steps of a process, and then its return.\n\
+const NOTES: &[u8] =
+    b"A record is one event; back N is N steps of a process, and then its return.\n\
     A command may be shortened, as f or stepb. SLOT is a number, or the name of its\n\
     service; without it, it is the process on the processor whose record is next.\n\
     ADDRESS is a number, decimal or 0x.., or a symbol of the slot's program, as count\n\

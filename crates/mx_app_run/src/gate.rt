@@ -71,12 +71,7 @@ pub struct RunPlan<'a> {
 impl<'a> RunPlan<'a> {
     /// The plan of a run with so many processors, what comes from outside, and room for so many records; and with a file
     /// that stops it, if one is named.
-    pub fn new(
-        cpus: u8,
-        outside: Outside<'_>,
-        log: usize,
-        stop: Option<&'a str>,
-    ) -> RunPlan<'a>
+    pub fn new(cpus: u8, outside: Outside<'_>, log: usize, stop: Option<&'a str>) -> RunPlan<'a>
         ensures respawner { result.respawner ≡ cpus }
         ensures calls { result.has_calls ≡ not (length outside.entry.calls.now == 0) }
         ensures log { result.log ≡ log }

@@ -54,7 +54,11 @@ struct RunPlace<'a, T, P> {
 
 /// Runs the loops of a machine's seats by the gate of a run. The seats after that, and whether all calls were made, if
 /// there was memory for all threads.
-fn drive_seats<M: Naming + Send + Sync, T: Threads + Wait + Clock + Files + Sync, P: SharedProgress + Sync>(
+fn drive_seats<
+    M: Naming + Send + Sync,
+    T: Threads + Wait + Clock + Files + Sync,
+    P: SharedProgress + Sync,
+>(
     place: &RunPlace<'_, T, P>,
     shared: &Shared<M>,
     seats: Vec<ActorSeat>,
@@ -79,7 +83,11 @@ fn drive_seats<M: Naming + Send + Sync, T: Threads + Wait + Clock + Files + Sync
 }
 
 /// Drives a machine that was just booted, until it is at rest after its ticks and calls, or its history is full.
-fn drive_blank<M: Naming + Send + Sync, T: Threads + Wait + Clock + Files + Sync, P: SharedProgress + Sync>(
+fn drive_blank<
+    M: Naming + Send + Sync,
+    T: Threads + Wait + Clock + Files + Sync,
+    P: SharedProgress + Sync,
+>(
     place: &RunPlace<'_, T, P>,
     blank: Blank,
     seats: Vec<ActorSeat>,

@@ -80,11 +80,7 @@ impl Course for OutsideEvents {
 
     ghost Tells = { TellsOutside };
 
-    fn read(
-        alloc: Global,
-        text: &str,
-        config: &mut Config,
-    ) -> Result<Vec<OutsideLine>, BootError> {
+    fn read(alloc: Global, text: &str, config: &mut Config) -> Result<Vec<OutsideLine>, BootError> {
         outside_events(alloc, text, &*config)
     }
 }

@@ -91,11 +91,7 @@ impl<'a> ReadsLine for FaultReader<'a> {
 /// The lines of a fault: those of a script; `kill slot S` and `kill NAME`, which kill the process that the slot, or the
 /// service of this name, has then; and `respawn NAME`. The numbers are decimal, C at most 255, the others at most
 /// 2,147,483,647. A line may be empty, or end with a comment, which `#` begins.
-pub fn fault_lines(
-    alloc: Global,
-    text: &str,
-    config: &Config,
-) -> Result<Vec<FaultLine>, BootError>
+pub fn fault_lines(alloc: Global, text: &str, config: &Config) -> Result<Vec<FaultLine>, BootError>
     ensures read { IfOk result (λ found.
         AreSaid (fault_line config.now.lines) (lines text.now) found.items) }
     ensures unread { IfErr result (λ e.

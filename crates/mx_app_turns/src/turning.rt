@@ -20,9 +20,7 @@ ghost use Rattle.mx_app_turns.specs.Turned.{IsBegun, IsNotBegun, IsTurnedTo, Mak
 
 use crate::event_files::OutsideEvents;
 use mx_app_failure::Failure;
-use mx_app_start::{
-    Channels, FileWriter, Reader, StopSign, setup_of, spare_programs, start,
-};
+use mx_app_start::{Channels, FileWriter, Reader, StopSign, setup_of, spare_programs, start};
 use mx_app_step::{print_kernel_report, write_history};
 use mx_machine::{Config, Kernel, Machine};
 use mx_turns::{Ending, Outside, OutsideLine, make_turns};
@@ -53,8 +51,8 @@ pub struct TurnsEnd {
     pub is_stopped: bool,
 }
 
-/// How many turns are made between two looks at what stops them: some tens of milliseconds at most.
-const BETWEEN_LOOKS: u64 = 64;
+/// How many turns are made between two looks at what stops them: a few milliseconds at most.
+const BETWEEN_LOOKS: u64 = 16;
 
 /// Makes turns, at most so many, until what stops them is up. Answers how they ended.
 fn make_turns_watched<S: StopSign, P: Progress>(

@@ -248,11 +248,7 @@ impl<M: Naming> Locked<M> {
     }
 
     /// An actor makes an event that any actor may make, at the world that the kernel is in.
-    fn event_here(
-        &mut self,
-        seat: ActorSeat,
-        event: Event,
-    ) -> (ActorSeat, Result<Answer, Refusal>)
+    fn event_here(&mut self, seat: ActorSeat, event: Event) -> (ActorSeat, Result<Answer, Refusal>)
         requires table { seat.table ≡ M.table }
         requires event { is_for_all event ≡ true }
         ensures ok { IfOk result.1 (λ x.

@@ -60,14 +60,22 @@ fn is_printed<R: Threads + Wait + Clock + Files + Sync>(
     is_answered && io.channels.out.bytes.as_slice() == &text[..room.min(text.len())]
 }
 
-fn print_in_each_room<R: Threads + Wait + Clock + Files + Sync + Abort>(rt: &R, alloc: Global, row: &Row) {
+fn print_in_each_room<R: Threads + Wait + Clock + Files + Sync + Abort>(
+    rt: &R,
+    alloc: Global,
+    row: &Row,
+) {
     let name = row.name;
     for room in 0..row.printed.len() + 2 {
         assert!(rt; is_printed(rt, alloc, row, room), "{name}, room {room}");
     }
 }
 
-fn all_printed<R: Threads + Wait + Clock + Files + Sync + Abort>(rt: &R, alloc: Global, rows: &[Row]) {
+fn all_printed<R: Threads + Wait + Clock + Files + Sync + Abort>(
+    rt: &R,
+    alloc: Global,
+    rows: &[Row],
+) {
     for row in rows {
         print_in_each_room(rt, alloc, row);
     }
