@@ -11,7 +11,7 @@ import time
 import kit_functions
 
 TOP = os.path.dirname(os.path.dirname(os.path.abspath(__file__)))
-JUDGES = ("checks/proofs/try_edits", "tools/edits.py", "tools/check_over")
+JUDGES = ("checks/proofs/try_edits", *(f"tools/{it}" for it in ("edits.py", "functions.py", "assumed_proofs.py", "check_over")))
 PARTS = ("src", "specs", "proofs")
 # What wasn't asked for in so many seconds is removed.
 FORGOTTEN = 90 * 24 * 3600

@@ -16,7 +16,7 @@ use Rattle.mx_machine.specs.World.{World, actors}
 use Rattle.mx_machine.proofs.ActorLemmas.{actors_after_events}
 use Rattle.mx_machine.proofs.ReplayLemmas.{after_append}
 use Rattle.mx_turns.specs.declared.pairs.Pair.{Pair}
-use Rattle.mx_turns.specs.Swept.{IsAlong, IsPair}
+use Rattle.mx_turns.specs.Swept.{IsAlong, IsComing, IsPair}
 use Rattle.mx_turns.proofs.MadeLemmas.{kept_append, kept_boot}
 
 events_both : (xs ys : List Record) → events_of_history (xs ++ ys) ≡ events_of_history xs ++ events_of_history ys
@@ -38,12 +38,19 @@ along_at_boot records m is =
 
 -- A PAIR AT BOOT, by what is known of it where there was memory for it
 module _ (E : Type 0) (records : List Record) (r : Result Pair E) where
-  pub first_pair : IfOk r (λ p. p.position ≡ 0) → IfOk r (λ p. p.along.kernel ≡ record { boot = world_of p.along; history = [] }) → IfOk r (λ p. p.copy.kernel.boot ≡ p.along.kernel.boot) → IfOk r (λ p. IsPair records p)
+  pub first_pair : IfOk r (λ p. p.position ≡ 0) → IfOk r (λ p. p.along.kernel ≡ record { boot = world_of p.along; history = [] }) → IfOk r (λ p. p.copy.kernel.boot ≡ p.along.kernel.boot)
+      → IfOk r (λ p. IsComing records 0 p.coming) → IfOk r (λ p. IsPair records p)
   first_pair = by r
     where
-      by : (x : Result Pair E) → IfOk x (λ p. p.position ≡ 0) → IfOk x (λ p. p.along.kernel ≡ record { boot = world_of p.along; history = [] }) → IfOk x (λ p. p.copy.kernel.boot ≡ p.along.kernel.boot) → IfOk x (λ p. IsPair records p)
-      by (Ok p) none kernel boot = record { along = subst (λ k. IsAlong records k p.along) (sym none) (along_at_boot records p.along kernel); within = omega (arith, none); boot = boot }
-      by (Err e) none kernel boot = tt
+      by : (x : Result Pair E) → IfOk x (λ p. p.position ≡ 0) → IfOk x (λ p. p.along.kernel ≡ record { boot = world_of p.along; history = [] }) → IfOk x (λ p. p.copy.kernel.boot ≡ p.along.kernel.boot)
+          → IfOk x (λ p. IsComing records 0 p.coming) → IfOk x (λ p. IsPair records p)
+      by (Ok p) none kernel boot coming = record {
+        along = subst (λ k. IsAlong records k p.along) (sym none) (along_at_boot records p.along kernel);
+        coming = subst (λ k. IsComing records k p.coming) (sym none) coming;
+        within = omega (arith, none);
+        boot = boot;
+      }
+      by (Err e) none kernel boot coming = tt
 
   pub first_boot : (c : Config) (boot : World) (vs : List Service) → vs ≡ boot.services → boot ≡ world_at_boot c boot.services → IfOk r (λ p. world_of p.along ≡ world_at_boot c vs)
       → IfOk r (λ p. p.along.kernel ≡ record { boot = world_of p.along; history = [] }) → IfOk r (λ p. p.along.kernel.boot ≡ boot)
@@ -57,6 +64,13 @@ module _ (E : Type 0) (records : List Record) (r : Result Pair E) where
 pub along_actors : (records : List Record) (k : ℕ) (m : MachineState) → IsAlong records k m → actors (world_of m) ≡ actors m.kernel.boot
 along_actors records k m is = ap actors is.world ∙ actors_after_events m.kernel.boot (events_of_history (take k records))
 
+-- the records before a later position
+pub taken_on : (records : List Record) (from to : ℕ) → from ≤ to → take to records ≡ take from records ++ take (to - from) (drop from records)
+taken_on records from to later =
+    let there : from + (to - from) ≡ to = omega (arith, later) in
+    sym (take-append-drop from (take to records)) ∙ ap (λ xs. xs ++ drop from (take to records)) (take-take from to records later)
+    ∙ ap (λ xs. take from records ++ xs) (ap (λ n. drop from (take n records)) (sym there) ∙ drop-take from (to - from) records)
+
 module _ (records : List Record) (from to : ℕ) (later : from ≤ to) (m : MachineState) (is : IsAlong records from m) where
   -- the records from one position to another
   abbrev pub between : List Record
@@ -68,16 +82,8 @@ module _ (records : List Record) (from to : ℕ) (later : from ≤ to) (m : Mach
   abbrev made : List (ℕ × Event)
   made = events_of_history (take from records)
 
-  there : from + (to - from) ≡ to
-  there = omega (arith, later)
-
-  whole : take to records ≡ take from records ++ between
-  whole =
-      sym (take-append-drop from (take to records)) ∙ ap (λ xs. xs ++ drop from (take to records)) (take-take from to records later)
-      ∙ ap (λ xs. take from records ++ xs) (ap (λ n. drop from (take n records)) (sym there) ∙ drop-take from (to - from) records)
-
   events_whole : events_of_history (take to records) ≡ made ++ events_of_history between
-  events_whole = ap events_of_history whole ∙ events_both (take from records) between
+  events_whole = ap events_of_history (taken_on records from to later) ∙ events_both (take from records) between
 
   pub accepted_between : AreAccepted boot (events_of_history records) → AreAccepted (world_of m) (events_of_history between)
   accepted_between h =

@@ -6,6 +6,7 @@ pub mod RoundLemmas
 pub mod GrowthLemmas
 pub mod ShownLemmas
 pub mod AlongLemmas
+pub mod ComingLemmas
 pub mod RunLemmas
 pub mod LineLemmas
 pub mod AheadLemmas

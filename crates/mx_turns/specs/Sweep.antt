@@ -53,11 +53,11 @@ pub record Run : Type 0 where
   pub kernel : BootAndHistory
 
 -- A RUN ON FROM A KERNEL AND A WORLD: the fault's lines, in which `other` is the actor of those that name none; then at
--- most n turns, with the lines and the ticks of these records to come
-abbrev pub run_from : BootAndHistory → World → ℕ → List Record → ℕ → List FaultLine → Run
-run_from kernel world other rest n fault =
+-- most n turns, with these outside events to come
+abbrev pub run_from : BootAndHistory → World → ℕ → List Event → ℕ → List FaultLine → Run
+run_from kernel world other events n fault =
     let faulted = faults_made world other fault in
-    let course = turns n faulted.1 (coming rest) in
+    let course = turns n faulted.1 events in
     record {
       said = faulted.0;
       ending = course.ending;

@@ -1,18 +1,20 @@
 -- Machines that are swept.
-use Rattle.std.specs.Prelude.{◌≡◌, ◌<◌, ◌≤◌, ℕ, List, [], All, length, take}
+use Rattle.std.specs.Prelude.{◌≡◌, ◌<◌, ◌≤◌, ℕ, List, [], All, drop, length, take}
 use Rattle.mx_app_step.specs.Kept.{kept_of}
 use Rattle.mx_app_step.specs.Machine.{MachineState, world_of}
 use Rattle.mx_machine.specs.Boot.{world_at_boot}
 use Rattle.mx_machine.specs.declared.history.Record.{Record}
 use Rattle.mx_machine.specs.History.{AreAccepted, BootAndHistory, events_of_history, world_after_events}
 use Rattle.mx_machine.specs.World.{World, actors}
+use Rattle.mx_turns.specs.declared.coming.Coming.{Coming}
 use Rattle.mx_turns.specs.declared.pairs.Pair.{Pair}
 use Rattle.mx_turns.specs.declared.faulted_run.Course.{Course}
+use Rattle.mx_turns.specs.declared.faulted_run.Place.{Place}
 use Rattle.mx_turns.specs.declared.faulted_run.Sweep.{Sweep}
 use Rattle.mx_turns.specs.declared.faults.FaultLine.{FaultLine}
 use Rattle.mx_turns.specs.declared.trials.Trial.{Trial}
 use Rattle.mx_turns.specs.Findings.{findings_of}
-use Rattle.mx_turns.specs.Sweep.{Run, run_of, trial_text}
+use Rattle.mx_turns.specs.Sweep.{Run, coming, run_of, trial_text}
 
 -- A sweep is of a machine that boots as this world: each record of the history is by an actor of the machine, and is
 -- accepted; and the machine has an actor that is no processor.
@@ -41,11 +43,26 @@ pub record IsAlong (records : List Record) (k : ℕ) (m : MachineState) : Type 0
   pub world : world_of m ≡ world_after_events m.kernel.boot (events_of_history (take k records))
   pub kernel : m.kernel ≡ kept_from m.kernel.boot (take k records)
 
--- one machine of a pair has gone along a history up to its position, and the other is of the same boot
+-- WHAT COMES FROM OUTSIDE in a history is listed, and those of the records before position k are past.
+pub record IsComing (records : List Record) (k : ℕ) (c : Coming) : Type 0 where
+  pub all : c.all.items ≡ coming records
+  pub past : c.past ≡ length (coming (take k records))
+
+-- one machine of a pair has gone along a history up to its position, what comes from outside after it is known, and the
+-- other machine is of the same boot
 pub record IsPair (records : List Record) (p : Pair) : Type 0 where
   pub along : IsAlong records p.position p.along
+  pub coming : IsComing records p.position p.coming
   pub within : p.position ≤ length records
   pub boot : p.copy.kernel.boot ≡ p.along.kernel.boot
+
+-- a machine has gone along a history to a place's position, the checkpoint is of it, and the events are those that come
+-- from outside after it
+pub record IsPlace (records : List Record) (p : Place) : Type 0 where
+  pub along : IsAlong records p.position p.along.now
+  pub same : p.checkpoint.now ≡ p.along.now
+  pub events : p.events.now ≡ coming (drop p.position records)
+  pub within : p.position ≤ length records
 
 -- the run with this fault at position k of a sweep of a machine that boots as this world
 abbrev pub run_in : Sweep → World → List FaultLine → ℕ → Run

@@ -223,7 +223,7 @@ fn pair_at_boot(
     ensures { IfOk result
         (IsBefore sweep.entry boot.now.value.kernel.boot sweep.entry.range.from) }
 {
-    Pair::new(alloc, sweep.config, services)
+    Pair::new(alloc, sweep.config, services, sweep.records)
 }
 
 /// So many pairs at the boot of these services.

@@ -1,6 +1,6 @@
 //! The outside events of a history.
 
-ghost use Rattle.std.specs.Prelude.{◌≡◌, ◌++◌, IfOk, OnOk};
+ghost use Rattle.std.specs.Prelude.{◌≡◌, ◌≤◌, ◌+◌, ◌++◌, drop, IfOk, length};
 ghost use Rattle.mx_turns.specs.Sweep.{coming, outside_event};
 
 use mx_machine::{Event, Record, Recorded};
@@ -18,7 +18,7 @@ fn outside_event(event: Recorded) -> Option<Event>
 }
 
 /// The lines and the ticks of records, in order.
-pub(crate) fn coming_of(alloc: Global, records: &[Record]) -> Result<Vec<Event>, AllocError>
+fn coming_of(alloc: Global, records: &[Record]) -> Result<Vec<Event>, AllocError>
     ensures { IfOk result (λ events. events.items ≡ coming records.now) }
 {
     let mut events = Vec::new(alloc);
@@ -28,4 +28,43 @@ pub(crate) fn coming_of(alloc: Global, records: &[Record]) -> Result<Vec<Event>,
         }
     }
     Ok(events)
+}
+
+/// The lines and the ticks of a history, listed once, and how many of them are past at a position.
+#[derive(Drop)]
+pub struct Coming {
+    pub all: Vec<Event>,
+    pub past: usize,
+}
+
+impl Coming {
+    /// Those of these records, at the first position.
+    pub(crate) fn new(alloc: Global, records: &[Record]) -> Result<Coming, AllocError>
+        ensures all { IfOk result (λ made. made.all.items ≡ coming records.now) }
+        ensures past { IfOk result (λ made. made.past ≡ 0) }
+    {
+        let all = coming_of(alloc, records)?;
+        Ok(Coming { all, past: 0 })
+    }
+
+    /// Goes past those of these records.
+    pub(crate) fn pass(&mut self, records: &[Record])
+        requires { self.old.past + length (coming records.now) ≤ length self.old.all.items }
+        ensures all { self.new.all ≡ self.old.all }
+        ensures past { self.new.past ≡ self.old.past + length (coming records.now) }
+    {
+        for entry in records {
+            if outside_event(entry.event).is_some() {
+                self.past += 1;
+            }
+        }
+    }
+
+    /// Those that aren't past.
+    pub(crate) fn left(&self) -> &[Event]
+        requires { self.now.past ≤ length self.now.all.items }
+        ensures { result.now ≡ drop self.now.past self.now.all.items }
+    {
+        &self.all[self.past..]
+    }
 }

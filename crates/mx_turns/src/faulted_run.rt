@@ -1,17 +1,16 @@
 //! A run with a fault at a position of a history.
 
-ghost use Rattle.std.specs.Prelude.{◌≡◌, ◌<◌, ◌≤◌, IfOk, OnOk, length};
+ghost use Rattle.std.specs.Prelude.{◌≡◌, ◌<◌, IfOk, OnOk, length};
 ghost use Rattle.mx_app_step.specs.Machine.{world_of};
 ghost use Rattle.mx_machine.specs.World.{actors};
 ghost use Rattle.mx_turns.specs.Faults.{faults_kept, faults_made};
 ghost use Rattle.mx_turns.specs.Sweep.{run_from, run_of};
-ghost use Rattle.mx_turns.specs.Swept.{HasRun, IsAlong, IsSwept};
+ghost use Rattle.mx_turns.specs.Swept.{HasRun, IsPlace, IsSwept};
 
-use crate::coming::coming_of;
 use crate::faults::{FaultLine, perform_fault_line};
 use crate::{Ending, Outside, make_turns};
 use mx_app_start::NoProgress;
-use mx_machine::{Checkpoint, Config, Machine, Record, Service};
+use mx_machine::{Checkpoint, Config, Event, Machine, Record, Service};
 use mx_print_answers::Said;
 use mx_word::NoMemory;
 use std::alloc::{AllocError, Global};
@@ -68,26 +67,21 @@ pub(crate) struct Course {
     pub ending: Ending,
 }
 
-/// Does what the lines of a sweep's fault say, and makes turns, with the lines and the ticks of these records to
-/// come.
+/// Does what the lines of a sweep's fault say, and makes turns, with these outside events to come.
 fn run_on(
     alloc: Global,
     machine: &mut Machine,
     sweep: Sweep<'_>,
-    rest: &[Record],
+    events: &[Event],
 ) -> Result<Course, AllocError>
     requires other { sweep.other < actors (world_of machine.old) }
     requires alone { length (world_of machine.old).cpus < actors (world_of machine.old) }
     ensures run { IfOk result (λ course. HasRun (run_from machine.old.kernel
-        (world_of machine.old) sweep.entry.other rest.now sweep.entry.bound sweep.entry.fault.now)
+        (world_of machine.old) sweep.entry.other events.now sweep.entry.bound sweep.entry.fault.now)
         machine.new course) }
 {
     let said = perform_fault(alloc, machine, sweep.other, sweep.fault)?;
-    let events = coming_of(alloc, rest)?;
-    let outside = Outside {
-        events: events.as_slice(),
-        ticks: 0,
-    };
+    let outside = Outside { events, ticks: 0 };
     let bound = u64::from(sweep.bound);
     let log = sweep.config.log as usize;
     // A sweep shows its positions, and not their turns.
@@ -95,26 +89,35 @@ fn run_on(
     Ok(Course { said, ending })
 }
 
-/// Makes the machine of a checkpoint, which stands for a machine at the position, does what the fault's lines say, and
-/// makes turns, with the lines and the ticks of the other records to come. Answers the machine, and how it ran.
+/// A position of a history: a machine that is there, a checkpoint of it, and the lines and the ticks of the records after
+/// it. The position is named for clauses alone.
+#[derive(Clone, Copy)]
+pub(crate) struct Place<'a> {
+    pub position: usize,
+    pub along: &'a Machine,
+    pub checkpoint: &'a Checkpoint,
+    pub events: &'a [Event],
+}
+
+/// Makes the machine of a place's checkpoint, does what the fault's lines say, and makes turns, with the lines and the
+/// ticks of the other records to come. Answers the machine, and how it ran.
 pub(crate) fn run_at(
     alloc: Global,
-    checkpoint: &Checkpoint,
-    along: &Machine,
+    place: Place<'_>,
     services: Vec<Service>,
     sweep: Sweep<'_>,
-    position: usize,
 ) -> Result<(Machine, Course), NoMemory>
-    requires same { checkpoint.now ≡ along.now }
-    requires along { IsAlong sweep.records.now position along.now }
-    requires services { services.items ≡ along.now.kernel.boot.services }
-    requires swept { IsSwept sweep along.now.kernel.boot }
-    requires position { position ≤ length sweep.records.now }
-    ensures run { IfOk result (λ done. HasRun (run_of along.now.kernel.boot sweep.entry.other
-        sweep.entry.records.now sweep.entry.bound sweep.entry.fault.now position) done.0 done.1) }
-    ensures boot { IfOk result (λ done. done.0.kernel.boot ≡ along.now.kernel.boot) }
+    requires place { IsPlace sweep.records.now place }
+    requires services { services.items ≡ place.along.now.kernel.boot.services }
+    requires swept { IsSwept sweep place.along.now.kernel.boot }
+    ensures run { IfOk result (λ done. HasRun (run_of place.entry.along.now.kernel.boot
+        sweep.entry.other sweep.entry.records.now sweep.entry.bound sweep.entry.fault.now
+        place.entry.position) done.0 done.1) }
+    ensures boot { IfOk result (λ done.
+        done.0.kernel.boot ≡ place.entry.along.now.kernel.boot) }
 {
-    let mut machine = checkpoint.machine(alloc, services, along.kernel().history())?;
-    let course = run_on(alloc, &mut machine, sweep, &sweep.records[position..])?;
+    let records = place.along.kernel().history();
+    let mut machine = place.checkpoint.machine(alloc, services, records)?;
+    let course = run_on(alloc, &mut machine, sweep, place.events)?;
     Ok((machine, course))
 }

@@ -3,8 +3,9 @@
 //!
 //! # A position of a sweep
 //!
-//! One machine goes along the history (`Pair`). A copy of it at the position is given the `FaultLine`s of the fault and
-//! run on by turns. The text of its trial is compared with that of a copy that is run on without the fault.
+//! One machine goes along the history (`Pair`), and knows what comes from outside after it (`Coming`). A copy of it at the
+//! position is given the `FaultLine`s of the fault and run on by turns. The text of its trial is compared with that of a
+//! copy that is run on without the fault.
 //!
 //! Positions are independent of each other, so several threads try some each, ahead of what is printed (`Ahead`).
 //!
@@ -30,6 +31,7 @@ mod trials;
 mod turns;
 
 pub use ahead::{Ahead, Told};
+pub use coming::Coming;
 pub use faulted_run::{Range, Sweep};
 pub use faults::FaultLine;
 pub use joining_laws::{rest_is_still, turn_of_one, turns_join};

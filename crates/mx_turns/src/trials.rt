@@ -7,10 +7,11 @@ ghost use Rattle.mx_machine.specs.History.{replay};
 ghost use Rattle.mx_print_report.specs.declared.doing.Naming.TheVariants as by;
 ghost use Rattle.mx_turns.specs.Sweep.{end_text, kept_text, process_lines, run_of, said_text, seen_text, shown};
 ghost use Rattle.mx_turns.specs.Findings.{is_full, is_refused, refusal_of};
-ghost use Rattle.mx_turns.specs.Swept.{HasRun, IsAlong, IsPair, IsSwept, IsTrial};
+ghost use Rattle.mx_turns.specs.Swept.{HasRun, IsAlong, IsComing, IsPair, IsPlace, IsSwept, IsTrial};
 
 use crate::Ending;
-use crate::faulted_run::{Course, Sweep, run_at};
+use crate::coming::Coming;
+use crate::faulted_run::{Course, Place, Sweep, run_at};
 use crate::pairs::{Pair, go_along};
 use mx_machine::{Checkpoint, Kernel, Machine, Refusal, Service};
 use mx_print_answers::Said;
@@ -203,23 +204,20 @@ fn push_trial(
 /// Makes the run of a position, as `run_at` does, and answers what is compared of its trial too.
 fn compared_at(
     alloc: Global,
-    checkpoint: &Checkpoint,
-    along: &Machine,
+    place: Place<'_>,
     services: Vec<Service>,
     sweep: Sweep<'_>,
-    position: usize,
 ) -> Result<(Machine, Course, Vec<u8>), NoMemory>
-    requires same { checkpoint.now ≡ along.now }
-    requires along { IsAlong sweep.records.now position along.now }
-    requires services { services.items ≡ along.now.kernel.boot.services }
-    requires swept { IsSwept sweep along.now.kernel.boot }
-    requires position { position ≤ length sweep.records.now }
-    ensures run { IfOk result (λ done. let run = run_of along.now.kernel.boot sweep.entry.other
-        sweep.entry.records.now sweep.entry.bound sweep.entry.fault.now position in
-        HasRun run done.0 done.1 × (done.2.items ≡ seen_text run)) }
-    ensures boot { IfOk result (λ done. done.0.kernel.boot ≡ along.now.kernel.boot) }
+    requires place { IsPlace sweep.records.now place }
+    requires services { services.items ≡ place.along.now.kernel.boot.services }
+    requires swept { IsSwept sweep place.along.now.kernel.boot }
+    ensures run { IfOk result (λ done. let run = run_of place.entry.along.now.kernel.boot
+        sweep.entry.other sweep.entry.records.now sweep.entry.bound sweep.entry.fault.now
+        place.entry.position in HasRun run done.0 done.1 × (done.2.items ≡ seen_text run)) }
+    ensures boot { IfOk result (λ done.
+        done.0.kernel.boot ≡ place.entry.along.now.kernel.boot) }
 {
-    let (machine, course) = run_at(alloc, checkpoint, along, services, sweep, position)?;
+    let (machine, course) = run_at(alloc, place, services, sweep)?;
     let seen = compared_text(alloc, &machine, course.ending)?;
     Ok((machine, course, seen))
 }
@@ -229,24 +227,32 @@ fn compared_at(
 fn trial_here(
     alloc: Global,
     along: Machine,
+    coming: Coming,
     services: Vec<Service>,
     sweep: Sweep<'_>,
     position: usize,
 ) -> Result<Trial, NoMemory>
     requires swept { IsSwept sweep along.kernel.boot }
     requires along { IsAlong sweep.records.now position along }
+    requires coming { IsComing sweep.records.now position coming }
     requires services { services.items ≡ along.kernel.boot.services }
     requires position { position ≤ length sweep.records.now }
     ensures { IfOk result (λ done. IsTrial sweep.entry along.kernel.boot position done) }
 {
     let checkpoint = Checkpoint::new(alloc, &along)?;
+    let place = Place {
+        position,
+        along: &along,
+        checkpoint: &checkpoint,
+        events: coming.left(),
+    };
     let unharmed = Sweep {
         fault: &[],
         ..sweep
     };
-    let (copy, _, without) = compared_at(alloc, &checkpoint, &along, services, unharmed, position)?;
+    let (copy, _, without) = compared_at(alloc, place, services, unharmed)?;
     let services = copy.into_kernel().into_services();
-    let (copy, course, with) = compared_at(alloc, &checkpoint, &along, services, sweep, position)?;
+    let (copy, course, with) = compared_at(alloc, place, services, sweep)?;
     let mut text = Vec::new(alloc);
     push_trial(alloc, &mut text, &copy, &course)?;
     let findings = Findings {
@@ -257,6 +263,7 @@ fn trial_here(
     let pair = Pair {
         along,
         position,
+        coming,
         copy,
     };
     Ok(Trial {
@@ -283,9 +290,11 @@ pub fn trial_at(
     let Pair {
         mut along,
         position: from,
+        mut coming,
         copy,
     } = pair;
     go_along(&mut along, sweep, from, position);
+    coming.pass(&sweep.records[from..position]);
     let services = copy.into_kernel().into_services();
-    trial_here(alloc, along, services, sweep, position)
+    trial_here(alloc, along, coming, services, sweep, position)
 }

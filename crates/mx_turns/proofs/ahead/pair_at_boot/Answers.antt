@@ -14,5 +14,5 @@ pub returns : goal.returns
 returns c =
     let made = c.new.ensures in
     let w = c.args.boot.now.value.kernel.boot in
-    first_before _ c.args.sweep w c.args.sweep.range.from c.new.result (first_pair _ c.args.sweep.records.now c.new.result made.first made.kernel made.boot)
+    first_before _ c.args.sweep w c.args.sweep.range.from c.new.result (first_pair _ c.args.sweep.records.now c.new.result made.first made.kernel made.boot made.coming)
     (first_boot _ c.args.sweep.records.now c.new.result c.args.sweep.config.now w c.args.services.now c.requires.services c.requires.swept.booted made.world made.kernel) made.first

@@ -13,7 +13,7 @@ make_turns-ending-requires c =
 pub returns : goal.returns
 returns c = record {
   run =
-      run_done c.from-bound.result c.args.sweep.bound c.args.sweep.other c.args.rest.now c.args.sweep.fault.now c.args.machine.now c.perform_fault.new.machine c.make_turns-ending.new.machine _
-      (record { said = c.in_ok-said.said; ending = c.make_turns-ending.result }) c.from-bound.ensures (append-nil c.as_slice.result.now ∙ c.as_slice.ensures.value ∙ c.in_ok-events.ensures)
+      run_done c.from-bound.result c.args.sweep.bound c.args.sweep.other c.args.events.now c.args.sweep.fault.now c.args.machine.now c.perform_fault.new.machine c.make_turns-ending.new.machine _
+      (record { said = c.in_ok-said.said; ending = c.make_turns-ending.result }) c.from-bound.ensures (append-nil c.args.events.now)
       c.in_ok-said.ensures.said c.in_ok-said.ensures.world c.in_ok-said.ensures.kept c.make_turns-ending.ensures.made c.make_turns-ending.ensures.ending;
 }

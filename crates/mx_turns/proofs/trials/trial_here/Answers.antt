@@ -3,8 +3,18 @@ use Rattle.std.specs.Str.{bytes_eq}
 use Rattle.mx_turns.specs.Findings.{is_full, refusal_of}
 use Rattle.mx_turns.specs.declared.faults.FaultLine.{FaultLine}
 use Rattle.mx_turns.specs.Sweep.{run_of}
+use Rattle.mx_turns.proofs.ComingLemmas.{is_place, past_within}
 use Rattle.mx_turns.proofs.LineLemmas.{findings_are, trial_is}
 use Rattle.mx_turns.proofs.trials.trial_here.Goals as goal
+
+pub left-requires : goal.left-requires
+left-requires c = past_within c.args.sweep.records.now c.args.position c.args.coming c.requires.coming
+
+pub compared_at-requires-clause-place : goal.compared_at-requires-clause-place
+compared_at-requires-clause-place c = is_place c.args.sweep.records.now _ c.args.coming c.requires.coming c.requires.along c.in_ok-checkpoint.ensures c.left.ensures c.requires.position
+
+pub compared_at-requires-2-clause-place : goal.compared_at-requires-2-clause-place
+compared_at-requires-2-clause-place c = is_place c.args.sweep.records.now _ c.args.coming c.requires.coming c.requires.along c.in_ok-checkpoint.ensures c.left.ensures c.requires.position
 
 -- without its fault a sweep is of the same machine and history
 pub compared_at-requires-clause-swept : goal.compared_at-requires-clause-swept
@@ -19,7 +29,7 @@ returns c =
     let with = c.in_ok-copy-2.ensures.run in
     let without = c.in_ok-copy.ensures.run in
     record {
-      pair = record { along = c.requires.along; within = c.requires.position; boot = c.in_ok-copy-2.ensures.boot };
+      pair = record { along = c.requires.along; coming = c.requires.coming; within = c.requires.position; boot = c.in_ok-copy-2.ensures.boot };
       there = refl;
       boot = refl;
       kernel = with.0.kernel;
