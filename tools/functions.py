@@ -53,8 +53,8 @@ def module_of(name):
 
 
 def functions_of(folder):
-    """The functions of the crate in a folder, by (file, name). Those are left out whose body isn't there or is in one line
-    with the head, and those that call themselves or are in a cycle of calls: their proofs are at other places."""
+    """The functions of the crate in a folder, by (file, name). Those are left out whose body isn't there, is empty or is in one
+    line with the head, and those that call themselves or are in a cycle of calls: their proofs are at other places."""
     sources, modules, found = sources_of(folder), {}, {}
     for file, source in sources.items():
         for name in TYPE.findall(source):
@@ -74,9 +74,11 @@ def body_of(source, start):
     indent = re.match(" *", source[start:])[0]
     line = source[start : source.find("\n", start)]
     end = source.find(f"\n{indent}}}\n", start) + 1
+    empty = source.find(f"\n{indent}{{}}\n", start, end)
     begin = source.find(f"\n{indent}{{\n", start, end)
     begin = begin + len(indent) + 3 if begin >= 0 else source.find("{\n", start, end) + 2
-    return None if line.endswith(("}", ";")) or not end or begin < 2 else (begin, end)
+    is_none = line.endswith(("}", ";")) or not end or begin < 2 or 0 <= empty < begin
+    return None if is_none else (begin, end)
 
 
 def modules_with(name, file, modules):
