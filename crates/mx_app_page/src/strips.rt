@@ -4,7 +4,7 @@
 //! The rows come first, by the machine that was started. What it was made of is booted again, for the machines of the
 //! trials.
 
-ghost use Rattle.std.specs.Prelude.{◌≡◌, ◌<◌, ◌≤◌, ◌+◌, ◌-◌, ◌^◌, ◌++◌, ◌×◌, [], IfErr, IfOk, List, None, OnOk, length, min};
+ghost use Rattle.std.specs.Prelude.{◌≡◌, ◌<◌, ◌≤◌, ◌+◌, ◌-◌, ◌^◌, ◌++◌, [], IfErr, IfOk, List, None, OnOk, length, min};
 ghost use Rattle.std.specs.Io.KnownBytes.{Appends};
 ghost use Rattle.mx_app_failure.specs.Failure.{IsWanting, PrintsFront};
 ghost use Rattle.mx_app_step.specs.Asked.{Asked};
