@@ -291,7 +291,7 @@ fn print_swept<T: Threads + Sync, P: Progress, W: Write>(
     requires end { plan.sweep.range.end ≡ min plan.wanted.to (length plan.sweep.records.now) + 1 }
     requires few { length plan.sweep.records.now + 1 < 2 ^ 32 }
     requires first { plan.sweep.range.from < 2 ^ 32 }
-    ensures done { (ps : List Parts) × (P.shown progress.new ≡ P.shown progress.old ++ ps)
+    ensures { (ps : List Parts) × (P.shown progress.new ≡ P.shown progress.old ++ ps)
         × IsSweptPageDone
         (run_of_files names.entry.config.now names.entry.log.now 0 plan.entry.sweep.config.now)
         (sweep_of plan.entry.sweep (world_of machine)) names.entry.fault.now plan.entry.wanted.from

@@ -1,5 +1,4 @@
-use Rattle.std.proofs.Common.{◌≡◌, ◌∙◌, ◌-◌, ℕ, List, ap, arith, refl, subst}
-use Rattle.std.proofs.KnownBytes.{Appends-trans}
+use Rattle.std.proofs.Common.{◌≡◌, ◌∙◌, ◌-◌, ℕ, List, ap, arith, length, subst}
 use Rattle.std.specs.Io.KnownBytes.{Appends}
 use Rattle.mx_app_failure.specs.Failure.{PrintsFront}
 use Rattle.mx_app_step.proofs.FrontLemmas.{err_always, front_after, front_all, front_more}
@@ -46,7 +45,7 @@ returns-in_err-print_text-clause-front g c =
     let x = g.W.Write.contents c.args.out.now in
     let y = g.W.Write.contents c.print_strip.new.out in
     let z = g.W.Write.contents c.print_text.new.out in
-    let back = c.as_slice.ensures.value ∙ c.in_ok-back.ensures ∙ ap (λ (t : Strip). strip_back_text c.len.result t) c.strip_terms-strip.ensures ∙ ap (λ n. strip_back_text n _) c.len.ensures in
+    let back = c.as_slice.ensures.value ∙ c.in_ok-back.ensures ∙ ap (λ (t : Strip). strip_back_text (length sweep.records.now) t) c.strip_terms-strip.ensures in
     err_always c.from_residual-in_err-print_text.result _
     (front_after x y z (positions_text s (range.end - range.from) range.from) _ c.in_ok-how.ensures.bytes
     (subst (λ (t : List ℕ). PrintsFront (λ u. Appends y z u) t) back c.in_err-print_text.ensures.front))

@@ -102,8 +102,8 @@ returns-in_err-print_beginning-clause-shown g c =
     (let above = inv.so_far.above in omega (arith, c.loop-position-test.true, above)) (c.in_err-print_beginning.ensures.shown ∙ shown)
 
 -- as many as there are positions so far, and one more
-pub and-requires : goal.and-requires
-and-requires g c =
+pub and-total-requires : goal.and-total-requires
+and-total-requires g c =
     let so_far = c.loop-position.invariant.so_far in
     let found = c.in_ok-told.told.findings in
     let above = so_far.above in
@@ -146,7 +146,7 @@ loop-position-preserved g c =
     let next_part : p + 1 - from ≡ p - from + 1 = omega (arith, above, c.loop-position-test.true) in
     record {
       so_far = next_printed s from end p (g.W.Write.contents c.args.out.now) (g.W.Write.contents c.loop-position.out) before.text.items before.findings.is_alike c.loop-position.total inv.so_far
-          told.text.items told.findings c.loop-position-test.true is.0 is.1 (g.W.Write.contents c.print_beginning.new.out) c.and.result (c.and.ensures ∙ ap (λ (t : Total). both c.loop-position.total t) c.one.ensures) c.in_ok-print_beginning.ensures.bytes;
+          told.text.items told.findings c.loop-position-test.true is.0 is.1 (g.W.Write.contents c.print_beginning.new.out) c.and-total.result (c.and-total.ensures ∙ ap (λ (t : Total). both c.loop-position.total t) c.one.ensures) c.in_ok-print_beginning.ensures.bytes;
       ahead = made.ahead;
       there = made.there;
       boot = made.boot ∙ inv.boot;

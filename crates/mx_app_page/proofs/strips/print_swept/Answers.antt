@@ -49,7 +49,7 @@ returns-in_err-print_text g c =
       [],
       sym (append-nil _),
       failed r (sweep_of plan.sweep w) names.fault.now plan.wanted.from plan.wanted.to (λ (t : List ℕ). Appends x y t) _ c.from_residual-in_err-print_text.result c.from_residual-in_err-print_text.ensures.1
-          c.in_err-print_text.ensures.err (inr (inl (0, tt, front_more (λ t. Appends x y t) (front_text r w) (rows_text w 1 []) begun))),
+          c.in_err-print_text.ensures.err (inr (inl (0, (tt, front_more (λ t. Appends x y t) (front_text r w) (rows_text w 1 []) begun)))),
     )
 
 pub print_rows-requires-clause-actors : goal.print_rows-requires-clause-actors
@@ -70,7 +70,7 @@ returns-in_err-print_rows g c =
       [],
       sym (append-nil _),
       failed r (sweep_of plan.sweep w) names.fault.now plan.wanted.from plan.wanted.to (λ (t : List ℕ). Appends x z t) _ c.from_residual-in_err-print_rows.result c.from_residual-in_err-print_rows.ensures.1
-          c.in_err-print_rows.ensures.err (inr (inl (h.0, h.1, front_after x y z (front_text r w) _ front h.2))),
+          c.in_err-print_rows.ensures.err (inr (inl (h.0, (h.1, front_after x y z (front_text r w) _ front h.2)))),
     )
 
 -- ---- the strip: the machines of the trials boot as the one of the rows
