@@ -202,8 +202,12 @@ def position(printed):
 
 
 def with_strip(lines, fault, turns, first, positions):
-    """The lines of a page's data with the strip of a sweep, by what its positions from `first` on tell."""
-    ends = [None, *(end for end, _ in positions)]
-    strip = [{"same": int(same), **({} if end == before else {"t": end})} for before, (end, same) in zip(ends, positions)]
+    """The lines of a page's data with the strip of a sweep, by what its positions from `first` on tell: a line for each
+    range of positions in a row that tell the same."""
+    strip, before = [], (None, None)
+    for k, told in enumerate(positions, first):
+        if told != before:
+            strip.append({"same": int(told[1]), "from": k, **({} if told[0] == before[0] else {"t": told[0]})})
+        before = told
     sweep = {"fault": fault, "turns": turns, "from": first, "positions": len(positions)}
     return [*lines[:-1], *strip, {**lines[-1], "sweep": sweep}]

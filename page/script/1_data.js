@@ -5,7 +5,7 @@ const $ = id => document.getElementById(id);
 
 // ---- the data
 // The first line is for the run, the last one for how it ends, and each line between them is a record's row; below the
-// rows there may be lines for the positions of a sweep.
+// rows there may be lines for ranges of positions of a sweep.
 // A row is parsed once while the page is read, for what is drawn of all records; what the panels show of one
 // record is parsed again when it is asked for. So the memory of a page is the text and some bytes a record.
 
@@ -90,12 +90,10 @@ class Words {
 const text = $("data").textContent;
 const firstRow = text.indexOf("\n") + 1, lastLine = text.lastIndexOf("\n", text.length - 2) + 1;
 const head = JSON.parse(text.slice(0, firstRow)), tail = JSON.parse(text.slice(lastLine));
-// Where the rows end: between them and the last line stands a line for each position of a sweep, if the page has one.
-const rowsEnd = lineAbove(lastLine, tail.sweep ? tail.sweep.positions : 0);
-function lineAbove(at, count) {
-  for (let i = 0; i < count; i++) at = text.lastIndexOf("\n", at - 2) + 1;
-  return at;
-}
+// Where the rows end: between them and the last line stands a line for each range of a sweep, if the page has one.
+let rowsEnd = lastLine;
+for (let above = lineAbove(rowsEnd); text.startsWith('{"same"', above); above = lineAbove(above)) rowsEnd = above;
+function lineAbove(at) { return text.lastIndexOf("\n", at - 2) + 1; }
 // How many records come before the first row, how many there are with these, and how many services.
 const base = head.first, total = base + tail.records, N = head.services.length;
 

@@ -5,7 +5,7 @@ use Rattle.std.specs.Io.KnownBytes.{Appends}
 use Rattle.std.proofs.lemmas.List.{append-nil}
 use Rattle.mx_app_command.specs.Files.{writes_over}
 use Rattle.mx_app_command.specs.declared.command_line.CommandRequest.{CommandRequest}
-use Rattle.mx_app_command.specs.declared.command_line.CommandRequest.TheVariants.{Live, Look, Run, Sweep, Turns}
+use Rattle.mx_app_command.specs.declared.command_line.CommandRequest.TheVariants.{Live, Look, Run, Sweep, SweptPage, Turns}
 use Rattle.mx_app_command.specs.declared.command_line.RecordRange.{RecordRange}
 use Rattle.mx_app_db.specs.ScriptLine.{ScriptLine}
 use Rattle.mx_app_db.specs.declared.script.DebugLine.{DebugLine}
@@ -75,6 +75,7 @@ untyped WasShown (Look config log) asks qs ws Prints r h = absurd h
 untyped WasShown (Turns config log ticks events bound) asks qs ws Prints r h = absurd h
 untyped WasShown (Live config log raw hertz stop) asks qs ws Prints r h = absurd h
 untyped WasShown (Sweep config log fault bound from to jobs strict save) asks qs ws Prints r h = absurd h
+untyped WasShown (SweptPage config log fault bound from to jobs) asks qs ws Prints r h = absurd h
 untyped WasShown request asks qs ws Prints r h = ((refl, refl), refl, refl, h)
 
 -- what is done of the request that this one is
@@ -159,6 +160,14 @@ pub swept : {given : List (Option (List ℕ))} {heard : List Heard} {told : List
     → Grows asked now files written given given heard heard told told shown later (λ did. IsAlone did × (did.typed ≡ []) × (e : Result Swept Kind) × Sweeps config log fault save from to bound did.asked did.written did.shown (λ text. Appends x y text) e × (r ≡ done_after_sweep strict e))
 swept {given} {heard} {told} asked now files written shown later config log fault save from to bound strict x y d r p e =
     (record { asked = p.0; written = p.1; typed = []; heard = []; told = []; shown = p.2 }, p.3, p.4, sym (append-nil given), sym (append-nil heard), sym (append-nil told), p.5, ((refl, refl), refl, d, p.6, e))
+
+-- a page with a sweep was printed, or it wasn't
+pub swept_pages : {given : List (Option (List ℕ))} {heard : List Heard} {told : List Note} (asked now : List Asked) (files : List Written) (shown later : List Part) (config log fault : List ℕ) (from to bound : ℕ) (x y : Option (List ℕ)) (d : Result Swept Kind) (r : Result Done Kind)
+    → (qs : List Asked) × (ps : List Part) × (now ≡ asked ++ qs) × (later ≡ shown ++ ps) × PrintsSweptPage config log fault from to bound qs ps (λ text. Appends x y text) d
+    → r ≡ done_after_sweep false d
+    → Grows asked now files files given given heard heard told told shown later (λ did. IsAlone did × (did.written ≡ []) × (did.typed ≡ []) × (e : Result Swept Kind) × PrintsSweptPage config log fault from to bound did.asked did.shown (λ text. Appends x y text) e × (r ≡ done_after_sweep false e))
+swept_pages {given} {heard} {told} asked now files shown later config log fault from to bound x y d r p e =
+    (record nothing_done { asked = p.0; shown = p.1 }, p.2, sym (append-nil files), sym (append-nil given), sym (append-nil heard), sym (append-nil told), p.3, ((refl, refl), refl, refl, d, p.4, e))
 
 -- a script was done, and its history saved or not
 pub saved : (asked now : List Asked) (files written : List Written) (config script log : List ℕ) (numbered : Bool) (x y : Option (List ℕ)) (d : Result (Unit {0}) Kind) (r : Result Done Kind)
@@ -262,12 +271,6 @@ module _ (asked now : List Asked) (files : List Written) where
       → WritesNone (λ qs ws. (e : Result Replayed Kind) × (ws ≡ []) × Whys config log qs (λ text. Appends x y text) e × (r ≡ done_after_replay e))
   whys config log x y (Ok how) r p f e = (p.0, [], p.4, sym (append-nil files), (Ok how, refl, (p.1, p.2, p.3, p.5, p.6), e))
   whys config log x y (Err why) r p f e = (f.0, [], f.1, sym (append-nil files), (Err why, refl, f.2, e))
-
-  pub swept_pages : (config log fault : List ℕ) (from to bound : ℕ) (x y : Option (List ℕ)) (d : Result Replayed Kind) (r : Result Done Kind)
-      → (qs : List Asked) × (now ≡ asked ++ qs) × PrintsSweptPage config log fault from to bound qs (λ text. Appends x y text) d
-      → r ≡ done_after_replay d
-      → WritesNone (λ qs ws. (e : Result Replayed Kind) × (ws ≡ []) × PrintsSweptPage config log fault from to bound qs (λ text. Appends x y text) e × (r ≡ done_after_replay e))
-  swept_pages config log fault from to bound x y d r p e = (p.0, [], p.1, sym (append-nil files), (d, refl, p.2, e))
 
 -- ---- whether it writes over what it reads
 

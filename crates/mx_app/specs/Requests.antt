@@ -100,8 +100,8 @@ done_after_run (Ok ending) =
     Ok (record { status = run_status ending; ending = Some (driven.Run ending); untested = None })
 done_after_run (Err f) = Err f
 
--- a sweep is done; its status is 1 if the history is refused, and, if it is strict, if an outcome differs or nothing
--- was tested, which is told in any case
+-- a sweep, or a page with one, is done; its status is 1 if the history is refused, and, if it is strict, if an outcome
+-- differs or nothing was tested, which is told in any case
 abbrev pub done_after_sweep : Bool → Result Swept Kind → Result Done Kind
 done_after_sweep strict (Ok swept.Alike) = Ok (with_status 0)
 done_after_sweep strict (Ok swept.Differs) = Ok (with_status (if strict then 1 else 0))
@@ -234,9 +234,7 @@ PerformsUntyped (Draw config log range) qs ws Prints r =
     (d : Result Replayed Kind) × (ws ≡ []) × Draws config.now log.now range qs Prints d × (r ≡ done_after_replay d)
 PerformsUntyped (Page config log range) qs ws Prints r =
     (d : Result Replayed Kind) × (ws ≡ []) × Pages config.now log.now range qs Prints d × (r ≡ done_after_replay d)
-PerformsUntyped (SweptPage config log fault bound from to jobs) qs ws Prints r =
-    (d : Result Replayed Kind) × (ws ≡ [])
-    × PrintsSweptPage config.now log.now fault.now from to bound qs Prints d × (r ≡ done_after_replay d)
+PerformsUntyped (SweptPage config log fault bound from to jobs) qs ws Prints r = ⊥
 PerformsUntyped (Look config log) qs ws Prints r = ⊥
 PerformsUntyped (Why config log) qs ws Prints r =
     (d : Result Replayed Kind) × (ws ≡ []) × Whys config.now log.now qs Prints d × (r ≡ done_after_replay d)
@@ -244,8 +242,8 @@ PerformsUntyped (Db config script) qs ws Prints r =
     (d : Result (Unit {0}) Kind) × (ws ≡ []) × Debugs config.now script.now qs Prints d × (r ≡ done_after_work d)
 
 -- what is done of a request that writes over nothing that it reads, by what a command did, by what is printed, and by
--- how it ends. Only `look` takes lines, and somebody sits only at a live machine; `look`, turns and a sweep show
--- progress. What the threads of a run show is no list, since they have no order: WasShown holds of it.
+-- how it ends. Only `look` takes lines, and somebody sits only at a live machine; `look`, turns, a sweep and a page with
+-- one show progress. What the threads of a run show is no list, since they have no order: WasShown holds of it.
 abbrev pub PerformsApart : (Part → Type 0) → CommandRequest → Bool → Deeds → (List ℕ → Type 0) → Result Done Kind
     → Type 0
 PerformsApart WasShown (Look config log) asks did Prints r =
@@ -269,6 +267,10 @@ PerformsApart WasShown (Sweep config log fault bound from to jobs strict save) a
     × Sweeps config.now log.now fault.now
     (option_map (λ s. s.now) save) from to bound did.asked did.written did.shown Prints d
     × (r ≡ done_after_sweep strict d)
+PerformsApart WasShown (SweptPage config log fault bound from to jobs) asks did Prints r =
+    IsAlone did × (did.written ≡ []) × (did.typed ≡ []) × (d : Result Swept Kind)
+    × PrintsSweptPage config.now log.now fault.now from to bound did.asked did.shown Prints d
+    × (r ≡ done_after_sweep false d)
 PerformsApart WasShown request asks did Prints r =
     IsAlone did × (did.typed ≡ []) × (did.shown ≡ []) × PerformsUntyped request did.asked did.written Prints r
 

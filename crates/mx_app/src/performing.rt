@@ -122,8 +122,8 @@ fn done_after_live(done: Result<SessionEnding, Failure>) -> Result<Done, Failure
     }
 }
 
-/// What is done after a sweep: the status is 1 if the history is refused, and, if the sweep is strict, if an
-/// outcome differs or nothing was tested.
+/// What is done after a sweep, or after a page with one: the status is 1 if the history is refused, and, if the sweep is
+/// strict, if an outcome differs or nothing was tested.
 fn done_after_sweep(done: Result<Swept, Failure>, strict: bool) -> Result<Done, Failure>
     ensures { result ≡ done_after_sweep strict done }
 {
@@ -337,8 +337,10 @@ fn perform_apart<
                 save: None,
             };
             let reader = &mut channels.reader;
+            let progress = &mut io.progress;
             let out = &mut channels.out;
-            done_after_replay(swept_page(rt, alloc, reader, names, wanted, out))
+            let swept = swept_page(rt, alloc, reader, names, wanted, progress, out);
+            done_after_sweep(swept, false)
         }
         CommandRequest::Look { config, log } => {
             let asks = io.asks;
@@ -352,7 +354,7 @@ fn perform_apart<
 
 /// Does what a request asks for, and answers the status to end with, and how turns or a run ended. The
 /// processors of `run` are threads, and `sweep` has some. `look` answers the typed lines. It shows its
-/// progress, and so do `run`, `turns` and `sweep`. No file that is read is written over: nothing is read or
+/// progress, and so do `run`, `turns`, `sweep` and a page with a sweep. No file that is read is written over: nothing is read or
 /// written then. Two names of one file aren't seen to be one.
 pub fn perform<
     T: Threads + Wait + Clock + Sync,

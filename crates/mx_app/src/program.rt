@@ -112,9 +112,9 @@ fn status_of(answer: Result<Done, Complaint>) -> Result<u8, Complaint>
     }
 }
 
-/// What the progress of a command counts.
+/// What the progress of a command counts. A page shows that of a sweep.
 fn unit_of(words: &[&str]) -> &'static str {
-    if begin_with(words, "sweep") {
+    if begin_with(words, "sweep") || begin_with(words, "page") {
         "positions"
     } else {
         "records"

@@ -43,9 +43,13 @@ module _ (rules : Rules) (r : Run) (w : World) (above : ℕ) (records : List Rec
       pub back_begun : AreRowsPrinted w above records None (λ t. Appends y z t) → PrintsFront (λ t. Appends z u t) back → IsMadeBegun rules r w above records (λ t. Appends x u t)
       back_begun p h = inr (replayed.Whole, (p.0, front_after x z u (head ++ rows) back (Appends-trans x y z head rows headed p.1) h))
 
+      pub refused_front : (n : ℕ) (q : Refusal) → AreRowsPrinted w above records (Some (n, q)) (λ t. Appends y z t) → PrintsFront (λ t. Appends z u t) (back_at n q)
+          → IsMadePrinted rules r w above records replayed.Refused (PrintsFront (λ t. Appends x u t))
+      refused_front n q p h = (n, q, p.0, front_after x z u (head ++ some n) (back_at n q) (Appends-trans x y z head (some n) headed p.1) h)
+
       pub refused_begun : (n : ℕ) (q : Refusal) → AreRowsPrinted w above records (Some (n, q)) (λ t. Appends y z t) → PrintsFront (λ t. Appends z u t) (back_at n q)
           → IsMadeBegun rules r w above records (λ t. Appends x u t)
-      refused_begun n q p h = inr (replayed.Refused, (n, q, p.0, front_after x z u (head ++ some n) (back_at n q) (Appends-trans x y z head (some n) headed p.1) h))
+      refused_begun n q p h = inr (replayed.Refused, refused_front n q p h)
 
       -- all of it
       pub whole_printed : AreRowsPrinted w above records None (λ t. Appends y z t) → Appends z u back → IsMadePrinted rules r w above records replayed.Whole (λ t. Appends x u t)

@@ -40,7 +40,7 @@ by_test true h = absurd cc
 by_test false h = absurd cc
 
 -- what is swept isn't refused
-not_refused : (o : Option Untested) (total : Total) → Refused ≡ ended o total → ⊥
+pub not_refused : (o : Option Untested) (total : Total) → Refused ≡ ended o total → ⊥
 not_refused (Some why) total h = absurd cc
 not_refused None total h = by_test (total.alike == total.positions) h
 

@@ -76,8 +76,9 @@ pub(crate) fn push_block(alloc: Global, text: &mut Vec<u8>, block: &Block) -> Re
 
 /// What is counted of positions that were swept.
 #[derive(Clone, Copy)]
-pub(crate) struct Total {
+pub struct Total {
     pub positions: usize,
+    /// How many blocks are printed: each position is one, until blocks are joined.
     pub blocks: usize,
     /// How many have the result that they have without the fault.
     pub alike: usize,

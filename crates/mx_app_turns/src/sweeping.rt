@@ -232,7 +232,7 @@ struct Done {
 }
 
 /// What the next position of a sweep tells. It is shown then that the position is done.
-fn told_shown<T: Threads + Sync, P: Progress>(
+pub fn told_shown<T: Threads + Sync, P: Progress>(
     rt: &T,
     alloc: Global,
     ahead: &mut Ahead,
@@ -442,19 +442,19 @@ fn print_refused<W: Write>(
 
 /// A sweep, and what is wanted, by which its positions were chosen.
 #[derive(Clone, Copy)]
-struct Plan<'a> {
-    sweep: Sweep<'a>,
-    wanted: SweepWanted<'a>,
+pub struct SweepPlan<'a> {
+    pub sweep: Sweep<'a>,
+    pub wanted: SweepWanted<'a>,
 }
 
-/// How a sweep ended, by what was swept.
-fn how_ended(plan: Plan<'_>, done: &Done) -> Swept
+/// How a sweep ended, by what was counted: `refusal` is why the fault's first line was refused at the first position, if
+/// each line was.
+pub fn how_ended(plan: SweepPlan<'_>, total: Total, refusal: Option<Refusal>) -> Swept
     ensures { result ≡ ended (untested_by (length plan.entry.sweep.fault.now)
-        plan.entry.wanted.from plan.entry.wanted.to done.now.total done.now.refusal) done.now.total }
+        plan.entry.wanted.from plan.entry.wanted.to total refusal) total }
 {
     let SweepWanted { from, to, .. } = plan.wanted;
-    let total = done.total;
-    match why_nothing(plan.sweep.fault, from, to, total, done.refusal) {
+    match why_nothing(plan.sweep.fault, from, to, total, refusal) {
         Some(why) => Swept::Nothing(why),
         None => if total.alike == total.positions {
             Swept::Alike
@@ -470,7 +470,7 @@ fn end_sweep<F: FileWriter, W: Write>(
     done: &Done,
     files: &mut F,
     out: &mut W,
-    plan: Plan<'_>,
+    plan: SweepPlan<'_>,
 ) -> Result<Swept, Failure>
     ensures ended { IfOk result (λ how. let total = done.now.total in
         (how ≡ ended (untested_by (length plan.entry.sweep.fault.now) plan.entry.wanted.from
@@ -489,7 +489,7 @@ fn end_sweep<F: FileWriter, W: Write>(
 {
     print_total(alloc, done.total, out)?;
     save_history(alloc, done, files, plan.wanted.save)?;
-    Ok(how_ended(plan, done))
+    Ok(how_ended(plan, done.total, done.refusal))
 }
 
 /// Sweeps a history that was replayed, prints its blocks and the counts, and then writes a history if that is
@@ -500,7 +500,7 @@ fn sweep_replayed<T: Threads + Sync, R: Drop, F: FileWriter + Drop, W: Write + D
     channels: &mut Channels<R, F, W>,
     progress: &mut P,
     machine: Machine,
-    plan: Plan<'_>,
+    plan: SweepPlan<'_>,
 ) -> Result<Swept, Failure>
     requires swept { IsSwept plan.sweep machine.kernel.boot }
     requires from { plan.sweep.range.from ≡ plan.wanted.from }
@@ -551,7 +551,7 @@ fn sweep_started<T: Threads + Sync, R: Drop, F: FileWriter + Drop, W: Write + Dr
     channels: &mut Channels<R, F, W>,
     progress: &mut P,
     machine: Machine,
-    plan: Plan<'_>,
+    plan: SweepPlan<'_>,
 ) -> Result<Swept, Failure>
     requires ready { IsReady machine plan.sweep.config.now plan.sweep.other plan.sweep.records.now }
     requires from { plan.sweep.range.from ≡ plan.wanted.from }
@@ -611,7 +611,7 @@ fn sweep_begun<T: Threads + Sync, R: Drop, F: FileWriter + Drop, W: Write + Drop
         channels,
         progress,
         machine,
-        Plan { sweep, wanted },
+        SweepPlan { sweep, wanted },
     )
 }
 

@@ -1,4 +1,5 @@
--- THE STRIP OF A SWEEP, below the rows (our own): a line for each position, and another last line.
+-- THE STRIP OF A SWEEP, below the rows (our own): a line for each range of positions in a row that end alike, and
+-- another last line.
 use Rattle.std.specs.Prelude.{ℕ, if◌then◌else◌, Bool, List, [], ◌++◌, codes}
 use Rattle.std.specs.Fmt.{decimal}
 use Rattle.std.specs.Str.{bytes_eq}
@@ -6,14 +7,15 @@ use Rattle.mx_look_page.specs.declared.strip.StripTerms.{StripTerms}
 use Rattle.mx_look_page.specs.Json.{text}
 use Rattle.mx_look_page.specs.Heads.{number_part, text_part}
 
--- how a position ends, if otherwise than the one before
+-- how a range ends, if otherwise than the one before
 unfoldable pub end_part : List ℕ → List ℕ → List ℕ
 end_part before end = if bytes_eq before end then [] else text_part (codes "t") end
 
--- THE LINE OF A POSITION: whether it ends as without the fault, and how
-unfoldable pub position_text : List ℕ → List ℕ → Bool → List ℕ
-position_text before end alike =
-    (if alike then codes "{\"same\":1" else codes "{\"same\":0") ++ end_part before end ++ codes "}\n"
+-- THE LINE OF A RANGE: whether its positions end as without the fault, the first of them, and how they end
+unfoldable pub range_text : ℕ → List ℕ → List ℕ → Bool → List ℕ
+range_text first before end alike =
+    (if alike then codes "{\"same\":1" else codes "{\"same\":0") ++ number_part (codes "from") first
+    ++ end_part before end ++ codes "}\n"
 
 -- What a page says of a sweep as a whole: the name of the fault's file, the most turns after each position, the first
 -- position, and how many there are.

@@ -23,4 +23,4 @@ pub use head::{RunTerms, push_head, push_tail};
 pub use json::push_text;
 pub use row::push_row;
 pub use shown::{Shown, SlotState};
-pub use strip::{StripTerms, push_position, push_strip_tail};
+pub use strip::{StripTerms, push_range, push_strip_tail};

@@ -1,7 +1,7 @@
-//! The lines of positions that were swept, below the rows, and the last line of a page that has them.
+//! The lines of ranges of positions that were swept, below the rows, and the last line of a page that has them.
 
 ghost use Rattle.std.specs.Prelude.{◌≡◌, ◌++◌, OnOk};
-ghost use Rattle.mx_look_page.specs.Strips.{end_part, position_text, strip_of, strip_part, strip_tail_text};
+ghost use Rattle.mx_look_page.specs.Strips.{end_part, range_text, strip_of, strip_part, strip_tail_text};
 
 use crate::head::{push_counted_member, push_text_member};
 use crate::json::push_text;
@@ -20,7 +20,7 @@ pub struct StripTerms<'a> {
     pub positions: u32,
 }
 
-/// Appends how a position ends, if otherwise than the one before.
+/// Appends how a range ends, if otherwise than the one before.
 #[tactic(auto, unfolding(crate::specs::Strips::end_part))]
 fn push_end(out: &mut Vec<u8>, before: &[u8], end: &[u8]) -> Result<(), AllocError>
     ensures { OnOk result (out.new.items ≡ out.old.items ++ end_part before.now end.now) }
@@ -31,23 +31,25 @@ fn push_end(out: &mut Vec<u8>, before: &[u8], end: &[u8]) -> Result<(), AllocErr
     push_text_member(out, b"t", end)
 }
 
-/// Appends the line of a position: whether it ends as without the fault, and how it ends, if otherwise than the one
-/// before.
-#[tactic(auto, unfolding(crate::specs::Strips::position_text))]
-pub fn push_position(
+/// Appends the line of a range of positions in a row that end alike: whether they end as without the fault, the first
+/// of them, and how they end, if otherwise than those before.
+#[tactic(auto, unfolding(crate::specs::Strips::range_text))]
+pub fn push_range(
     out: &mut Vec<u8>,
+    first: u32,
     before: &[u8],
     end: &[u8],
     is_alike: bool,
 ) -> Result<(), AllocError>
     ensures { OnOk result (out.new.items ≡ out.old.items
-        ++ position_text before.now end.now is_alike) }
+        ++ range_text first before.now end.now is_alike) }
 {
     if is_alike {
         out.extend_from_slice(b"{\"same\":1")?;
     } else {
         out.extend_from_slice(b"{\"same\":0")?;
     }
+    push_counted_member(out, b"from", first)?;
     push_end(out, before, end)?;
     out.extend_from_slice(b"}\n")
 }

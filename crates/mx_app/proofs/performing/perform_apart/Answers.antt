@@ -100,9 +100,8 @@ returns-in-Why-clause-done g c =
 
 pub returns-in-SweptPage-clause-done : goal.returns-in-SweptPage-clause-done
 returns-in-SweptPage-clause-done g c =
-    as_asked (g.P.SharedProgress.was_shown c.args.io.now.progress) c.args.io.now.asks _ _ _ _ _ _ c.args.request
-    (as_known _ _ _ _ _ _ _ _ c.in-SweptPage.is
-    (swept_pages _ _ _ c.in-SweptPage.config.now c.in-SweptPage.log.now c.in-SweptPage.fault.now c.in-SweptPage.from c.in-SweptPage.to c.in-SweptPage.bound _ _ c.swept_page.result c.done_after_replay-in-SweptPage.result c.swept_page.ensures c.done_after_replay-in-SweptPage.ensures))
+    as_typed (g.P.SharedProgress.was_shown c.args.io.now.progress) _ _ _ _ _ _ _ _ _ _ _ _ _ _ _ _ _ c.in-SweptPage.is
+    (swept_pages _ _ _ _ _ c.in-SweptPage.config.now c.in-SweptPage.log.now c.in-SweptPage.fault.now c.in-SweptPage.from c.in-SweptPage.to c.in-SweptPage.bound _ _ c.swept_page-swept.result c.done_after_sweep-in-SweptPage.result c.swept_page-swept.ensures c.done_after_sweep-in-SweptPage.ensures)
 
 pub returns-in-Look-clause-done : goal.returns-in-Look-clause-done
 returns-in-Look-clause-done g c =
