@@ -1,4 +1,4 @@
--- The notes of records, one record more.
+-- The notes of records and the calls that they refuse, one record more.
 use Rattle.std.proofs.Common.{◌≡◌, ◌∙◌, ◌<◌, ◌≤◌, ℕ, ◌+◌, List, [], ◌∷◌, ◌++◌, length, take, get_or, append_assoc, Some, None, ap, sym, subst, arith}
 use Rattle.std.proofs.lemmas.List.{append-nil, take_more, take_all, length-take-le}
 use Rattle.mx_machine.specs.declared.history.Record.{Record}
@@ -17,7 +17,9 @@ use Rattle.mx_machine.specs.declared.events.Refusal.{Refusal}
 use Rattle.mx_machine.specs.Boot.{world_at_boot}
 use Rattle.mx_why.specs.Seeing.{end_of}
 use Rattle.mx_why.specs.Telling.{IsNoted, IsWhyPrinted, lines_text}
+use Rattle.mx_why.specs.declared.failed_calls.FailedCall.{FailedCall}
 use Rattle.mx_why.specs.declared.notes.Note.{Note}
+use Rattle.mx_why.specs.FailedCalls.{counted_in, failed_calls, failed_from}
 use Rattle.mx_why.specs.Noting.{notes_from, notes_of, notes_of_records}
 
 notes_more : (w : World) (n k : ℕ) (xs : List Record) (x : Record) → k ≡ n + length xs
@@ -42,12 +44,46 @@ next_noted w v records i n d x before after within e world is so_far more =
     ∙ ap (λ (s : Transition). notes_of_records w (take i records) ++ notes_of s) (is ∙ ap (λ (y : World). transition_of y n (get_or records i d)) world)
     ∙ sym (ap (λ (rs : List Record). notes_from w 1 rs) (take_more records i d within) ∙ notes_more w 1 n (take i records) (get_or records i d) at)
 
-pub all_noted : (w u : World) (records : List Record) (i : ℕ) (ns : List Note) → length records ≤ i
+failed_more : (w : World) (n k : ℕ) (cs : List FailedCall) (xs : List Record) (x : Record) → k ≡ n + length xs
+    → failed_from w n cs (xs ++ x ∷ [])
+    ≡ (let v = world_after_events w (events_of_history xs) in counted_in (world_after_events v (events_of x.actor x.event)) (transition_of v k x) (failed_from w n cs xs))
+failed_more w n k cs [] x e =
+    let here : n ≡ k = omega (arith, e) in
+    ap (λ (m : ℕ). counted_in (world_after_events w (events_of x.actor x.event)) (transition_of w m x) cs) here
+failed_more w n k cs (y ∷ ys) x e =
+    let u = world_after_events w (events_of y.actor y.event) in
+    let next : k ≡ n + 1 + length ys = omega (arith, e) in
+    let ds = counted_in u (transition_of w n y) cs in
+    failed_more u (n + 1) k ds ys x next
+    ∙ ap (λ (v : World). counted_in (world_after_events v (events_of x.actor x.event)) (transition_of v k x) (failed_from u (n + 1) ds ys))
+    (sym (after_both w (events_of y.actor y.event) (events_of_history ys)))
+
+pub next_failed : (w v u : World) (records : List Record) (i n : ℕ) (d : Record) (x : Transition) (before after : List FailedCall) → i < length records
+    → n ≡ i + 1 → v ≡ world_after_events w (events_of_history (take i records))
+    → u ≡ world_after_events v (events_of (get_or records i d).actor (get_or records i d).event) → x ≡ transition_of v n (get_or records i d)
+    → before ≡ failed_calls w (take i records) → after ≡ counted_in u x before
+    → after ≡ failed_calls w (take (i + 1) records)
+next_failed w v u records i n d x before after within e world made is so_far more =
+    let y = get_or records i d in
+    let cs = failed_calls w (take i records) in
+    let at : n ≡ 1 + length (take i records) = omega (arith, e, length-take-le i records (omega arith)) in
+    more ∙ ap (λ (t : List FailedCall). counted_in u x t) so_far
+    ∙ ap (λ (z : Transition). counted_in u z cs) is
+    ∙ ap (λ (z : World). counted_in z (transition_of v n y) cs) made
+    ∙ ap (λ (z : World). counted_in (world_after_events z (events_of y.actor y.event)) (transition_of z n y) cs) world
+    ∙ sym (ap (λ (rs : List Record). failed_from w 1 [] rs) (take_more records i d within) ∙ failed_more w 1 n [] (take i records) y at)
+
+pub all_noted : (w u : World) (records : List Record) (i : ℕ) (ns : List Note) (cs : List FailedCall) → length records ≤ i
     → AreAccepted w (events_of_history (take i records)) → u ≡ world_after_events w (events_of_history (take i records)) → ns ≡ notes_of_records w (take i records)
-    → AreAccepted w (events_of_history records) × (u ≡ world_after_events w (events_of_history records)) × (ns ≡ notes_of_records w records)
-all_noted w u records i ns over accepted world noted =
-    let all : take i records ≡ records = take_all i records over in
-    (subst (λ (rs : List Record). AreAccepted w (events_of_history rs)) all accepted, world ∙ ap (λ (rs : List Record). world_after_events w (events_of_history rs)) all, noted ∙ ap (λ (rs : List Record). notes_of_records w rs) all)
+    → cs ≡ failed_calls w (take i records)
+    → AreAccepted w (events_of_history records) × (u ≡ world_after_events w (events_of_history records)) × (ns ≡ notes_of_records w records) × (cs ≡ failed_calls w records)
+all_noted w u records i ns cs over accepted world noted failed =
+    let all : take i records ≡ records = take_all i records over in (
+      subst (λ (rs : List Record). AreAccepted w (events_of_history rs)) all accepted,
+      world ∙ ap (λ (rs : List Record). world_after_events w (events_of_history rs)) all,
+      noted ∙ ap (λ (rs : List Record). notes_of_records w rs) all,
+      failed ∙ ap (λ (rs : List Record). failed_calls w rs) all,
+    )
 
 pub why_printed : (Prints : List ℕ → Type 0) (c : Config) (vs : List Service) (records slice : List Record) (w : World) (log : ℕ) (replayed : Replayed)
     → slice ≡ take 4294967295 records → w ≡ world_at_boot c vs → log ≡ c.log → IsWhyPrinted w slice log replayed Prints
@@ -56,15 +92,17 @@ why_printed Prints c vs records slice w log replayed same e most h =
     subst (λ n. IsWhyPrinted (world_at_boot c vs) (take 4294967295 records) n replayed Prints) most
     (subst (λ (v : World). IsWhyPrinted v (take 4294967295 records) log replayed Prints) e (subst (λ (rs : List Record). IsWhyPrinted w rs log replayed Prints) same h))
 
-pub lines_printed : (Prints : List ℕ → Type 0) (w u : World) (records : List Record) (ns slice : List Note) (log count : ℕ) → slice ≡ ns → count ≡ length records
-    → IsNoted w u records None ns → Prints (lines_text (end_of u) slice count log) → IsWhyPrinted w records log Whole Prints
-lines_printed Prints w u records ns slice log count same many (accepted, world, noted) h = (
+pub lines_printed : (Prints : List ℕ → Type 0) (w u : World) (records : List Record) (ns slice : List Note) (cs calls : List FailedCall) (log count : ℕ)
+    → slice ≡ ns → calls ≡ cs → count ≡ length records
+    → IsNoted w u records None ns cs → Prints (lines_text (end_of u) slice calls count log) → IsWhyPrinted w records log Whole Prints
+lines_printed Prints w u records ns slice cs calls log count same alike many (accepted, world, noted, failed) h = (
   accepted,
-  subst (λ (v : World). Prints (lines_text (end_of v) (notes_of_records w records) (length records) log)) world
-      (subst (λ n. Prints (lines_text (end_of u) (notes_of_records w records) n log)) many
-      (subst (λ (ms : List Note). Prints (lines_text (end_of u) ms count log)) (same ∙ noted) h)),
+  subst (λ (v : World). Prints (lines_text (end_of v) (notes_of_records w records) (failed_calls w records) (length records) log)) world
+      (subst (λ n. Prints (lines_text (end_of u) (notes_of_records w records) (failed_calls w records) n log)) many
+      (subst (λ (ds : List FailedCall). Prints (lines_text (end_of u) (notes_of_records w records) ds count log)) (alike ∙ failed)
+      (subst (λ (ms : List Note). Prints (lines_text (end_of u) ms calls count log)) (same ∙ noted) h))),
 )
 
-pub refusal_printed : (Prints : List ℕ → Type 0) (w u : World) (records : List Record) (ns : List Note) (log n line : ℕ) (r : Refusal) → line ≡ lines_above w.table.rules + n
-    → IsNoted w u records (Some (n, r)) ns → Prints (refused_record_line line r) → IsWhyPrinted w records log Refused Prints
-refusal_printed Prints w u records ns log n line r is refused h = (n, r, refused, subst (λ k. Prints (refused_record_line k r)) is h)
+pub refusal_printed : (Prints : List ℕ → Type 0) (w u : World) (records : List Record) (ns : List Note) (cs : List FailedCall) (log n line : ℕ) (r : Refusal) → line ≡ lines_above w.table.rules + n
+    → IsNoted w u records (Some (n, r)) ns cs → Prints (refused_record_line line r) → IsWhyPrinted w records log Refused Prints
+refusal_printed Prints w u records ns cs log n line r is refused h = (n, r, refused, subst (λ k. Prints (refused_record_line k r)) is h)

@@ -1,6 +1,7 @@
 -- Parts of a list, one for each number or item, one more.
 use Rattle.std.proofs.Common.{◌≡◌, ◌∙◌, ◌<◌, ℕ, zero, suc, ◌+◌, List, ◌++◌, length, get_or, take, append_assoc, ap, sym, subst, arith}
 use Rattle.std.specs.List.{flat_map, range_with_len}
+use Rattle.std.specs.Prelude.{fold}
 use Rattle.std.proofs.lemmas.List.{append-nil, flat_map_more, take_more}
 
 next_number : {X : Type 0} (f : ℕ → List X) (a n : ℕ) → flat_map f (range_with_len a (suc n)) ≡ flat_map f (range_with_len a n) ++ f (a + n)
@@ -29,3 +30,17 @@ pub next_item : {X Y : Type 0} (f : Y → List X) (ys : List Y) (i : ℕ) (d : Y
 next_item {X} {Y} f ys i d t y z within e g =
     g ∙ ap (λ (v : List X). v ++ f (get_or ys i d)) e ∙ flat_map_more f t (take i ys) (get_or ys i d)
     ∙ ap (λ (v : List Y). t ++ flat_map f v) (sym (take_more ys i d within))
+
+fold_number : {B : Type 0} (f : B → ℕ → B) (b : B) (a n : ℕ) → fold f b (range_with_len a (suc n)) ≡ f (fold f b (range_with_len a n)) (a + n)
+fold_number f b a zero = let e : a ≡ a + 0 = omega arith in ap (f b) e
+fold_number f b a (suc n) =
+    let e : a + 1 + n ≡ a + suc n = omega arith in
+    fold_number f (f b a) (a + 1) n ∙ ap (λ (k : ℕ). f (fold f b (range_with_len a (suc n))) k) e
+
+-- what becomes of something by the numbers below i, and then by i
+pub next_folded : {B : Type 0} (f : B → ℕ → B) (i : ℕ) (b y z : B) → y ≡ fold f b (range_with_len 0 i) → z ≡ f y i → z ≡ fold f b (range_with_len 0 (i + 1))
+next_folded {B} f i b y z e g =
+    let one : suc i ≡ i + 1 = omega arith in
+    let here : i ≡ 0 + i = omega arith in
+    g ∙ ap (λ (v : B). f v i) e ∙ ap (λ (k : ℕ). f (fold f b (range_with_len 0 i)) k) here
+    ∙ sym (fold_number f b 0 i) ∙ ap (λ (n : ℕ). fold f b (range_with_len 0 n)) one

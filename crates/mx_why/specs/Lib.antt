@@ -6,6 +6,9 @@ pub mod Notes
 pub mod Noting
 pub mod Deaths
 pub mod Reasons
+pub mod Failing
+pub mod FailedCalls
 pub mod Lines
 pub mod Endings
+pub mod FailedLines
 pub mod Telling

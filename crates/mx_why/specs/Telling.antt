@@ -9,37 +9,41 @@ use Rattle.mx_machine.specs.declared.events.Refusal.{Refusal}
 use Rattle.mx_machine.specs.declared.history.Record.{Record}
 use Rattle.mx_machine.specs.History.{AreAccepted, world_after_events, events_of_history}
 use Rattle.mx_machine.specs.World.{World}
+use Rattle.mx_why.specs.declared.failed_calls.FailedCall.{FailedCall}
 use Rattle.mx_why.specs.declared.notes.Note.{Note}
 use Rattle.mx_why.specs.declared.seats.End.{End}
 use Rattle.mx_why.specs.Deaths.{deaths}
 use Rattle.mx_why.specs.Endings.{deaths_text, ending_text}
+use Rattle.mx_why.specs.FailedCalls.{failed_calls}
+use Rattle.mx_why.specs.FailedLines.{failed_lines}
 use Rattle.mx_why.specs.Lines.{idle_text, waits_text}
 use Rattle.mx_why.specs.Noting.{notes_of_records}
 use Rattle.mx_why.specs.Seeing.{end_of}
 use Rattle.mx_why.specs.Verdicts.{verdicts}
 
 -- the lines but the first
-unfoldable pub later_lines : End → List Note → List ℕ
-later_lines e ns =
+unfoldable pub later_lines : End → List Note → List FailedCall → List ℕ
+later_lines e ns cs =
     waits_text e ns (verdicts e) true ++ waits_text e ns (verdicts e) false ++ deaths_text e ns (deaths ns)
-    ++ idle_text e ns
+    ++ failed_lines e cs ++ idle_text e ns
 
 -- ALL LINES: of a machine that has done nothing, how it ended alone
-unfoldable pub lines_text : End → List Note → ℕ → ℕ → List ℕ
-lines_text e ns n log = ending_text e n log ++ (if n == 0 then [] else later_lines e ns)
+unfoldable pub lines_text : End → List Note → List FailedCall → ℕ → ℕ → List ℕ
+lines_text e ns cs n log = ending_text e n log ++ (if n == 0 then [] else later_lines e ns cs)
 
--- what is known after records: their notes, or which one is refused
-abbrev pub IsNoted : World → World → List Record → Option (ℕ × Refusal) → List Note → Type 0
-IsNoted w u records None ns =
+-- what is known after records: their notes and the calls that they refuse, or which one is refused
+abbrev pub IsNoted :
+    World → World → List Record → Option (ℕ × Refusal) → List Note → List FailedCall → Type 0
+IsNoted w u records None ns cs =
     AreAccepted w (events_of_history records) × (u ≡ world_after_events w (events_of_history records))
-    × (ns ≡ notes_of_records w records)
-IsNoted w u records (Some p) ns = IsRefusedAt w records p.0 p.1
+    × (ns ≡ notes_of_records w records) × (cs ≡ failed_calls w records)
+IsNoted w u records (Some p) ns cs = IsRefusedAt w records p.0 p.1
 
--- of records, by the world where they lead and by their notes
+-- of records, by the world where they lead, by their notes and by what they refuse
 abbrev pub why_text : World → List Record → ℕ → List ℕ
 why_text w records log =
-    lines_text (end_of (world_after_events w (events_of_history records))) (notes_of_records w records) (length records)
-    log
+    lines_text (end_of (world_after_events w (events_of_history records)))
+    (notes_of_records w records) (failed_calls w records) (length records) log
 
 -- WHAT IS PRINTED of records: the lines, or which one is refused
 abbrev pub IsWhyPrinted : World → List Record → ℕ → Replayed → (List ℕ → Type 0) → Type 0

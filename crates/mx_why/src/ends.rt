@@ -287,7 +287,7 @@ fn push_then(out: &mut Vec<u8>, end: &End, slot: u32, death: Death) -> Result<()
     }
 }
 
-/// Appends that one died several times.
+/// Appends that something happened several times.
 #[tactic(auto, unfolding(crate::specs::Endings::several_text))]
 fn push_several(out: &mut Vec<u8>, times: usize) -> Result<(), AllocError>
     ensures { OnOk result (out.new.items ≡ out.old.items ++ several_text times) }
@@ -297,9 +297,9 @@ fn push_several(out: &mut Vec<u8>, times: usize) -> Result<(), AllocError>
     out.extend_from_slice(b" times, first")
 }
 
-/// Appends how often one died, if not once.
+/// Appends how often something happened, if not once.
 #[tactic(auto, unfolding(crate::specs::Endings::times_text))]
-fn push_times(out: &mut Vec<u8>, times: usize) -> Result<(), AllocError>
+pub(crate) fn push_times(out: &mut Vec<u8>, times: usize) -> Result<(), AllocError>
     ensures { OnOk result (out.new.items ≡ out.old.items ++ times_text times) }
 {
     if times <= 1 {

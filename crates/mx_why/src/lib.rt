@@ -1,15 +1,19 @@
 //! `mx why`: what became of a saved history. How it ended, who waits for ever and why, who waits for a line or an alarm,
-//! who died, and who never ran.
+//! who died, which calls were refused, and who never ran.
 //!
 //! # From the end, and from notes
 //!
 //! Whether a process can ever go on is a question about the world at the end of the history alone: an `End` has what is
 //! known of it, and `verdict` answers. Since when it waits, and who died where, are in the history: a `Note` is taken of
-//! each change while its records are made again. The lines are made of both.
+//! each change while its records are made again. Calls that are refused are counted then, since there may be many that are
+//! alike. The lines are made of all these.
 #![tactic(auto)]
 
 mod deaths;
 mod ends;
+mod failed_calls;
+mod failed_lines;
+mod failing;
 mod hexadecimal;
 mod lines;
 mod notes;
@@ -24,6 +28,7 @@ mod waiting;
 
 pub use deaths::{Death, deaths_of};
 pub use ends::{Ending, Unfinished};
+pub use failed_calls::FailedCall;
 pub use notes::{Deed, Note, NoteText};
 pub use seats::{End, Seat};
 pub use telling::why;

@@ -22,6 +22,8 @@ ghost use Rattle.mx_why.specs.Verdicts.{verdicts};
 
 use crate::deaths::deaths_of;
 use crate::ends::{push_deaths, push_ending};
+use crate::failed_calls::{FailedCall, count_all};
+use crate::failed_lines::push_failed_lines;
 use crate::lines::{push_idle, push_waits};
 use crate::notes::Note;
 use crate::noting::push_notes;
@@ -37,25 +39,30 @@ use mx_machine::{Machine, Record, Refusal};
 use std::alloc::{AllocError, Global};
 use std::io::Write;
 
-/// Makes records and takes their notes, up to the first that is refused. Answers the number of this
+/// Makes records, takes their notes, and counts the calls that they refuse, up to the first that is refused. Answers the number of this
 /// one, the first having the number 1, and why.
 fn note_records(
     machine: &mut Machine,
     records: &[Record],
     notes: &mut Vec<Note>,
+    calls: &mut Vec<FailedCall>,
 ) -> Result<Option<(usize, Refusal)>, AllocError>
     requires few { length records.now < 2 ^ 32 }
     requires actors { All (λ (x : Noted). x.actor < actors (world_of machine.old)) records.now }
     requires none { notes.old.items ≡ [] }
+    requires no_calls { calls.old.items ≡ [] }
     ensures noted { IfOk result (λ refused. IsNoted (world_of machine.old) (world_of machine.new)
-        records.now refused notes.new.items) }
+        records.now refused notes.new.items calls.new.items) }
     ensures few { IfOk result (λ refused. IfSome refused (λ p. p.0 ≤ length records.now)) }
 {
     let mut transition = resting_transition(machine);
     for (index, entry) in records.iter().enumerate() {
         let number = index as u32 + 1;
         match look_record(machine, number, *entry, &mut transition) {
-            Ok(()) => push_notes(notes, &transition)?,
+            Ok(()) => {
+                push_notes(notes, &transition)?;
+                count_all(calls, machine, &transition)?;
+            }
             Err(refusal) => return Ok(Some((number as usize, refusal))),
         }
     }
@@ -94,11 +101,19 @@ fn push_death_lines(
 
 /// Appends all lines but the first.
 #[tactic(auto, unfolding(crate::specs::Telling::later_lines))]
-fn push_later(out: &mut Vec<u8>, alloc: Global, end: &End, notes: &[Note]) -> Result<(), AllocError>
-    ensures { OnOk result (out.new.items ≡ out.old.items ++ later_lines end.now notes.now) }
+fn push_later(
+    out: &mut Vec<u8>,
+    alloc: Global,
+    end: &End,
+    notes: &[Note],
+    calls: &[FailedCall],
+) -> Result<(), AllocError>
+    ensures { OnOk result (out.new.items ≡ out.old.items
+        ++ later_lines end.now notes.now calls.now) }
 {
     push_waiting_lines(out, alloc, end, notes)?;
     push_death_lines(out, alloc, end, notes)?;
+    push_failed_lines(out, end, calls)?;
     push_idle(out, end, notes)
 }
 
@@ -109,24 +124,26 @@ fn push_lines(
     alloc: Global,
     end: &End,
     notes: &[Note],
+    calls: &[FailedCall],
     records: usize,
     log: u32,
 ) -> Result<(), AllocError>
     ensures { OnOk result (out.new.items ≡ out.old.items
-        ++ lines_text end.now notes.now records log) }
+        ++ lines_text end.now notes.now calls.now records log) }
 {
     push_ending(out, end, records, log)?;
     if records == 0 {
         return Ok(());
     }
-    push_later(out, alloc, end, notes)
+    push_later(out, alloc, end, notes, calls)
 }
 
-/// Prints all lines of a machine that has made so many records, of which these are the notes.
+/// Prints all lines of a machine that has made so many records, of which these are the notes and the refused calls.
 fn print_lines<W: Write>(
     alloc: Global,
     machine: &Machine,
     notes: &[Note],
+    calls: &[FailedCall],
     records: usize,
     log: u32,
     out: &mut W,
@@ -134,13 +151,13 @@ fn print_lines<W: Write>(
     ensures err { IfErr result IsWanting }
     ensures front { IfErr result (λ _. PrintsFront
         (λ front. Appends (W.contents out.old) (W.contents out.new) front)
-        (lines_text (end_of (world_of machine.now)) notes.now records log)) }
+        (lines_text (end_of (world_of machine.now)) notes.now calls.now records log)) }
     ensures bytes { OnOk result (Appends (W.contents out.old) (W.contents out.new)
-        (lines_text (end_of (world_of machine.now)) notes.now records log)) }
+        (lines_text (end_of (world_of machine.now)) notes.now calls.now records log)) }
 {
     let end = end_of(machine);
     let mut text = Vec::new(alloc);
-    push_lines(&mut text, alloc, &end, notes, records, log)?;
+    push_lines(&mut text, alloc, &end, notes, calls, records, log)?;
     print_text(text.as_slice(), out)
 }
 
@@ -165,9 +182,12 @@ fn print_history<W: Write>(
 {
     let above = lines_above(machine.rules());
     let mut notes = Vec::new(alloc);
-    match note_records(machine, records, &mut notes)? {
+    let mut calls = Vec::new(alloc);
+    match note_records(machine, records, &mut notes, &mut calls)? {
         None => {
-            print_lines(alloc, machine, notes.as_slice(), records.len(), log, out)?;
+            let noted = notes.as_slice();
+            let counted = calls.as_slice();
+            print_lines(alloc, machine, noted, counted, records.len(), log, out)?;
             Ok(Replayed::Whole)
         }
         Some((number, refusal)) => {
