@@ -2,7 +2,7 @@
 
 ghost use Rattle.std.specs.Prelude.{◌≡◌, ◌+◌, ◌++◌, Some, None, IfErr, IfOk, OnErr, OnOk};
 ghost use Rattle.std.specs.List.{list_any};
-ghost use Rattle.mx_app_look.specs.Watches.{is_watch, place_at, places_of, watch_set, with_watch};
+ghost use Rattle.mx_app_look.specs.Watches.{is_watch, place_at, places_of, watch_set, with_watch, without_watch};
 ghost use Rattle.mx_debug.specs.declared.error.DebugError.TheVariants as errors;
 
 use arrayvec::ArrayVec;
@@ -94,6 +94,13 @@ impl Watches {
             return Err(DebugError::NotHere);
         }
         self.add(watch)
+    }
+
+    /// Watches these bytes no more, if they are watched.
+    pub fn remove(&mut self, watch: Watch)
+        ensures { self.new ≡ without_watch self.old watch }
+    {
+        self.watches.retain(|other| !is_watch(watch, other));
     }
 }
 

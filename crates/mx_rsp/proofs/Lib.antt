@@ -1,0 +1,3 @@
+pub mod PacketLemmas
+pub mod HeardLemmas
+pub mod ReplyLemmas
