@@ -18,17 +18,30 @@ code_address a = if nat_le code_begin a then Some (a - code_begin) else None
 abbrev pub shown_address : ℕ → ℕ
 shown_address a = dword_sum a code_begin
 
-abbrev pub bytes_by : Image → ℕ → Option ℕ → List ℕ
-bytes_by m a None = drop a m.memory
-bytes_by m a (Some c) = drop c (code_bytes m)
+-- what an address is of: the code, or the data segment; and where it is there
+abbrev pub segment_by : Image → Option ℕ → List ℕ
+segment_by m None = m.memory
+segment_by m (Some c) = code_bytes m
+
+abbrev pub place_by : ℕ → Option ℕ → ℕ
+place_by a None = a
+place_by a (Some c) = c
+
+abbrev pub place_of : ℕ → ℕ
+place_of a = place_by a (code_address a)
 
 -- ALL BYTES of a process from an address on: of its code, or of its data segment
 abbrev pub bytes_at : Image → ℕ → List ℕ
-bytes_at m a = bytes_by m a (code_address a)
+bytes_at m a = drop (place_of a) (segment_by m (code_address a))
 
--- so many of them, and at most 8,190: with two digits a byte they fill a packet
+-- how many a reply has at most: 8,190, as with two digits a byte they fill a packet; and data ends where code begins,
+-- and code at the last address
+abbrev pub most_bytes : ℕ → ℕ → ℕ
+most_bytes a n = min (min n 8190) (code_begin - place_of a)
+
+-- so many of them
 abbrev pub bytes_for : Image → ℕ → ℕ → List ℕ
-bytes_for m a n = take (min n 8190) (bytes_at m a)
+bytes_for m a n = take (most_bytes a n) (bytes_at m a)
 
 -- THE REGISTERS, in gdb's order ("Debugging with GDB", "i386 Features")
 abbrev pub registers_of : Image → List ℕ

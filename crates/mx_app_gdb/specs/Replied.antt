@@ -1,7 +1,7 @@
 -- What each request is answered, and what the stub has in hand after it (our own).
-use Rattle.std.specs.Prelude.{◌≡◌, ℕ, ◌==◌, Bool, true, false, not, is_none, is_some, if◌then◌else◌, ◌&&◌}
-use Rattle.std.specs.Prelude.{List, [], ◌∷◌, ◌++◌, codes, length, map, Option, Some, None}
-use Rattle.std.specs.List.{list_any, range_with_len, set_at}
+use Rattle.std.specs.Prelude.{◌≡◌, ℕ, Bool, true, false, is_none, is_some, if◌then◌else◌, ◌&&◌}
+use Rattle.std.specs.Prelude.{List, [], ◌++◌, codes, map, option_map, slice_set, Option, Some, None}
+use Rattle.std.specs.List.{list_any, range_with_len}
 use Rattle.hex.specs.Hex.{encode_lower}
 use Rattle.mx_exec.specs.declared.image.Image.{Image}
 use Rattle.mx_machine.specs.World.{World}
@@ -11,6 +11,7 @@ use Rattle.mx_rsp.specs.declared.fields.Which.TheVariants as which
 use Rattle.mx_rsp.specs.declared.moves.Action.{Action}
 use Rattle.mx_rsp.specs.declared.moves.Action.TheVariants as action
 use Rattle.mx_rsp.specs.declared.moves.Resume.{Resume}
+use Rattle.mx_rsp.specs.declared.request.Point.{Point}
 use Rattle.mx_rsp.specs.declared.request.Request.{Request}
 use Rattle.mx_rsp.specs.declared.request.Request.TheVariants as request
 use Rattle.mx_rsp.specs.declared.words.Word.{Word}
@@ -18,7 +19,8 @@ use Rattle.mx_rsp.specs.declared.words.Word.TheVariants as word
 use Rattle.mx_rsp.specs.Replies.{features_text, part_text, stop_text}
 use Rattle.mx_walk.specs.declared.positions.Position.{Position}
 use Rattle.mx_walk.specs.Walks.{Walk, world_here}
-use Rattle.mx_app_look.specs.declared.request.Request.{Request as Line}
+use Rattle.mx_app_look.specs.declared.points.Points.{Points}
+use Rattle.mx_app_look.specs.declared.sight.Sight.{Sight}
 use Rattle.mx_app_look.specs.Changes.{as_seen, seen_in}
 use Rattle.mx_app_look.specs.Requests.{request_of as line_of}
 use Rattle.mx_app_look.specs.Sessions.{IsAnswered}
@@ -28,6 +30,9 @@ use Rattle.mx_app_gdb.specs.declared.halts.Halts.{Halts}
 use Rattle.mx_app_gdb.specs.declared.ranges.Range.{Range}
 use Rattle.mx_app_gdb.specs.declared.replying.After.{After}
 use Rattle.mx_app_gdb.specs.declared.replying.After.TheVariants.{More, NoAcks, Over}
+use Rattle.mx_app_gdb.specs.declared.replying.Reply.{Reply}
+use Rattle.mx_app_gdb.specs.declared.replying.Way.{Way}
+use Rattle.mx_app_gdb.specs.declared.replying.Way.TheVariants.{Back, On, Step, StepBack}
 use Rattle.mx_app_gdb.specs.declared.stub.Stub.{Stub}
 use Rattle.mx_app_gdb.specs.declared.threads.Threads.{Threads}
 use Rattle.mx_app_gdb.specs.Console.{for_gdb_text, is_for_gdb}
@@ -96,24 +101,39 @@ moved_to s p why = record s {
   threads = record s.threads { reads = slot_halted why };
 }
 
--- A MOVE, by what says where it leads; it is answered with the stop
-abbrev pub IsMoved : (Walk → Halts → Halt → Type 0) → Stub → ℕ → Bool → Stub → List ℕ → Type 0
-IsMoved Leads s mover others u text =
-    (h : Halts) × (p : Position) × (why : Halted) × AreHalts s mover others h
-    × Leads s.sight.walker h (p, Some why) × (u ≡ moved_to s p why)
+-- where a way leads
+abbrev pub IsGone : Way → Walk → Halts → Halt → Type 0
+IsGone On k h r = IsGoneOn k h r
+IsGone (Step s g) k h r = IsStepped k h s g r
+IsGone Back k h r = IsGoneBack k h r
+IsGone (StepBack s) k h r = IsSteppedBack k h s r
+
+-- it is answered with the stop
+abbrev pub IsMovedBy : Way → Halts → Stub → Stub → List ℕ → Type 0
+IsMovedBy way h s u text =
+    (p : Position) × (why : Halted) × IsGone way s.sight.walker h (p, Some why) × (u ≡ moved_to s p why)
     × (text ≡ stop_text (stop_at (world_of_stub u) s.threads why))
+
+-- A MOVE of a slot's process
+abbrev pub IsMoved : Way → Stub → ℕ → Bool → Stub → List ℕ → Type 0
+IsMoved way s mover others u text = (h : Halts) × AreHalts s mover others h × IsMovedBy way h s u text
 
 abbrev pub range_of : Action → Range
 range_of (action.StepWithin a b) = record { first = a; end = b }
 range_of _ = record { first = 0; end = 0 }
 
 abbrev pub IsGoneBy : Action → Stub → ℕ → Bool → Stub → List ℕ → Type 0
-IsGoneBy action.Continue s slot others u text = IsMoved IsGoneOn s slot true u text
-IsGoneBy a s slot others u text = IsMoved (λ k h r. IsStepped k h slot (range_of a) r) s slot others u text
+IsGoneBy action.Continue s slot others u text = IsMoved On s slot true u text
+IsGoneBy a s slot others u text = IsMoved (Step slot (range_of a)) s slot others u text
 
 abbrev pub IsResumed : Stub → Resume → Option ℕ → Stub → List ℕ → Type 0
 IsResumed s r None u text = (u ≡ s) × (text ≡ done_text false)
 IsResumed s r (Some slot) u text = IsGoneBy r.first.action s slot r.others u text
+
+-- back, by a step or to the last halt
+abbrev pub IsReversed : Bool → Stub → Stub → List ℕ → Type 0
+IsReversed true s u text = IsMoved (StepBack (goes_by s.threads)) s (goes_by s.threads) false u text
+IsReversed false s u text = IsMoved Back s (goes_by s.threads) true u text
 
 -- ---- processes
 
@@ -137,7 +157,7 @@ going s w =
 
 abbrev pub left_by : Threads → Option ℕ → Threads
 left_by t None = t
-left_by t (Some slot) = record t { gone = set_at t.gone slot true }
+left_by t (Some slot) = record t { gone = slice_set t.gone slot true }
 
 -- without a process that gdb has left
 abbrev pub left : Stub → ℕ → Stub
@@ -149,10 +169,15 @@ has_any t = list_any (is_seen t) (range_with_len 0 32)
 -- ---- commands
 
 -- gdb has its own, or it is answered as in a session
+abbrev pub IsToldIf : Bool → Sight → List ℕ → Sight → List ℕ → Type 0
+IsToldIf true s line u text = (u ≡ s) × (text ≡ for_gdb_text)
+IsToldIf false s line u text = IsAnswered s line u text
+
+abbrev pub IsToldBy : Sight → List ℕ → Sight → List ℕ → Type 0
+IsToldBy s line u text = IsToldIf (is_for_gdb (line_of line)) s line u text
+
 abbrev pub IsConsoled : Stub → List ℕ → Stub → List ℕ → Type 0
-IsConsoled s line u text =
-    if is_for_gdb (line_of line) then (u ≡ s) × (text ≡ for_gdb_text)
-    else (u ≡ record s { sight = u.sight }) × IsAnswered s.sight line u.sight text
+IsConsoled s line u text = (u ≡ record s { sight = u.sight }) × IsToldBy s.sight line u.sight text
 
 -- ---- EACH REQUEST: what is in hand after it, its reply, if it has one, and what comes after that
 
@@ -166,23 +191,40 @@ abbrev pub reply_to_word : Stub → Word → Option (List ℕ)
 reply_to_word s word.End = None
 reply_to_word s w = Some (word_reply s w)
 
+abbrev pub text_of : Reply → Option (List ℕ)
+text_of r = option_map (λ v. v.items) r.text
+
 abbrev pub Says : Stub → List ℕ → Stub → Option (List ℕ) → After → Type 0
 Says s text u reply next = (u ≡ s) × (reply ≡ Some text) × (next ≡ More)
 
 abbrev pub SaysMoved : (Stub → List ℕ → Type 0) → Stub → Option (List ℕ) → After → Type 0
 SaysMoved Is u reply next = (text : List ℕ) × Is u text × (reply ≡ Some text) × (next ≡ More)
 
-abbrev pub IsReplied : Stub → Request → Stub → Option (List ℕ) → After → Type 0
-IsReplied s (request.Plain word.StepBack) u reply next =
-    SaysMoved
-    (IsMoved (λ k h r. IsSteppedBack k h (goes_by s.threads) r) s (goes_by s.threads) false) u reply next
-IsReplied s (request.Plain word.ContinueBack) u reply next =
-    SaysMoved (IsMoved IsGoneBack s (goes_by s.threads) true) u reply next
-IsReplied s (request.Plain w) u reply next =
-    (u ≡ s) × (reply ≡ reply_to_word s w) × (next ≡ after_word w)
-IsReplied s (request.Go r) u reply next = SaysMoved (IsResumed s r (read_by s.threads r.first.who)) u reply next
-IsReplied s (request.Console line) u reply next =
+abbrev pub IsRepliedToWord : Stub → Word → Stub → Option (List ℕ) → After → Type 0
+IsRepliedToWord s word.StepBack u reply next = SaysMoved (IsReversed true s) u reply next
+IsRepliedToWord s word.ContinueBack u reply next = SaysMoved (IsReversed false s) u reply next
+IsRepliedToWord s w u reply next = (u ≡ s) × (reply ≡ reply_to_word s w) × (next ≡ after_word w)
+
+-- one that sets a point, or takes one away
+abbrev pub IsInserted : Stub → Bool × Points → Stub → Option (List ℕ) → After → Type 0
+IsInserted s r u reply next = Says (record s { sight = record s.sight { points = r.1 } }) (done_text r.0) u reply next
+
+abbrev pub without_point : Stub → Point → ℕ → ℕ → Stub
+without_point s p a n =
+    record s { sight = record s.sight { points = removed s.sight.points s.threads.reads p a n } }
+
+abbrev pub IsDetached : Stub → Stub → Option (List ℕ) → After → Type 0
+IsDetached l u reply next =
+    (u ≡ l) × (reply ≡ Some (done_text true)) × (next ≡ (if has_any l.threads then More else Over))
+
+abbrev pub IsConsoleReply : Stub → List ℕ → Stub → Option (List ℕ) → After → Type 0
+IsConsoleReply s line u reply next =
     (text : List ℕ) × IsConsoled s line u text × (reply ≡ Some (encode_lower text)) × (next ≡ More)
+
+abbrev pub IsReplied : Stub → Request → Stub → Option (List ℕ) → After → Type 0
+IsReplied s (request.Plain w) u reply next = IsRepliedToWord s w u reply next
+IsReplied s (request.Go r) u reply next = SaysMoved (IsResumed s r (read_by s.threads r.first.who)) u reply next
+IsReplied s (request.Console line) u reply next = IsConsoleReply s line u reply next
 IsReplied s (request.Supported names) u reply next =
     Says (with_names s names) (features_text (with_names s names).threads.names) u reply next
 IsReplied s (request.ForReading w) u reply next =
@@ -190,11 +232,7 @@ IsReplied s (request.ForReading w) u reply next =
 IsReplied s (request.ForGoing w) u reply next =
     Says (going s w) (done_text (is_some (read_by s.threads w))) u reply next
 IsReplied s (request.Insert p a n) u reply next =
-    let r = inserted s.sight.walker s.sight.points s.threads.reads p a n in
-    Says (record s { sight = record s.sight { points = r.1 } }) (done_text r.0) u reply next
-IsReplied s (request.Remove p a n) u reply next =
-    Says (record s { sight = record s.sight { points = removed s.sight.points s.threads.reads p a n } })
-    (done_text true) u reply next
-IsReplied s (request.DetachFrom n) u reply next =
-    (u ≡ left s n) × (reply ≡ Some (done_text true)) × (next ≡ (if has_any (left s n).threads then More else Over))
+    IsInserted s (inserted s.sight.walker s.sight.points s.threads.reads p a n) u reply next
+IsReplied s (request.Remove p a n) u reply next = Says (without_point s p a n) (done_text true) u reply next
+IsReplied s (request.DetachFrom n) u reply next = IsDetached (left s n) u reply next
 IsReplied s r u reply next = Says s (here_reply s r) u reply next

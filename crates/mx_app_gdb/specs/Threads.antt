@@ -1,6 +1,6 @@
 -- Which processes gdb has, and whom a request is about (our own).
 use Rattle.std.specs.Prelude.{◌≡◌, ℕ, ◌+◌, ◌-◌, ◌==◌, ◌&&◌, nat_lt, not, Bool, true, false}
-use Rattle.std.specs.Prelude.{if◌then◌else◌, List, Option, Some, None, slice_index, unwrap_or}
+use Rattle.std.specs.Prelude.{if◌then◌else◌, Option, Some, None, replicate, slice_index_or, unwrap_or}
 use Rattle.mx_rsp.specs.declared.fields.Which.{Which}
 use Rattle.mx_rsp.specs.declared.fields.Which.TheVariants.{All, Any, One}
 use Rattle.mx_rsp.specs.declared.replies.ThreadName.{ThreadName}
@@ -11,9 +11,15 @@ abbrev pub is_only : Option ℕ → ℕ → Bool
 is_only (Some one) s = one == s
 is_only None s = true
 
+-- the processes of so many slots, or one of them alone
+abbrev pub threads_at : ℕ → Option ℕ → Threads
+threads_at n only = record {
+  count = n; reads = unwrap_or only 0; goes = None; names = false; only = only; gone = replicate 32 false;
+}
+
 -- gdb has the process of a slot: the only one that it wants, or one that it hasn't left
 abbrev pub is_seen : Threads → ℕ → Bool
-is_seen t s = ((nat_lt s t.count && is_only t.only s) && nat_lt s 32) && not (slice_index t.gone s)
+is_seen t s = ((nat_lt s t.count && is_only t.only s) && nat_lt s 32) && not (slice_index_or t.gone s false)
 
 -- the slot of a process's number, which is one more
 abbrev pub named_slot : Threads → ℕ → Option ℕ

@@ -1,7 +1,7 @@
 //! Addresses as gdb has them, and what is there.
 
-ghost use Rattle.std.specs.Prelude.{◌≡◌, IfOk, drop};
-ghost use Rattle.mx_app_gdb.specs.Addresses.{bytes_at, bytes_for, code_address, registers_of, shown_address};
+ghost use Rattle.std.specs.Prelude.{◌≡◌, ◌<◌, IfOk, drop};
+ghost use Rattle.mx_app_gdb.specs.Addresses.{bytes_at, bytes_for, code_address, place_of, registers_of, shown_address};
 
 use mx_exec::Image;
 use mx_mem::Segment;
@@ -30,18 +30,14 @@ pub(crate) fn shown_address(address: u32) -> u32
 
 /// The segment that gdb means by an address, and the address there.
 fn segment_at(image: &Image, address: u32) -> (&Segment, u32)
-    ensures { drop result.1 result.0.now ≡ bytes_at image.now address }
+    ensures bytes { drop result.1 result.0.now ≡ bytes_at image.now address }
+    ensures place { result.1 ≡ place_of address }
+    ensures low { result.1 < 2147483648 }
 {
     match code_address(address) {
         Some(at) => (image.code_segment(), at),
         None => (&image.memory, address),
     }
-}
-
-/// The byte so many bytes after an address, if it is there.
-fn byte_after(segment: &Segment, at: u32, offset: u32) -> Option<u8> {
-    let at = at.checked_add(offset)?;
-    segment.get(at)
 }
 
 /// The bytes of a process from an address on, as many as are asked for, are there and have room.
@@ -55,8 +51,8 @@ pub(crate) fn bytes_for(
 {
     let (segment, at) = segment_at(image, address);
     let mut bytes = Vec::new(alloc);
-    for offset in 0..count.min(MOST_BYTES) {
-        match byte_after(segment, at, offset) {
+    for offset in 0..count.min(MOST_BYTES).min(CODE - at) {
+        match segment.get(at + offset) {
             Some(byte) => bytes.push(byte)?,
             None => return Ok(bytes),
         }

@@ -1,7 +1,10 @@
 //! Commands for the stub itself: what gdb's `monitor` sends.
 
-ghost use Rattle.std.specs.Prelude.{◌≡◌};
+ghost use Rattle.std.specs.Prelude.{◌≡◌, IfErr, IfOk};
+ghost use Rattle.mx_app_step.specs.Failure.{IsWanting};
+ghost use Rattle.mx_walk.specs.Parts.{HasGrown};
 ghost use Rattle.mx_app_gdb.specs.Console.{is_for_gdb};
+ghost use Rattle.mx_app_gdb.specs.Replied.{IsConsoled, IsToldBy};
 
 use crate::stub::Stub;
 use mx_app_failure::Failure;
@@ -40,7 +43,11 @@ fn answer<P: Progress>(
     sight: Sight,
     line: &[u8],
     progress: &mut P,
-) -> Result<(Sight, Vec<u8>), Failure> {
+) -> Result<(Sight, Vec<u8>), Failure>
+    ensures err { IfErr result IsWanting }
+    ensures told { IfOk result (λ r. IsToldBy sight line.now r.0 r.1.items) }
+    ensures grown { HasGrown (P.shown progress.old) (P.shown progress.new) }
+{
     if is_for_gdb(&request_of(line)) {
         let mut text = Vec::new(alloc);
         text.extend_from_slice(FOR_GDB.as_bytes())?;
@@ -58,7 +65,11 @@ pub(crate) fn console<P: Progress>(
     stub: Stub,
     line: &[u8],
     progress: &mut P,
-) -> Result<(Stub, Vec<u8>), Failure> {
+) -> Result<(Stub, Vec<u8>), Failure>
+    ensures err { IfErr result IsWanting }
+    ensures told { IfOk result (λ r. IsConsoled stub line.now r.0 r.1.items) }
+    ensures grown { HasGrown (P.shown progress.old) (P.shown progress.new) }
+{
     let Stub {
         sight,
         files,

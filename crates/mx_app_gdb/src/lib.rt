@@ -14,7 +14,6 @@
 #![tactic(auto)]
 
 mod addresses;
-mod alive;
 mod console;
 mod faults;
 mod going;

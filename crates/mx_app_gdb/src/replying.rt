@@ -1,9 +1,15 @@
 //! What a request is answered, and what the stub has in hand after it.
 
-ghost use Rattle.std.specs.Prelude.{◌≡◌, ◌++◌, IfErr, IfOk, OnOk, option_map};
+ghost use Rattle.std.specs.Prelude.{◌≡◌, ◌++◌, IfErr, IfOk, OnOk, Some, is_some, true};
 ghost use Rattle.mx_app_step.specs.Failure.{IsWanting};
 ghost use Rattle.mx_walk.specs.Parts.{HasGrown};
-ghost use Rattle.mx_app_gdb.specs.Replied.{IsReplied, after_word, here_reply, range_of, word_reply};
+ghost use Rattle.mx_app_gdb.specs.declared.replying.After.TheVariants as afters;
+ghost use Rattle.mx_rsp.specs.Moves.{continues};
+ghost use Rattle.mx_app_gdb.specs.Points.{inserted};
+ghost use Rattle.mx_app_gdb.specs.Replied.{AreHalts, IsConsoleReply, IsDetached, IsGone, IsInserted, IsMovedBy, IsReplied, IsRepliedToWord, IsResumed, IsReversed, Says, SaysMoved, after_word, going, here_reply, left, range_of, reading, reply_to_word, text_of, with_names, without_point, word_reply};
+ghost use Rattle.mx_app_gdb.specs.Replies.{done_text};
+ghost use Rattle.mx_app_gdb.specs.Threads.{read_by};
+ghost use Rattle.mx_rsp.specs.Replies.{features_text};
 
 use crate::console::console;
 use crate::going::go_on;
@@ -49,7 +55,10 @@ pub struct Reply {
 }
 
 /// A reply after which more packets come.
-fn reply_of(text: Vec<u8>) -> Reply {
+fn reply_of(text: Vec<u8>) -> Reply
+    ensures text { text_of result ≡ Some text.items }
+    ensures after { result.after ≡ afters.More }
+{
     Reply {
         text: Some(text),
         after: After::More,
@@ -76,7 +85,11 @@ fn go<P: Progress>(
     halts: &Halts,
     way: Way,
     progress: &mut P,
-) -> Result<(Walker, Halted), NoMemory> {
+) -> Result<(Walker, Halted), NoMemory>
+    ensures same { IfOk result (λ r. r.0 ≡ record walker { here = r.0.here }) }
+    ensures gone { IfOk result (λ r. IsGone way walker halts.now (r.0.here, Some r.1)) }
+    ensures grown { HasGrown (P.shown progress.old) (P.shown progress.new) }
+{
     match way {
         Way::On => go_on(alloc, walker, halts, progress),
         Way::Step(slot, range) => step_on(alloc, walker, halts, slot, range, progress),
@@ -86,7 +99,9 @@ fn go<P: Progress>(
 }
 
 /// What counts on the way of a move of a slot's process.
-fn halts_on(alloc: Global, stub: &Stub, mover: Slot, others: bool) -> Result<Halts, AllocError> {
+fn halts_on(alloc: Global, stub: &Stub, mover: Slot, others: bool) -> Result<Halts, AllocError>
+    ensures { IfOk result (λ h. AreHalts stub.now mover others h) }
+{
     let Sight { walker, points } = &stub.sight;
     Halts::new(alloc, walker, points, stub.threads, mover, others)
 }
@@ -98,7 +113,12 @@ fn move_along<P: Progress>(
     halts: &Halts,
     way: Way,
     progress: &mut P,
-) -> Result<(Stub, Reply), Failure> {
+) -> Result<(Stub, Reply), Failure>
+    ensures err { IfErr result IsWanting }
+    ensures replied { IfOk result (λ r. SaysMoved (IsMovedBy way halts.now stub) r.0
+        (text_of r.1) r.1.after) }
+    ensures grown { HasGrown (P.shown progress.old) (P.shown progress.new) }
+{
     let Stub {
         sight,
         files,
@@ -124,7 +144,11 @@ fn move_along<P: Progress>(
 }
 
 /// Replies that something is done, or that it can't be.
-fn say_done(alloc: Global, stub: Stub, is_done: bool) -> Result<(Stub, Reply), Failure> {
+fn say_done(alloc: Global, stub: Stub, is_done: bool) -> Result<(Stub, Reply), Failure>
+    ensures err { IfErr result IsWanting }
+    ensures replied { IfOk result (λ r. Says stub (done_text is_done) r.0
+        (text_of r.1) r.1.after) }
+{
     let mut text = Vec::new(alloc);
     push_done(&mut text, is_done)?;
     Ok((stub, reply_of(text)))
@@ -141,7 +165,9 @@ fn range_of(action: Action) -> Range
 }
 
 /// Whether an action goes on until something halts it.
-fn continues(action: Action) -> bool {
+fn continues(action: Action) -> bool
+    ensures { result ≡ continues action }
+{
     match action {
         Action::Continue => true,
         Action::Step | Action::StepWithin(..) => false,
@@ -154,7 +180,13 @@ fn go_by<P: Progress>(
     stub: Stub,
     resumed: Resume,
     progress: &mut P,
-) -> Result<(Stub, Reply), Failure> {
+) -> Result<(Stub, Reply), Failure>
+    ensures err { IfErr result IsWanting }
+    ensures replied { IfOk result (λ r. SaysMoved
+        (IsResumed stub resumed (read_by stub.threads resumed.first.who)) r.0
+        (text_of r.1) r.1.after) }
+    ensures grown { HasGrown (P.shown progress.old) (P.shown progress.new) }
+{
     let Move { action, who } = resumed.first;
     let Some(slot) = stub.threads.read_by(who) else {
         return say_done(alloc, stub, false);
@@ -174,7 +206,12 @@ fn reverse<P: Progress>(
     stub: Stub,
     is_step: bool,
     progress: &mut P,
-) -> Result<(Stub, Reply), Failure> {
+) -> Result<(Stub, Reply), Failure>
+    ensures err { IfErr result IsWanting }
+    ensures replied { IfOk result (λ r. SaysMoved (IsReversed is_step stub) r.0
+        (text_of r.1) r.1.after) }
+    ensures grown { HasGrown (P.shown progress.old) (P.shown progress.new) }
+{
     let slot = stub.threads.goer();
     let halts = halts_on(alloc, &stub, slot, !is_step)?;
     let way = if is_step {
@@ -186,12 +223,19 @@ fn reverse<P: Progress>(
 }
 
 /// With other processes that gdb has, or asks about.
-fn with_threads(stub: Stub, threads: Threads) -> Stub {
+fn with_threads(stub: Stub, threads: Threads) -> Stub
+    ensures { result ≡ record stub { threads = threads } }
+{
     Stub { threads, ..stub }
 }
 
 /// What the stub has, if gdb names processes or not. Where it has only one, none is named.
-fn tell_features(alloc: Global, stub: Stub, names: bool) -> Result<(Stub, Reply), Failure> {
+fn tell_features(alloc: Global, stub: Stub, names: bool) -> Result<(Stub, Reply), Failure>
+    ensures err { IfErr result IsWanting }
+    ensures replied { IfOk result (λ r. Says (with_names stub names)
+        (features_text (with_names stub names).threads.names) r.0
+        (text_of r.1) r.1.after) }
+{
     let names = names && stub.threads.only.is_none();
     let threads = Threads {
         names,
@@ -203,7 +247,12 @@ fn tell_features(alloc: Global, stub: Stub, names: bool) -> Result<(Stub, Reply)
 }
 
 /// Reads another process from now on.
-fn read_other(alloc: Global, stub: Stub, which: Which) -> Result<(Stub, Reply), Failure> {
+fn read_other(alloc: Global, stub: Stub, which: Which) -> Result<(Stub, Reply), Failure>
+    ensures err { IfErr result IsWanting }
+    ensures replied { IfOk result (λ r. Says (reading stub (read_by stub.threads which))
+        (done_text (is_some (read_by stub.threads which))) r.0
+        (text_of r.1) r.1.after) }
+{
     let Some(reads) = stub.threads.read_by(which) else {
         return say_done(alloc, stub, false);
     };
@@ -215,7 +264,12 @@ fn read_other(alloc: Global, stub: Stub, which: Which) -> Result<(Stub, Reply), 
 }
 
 /// Lets another process go from now on.
-fn move_other(alloc: Global, stub: Stub, which: Which) -> Result<(Stub, Reply), Failure> {
+fn move_other(alloc: Global, stub: Stub, which: Which) -> Result<(Stub, Reply), Failure>
+    ensures err { IfErr result IsWanting }
+    ensures replied { IfOk result (λ r. Says (going stub which)
+        (done_text (is_some (read_by stub.threads which))) r.0
+        (text_of r.1) r.1.after) }
+{
     let goes = match which {
         Which::One(_) => stub.threads.read_by(which),
         Which::Any | Which::All => None,
@@ -238,7 +292,12 @@ fn insert_point(
     point: Point,
     address: u32,
     count: u32,
-) -> Result<(Stub, Reply), Failure> {
+) -> Result<(Stub, Reply), Failure>
+    ensures err { IfErr result IsWanting }
+    ensures replied { IfOk result (λ r. IsInserted stub
+        (inserted stub.sight.walker stub.sight.points stub.threads.reads point address count) r.0
+        (text_of r.1) r.1.after) }
+{
     let mut stub = stub;
     let slot = stub.threads.reads;
     let Sight { walker, points } = &mut stub.sight;
@@ -253,7 +312,12 @@ fn remove_point(
     point: Point,
     address: u32,
     count: u32,
-) -> Result<(Stub, Reply), Failure> {
+) -> Result<(Stub, Reply), Failure>
+    ensures err { IfErr result IsWanting }
+    ensures replied { IfOk result (λ r. Says (without_point stub point address count)
+        (done_text true) r.0
+        (text_of r.1) r.1.after) }
+{
     let mut stub = stub;
     let slot = stub.threads.reads;
     remove(&mut stub.sight.points, slot, point, address, count);
@@ -266,7 +330,12 @@ fn answer_console<P: Progress>(
     stub: Stub,
     line: &[u8],
     progress: &mut P,
-) -> Result<(Stub, Reply), Failure> {
+) -> Result<(Stub, Reply), Failure>
+    ensures err { IfErr result IsWanting }
+    ensures replied { IfOk result (λ r. IsConsoleReply stub line.now r.0
+        (text_of r.1) r.1.after) }
+    ensures grown { HasGrown (P.shown progress.old) (P.shown progress.new) }
+{
     let (stub, answer) = console(alloc, stub, line, progress)?;
     let mut text = Vec::new(alloc);
     push_bytes(alloc, &mut text, answer.as_slice())?;
@@ -274,7 +343,11 @@ fn answer_console<P: Progress>(
 }
 
 /// That gdb has left a process: it is over if it has none any more.
-fn detach_from(alloc: Global, stub: Stub, number: u32) -> Result<(Stub, Reply), Failure> {
+fn detach_from(alloc: Global, stub: Stub, number: u32) -> Result<(Stub, Reply), Failure>
+    ensures err { IfErr result IsWanting }
+    ensures replied { IfOk result (λ r. IsDetached (left stub number) r.0
+        (text_of r.1) r.1.after) }
+{
     let threads = match stub.threads.named(number) {
         Some(slot) => stub.threads.without(slot),
         None => stub.threads,
@@ -318,7 +391,11 @@ fn after_word(word: Word) -> After
 }
 
 /// Replies to a word that asks for something here.
-fn say_word(alloc: Global, stub: Stub, word: Word) -> Result<(Stub, Reply), Failure> {
+fn say_word(alloc: Global, stub: Stub, word: Word) -> Result<(Stub, Reply), Failure>
+    ensures err { IfErr result IsWanting }
+    ensures replied { IfOk result (λ r. (r.0 ≡ stub)
+        × (text_of r.1 ≡ reply_to_word stub word) × (r.1.after ≡ after_word word)) }
+{
     let mut text = Vec::new(alloc);
     push_word(alloc, &mut text, &stub, word)?;
     let text = match word {
@@ -335,7 +412,12 @@ fn answer_word<P: Progress>(
     stub: Stub,
     word: Word,
     progress: &mut P,
-) -> Result<(Stub, Reply), Failure> {
+) -> Result<(Stub, Reply), Failure>
+    ensures err { IfErr result IsWanting }
+    ensures replied { IfOk result (λ r. IsRepliedToWord stub word r.0
+        (text_of r.1) r.1.after) }
+    ensures grown { HasGrown (P.shown progress.old) (P.shown progress.new) }
+{
     match word {
         Word::StepBack => reverse(alloc, stub, true, progress),
         Word::ContinueBack => reverse(alloc, stub, false, progress),
@@ -367,7 +449,11 @@ fn push_here(
 }
 
 /// Replies to a request that asks for something here, and is no word.
-fn say_here(alloc: Global, stub: Stub, request: &Request) -> Result<(Stub, Reply), Failure> {
+fn say_here(alloc: Global, stub: Stub, request: &Request) -> Result<(Stub, Reply), Failure>
+    ensures err { IfErr result IsWanting }
+    ensures replied { IfOk result (λ r. Says stub (here_reply stub request.now) r.0
+        (text_of r.1) r.1.after) }
+{
     let mut text = Vec::new(alloc);
     push_here(alloc, &mut text, &stub, request)?;
     Ok((stub, reply_of(text)))
@@ -382,7 +468,7 @@ pub(crate) fn reply_to<P: Progress>(
 ) -> Result<(Stub, Reply), Failure>
     ensures err { IfErr result IsWanting }
     ensures replied { IfOk result (λ r. IsReplied stub request.now r.0
-        (option_map (λ v. v.items) r.1.text) r.1.after) }
+        (text_of r.1) r.1.after) }
     ensures grown { HasGrown (P.shown progress.old) (P.shown progress.new) }
 {
     match request {

@@ -1,24 +1,30 @@
 //! The names of the files that gdb reads symbols from.
 
-ghost use Rattle.std.specs.Prelude.{◌≡◌, IfOk};
-ghost use Rattle.mx_app_gdb.specs.SymbolFiles.{symbol_file};
+ghost use Rattle.std.specs.Prelude.{◌≡◌, ◌≤◌, IfOk, length, map};
+ghost use Rattle.mx_app_gdb.specs.SymbolFiles.{folder_length, stem, symbol_file};
+ghost use Rattle.mx_app_gdb.specs.Talks.{file_names};
 
 use mx_machine::ServiceLine;
 use std::alloc::{AllocError, Global};
 
-/// A file's name, as its folder with the stroke after it, and the rest.
-fn folder_and_rest(file: &[u8]) -> (&[u8], &[u8]) {
+/// How many bytes of a file's name its folder has, with the stroke after it.
+fn folder_length(file: &[u8]) -> usize
+    ensures length { result ≡ folder_length file.now }
+    ensures inside { result ≤ length file.now }
+{
     let mut cut = 0;
     for place in 0..file.len() {
         if file[place] == b'/' {
             cut = place + 1;
         }
     }
-    (&file[..cut], &file[cut..])
+    cut
 }
 
 /// A file's name without the end `.out`.
-fn stem(file: &[u8]) -> &[u8] {
+fn stem(file: &[u8]) -> &[u8]
+    ensures { result.now ≡ stem file.now }
+{
     match file.strip_suffix(b".out") {
         Some(stem) => stem,
         None => file,
@@ -29,11 +35,11 @@ fn stem(file: &[u8]) -> &[u8] {
 fn symbol_file(alloc: Global, file: &[u8]) -> Result<Vec<u8>, AllocError>
     ensures { IfOk result (λ name. name.items ≡ symbol_file file.now) }
 {
-    let (folder, rest) = folder_and_rest(file);
+    let cut = folder_length(file);
     let mut name = Vec::new(alloc);
-    name.extend_from_slice(folder)?;
+    name.extend_from_slice(&file[..cut])?;
     name.extend_from_slice(b"out/")?;
-    name.extend_from_slice(stem(rest))?;
+    name.extend_from_slice(stem(&file[cut..]))?;
     name.extend_from_slice(b".gdb")?;
     Ok(name)
 }
@@ -42,7 +48,9 @@ fn symbol_file(alloc: Global, file: &[u8]) -> Result<Vec<u8>, AllocError>
 pub(crate) fn symbol_files(
     alloc: Global,
     lines: &[ServiceLine],
-) -> Result<Vec<Vec<u8>>, AllocError> {
+) -> Result<Vec<Vec<u8>>, AllocError>
+    ensures { IfOk result (λ files. map (λ f. f.items) files.items ≡ file_names lines.now) }
+{
     let mut files = Vec::new(alloc);
     for line in lines {
         files.push(symbol_file(alloc, line.file.as_str().as_bytes())?)?;

@@ -1,7 +1,7 @@
 //! Which processes gdb has, and which of them it asks about.
 
 ghost use Rattle.std.specs.Prelude.{◌≡◌, Some};
-ghost use Rattle.mx_app_gdb.specs.Threads.{counts, goes_by, is_only, is_seen, named_slot, read_by, thread_of};
+ghost use Rattle.mx_app_gdb.specs.Threads.{counts, goes_by, is_only, is_seen, named_slot, read_by, thread_of, threads_at};
 ghost use Rattle.mx_app_gdb.specs.Replied.{has_any, left_by};
 
 use mx_proc::Slot;
@@ -36,7 +36,9 @@ fn is_only(only: Option<Slot>, slot: Slot) -> bool
 
 impl Threads {
     /// Those of a machine of so many slots, or only one of them.
-    pub fn new(count: Slot, only: Option<Slot>) -> Threads {
+    pub fn new(count: Slot, only: Option<Slot>) -> Threads
+        ensures { result ≡ threads_at count only }
+    {
         Threads {
             count,
             reads: only.unwrap_or(0),

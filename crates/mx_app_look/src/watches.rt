@@ -68,7 +68,7 @@ impl Watches {
     }
 
     /// Adds a watch; one that is there already isn't added again. Refuses a ninth, and then changes nothing.
-    fn add(&mut self, watch: Watch) -> Result<(), DebugError>
+    pub fn add(&mut self, watch: Watch) -> Result<(), DebugError>
         ensures added { OnOk result (with_watch self.old watch ≡ Some self.new) }
         ensures full { OnErr result (with_watch self.old watch ≡ None) }
         ensures unchanged { OnErr result (self.new ≡ self.old) }
