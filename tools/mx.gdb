@@ -1,5 +1,7 @@
 # What gdb 13 wants to be told of a machine; then `mx CONFIG LOG` begins, with each service as a process of its own:
 #     gdb -x mx.gdb -ex 'mx session.config run.log'
+# At the begin the whole history is walked once, which gdb has to wait for.
+set remotetimeout 600
 # Its caches of memory and registers forget only what it resumed itself, and here all processes move.
 set stack-cache off
 set code-cache off

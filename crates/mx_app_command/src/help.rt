@@ -334,6 +334,7 @@ gdb out/sensor.gdb -ex 'target remote | mx gdb sensor.config LOG --slot 0'
 and in gdb continue, backtrace, watch NAME, reverse-continue, reverse-step, finish;
 monitor where, ps, why, messages, list S and the other commands of mx look that stay
 where they are, and monitor goto K.J. Nothing can be written. Code is at 80000000.
+A long history is walked before the first packet is answered: set remotetimeout 600.
 
 Without --slot each service is a process of its own, with the symbols of out/NAME.gdb
 beside its program's file; gdb 13 then wants what the file mx.gdb says:

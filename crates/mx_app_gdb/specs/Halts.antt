@@ -1,11 +1,12 @@
 -- What a move halts at (our own).
-use Rattle.std.specs.Prelude.{ℕ, ◌==◌, ◌||◌, Bool, if◌then◌else◌, Option, Some, None, List, map, slice_get}
+use Rattle.std.specs.Prelude.{◌≡◌, ℕ, ◌==◌, ◌||◌, Bool, if◌then◌else◌, Option, Some, None, List, map, slice_get}
 use Rattle.mx_machine.specs.declared.events.Event.{Event}
 use Rattle.mx_machine.specs.declared.history.Record.{Record}
 use Rattle.mx_machine.specs.World.{World, HeldProcess, held_by}
 use Rattle.mx_walk.specs.Walks.{Walk, world_here}
 use Rattle.mx_app_look.specs.Changes.{as_seen, first_change}
 use Rattle.mx_app_look.specs.Marks.{changes_watched}
+use Rattle.mx_app_look.specs.declared.changes.Seen.{Seen}
 use Rattle.mx_app_look.specs.declared.watches.Watch.{Watch}
 use Rattle.mx_app_gdb.specs.declared.halts.Halted.{Halted}
 use Rattle.mx_app_gdb.specs.declared.halts.Halted.TheVariants.{Changed, Fault}
@@ -41,6 +42,11 @@ halted_by None fault = fault
 
 abbrev pub halted_here : Walk → Halts → Option Halted
 halted_here k h = halted_by (first_change (world_here k) (map as_seen h.seen.items)) (fault_here h.counted k)
+
+-- up to here the watched bytes are as they were where the move began
+pub record IsUnchanged (k : Walk) (h : Halts) : Type 0 where
+  pub watched : map (λ (s : Seen). s.watch) h.seen.items ≡ h.points.watches
+  pub same : first_change (world_here k) (map as_seen h.seen.items) ≡ None
 
 -- an event after which a move halts
 abbrev pub halts_after : Halts → World → ℕ × Event → World → Bool

@@ -4,10 +4,10 @@ use Rattle.std.specs.Prelude.{Option, Some, None, map, slice_get, unwrap_or}
 use Rattle.mx_debug.specs.Points.{has_breakpoint}
 use Rattle.mx_exec.specs.declared.image.Image.{Image}
 use Rattle.mx_machine.specs.declared.events.Event.{Event}
-use Rattle.mx_machine.specs.World.{World}
+use Rattle.mx_machine.specs.World.{World, held_by}
 use Rattle.mx_print_answers.specs.Slots.{image_in}
 use Rattle.mx_walk.specs.declared.positions.Position.{Position}
-use Rattle.mx_walk.specs.Positions.{IsPosition, IsUpTo, first, next_event, next_position, position_before}
+use Rattle.mx_walk.specs.Positions.{IsBefore, IsPosition, IsUpTo, first, next_event, next_position, position_before}
 use Rattle.mx_walk.specs.Seeking.{IsFirstMarked, IsLastMarked, IsPassed, is_marked}
 use Rattle.mx_walk.specs.Walks.{Walk, world_here}
 use Rattle.mx_app_look.specs.declared.watches.Watch.{Watch}
@@ -20,7 +20,7 @@ use Rattle.mx_app_gdb.specs.declared.halts.Halted.TheVariants.{There, AtBreak, A
 use Rattle.mx_app_gdb.specs.declared.halts.Halts.{Halts}
 use Rattle.mx_app_gdb.specs.declared.ranges.Range.{Range}
 use Rattle.mx_app_gdb.specs.Halts.{halted_here, halts_after}
-use Rattle.mx_app_gdb.specs.Marks.{is_within, moves}
+use Rattle.mx_app_gdb.specs.Marks.{is_within, moves, stands_within}
 
 -- ---- a position and why one halts at it; none if one goes on
 
@@ -62,6 +62,17 @@ IsAfterNext k h From (Some x) r =
     × (r ≡ (next_position k.records k.here, halted_here (at k (next_position k.records k.here)) h)))
     ⊎ ((is_marked (halts_after h) (world_here k) x ≡ false) × From (next_position k.records k.here) r)
 
+-- the next event is made: why it halts right after it, if it does
+abbrev pub IsMadeNext : Walk → Halts → Halt → Type 0
+IsMadeNext k h r = IsAfterNext k h (λ p r. r ≡ (p, None)) (next_made k) r
+
+-- a search from here on: up to the first event that is met, or right after one that comes to a breakpoint or is marked,
+-- with none that is met on the way
+abbrev pub IsSearchedOn : Walk → Halts → (World → ℕ × Event → World → Bool) → Halt → Type 0
+IsSearchedOn k h marks (q, Some why) = IsHaltFrom k h k.here (q, Some why)
+IsSearchedOn k h marks (q, None) =
+    IsBefore k.here q × IsPassed (is_met h) k.boot k.records k.here q × (halted_here (at k q) h ≡ None)
+
 -- CONTINUE
 abbrev pub IsGoneOn : Walk → Halts → Halt → Type 0
 IsGoneOn k h r = IsAfterNext k h (IsHaltFrom k h) (next_made k) r
@@ -75,6 +86,14 @@ moves_next s w (Some x) = moves s w x
 -- its step is next
 abbrev pub stands : Walk → ℕ → Bool
 stands k s = moves_next s (world_here k) (next_made k)
+
+-- its step is next, or its trap, and the instruction is within a range of code
+abbrev pub in_range : ℕ → Range → World → Option (ℕ × Event) → Bool
+in_range s g w None = false
+in_range s g w (Some x) = stands_within s g (held_by w x.0)
+
+abbrev pub stands_in : Walk → ℕ → Range → Bool
+stands_in k s g = in_range s g (world_here k) (next_made k)
 
 abbrev pub is_met_or_moves : Halts → ℕ → World → ℕ × Event → World → Bool
 is_met_or_moves h s w x u = is_met h w x u || moves s w x
@@ -122,6 +141,24 @@ pub data AreStepped (k : Walk) (h : Halts) (s : ℕ) (g : Range) : Position → 
   further : (p q : Position) → (r : Halt) → IsComeAfter (at k p) h s (q, None)
       → ends_of h s g (image_in (world_here (at k q)) s) ≡ None → AreStepped k h s g q r → AreStepped k h s g p r
 
+-- what comes of coming from one position to another, for a halt there or none
+abbrev pub EndsBy : Walk → Halts → ℕ → Range → Position → Option Halted → Halt → Type 0
+EndsBy k h s g q (Some why) r = r ≡ (q, Some why)
+EndsBy k h s g q None r = AreStepped k h s g q r
+
+abbrev pub IsOnFrom : Walk → Halts → ℕ → Range → Position → Option Halted → Halt → Type 0
+IsOnFrom k h s g q (Some why) r = r ≡ (q, Some why)
+IsOnFrom k h s g q None r = EndsBy k h s g q (ends_of h s g (image_in (world_here (at k q)) s)) r
+
+-- steps of a slot's process after one of them that led to a position
+abbrev pub IsSteppedFrom : Walk → Halts → ℕ → Range → Position → Halt → Type 0
+IsSteppedFrom k h s g from r = (q : Position) × (o : Option Halted) × IsComeFrom k h s from (q, o) × IsOnFrom k h s g q o r
+
+-- from one position on it is as from another, which it leads to; or it halts there
+abbrev pub LeadsOn : (Position → Halt → Type 0) → Position → Position → Option Halted → Type 0
+LeadsOn From p q None = (r : Halt) → From q r → From p r
+LeadsOn From p q (Some why) = From p (q, Some why)
+
 -- A STEP, or steps within a range: once the process's step is next
 abbrev pub IsStepped : Walk → Halts → ℕ → Range → Halt → Type 0
 IsStepped k h s g r =
@@ -145,13 +182,18 @@ IsSteppedBack k h s r =
     × (r ≡ (p, Some (back_at (at k p) h s))))
     ⊎ (IsPassed (λ w x u. moves s w x) k.boot k.records first k.here × (r ≡ (first, Some (AtBegin s))))
 
+-- why one halts before an event from p to q that changes watched bytes: which they are
+abbrev pub changed_by : Walk → Halts → Position → Position → Halted
+changed_by k h p q =
+    halted_or
+    (first_change (world_here (at k q)) (map (seen_in (world_here (at k p))) h.points.watches))
+    (There (slot_of_next (at k p) h))
+
 -- why one halts before an event from p to q: it is the step at a breakpoint, or changes watched bytes
 abbrev pub halt_before : Walk → Halts → Position → Position → Halted
 halt_before k h p q =
     if is_break k h.points p (next_event k.records p) then AtBreak (slot_of_next (at k p) h)
-    else halted_or
-    (first_change (world_here (at k q)) (map (seen_in (world_here (at k p))) h.points.watches))
-    (There (slot_of_next (at k p) h))
+    else changed_by k h p q
 
 -- BACK: to right before the last event that changes watched bytes or is the step at a breakpoint
 abbrev pub IsGoneBack : Walk → Halts → Halt → Type 0

@@ -1,7 +1,8 @@
 //! Going on.
 
-ghost use Rattle.std.specs.Prelude.{◌≡◌, IfErr, IfOk, Some};
+ghost use Rattle.std.specs.Prelude.{◌≡◌, IfOk, Some};
 ghost use Rattle.mx_walk.specs.Parts.{HasGrown};
+ghost use Rattle.mx_app_gdb.specs.Halts.{IsUnchanged};
 ghost use Rattle.mx_app_gdb.specs.Moves.{IsGoneOn};
 
 use crate::halts::{Halted, Halts};
@@ -18,9 +19,10 @@ pub(crate) fn go_on<P: Progress>(
     halts: &Halts,
     progress: &mut P,
 ) -> Result<(Walker, Halted), NoMemory>
+    requires unchanged { IsUnchanged walker halts.now }
     ensures same { IfOk result (λ r. r.0 ≡ record walker { here = r.0.here }) }
     ensures halted { IfOk result (λ r. IsGoneOn walker halts.now (r.0.here, Some r.1)) }
-    ensures grown { IfErr result (λ _. HasGrown (P.shown progress.old) (P.shown progress.new)) }
+    ensures grown { HasGrown (P.shown progress.old) (P.shown progress.new) }
 {
     let (mut walker, mut halted) = make_next(alloc, walker, halts, progress)?;
     while halted.is_none() {

@@ -1,8 +1,13 @@
 //! Going back.
 
-ghost use Rattle.std.specs.Prelude.{◌≡◌, IfErr, IfOk, Some};
+ghost use Rattle.std.specs.Prelude.{◌≡◌, IfOk, MatchOption, Some, false, option_map, true};
 ghost use Rattle.mx_walk.specs.Parts.{HasGrown};
-ghost use Rattle.mx_app_gdb.specs.Moves.{IsGoneBack, IsSteppedBack};
+ghost use Rattle.mx_machine.specs.Machine.{world_of};
+ghost use Rattle.mx_machine.specs.World.{held_by};
+ghost use Rattle.mx_walk.specs.Positions.{next_position};
+ghost use Rattle.mx_app_look.specs.Marks.{leaves_breakpoint};
+ghost use Rattle.mx_app_look.specs.Searches.{next_made};
+ghost use Rattle.mx_app_gdb.specs.Moves.{IsGoneBack, IsSteppedBack, changed_by};
 
 use crate::halts::{Halted, Halts};
 use crate::marks::Moving;
@@ -24,7 +29,7 @@ pub(crate) fn step_back<P: Progress>(
 ) -> Result<(Walker, Halted), NoMemory>
     ensures same { IfOk result (λ r. r.0 ≡ record walker { here = r.0.here }) }
     ensures halted { IfOk result (λ r. IsSteppedBack walker halts.now slot (r.0.here, Some r.1)) }
-    ensures grown { IfErr result (λ _. HasGrown (P.shown progress.old) (P.shown progress.new)) }
+    ensures grown { HasGrown (P.shown progress.old) (P.shown progress.new) }
 {
     let (walker, is_there) = walker.seek_back(alloc, &mut Moving::new(slot), progress)?;
     if !is_there {
@@ -38,7 +43,14 @@ pub(crate) fn step_back<P: Progress>(
 }
 
 /// The slot whose step at a breakpoint an event is, if it is one.
-fn break_at(machine: &Machine, halts: &Halts, next: NextEvent) -> Option<Slot> {
+fn break_at(machine: &Machine, halts: &Halts, next: NextEvent) -> Option<Slot>
+    ensures { MatchOption result
+        (leaves_breakpoint halts.now.points (world_of machine.now) (next.actor, next.event)
+        (world_of machine.now) ≡ false)
+        (λ s. (leaves_breakpoint halts.now.points (world_of machine.now) (next.actor, next.event)
+        (world_of machine.now) ≡ true)
+        × (option_map (λ l. l.slot) (held_by (world_of machine.now) next.actor) ≡ Some s)) }
+{
     match next.event {
         Event::Step => {
             let slot = machine.slot_on(next.actor)?;
@@ -61,7 +73,14 @@ fn change_by<P: Progress>(
     halts: &Halts,
     next: NextEvent,
     progress: &mut P,
-) -> Result<(Walker, Halted), NoMemory> {
+) -> Result<(Walker, Halted), NoMemory>
+    requires made { next_made walker ≡ Some (next.actor, next.event) }
+    requires position { next.position ≡ next_position walker.records walker.here }
+    ensures same { IfOk result (λ r. r.0 ≡ walker) }
+    ensures halted { IfOk result (λ r. r.1
+        ≡ changed_by walker halts.now walker.here next.position) }
+    ensures grown { HasGrown (P.shown progress.old) (P.shown progress.new) }
+{
     let here = walker.here();
     let seen = all_bytes(alloc, walker.machine(), halts.points.watches.as_slice())?;
     let walker = walker.go_to(alloc, next.position, progress)?;
@@ -83,7 +102,7 @@ pub(crate) fn go_back<P: Progress>(
 ) -> Result<(Walker, Halted), NoMemory>
     ensures same { IfOk result (λ r. r.0 ≡ record walker { here = r.0.here }) }
     ensures halted { IfOk result (λ r. IsGoneBack walker halts.now (r.0.here, Some r.1)) }
-    ensures grown { IfErr result (λ _. HasGrown (P.shown progress.old) (P.shown progress.new)) }
+    ensures grown { HasGrown (P.shown progress.old) (P.shown progress.new) }
 {
     let mut mark = points_mark(alloc, &halts.points)?;
     let (walker, is_there) = walker.seek_back(alloc, &mut mark, progress)?;

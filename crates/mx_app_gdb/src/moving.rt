@@ -1,10 +1,12 @@
 //! The parts of a move: the next event, and a search on.
 
-ghost use Rattle.std.specs.Prelude.{◌≡◌, ◌++◌, IfErr, IfOk, MatchOption, None, OnOk, Some};
-ghost use Rattle.mx_walk.specs.Parts.{HasGrown, walk_between};
+ghost use Rattle.std.specs.Prelude.{◌≡◌, IfOk, MatchOption, None, Some};
+ghost use Rattle.mx_walk.specs.Parts.{HasGrown};
 ghost use Rattle.mx_walk.specs.Positions.{next_position};
 ghost use Rattle.mx_app_look.specs.Searches.{next_made};
-ghost use Rattle.mx_app_gdb.specs.Moves.{stands};
+ghost use Rattle.mx_app_gdb.specs.Halts.{IsUnchanged};
+ghost use Rattle.mx_app_gdb.specs.Moves.{IsMadeNext, IsSearchedOn, stands, stands_in};
+ghost use Rattle.mx_walk.specs.Positions.{IsPosition, IsUpTo};
 
 use crate::halts::{Halted, Halts, halted_here};
 use crate::marks::{Faulting, moves, stands_within};
@@ -38,7 +40,9 @@ pub(crate) fn stands(walker: &Walker, slot: Slot) -> bool
 }
 
 /// Whether the next event is a step of a slot's process within a range of code.
-pub(crate) fn stands_in(walker: &Walker, slot: Slot, range: Range) -> bool {
+pub(crate) fn stands_in(walker: &Walker, slot: Slot, range: Range) -> bool
+    ensures { result ≡ stands_in walker.now slot range }
+{
     match next_made(walker) {
         Some(next) => stands_within(walker.machine(), next.actor, slot, range),
         None => false,
@@ -52,8 +56,10 @@ pub(crate) fn make_next<P: Progress>(
     halts: &Halts,
     progress: &mut P,
 ) -> Result<(Walker, Option<Halted>), NoMemory>
+    requires unchanged { IsUnchanged walker halts.now }
     ensures same { IfOk result (λ r. r.0 ≡ record walker { here = r.0.here }) }
-    ensures grown { IfErr result (λ _. HasGrown (P.shown progress.old) (P.shown progress.new)) }
+    ensures made { IfOk result (λ r. IsMadeNext walker halts.now (r.0.here, r.1)) }
+    ensures grown { HasGrown (P.shown progress.old) (P.shown progress.new) }
 {
     match next_made(&walker) {
         Some(next) => {
@@ -77,9 +83,13 @@ pub(crate) fn search_on<M: Mark + Drop, P: Progress>(
     mark: M,
     progress: &mut P,
 ) -> Result<Option<Halted>, NoMemory>
+    requires unchanged { IsUnchanged walker.old halts.now }
     ensures same { walker.new ≡ record walker.old { here = walker.new.here } }
-    ensures shown { P.shown progress.new ≡ P.shown progress.old
-        ++ walk_between walker.old.records walker.old.here walker.new.here }
+    ensures position { IsPosition walker.new.records walker.new.here
+        × IsUpTo walker.new.here walker.new.last }
+    ensures searched { IfOk result (λ halted. IsSearchedOn walker.old halts.now (M.marks mark)
+        (walker.new.here, halted)) }
+    ensures grown { HasGrown (P.shown progress.old) (P.shown progress.new) }
 {
     let places = break_places(alloc, &halts.points)?;
     let points = halts_mark(alloc, &halts.points)?;

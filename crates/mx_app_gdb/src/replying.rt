@@ -5,6 +5,7 @@ ghost use Rattle.mx_app_step.specs.Failure.{IsWanting};
 ghost use Rattle.mx_walk.specs.Parts.{HasGrown};
 ghost use Rattle.mx_app_gdb.specs.declared.replying.After.TheVariants as afters;
 ghost use Rattle.mx_rsp.specs.Moves.{continues};
+ghost use Rattle.mx_app_gdb.specs.Halts.{IsUnchanged};
 ghost use Rattle.mx_app_gdb.specs.Points.{inserted};
 ghost use Rattle.mx_app_gdb.specs.Replied.{AreHalts, IsConsoleReply, IsDetached, IsGone, IsInserted, IsMovedBy, IsReplied, IsRepliedToWord, IsResumed, IsReversed, Says, SaysMoved, after_word, going, here_reply, left, range_of, reading, reply_to_word, text_of, with_names, without_point, word_reply};
 ghost use Rattle.mx_app_gdb.specs.Replies.{done_text};
@@ -86,6 +87,7 @@ fn go<P: Progress>(
     way: Way,
     progress: &mut P,
 ) -> Result<(Walker, Halted), NoMemory>
+    requires unchanged { IsUnchanged walker halts.now }
     ensures same { IfOk result (λ r. r.0 ≡ record walker { here = r.0.here }) }
     ensures gone { IfOk result (λ r. IsGone way walker halts.now (r.0.here, Some r.1)) }
     ensures grown { HasGrown (P.shown progress.old) (P.shown progress.new) }
@@ -100,7 +102,8 @@ fn go<P: Progress>(
 
 /// What counts on the way of a move of a slot's process.
 fn halts_on(alloc: Global, stub: &Stub, mover: Slot, others: bool) -> Result<Halts, AllocError>
-    ensures { IfOk result (λ h. AreHalts stub.now mover others h) }
+    ensures halts { IfOk result (λ h. AreHalts stub.now mover others h) }
+    ensures unchanged { IfOk result (λ h. IsUnchanged stub.now.sight.walker h) }
 {
     let Sight { walker, points } = &stub.sight;
     Halts::new(alloc, walker, points, stub.threads, mover, others)
@@ -114,6 +117,7 @@ fn move_along<P: Progress>(
     way: Way,
     progress: &mut P,
 ) -> Result<(Stub, Reply), Failure>
+    requires unchanged { IsUnchanged stub.sight.walker halts.now }
     ensures err { IfErr result IsWanting }
     ensures replied { IfOk result (λ r. SaysMoved (IsMovedBy way halts.now stub) r.0
         (text_of r.1) r.1.after) }

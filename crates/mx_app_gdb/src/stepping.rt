@@ -1,10 +1,11 @@
 //! Steps of a slot's process. Between two of them others may be on the processor.
 
-ghost use Rattle.std.specs.Prelude.{◌≡◌, IfErr, IfOk, Some};
+ghost use Rattle.std.specs.Prelude.{◌≡◌, IfOk, Some, true};
 ghost use Rattle.mx_print_answers.specs.Slots.{image_in};
 ghost use Rattle.mx_walk.specs.Parts.{HasGrown};
 ghost use Rattle.mx_walk.specs.Walks.{world_here};
-ghost use Rattle.mx_app_gdb.specs.Moves.{IsCome, IsStepped, ends_of};
+ghost use Rattle.mx_app_gdb.specs.Halts.{IsUnchanged};
+ghost use Rattle.mx_app_gdb.specs.Moves.{AreStepped, IsCome, IsStepped, IsSteppedFrom, LeadsOn, ends_of, stands};
 
 use crate::halts::{Halted, Halts};
 use crate::marks::{ComingOut, Ending};
@@ -24,9 +25,10 @@ fn go_to_step<P: Progress>(
     slot: Slot,
     progress: &mut P,
 ) -> Result<(Walker, Option<Halted>), NoMemory>
+    requires unchanged { IsUnchanged walker halts.now }
     ensures same { IfOk result (λ r. r.0 ≡ record walker { here = r.0.here }) }
     ensures come { IfOk result (λ r. IsCome walker halts.now slot (r.0.here, r.1)) }
-    ensures grown { IfErr result (λ _. HasGrown (P.shown progress.old) (P.shown progress.new)) }
+    ensures grown { HasGrown (P.shown progress.old) (P.shown progress.new) }
 {
     if stands(&walker, slot) {
         return Ok((walker, None));
@@ -46,7 +48,13 @@ fn leave_range<P: Progress>(
     slot: Slot,
     range: Range,
     progress: &mut P,
-) -> Result<(Walker, Option<Halted>), NoMemory> {
+) -> Result<(Walker, Option<Halted>), NoMemory>
+    requires unchanged { IsUnchanged walker halts.now }
+    ensures same { IfOk result (λ r. r.0 ≡ record walker { here = r.0.here }) }
+    ensures on { IfOk result (λ r. LeadsOn (IsSteppedFrom walker halts.now slot range)
+        walker.here r.0.here r.1) }
+    ensures grown { HasGrown (P.shown progress.old) (P.shown progress.new) }
+{
     let mut walker = walker;
     let mut halted = None;
     while halted.is_none() && stands_in(&walker, slot, range) {
@@ -83,7 +91,14 @@ fn step_within<P: Progress>(
     slot: Slot,
     range: Range,
     progress: &mut P,
-) -> Result<(Walker, Option<Halted>), NoMemory> {
+) -> Result<(Walker, Option<Halted>), NoMemory>
+    requires unchanged { IsUnchanged walker halts.now }
+    requires stands { stands walker slot ≡ true }
+    ensures same { IfOk result (λ r. r.0 ≡ record walker { here = r.0.here }) }
+    ensures on { IfOk result (λ r. LeadsOn (AreStepped walker halts.now slot range)
+        walker.here r.0.here r.1) }
+    ensures grown { HasGrown (P.shown progress.old) (P.shown progress.new) }
+{
     let (walker, halted) = make_next(alloc, walker, halts, progress)?;
     if halted.is_some() {
         return Ok((walker, halted));
@@ -109,9 +124,10 @@ pub(crate) fn step_on<P: Progress>(
     range: Range,
     progress: &mut P,
 ) -> Result<(Walker, Halted), NoMemory>
+    requires unchanged { IsUnchanged walker halts.now }
     ensures same { IfOk result (λ r. r.0 ≡ record walker { here = r.0.here }) }
     ensures halted { IfOk result (λ r. IsStepped walker halts.now slot range (r.0.here, Some r.1)) }
-    ensures grown { IfErr result (λ _. HasGrown (P.shown progress.old) (P.shown progress.new)) }
+    ensures grown { HasGrown (P.shown progress.old) (P.shown progress.new) }
 {
     let (mut walker, mut halted) = go_to_step(alloc, walker, halts, slot, progress)?;
     while halted.is_none() {
