@@ -1,5 +1,5 @@
 -- The talk: bytes that come, and bytes that are written (our own).
-use Rattle.std.specs.Prelude.{◌≡◌, ℕ, Bool, true, false, if◌then◌else◌}
+use Rattle.std.specs.Prelude.{◌≡◌, ℕ, suc, ◌^◌, ◌-◌, Bool, true, false, if◌then◌else◌}
 use Rattle.std.specs.Prelude.{List, [], ◌∷◌, ◌++◌, codes, length, map, min, nat_lt, Option, Some, None, Result, Ok, Err}
 use Rattle.mx_rsp.specs.declared.hearing.Heard.{Heard}
 use Rattle.mx_rsp.specs.declared.hearing.Heard.TheVariants.{Again, Nothing, Packet, TooLong, Wrong}
@@ -77,19 +77,20 @@ IsHeardAs t (Packet p) o text = IsAnswered t p o text
 abbrev pub IsByteHeard : Talk → ℕ → Option Talk → List ℕ → Type 0
 IsByteHeard t b o text = IsHeardAs (read_to t b) (heard_of t.reader b) o text
 
--- ---- THE TALK, over the bytes that come, each as a line of its own, up to its end or to that of the input: each byte
--- is answered before the next one is read
+-- ---- THE TALK, over the bytes that come, each as a line of its own: up to its end, to that of the input, or to so many
+-- bytes. Each is answered before the next one is read
 
-abbrev pub IsTalkOf : Option Talk → List (Option (List ℕ)) → List ℕ → Type 0
-IsTalkOf None typed text = (typed ≡ []) × (text ≡ [])
-IsTalkOf (Some t) [] text = text ≡ []
-IsTalkOf (Some t) (None ∷ xs) text = (xs ≡ []) × (text ≡ [])
-IsTalkOf (Some t) (Some l ∷ xs) text =
-    (b : ℕ) × (o : Option Talk) × (now : List ℕ) × (rest : List ℕ)
-    × (l ≡ b ∷ []) × IsByteHeard t b o now × IsTalkOf o xs rest × (text ≡ now ++ rest)
+abbrev pub IsTalkOf : ℕ → Option Talk → List (Option (List ℕ)) → List ℕ → Type 0
+IsTalkOf n None typed text = (typed ≡ []) × (text ≡ [])
+IsTalkOf n (Some t) [] text = (n ≡ 0) × (text ≡ [])
+IsTalkOf n (Some t) (None ∷ xs) text = (xs ≡ []) × (text ≡ [])
+IsTalkOf n (Some t) (Some l ∷ xs) text =
+    (m : ℕ) × (b : ℕ) × (o : Option Talk) × (now : List ℕ) × (rest : List ℕ)
+    × (n ≡ suc m) × (l ≡ b ∷ []) × IsByteHeard t b o now × IsTalkOf m o xs rest × (text ≡ now ++ rest)
 
+-- at most as many as a number of 64 bits counts
 abbrev pub IsTalk : Talk → List (Option (List ℕ)) → List ℕ → Type 0
-IsTalk t typed text = IsTalkOf (Some t) typed text
+IsTalk t typed text = IsTalkOf (2 ^ 64 - 1) (Some t) typed text
 
 -- ---- where it begins
 

@@ -1,6 +1,6 @@
 -- What is heard of a packet, whole or damaged.
-use Rattle.std.proofs.Common.{◌≡◌, ◌≢◌, ◌∙◌, ◌++◌, ◌+◌, ◌-◌, ◌%◌, ◌<◌, ◌≤◌, ℕ, zero, suc, Bool, true, false, cond, List, [], ◌∷◌, length, take, drop, get_or, Option, Some, None, refl, sym, ap, subst, arith, append_assoc, length-append}
-use Rattle.std.specs.Prelude.{slice_index, slice_range, ◌==◌, ◌&&◌, nat_lt, nat_le}
+use Rattle.std.proofs.Common.{◌≡◌, ◌≢◌, ◌∙◌, ◌++◌, ◌+◌, ◌-◌, ◌<◌, ◌≤◌, ℕ, zero, suc, Bool, true, false, cond, List, [], ◌∷◌, length, take, drop, Option, Some, None, refl, sym, ap, subst, arith, append_assoc, length-append}
+use Rattle.std.specs.Prelude.{slice_index, ◌==◌, ◌&&◌, nat_lt, nat_le}
 use Rattle.std.specs.List.{remove}
 use Rattle.std.proofs.Math.Seq.{take-append_seam, drop-append_seam, get_or-append_seam}
 use Rattle.std.proofs.lemmas.Bool.{ne_eqb, le-leb, le-ltb, eq-eqb}
@@ -11,7 +11,7 @@ use Rattle.mx_rsp.specs.declared.hearing.Heard.{Heard}
 use Rattle.mx_rsp.specs.declared.hearing.Heard.TheVariants.{Nothing, Packet, TooLong, Wrong}
 use Rattle.mx_rsp.specs.Packets.{body_of, checksum, packet, payload_of}
 use Rattle.mx_rsp.specs.Hearing.{all_heard, also, body_in, digits_in, further, heard_of, heard_within, is_sum, is_whole, outside, reading_after, reading_within, said}
-use Rattle.mx_rsp.specs.Damage.{IsDamaged, IsHeard, IsOneOff, IsRefusedDamaged, in_body, in_digits}
+use Rattle.mx_rsp.specs.Damage.{IsDamaged, IsHeard, IsRefusedDamaged, in_body, in_digits}
 use Rattle.mx_rsp.proofs.PacketLemmas.{ArePlain, IsPlain, and_true, body_plain, digits_of_byte, other_sum, passed, plain_append, plain_back, plain_front, read_again, taken}
 
 and_false : (p q : Bool) → q ≡ false → (p && q) ≡ false

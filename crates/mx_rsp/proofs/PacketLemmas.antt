@@ -1,13 +1,13 @@
 -- Bodies, checksums and digits.
-use Rattle.std.proofs.Common.{◌≡◌, ◌≢◌, ◌∙◌, ◌++◌, ◌+◌, ◌*◌, ◌/◌, ◌%◌, ◌<◌, ◌≤◌, ◌⊎◌, inl, inr, ℕ, zero, suc, Bool, true, false, cond, List, [], ◌∷◌, length, Option, Some, None, refl, sym, ap, subst, arith}
-use Rattle.std.specs.Prelude.{slice_index, bit_xor, ◌==◌, ◌&&◌, nat_lt, nat_le}
-use Rattle.std.specs.List.{flat_map, sum}
+use Rattle.std.proofs.Common.{◌≡◌, ◌≢◌, ◌∙◌, ◌++◌, ◌+◌, ◌*◌, ◌/◌, ◌%◌, ◌<◌, ◌≤◌, inl, inr, ℕ, zero, suc, Bool, true, false, cond, List, [], ◌∷◌, Option, Some, None, refl, sym, ap, subst, arith}
+use Rattle.std.specs.Prelude.{slice_index, ◌==◌, ◌&&◌, nat_lt, nat_le}
+use Rattle.std.specs.List.{sum}
 use Rattle.std.proofs.lemmas.Bool.{cases_eq, ne_eqb, lt-ltb, le-leb}
 use Rattle.std.proofs.lemmas.List.Sums.{sum_by-append, sum_by-cons}
 use Rattle.hex.specs.Hex.{lower_digits, encode_lower, encode_with}
 use Rattle.mx_text.specs.Bytes.{digit_value}
 use Rattle.mx_text.specs.NumberFields.{number_up_to}
-use Rattle.mx_rsp.specs.Packets.{is_mark, escaped, body_of, checksum, payload_after, payload_of}
+use Rattle.mx_rsp.specs.Packets.{escaped, body_of, checksum, payload_after, payload_of}
 
 pub passed : {A : Type 0} (c : Bool) (a b : A) → c ≡ false → cond c a b ≡ b
 passed true a b h = cc

@@ -1,5 +1,5 @@
 -- A list of threads, one more.
-use Rattle.std.proofs.Common.{◌≡◌, ◌∙◌, ◌++◌, ◌+◌, ◌<◌, ℕ, suc, List, ◌∷◌, codes, drop, get_or, length, ap, sym, arith}
+use Rattle.std.proofs.Common.{◌≡◌, ◌∙◌, ◌++◌, ◌+◌, ◌<◌, ℕ, suc, List, codes, drop, get_or, length, ap, sym, arith}
 use Rattle.std.proofs.Math.Seq.{drop-cons}
 use Rattle.mx_rsp.specs.declared.replies.ThreadName.{ThreadName}
 use Rattle.mx_rsp.specs.Replies.{thread_text, threads_after}

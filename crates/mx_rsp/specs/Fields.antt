@@ -1,5 +1,5 @@
 -- The parts of a request ("Debugging with GDB", "Remote Serial Protocol", "Overview" and "Packets").
-use Rattle.std.specs.Prelude.{ℕ, ◌+◌, ◌==◌, if◌then◌else◌, List, [], ◌∷◌, length, take, drop, position, Option, Some, None, codes}
+use Rattle.std.specs.Prelude.{ℕ, ◌+◌, ◌==◌, if◌then◌else◌, List, length, take, drop, position, Option, Some, None, codes}
 use Rattle.std.specs.Str.{bytes_eq}
 use Rattle.mx_text.specs.Fields.{◌>>=◌}
 use Rattle.mx_text.specs.NumberFields.{number_up_to}

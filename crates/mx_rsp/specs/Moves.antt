@@ -1,7 +1,6 @@
 -- What goes on ("Debugging with GDB", "Packets", `vCont`).
 use Rattle.std.specs.Prelude.{ℕ, ◌==◌, if◌then◌else◌, Bool, true, false, List, [], ◌∷◌, length, Option, Some, None}
 use Rattle.mx_text.specs.Fields.{◌>>=◌}
-use Rattle.mx_rsp.specs.declared.fields.Which.{Which}
 use Rattle.mx_rsp.specs.declared.fields.Which.TheVariants.{All}
 use Rattle.mx_rsp.specs.declared.moves.Action.{Action}
 use Rattle.mx_rsp.specs.declared.moves.Action.TheVariants.{Continue, Step, StepWithin}

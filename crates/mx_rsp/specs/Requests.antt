@@ -1,6 +1,5 @@
 -- What the payload of a packet asks for ("Debugging with GDB", "Packets", "General Query Packets").
-use Rattle.std.specs.Prelude.{ℕ, ◌==◌, ◌||◌, if◌then◌else◌, Bool, List, [], ◌∷◌, Option, Some, None, codes, length, unwrap_or, Result, Ok, Err}
-use Rattle.std.specs.List.{slice_split, list_any}
+use Rattle.std.specs.Prelude.{ℕ, ◌==◌, ◌||◌, if◌then◌else◌, Bool, List, [], ◌∷◌, ◌++◌, Option, Some, None, codes, length, unwrap_or, Result, Ok, Err}
 use Rattle.std.specs.Str.{bytes_eq}
 use Rattle.hex.specs.Hex.{decode_of}
 use Rattle.hex.specs.declared.error.FromHexError.{FromHexError}
@@ -21,9 +20,15 @@ use Rattle.mx_rsp.specs.Words.{verb_of, verb_text, word_of}
 abbrev pub ends_feature : ℕ → Bool
 ends_feature b = (b == 58) || (b == 59)
 
+-- the first bytes of a feature and those that follow have a feature of this name
+abbrev pub has_feature : List ℕ → List ℕ → List ℕ → Bool
+has_feature name front [] = bytes_eq front name
+has_feature name front (b ∷ text) =
+    if ends_feature b then bytes_eq front name || has_feature name [] text else has_feature name (front ++ b ∷ []) text
+
 -- gdb names processes
 abbrev pub names_processes : List ℕ → Bool
-names_processes text = list_any (λ f. bytes_eq f (codes "multiprocess+")) (slice_split ends_feature text)
+names_processes text = has_feature (codes "multiprocess+") [] text
 
 -- a process's number, which is left out where it is clear
 abbrev pub process_of : List ℕ → Option (Option ℕ)

@@ -1,6 +1,6 @@
 //! The parts of a request: numbers, and whom it is about.
 
-ghost use Rattle.std.specs.Prelude.{◌≡◌, MatchOption, None, Some};
+ghost use Rattle.std.specs.Prelude.{◌≡◌, ◌==◌, MatchOption, None, Some, position};
 ghost use Rattle.mx_rsp.specs.Fields.{after, cut, number, process_by, two_numbers, which_of, who_of};
 
 use mx_text::number_up_to;
@@ -24,12 +24,19 @@ pub(crate) fn after<'a>(word: &[u8], text: &'a [u8]) -> Option<&'a [u8]>
     Some(rest)
 }
 
+/// How many bytes stand before the first such byte.
+fn first_at(text: &[u8], mark: u8) -> Option<usize>
+    ensures { result ≡ position (λ b. b == mark) text.now }
+{
+    text.iter().position(|byte| *byte == mark)
+}
+
 /// What stands before the first such byte, and what after it.
 pub(crate) fn cut(text: &[u8], mark: u8) -> Option<(&[u8], &[u8])>
     ensures { MatchOption result (cut mark text.now ≡ None) (λ p. cut mark text.now
         ≡ Some (p.0.now, p.1.now)) }
 {
-    let at = text.iter().position(|byte| *byte == mark)?;
+    let at = first_at(text, mark)?;
     Some((&text[..at], &text[at + 1..]))
 }
 

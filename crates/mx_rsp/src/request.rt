@@ -2,7 +2,7 @@
 
 ghost use Rattle.std.specs.Prelude.{◌≡◌, IfOk};
 ghost use Rattle.mx_rsp.specs.Words.{verb_of};
-ghost use Rattle.mx_rsp.specs.Requests.{after_verb, command_of, file_of, names_processes, point_of, process_of, request_by, request_of, unpoint_of};
+ghost use Rattle.mx_rsp.specs.Requests.{after_verb, command_of, ends_feature, file_of, names_processes, point_of, process_of, request_by, request_of, unpoint_of};
 ghost use Rattle.hex.specs.Hex.{decode_of};
 ghost use Rattle.mx_rsp.specs.declared.words.Verb.TheVariants as verbs;
 
@@ -63,12 +63,29 @@ pub enum Request {
     Unknown,
 }
 
+/// The feature by which gdb names processes.
+const NAMES: &[u8] = b"multiprocess+";
+
+fn ends_feature(byte: u8) -> bool
+    ensures { result ≡ ends_feature byte }
+{
+    byte == b':' || byte == b';'
+}
+
 /// Whether gdb names processes, by the features that it has.
 fn names_processes(text: &[u8]) -> bool
     ensures { result ≡ names_processes text.now }
 {
-    text.split(|byte| *byte == b':' || *byte == b';')
-        .any(|feature| feature == b"multiprocess+".as_slice())
+    let mut begin = 0;
+    for at in 0..text.len() {
+        if ends_feature(text[at]) {
+            if &text[begin..at] == NAMES {
+                return true;
+            }
+            begin = at + 1;
+        }
+    }
+    &text[begin..] == NAMES
 }
 
 /// A process's number, if there is one.
