@@ -587,4 +587,7 @@ def main(words):
 
 
 if __name__ == "__main__":
-    main(sys.argv[1:])
+    if sys.argv[1:] == ["--help"]:
+        print(__doc__, end="")
+    else:
+        main(sys.argv[1:])

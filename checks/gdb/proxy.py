@@ -60,4 +60,7 @@ def main(how, number, *command):
 
 
 if __name__ == "__main__":
-    main(*sys.argv[1:])
+    if sys.argv[1:] == ["--help"]:
+        print(__doc__, end="")
+    else:
+        main(*sys.argv[1:])

@@ -154,7 +154,7 @@ fn replies(rt: HostRuntime) -> Result<(), Fail> {
     assert!(rt; list.as_slice() == b"mp1b.1b,p1b.1b".as_slice());
     let mut all = Vec::new(alloc);
     push_registers(alloc, &mut all, &[1, 2, 3, 4, 5, 6, 7, 8, 9, 0x202])?;
-    assert!(rt; all.len() == 128 && all.as_slice()[..10] == *b"0100000002");
+    assert!(rt; all.len() == 128 && &all.as_slice()[..10] == b"0100000002".as_slice());
     let mut part = Vec::new(alloc);
     push_part(&mut part, b"<target/>", 1, 6)?;
     push_part(&mut part, b"<target/>", 7, 6)?;
