@@ -1,5 +1,5 @@
 -- A talk, a byte more.
-use Rattle.std.proofs.Common.{◌≡◌, ◌∙◌, ◌-◌, ◌+◌, ◌<◌, ◌≤◌, ◌++◌, ℕ, suc, List, [], ◌∷◌, append-nil, append_assoc, Option, Some, None, refl, sym, ap, subst, arith}
+use Rattle.std.proofs.Common.{◌≡◌, ◌-◌, ◌+◌, ◌<◌, ◌≤◌, ◌++◌, ℕ, suc, List, [], ◌∷◌, append-nil, append_assoc, Option, Some, None, refl, sym, subst, arith}
 use Rattle.mx_app_gdb.specs.declared.talking.Talk.{Talk}
 use Rattle.mx_app_gdb.specs.Talks.{IsByteHeard, IsTalkOf}
 

@@ -1,5 +1,5 @@
 -- Points that are set one after the other.
-use Rattle.std.proofs.Common.{◌≡◌, ◌∙◌, ◌+◌, ◌<◌, ℕ, Bool, true, false, List, [], ◌∷◌, drop, filter, get_or, length, Option, Some, None, Result, Ok, Err, sym, ap}
+use Rattle.std.proofs.Common.{◌≡◌, ◌∙◌, ◌+◌, ◌<◌, ℕ, Bool, true, false, List, drop, filter, get_or, length, Option, Some, None, Result, Ok, Err, sym, ap}
 use Rattle.std.specs.Prelude.{OnOk, OnErr, unwrap_or}
 use Rattle.mx_debug.specs.declared.points.Breakpoint.{Breakpoint}
 use Rattle.mx_debug.specs.Points.{with_point}

@@ -1,5 +1,5 @@
 -- Commands for the stub itself (our own).
-use Rattle.std.specs.Prelude.{ℕ, Bool, true, false, List, Option, Some, None, codes}
+use Rattle.std.specs.Prelude.{ℕ, Bool, true, false, List, Option, Some, codes}
 use Rattle.mx_app_look.specs.declared.request.Request.{Request}
 use Rattle.mx_app_look.specs.declared.request.Request.TheVariants.{Back, Continue, Forward, Point, Quit, Reverse, Step, StepBack, Until}
 

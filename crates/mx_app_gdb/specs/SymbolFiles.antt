@@ -1,5 +1,5 @@
 -- The names of the files that gdb reads symbols from (our own).
-use Rattle.std.specs.Prelude.{◌≡◌, ℕ, ◌+◌, ◌-◌, ◌==◌, if◌then◌else◌, List, [], ◌∷◌, ◌++◌, codes, drop, length, take}
+use Rattle.std.specs.Prelude.{ℕ, ◌+◌, ◌-◌, ◌==◌, if◌then◌else◌, List, [], ◌∷◌, ◌++◌, codes, drop, length, take}
 use Rattle.std.specs.Str.{bytes_eq}
 
 -- how many bytes of a name come up to its last stroke

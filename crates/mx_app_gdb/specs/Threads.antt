@@ -1,5 +1,5 @@
 -- Which processes gdb has, and whom a request is about (our own).
-use Rattle.std.specs.Prelude.{◌≡◌, ℕ, ◌+◌, ◌-◌, ◌==◌, ◌&&◌, nat_lt, not, Bool, true, false}
+use Rattle.std.specs.Prelude.{ℕ, ◌+◌, ◌-◌, ◌==◌, ◌&&◌, nat_lt, not, Bool, true, false}
 use Rattle.std.specs.Prelude.{if◌then◌else◌, Option, Some, None, replicate, slice_index_or, unwrap_or}
 use Rattle.mx_rsp.specs.declared.fields.Which.{Which}
 use Rattle.mx_rsp.specs.declared.fields.Which.TheVariants.{All, Any, One}

@@ -1,4 +1,4 @@
-use Rattle.std.proofs.Common.{◌≡◌, ℕ, List, Vec, Global, map, take}
+use Rattle.std.proofs.Common.{◌≡◌, ℕ, Vec, Global, map, take}
 use Rattle.mx_app_gdb.specs.Talks.{file_names}
 use Rattle.mx_app_gdb.proofs.symbol_files.symbol_files.Given as goal
 
