@@ -87,12 +87,12 @@ here_reply s r = []
 -- ---- moves
 
 -- what a move of a slot's process halts at: points and faults of its own, or of all that gdb has
-pub record AreHalts (s : Stub) (mover : ℕ) (others : Bool) (h : Halts) : Type 0 where
+pub record AreHalts (s : Stub) (slot : ℕ) (others : Bool) (h : Halts) : Type 0 where
   pub threads : h.counted.threads ≡ s.threads
-  pub only : h.counted.only ≡ (if others then None else Some mover)
+  pub only : h.counted.only ≡ (if others then None else Some slot)
   pub points : h.points ≡ counted_points s.sight.points h.counted
   pub seen : map as_seen h.seen.items ≡ map (seen_in (world_of_stub s)) h.points.watches
-  pub mover : h.mover ≡ mover
+  pub mover : h.mover ≡ slot
 
 -- where it led; the process of the halt is read from then on
 abbrev pub moved_to : Stub → Position → Halted → Stub

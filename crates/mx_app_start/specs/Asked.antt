@@ -1,5 +1,5 @@
 -- What a reader was asked for (our own).
-use Rattle.std.specs.Prelude.{ℕ, Bool, if◌then◌else◌, List, map, Option, Some, None, Result, Ok, Err}
+use Rattle.std.specs.Prelude.{ℕ, Bool, if◌then◌else◌, List, map, Option, Some, None, Result, Ok, Err, [], ◌∷◌}
 use Rattle.std.specs.declared.io.ErrorKind.{ErrorKind}
 use Rattle.mx_app_start.specs.declared.noted.Noted.{Noted}
 
