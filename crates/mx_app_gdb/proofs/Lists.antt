@@ -1,5 +1,5 @@
 -- Lists that grow by one element, or by what is left.
-use Rattle.std.proofs.Common.{◌≡◌, ◌∙◌, ◌+◌, ◌-◌, ◌≤◌, ◌<◌, ◌++◌, ℕ, zero, suc, Bool, true, false, cond, List, [], ◌∷◌, take, drop, filter, get_or, length, Some, None, refl, sym, ap, arith}
+use Rattle.std.proofs.Common.{◌≡◌, ◌∙◌, ◌+◌, ◌-◌, ◌≤◌, ◌<◌, ◌++◌, ℕ, zero, suc, Bool, true, false, cond, List, [], ◌∷◌, append_assoc, map, take, drop, filter, get_or, length, Some, None, refl, sym, ap, arith}
 use Rattle.std.proofs.Math.Seq.{drop-cons}
 use Rattle.std.specs.Prelude.{slice_get}
 use Rattle.std.specs.List.{range_with_len}
@@ -66,3 +66,20 @@ range_next n i lt = let e : n - i ≡ suc (n - (i + 1)) = omega (arith, lt) in a
 
 pub range_over : (n i : ℕ) → n ≤ i → range_with_len i (n - i) ≡ []
 range_over n i ge = let e : n - i ≡ 0 = omega (arith, ge) in ap (range_with_len i) e
+
+-- those of the numbers that are left that pass a test, after those so far
+module _ {X : Type 0} (f : ℕ → Bool) (g : ℕ → X) (n i : ℕ) (lt : i < n) (front whole : List X)
+    (inv : front ++ map g (filter f (range_with_len i (n - i))) ≡ whole) where
+  abbrev later : List ℕ
+  later = filter f (range_with_len (i + 1) (n - (i + 1)))
+
+  one_apart : front ++ map g (cond (f i) (i ∷ later) later) ≡ whole
+  one_apart = sym (ap (λ is. front ++ map g (filter f is)) (range_next n i lt)) ∙ inv
+
+  pub listed : f i ≡ true → (now : List X) → now ≡ front ++ g i ∷ [] → now ++ map g later ≡ whole
+  listed is now e =
+      ap (λ xs. xs ++ map g later) e ∙ append_assoc front (g i ∷ []) (map g later)
+      ∙ sym (ap (λ ns. front ++ map g ns) (taken (f i) (i ∷ later) later is)) ∙ one_apart
+
+  pub unlisted : f i ≡ false → front ++ map g later ≡ whole
+  unlisted is = sym (ap (λ ns. front ++ map g ns) (passed (f i) (i ∷ later) later is)) ∙ one_apart
