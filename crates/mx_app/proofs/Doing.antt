@@ -70,9 +70,9 @@ Grows asked asked_now written written_now given given_now heard heard_now told t
 -- a request that takes no lines and shows no progress
 untyped : (WasShown : Part → Type 0) (request : CommandRequest) (asks : Bool) (qs : List Asked) (ws : List Written) (Prints : List ℕ → Type 0) (r : Result Done Kind)
     → PerformsUntyped request qs ws Prints r → PerformsApart WasShown request asks (record { asked = qs; written = ws; typed = []; heard = []; told = []; shown = [] }) Prints r
-untyped WasShown (Run config log ticks events) asks qs ws Prints r h = absurd h
+untyped WasShown (Run config log ticks events stop) asks qs ws Prints r h = absurd h
 untyped WasShown (Look config log) asks qs ws Prints r h = absurd h
-untyped WasShown (Turns config log ticks events bound) asks qs ws Prints r h = absurd h
+untyped WasShown (Turns config log ticks events bound stop) asks qs ws Prints r h = absurd h
 untyped WasShown (Live config log raw hertz stop) asks qs ws Prints r h = absurd h
 untyped WasShown (Sweep config log fault bound from to jobs strict save) asks qs ws Prints r h = absurd h
 untyped WasShown request asks qs ws Prints r h = ((refl, refl), refl, refl, h)

@@ -12,7 +12,8 @@ use Rattle.mx_app_look.specs.declared.sight.Sight.{Sight}
 use Rattle.mx_app_look.specs.Answers.{IsMade}
 use Rattle.mx_app_look.specs.Places.{place_text}
 use Rattle.mx_app_look.specs.Seeking.{IsHalted}
-use Rattle.mx_app_look.specs.Sessions.{IsAnswered, IsAnsweredBy, IsSession, end_text, ends, prompt_text}
+use Rattle.mx_app_look.specs.Requests.{ends}
+use Rattle.mx_app_look.specs.Sessions.{IsAnswered, IsAnsweredBy, IsSession, end_text, prompt_text}
 use Rattle.mx_walk.specs.declared.progress.Part.{Part}
 use Rattle.mx_app_look.proofs.Traced.{unmarked}
 

@@ -1,4 +1,4 @@
-use Rattle.std.proofs.Common.{◌≡◌, ◌∙◌, ◌<◌, sym, ap, subst}
+use Rattle.std.proofs.Common.{◌≡◌, ◌∙◌, ◌<◌, refl, sym, ap, subst}
 use Rattle.mx_machine.specs.History.{replay}
 use Rattle.mx_machine.specs.World.{actors}
 use Rattle.mx_machine.specs.KernelState.{recorded_as}
@@ -6,7 +6,7 @@ use Rattle.mx_loan.specs.Seats.{SeatView}
 use Rattle.mx_spool.proofs.SpoolLemmas.{spool_at_event}
 use Rattle.mx_cpus.proofs.WorldLemmas.{actor_there, event_outs, for_all_answer}
 use Rattle.mx_cpus.proofs.SeatLemmas.{accepted_by, desk_after_made, known_by, refused_by, seat_of_event}
-use Rattle.mx_cpus.proofs.locked.Locked.event.Goals as goal
+use Rattle.mx_cpus.proofs.locked.Locked.event_here.Goals as goal
 
 pub event-requires-clause-actor : goal.event-requires-clause-actor
 event-requires-clause-actor g c =
@@ -42,8 +42,8 @@ returns-in-Ok-clause-ok g c =
     let known = known_by z k d s is c.note-seat.ensures.known in
     let who = c.actor.ensures ∙ ap (λ (x : SeatView). x.actor) c.note-seat.ensures.seat in
     let now = seat_of_event z k d c.note-seat.new.self c.record.new.self s c.note-seat.result c.record.result c.recorded_as.result (recorded_as c.args.event) is c.note-seat.ensures.seat c.note-seat.ensures.desk c.record.ensures.desk c.record.ensures.seat c.recorded_as.ensures in
-    accepted_by g.M.Naming.boot k c.event.new.self s c.record.result c.actor.result (recorded_as c.args.event) s.held (λ w x. x ≡ c.in-Ok.answer) c.self.invariant.0 known.0 known.1 who
-    ok.1.recorded now c.facts-in-Ok.ensures.accepted (for_all_answer (replay k) c.actor.result c.args.event c.requires.event ∙ sym ok.0)
+    accepted_by g.M.Naming.boot k c.event.new.self s c.record.result c.actor.result (recorded_as c.args.event) s.held (λ w x. (x ≡ c.in-Ok.answer) × (w ≡ replay k)) c.self.invariant.0 known.0 known.1 who
+    ok.1.recorded now c.facts-in-Ok.ensures.accepted (for_all_answer (replay k) c.actor.result c.args.event c.requires.event ∙ sym ok.0, refl)
 
 pub returns-in-Err-clause-err : goal.returns-in-Err-clause-err
 returns-in-Err-clause-err g c =
