@@ -265,7 +265,7 @@ PerformsApart WasShown (Run config log ticks events stop) asks did Prints r =
     × (r ≡ done_after_run (is_some stop) d)
 PerformsApart WasShown (Turns config log ticks events bound stop) asks did Prints r =
     IsAlone did × (did.typed ≡ []) × (d : Result TurnsEnd Kind)
-    × MakesTurns config.now
+    × MakesTurns (is_some stop) config.now
     (option_map (λ s. s.now) events) log.now ticks bound did.asked did.written did.shown Prints d
     × (r ≡ done_after_turns d)
 PerformsApart WasShown (Live config log raw hertz stop) asks did Prints r =

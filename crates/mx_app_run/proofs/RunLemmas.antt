@@ -116,9 +116,9 @@ by_rules : (c : Config) (vs : List Service) (k : BootAndHistory) → IsRunHistor
 by_rules c vs k run = ap (λ (r : Rules). saved_text r k.history) (ap (λ (w : World). w.table.rules) run.boot ∙ rules_at_boot c vs)
 
 -- a run whose kernel is reported
-pub run_reported : (WasShown : Part → Type 0) (c : Config) (vs : List Service) (ticks : ℕ) (xs : List OutsideCall) (whole : Bool) (k : BootAndHistory) → IsRun WasShown stops c vs ticks xs whole k → (log : List ℕ) (ws : List Written) (Prints : List ℕ → Type 0) (ending : RunEnding) (r : Result RunEnding Kind)
-    → ending ≡ run_ending c.log ticks xs whole k → ReportsRun log (text_kept k) (report_text (replay k).table (replay k).services) ws Prints ending r → ComesTo WasShown c vs xs log ticks ws Prints r
-run_reported WasShown c vs ticks xs whole k run log ws Prints ending r is h =
+pub run_reported : (WasShown : Part → Type 0) (stops : Bool) (c : Config) (vs : List Service) (ticks : ℕ) (xs : List OutsideCall) (whole : Bool) (k : BootAndHistory) → IsRun WasShown stops c vs ticks xs whole k → (log : List ℕ) (ws : List Written) (Prints : List ℕ → Type 0) (ending : RunEnding) (r : Result RunEnding Kind)
+    → ending ≡ run_ending c.log ticks xs whole k → ReportsRun log (text_kept k) (report_text (replay k).table (replay k).services) ws Prints ending r → ComesTo WasShown stops c vs xs log ticks ws Prints r
+run_reported WasShown stops c vs ticks xs whole k run log ws Prints ending r is h =
     let report = report_text (replay k).table (replay k).services in
     inr (
       k,

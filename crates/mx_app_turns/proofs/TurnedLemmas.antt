@@ -1,5 +1,5 @@
 -- Machines that make turns.
-use Rattle.std.proofs.Common.{◌≡◌, ◌≢◌, ◌∙◌, ◌+◌, ◌^◌, ◌≤◌, ◌<◌, ℕ, zero, suc, ◌++◌, false, List, [], ◌∷◌, length, Option, None, Result, Ok, Err, All, inl, inr, refl, ap, sym, subst, arith}
+use Rattle.std.proofs.Common.{◌≡◌, ◌≢◌, ◌∙◌, ◌+◌, ◌^◌, ◌≤◌, ◌<◌, ℕ, zero, suc, ◌++◌, Bool, false, List, [], ◌∷◌, length, Option, None, Result, Ok, Err, All, inl, inr, refl, ap, sym, subst, arith}
 use Rattle.std.specs.Io.KnownBytes.{Appends}
 use Rattle.std.specs.Prelude.{IsErrAnd}
 use Rattle.std.proofs.lemmas.List.{length-replicate}
@@ -36,7 +36,8 @@ use Rattle.mx_app_step.specs.declared.records.Replayed.TheVariants as replayed
 use Rattle.mx_walk.specs.declared.progress.Part.{Part}
 use Rattle.mx_turns.specs.declared.outside.OutsideLine.{OutsideLine}
 use Rattle.mx_turns.specs.declared.outside.OutsideLine.TheVariants.{Plain}
-use Rattle.mx_app_turns.specs.Turned.{IsBegun, IsNotBegun, IsTurned, MakesTurns, ShowsTurns, coming}
+use Rattle.mx_app_turns.specs.declared.turning.TurnsEnd.{TurnsEnd}
+use Rattle.mx_app_turns.specs.Turned.{IsBegun, IsNotBegun, IsTurned, IsTurnedTo, MakesTurns, ShowsTurns, coming}
 
 -- ---- a machine's turns
 
@@ -101,29 +102,29 @@ rules_at_boot : (c : Config) (vs : List Service) → (world_at_boot c vs).table.
 unfolding first_table
 rules_at_boot c vs = refl
 
-module _ (config : List ℕ) (file : Option (List ℕ)) (log : List ℕ) (ticks bound : ℕ) (qs : List Asked) (Prints : List ℕ → Type 0) where
-  pub not_begun : (f : Kind) (r : Result Ending Kind) → IsNotBegun config file qs f → Prints [] → IsErrAnd r (λ y. y ≡ f) → MakesTurns config file log ticks bound qs [] [] Prints r
+module _ (stops : Bool) (config : List ℕ) (file : Option (List ℕ)) (log : List ℕ) (ticks bound : ℕ) (qs : List Asked) (Prints : List ℕ → Type 0) where
+  pub not_begun : (f : Kind) (r : Result TurnsEnd Kind) → IsNotBegun config file qs f → Prints [] → IsErrAnd r (λ y. y ≡ f) → MakesTurns stops config file log ticks bound qs [] [] Prints r
   not_begun f (Ok u) why printed h = absurd h
   not_begun f (Err y) why printed h = inl (refl, refl, printed, subst (λ z. IsNotBegun config file qs z) (sym h) why)
 
   -- a program isn't written over
-  pub spared : (c : Config) (vs : List Service) (events : List OutsideLine) (f : Kind) (r : Result Ending Kind) → IsBegun config file qs c vs events → SparesProgram c log [] Prints f → IsErrAnd r (λ y. y ≡ f)
-      → MakesTurns config file log ticks bound qs [] [] Prints r
+  pub spared : (c : Config) (vs : List Service) (events : List OutsideLine) (f : Kind) (r : Result TurnsEnd Kind) → IsBegun config file qs c vs events → SparesProgram c log [] Prints f → IsErrAnd r (λ y. y ≡ f)
+      → MakesTurns stops config file log ticks bound qs [] [] Prints r
   spared c vs events f (Ok u) begun named h = absurd h
   spared c vs events f (Err y) begun named h = inr (inl (c, vs, events, begun, refl, subst (λ z. SparesProgram c log [] Prints z) (sym h) named))
 
-  module _ (c : Config) (vs : List Service) (events : List OutsideLine) (k : BootAndHistory) (ending : Ending) (ps : List Part) (begun : IsBegun config file qs c vs events) (other : names_program c log ≡ false) (made : IsTurned c vs bound (coming events ticks) k ending)
-      (shown : ShowsTurns c vs bound (coming events ticks) ps) where
+  module _ (c : Config) (vs : List Service) (events : List OutsideLine) (k : BootAndHistory) (end : TurnsEnd) (ps : List Part) (begun : IsBegun config file qs c vs events) (other : names_program c log ≡ false)
+      (made : IsTurnedTo stops c vs bound (coming events ticks) k end ps) where
     by_rules : text_kept k ≡ saved_text c.rules k.history
-    by_rules = ap (λ (r : Rules). saved_text r k.history) (ap (λ (w : World). w.table.rules) made.boot ∙ rules_at_boot c vs)
+    by_rules = ap (λ (r : Rules). saved_text r k.history) (ap (λ (w : World). w.table.rules) made.2.boot ∙ rules_at_boot c vs)
 
-    pub untold : (ws : List Written) (f : Kind) (r : Result Ending Kind) → IsUnreported log (text_kept k) ws Prints f → IsErrAnd r (λ y. y ≡ f) → MakesTurns config file log ticks bound qs ws ps Prints r
+    pub untold : (ws : List Written) (f : Kind) (r : Result TurnsEnd Kind) → IsUnreported log (text_kept k) ws Prints f → IsErrAnd r (λ y. y ≡ f) → MakesTurns stops config file log ticks bound qs ws ps Prints r
     untold ws f (Ok u) why h = absurd h
     untold ws f (Err y) why h =
-        inr (inr (c, vs, events, k, ending, begun, other, made, shown, subst (λ t. IsUnreported log t ws Prints y) by_rules (subst (λ z. IsUnreported log (text_kept k) ws Prints z) (sym h) why)))
+        inr (inr (c, vs, events, k, end, begun, other, made, subst (λ t. IsUnreported log t ws Prints y) by_rules (subst (λ z. IsUnreported log (text_kept k) ws Prints z) (sym h) why)))
 
-    pub written : Prints (report_text (replay k).table (replay k).services) → MakesTurns config file log ticks bound qs (kept log (text_kept k) ∷ []) ps Prints (Ok ending)
-    written printed = (c, vs, events, k, begun, other, made, shown, ap (λ t. kept log t ∷ []) by_rules, printed)
+    pub written : Prints (report_text (replay k).table (replay k).services) → MakesTurns stops config file log ticks bound qs (kept log (text_kept k) ∷ []) ps Prints (Ok end)
+    written printed = (c, vs, events, k, begun, other, made, ap (λ t. kept log t ∷ []) by_rules, printed)
 
 -- ---- its replay
 

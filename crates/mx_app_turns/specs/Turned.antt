@@ -1,5 +1,5 @@
 -- Machines that make turns, and what `mx turns` leaves (our own).
-use Rattle.std.specs.Prelude.{◌≡◌, ◌⊎◌, ◌≤◌, ◌^◌, ℕ, false, List, [], ◌∷◌, ◌++◌, All, Option, Some, None, Result, Ok, Err, replicate}
+use Rattle.std.specs.Prelude.{◌≡◌, ◌⊎◌, ◌≤◌, ◌^◌, ℕ, Bool, true, false, List, [], ◌∷◌, ◌++◌, All, Option, Some, None, Result, Ok, Err, replicate}
 use Rattle.std.specs.Io.KnownBytes.{Appends}
 use Rattle.mx_machine.specs.declared.config.Config.{Config}
 use Rattle.mx_machine.specs.declared.events.Event.TheVariants.{Tick}
@@ -55,17 +55,18 @@ ShowsTurns c vs n coming ps = ps ≡ turns_shown c.log n (world_at_boot c vs) co
 
 -- ---- turns that may be stopped
 
--- how many turns they were, of at most n: all that were asked for, or fewer, if they were stopped
-pub record AreSome (n : ℕ) (how : TurnsEnd) (made : ℕ) : Type 0 where
+-- how many turns they were, of at most n: all that were asked for; or fewer if they were stopped, and `stops` says
+-- whether there is a file that stops them
+pub record AreSome (stops : Bool) (n : ℕ) (how : TurnsEnd) (made : ℕ) : Type 0 where
   pub most : made ≤ n
   pub all : how.is_stopped ≡ false → made ≡ n
+  pub stopped : how.is_stopped ≡ true → stops ≡ true
 
--- THE TURNS, of which at most n were made
-abbrev pub IsTurnedTo : Config → List Service → ℕ → List OutsideLine → BootAndHistory → TurnsEnd → Type 0
-IsTurnedTo c vs n coming k how = (made : ℕ) × AreSome n how made × IsTurned c vs made coming k how.ending
-
-abbrev pub ShowsTurnsTo : Config → List Service → ℕ → TurnsEnd → List OutsideLine → List Part → Type 0
-ShowsTurnsTo c vs n how coming ps = (made : ℕ) × AreSome n how made × ShowsTurns c vs made coming ps
+-- THE TURNS, of which at most n were made, and what is shown of them
+abbrev pub IsTurnedTo : Bool → Config → List Service → ℕ → List OutsideLine → BootAndHistory → TurnsEnd → List Part
+    → Type 0
+IsTurnedTo stops c vs n coming k how ps =
+    (made : ℕ) × AreSome stops n how made × IsTurned c vs made coming k how.ending × ShowsTurns c vs made coming ps
 
 -- ---- `mx turns`
 
@@ -87,21 +88,19 @@ IsNotBegun config (Some name) qs f = IsNotStarted AreOutside TellsOutside config
 -- WHAT `mx turns` DOES: it shows after each turn how many records the history has, of those that it may have; it writes
 -- the text of the history of a machine's turns, whole, and prints the report on the machine after them; or it fails,
 -- and this is why
-abbrev pub MakesTurns : List ℕ → Option (List ℕ) → List ℕ → ℕ → ℕ → List Asked → List Written → List Part
+abbrev pub MakesTurns : Bool → List ℕ → Option (List ℕ) → List ℕ → ℕ → ℕ → List Asked → List Written → List Part
     → (List ℕ → Type 0) → Result TurnsEnd Kind → Type 0
-MakesTurns config events log ticks n qs ws ps Prints (Ok ending) =
+MakesTurns stops config events log ticks n qs ws ps Prints (Ok ending) =
     (c : Config) × (vs : List Service) × (xs : List OutsideLine) × (k : BootAndHistory) × IsBegun config events qs c vs xs
-    × (names_program c log ≡ false) × IsTurnedTo c vs n (coming xs ticks) k ending
-    × ShowsTurnsTo c vs n ending (coming xs ticks) ps
+    × (names_program c log ≡ false) × IsTurnedTo stops c vs n (coming xs ticks) k ending ps
     × (ws ≡ kept log (saved_text c.rules k.history) ∷ []) × Prints (report_text (replay k).table (replay k).services)
-MakesTurns config events log ticks n qs ws ps Prints (Err f) =
+MakesTurns stops config events log ticks n qs ws ps Prints (Err f) =
     ((ws ≡ []) × (ps ≡ []) × Prints [] × IsNotBegun config events qs f)
     ⊎ (((c : Config) × (vs : List Service) × (xs : List OutsideLine) × IsBegun config events qs c vs xs × (ps ≡ [])
     × SparesProgram c log ws Prints f)
     ⊎ ((c : Config) × (vs : List Service) × (xs : List OutsideLine) × (k : BootAndHistory) × (ending : TurnsEnd)
     × IsBegun config events qs c vs xs
-    × (names_program c log ≡ false) × IsTurnedTo c vs n (coming xs ticks) k ending
-    × ShowsTurnsTo c vs n ending (coming xs ticks) ps
+    × (names_program c log ≡ false) × IsTurnedTo stops c vs n (coming xs ticks) k ending ps
     × IsUnreported log (saved_text c.rules k.history) ws Prints f))
 
 -- ---- its replay

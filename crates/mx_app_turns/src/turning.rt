@@ -16,7 +16,7 @@ ghost use Rattle.mx_app_step.specs.Written.{Written, kept};
 ghost use Rattle.mx_turns.specs.Made.{HasMade, outside_events};
 ghost use Rattle.mx_turns.specs.Shown.{turns_shown};
 ghost use Rattle.mx_turns.specs.Turns.{turns};
-ghost use Rattle.mx_app_turns.specs.Turned.{IsBegun, IsNotBegun, IsTurnedTo, MakesTurns, ShowsTurnsTo, coming};
+ghost use Rattle.mx_app_turns.specs.Turned.{AreSome, IsBegun, IsNotBegun, IsTurnedTo, MakesTurns, coming};
 
 use crate::event_files::OutsideEvents;
 use mx_app_failure::Failure;
@@ -64,13 +64,13 @@ fn make_turns_watched<S: StopSign, P: Progress>(
     progress: &mut P,
 ) -> TurnsEnd
     requires { length (world_of machine.old).cpus < actors (world_of machine.old) }
-    ensures made { (n : ℕ) × (n ≤ bound) × (result.is_stopped ≡ false → n ≡ bound)
-        × HasMade machine.old (turns n (world_of machine.old) (outside_events outside.entry)).made
-        machine.new
+    ensures { (made : ℕ) × AreSome (S.can_stop sign.now) bound result made
+        × HasMade machine.old
+        (turns made (world_of machine.old) (outside_events outside.entry)).made machine.new
         × (result.ending
-        ≡ (turns n (world_of machine.old) (outside_events outside.entry)).ending)
+        ≡ (turns made (world_of machine.old) (outside_events outside.entry)).ending)
         × (P.shown progress.new ≡ P.shown progress.old
-        ++ turns_shown log n (world_of machine.old) (outside_events outside.entry)) }
+        ++ turns_shown log made (world_of machine.old) (outside_events outside.entry)) }
 {
     let mut made = 0;
     while bound - made > BETWEEN_LOOKS {
@@ -170,15 +170,11 @@ fn drive<S: StopSign, P: Progress>(
         ≡ record { boot = world_of begun.old.machine; history = [] } }
     requires other { length (world_of begun.old.machine).cpus
         < actors (world_of begun.old.machine) }
-    ensures turned { (vs : List Service)
-        → world_of begun.old.machine ≡ world_at_boot begun.old.config vs
-        → IsTurnedTo begun.old.config vs wanted.bound
-        (coming begun.old.events.items wanted.ticks) begun.new.machine.kernel result }
-    ensures shown { (vs : List Service)
+    ensures { (vs : List Service)
         → world_of begun.old.machine ≡ world_at_boot begun.old.config vs
         → (ps : List Parts) × (P.shown progress.new ≡ P.shown progress.old ++ ps)
-        × ShowsTurnsTo begun.old.config vs wanted.bound result
-        (coming begun.old.events.items wanted.ticks) ps }
+        × IsTurnedTo (S.can_stop sign.now) begun.old.config vs wanted.bound
+        (coming begun.old.events.items wanted.ticks) begun.new.machine.kernel result ps }
 {
     let outside = Outside {
         events: begun.events.as_slice(),
@@ -214,9 +210,10 @@ fn save_and_report<R: Drop, F: FileWriter + Drop, W: Write + Drop>(
 }
 
 /// Makes turns of the machine of a configuration, with the outside events of a file and then ticks to come,
-/// until it is at rest and none is to come, or all turns are made, or its history is full, or `sign` is up. Then writes the
-/// history to a file, and prints the report. Answers how the turns ended. If LOG has the name of a service's program,
-/// no turn is made and nothing is written. After each turn `progress` is shown how many records the history has.
+/// until it is at rest and none is to come, or all turns are made, or its history is full, or `sign` is up. Then writes
+/// the history to a file, and prints the report. Answers how the turns ended. If LOG has the name of a service's
+/// program, no turn is made and nothing is written. After each turn `progress` is shown how many records the history
+/// has.
 pub fn turns<R: Reader + Drop, F: FileWriter + Drop, W: Write + Drop, S: StopSign, P: Progress>(
     alloc: Global,
     channels: &mut Channels<R, F, W>,
@@ -229,7 +226,7 @@ pub fn turns<R: Reader + Drop, F: FileWriter + Drop, W: Write + Drop, S: StopSig
         × (R.asked channels.new.reader ≡ R.asked channels.old.reader ++ qs)
         × (F.written channels.new.files ≡ F.written channels.old.files ++ ws)
         × (P.shown progress.new ≡ P.shown progress.old ++ ps)
-        × MakesTurns names.entry.config.now (option_map (λ s. s.now) names.entry.events)
+        × MakesTurns (S.can_stop sign.now) names.entry.config.now (option_map (λ s. s.now) names.entry.events)
         names.entry.log.now wanted.ticks wanted.bound qs ws ps
         (λ text. Appends (W.contents channels.old.out) (W.contents channels.new.out) text) result }
 {

@@ -48,8 +48,8 @@ fn make_turn<M: Naming, G: WatchingGate, R: Wait>(
     }
 }
 
-/// A turn, and a question to the gate whether it stops the loop; or another one if its take is refused. Answers whether the
-/// loop goes on; it doesn't at a full history, of which the gate isn't asked.
+/// A turn, and a question to the gate whether it stops the loop; or another one if its take is refused. Answers whether
+/// the loop goes on; it doesn't at a full history, of which the gate isn't asked.
 fn turn_or_wait<M: Naming, G: WatchingGate, R: Wait>(
     context: &LoopContext<'_, M, G, R>,
     seat: ActorSeat,

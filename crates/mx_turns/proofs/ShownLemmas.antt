@@ -77,7 +77,7 @@ part_now log m k n same boot accepted many =
 
 module _ (log : ℕ) (w : World) (coming : List OutsideLine) where
   -- what is shown of the turn after the first k, by whether it is made
-  abbrev if_made : Bool → ℕ → List Part
+  abbrev pub if_made : Bool → ℕ → List Part
   if_made b k = cond b (part_after log w coming k ∷ []) []
 
   by_made : (b : Bool) (k : ℕ) → goes_on_after w coming k ≡ b → map (part_after log w coming) (filter (goes_on_after w coming) (k ∷ [])) ≡ if_made b k
@@ -87,7 +87,7 @@ module _ (log : ℕ) (w : World) (coming : List OutsideLine) where
       by true = refl
       by false = refl
 
-  shown_more : (b : Bool) (k : ℕ) → goes_on_after w coming k ≡ b → turns_shown log (k + 1) w coming ≡ turns_shown log k w coming ++ if_made b k
+  pub shown_more : (b : Bool) (k : ℕ) → goes_on_after w coming k ≡ b → turns_shown log (k + 1) w coming ≡ turns_shown log k w coming ++ if_made b k
   shown_more b k e =
       let all = range_with_len 0 k in
       let z : 0 + k ≡ k = omega arith in

@@ -5,7 +5,7 @@ use Rattle.mx_machine.specs.KernelState.{recorded_as}
 use Rattle.mx_loan.specs.Seats.{SeatView}
 use Rattle.mx_spool.proofs.SpoolLemmas.{spool_at_event}
 use Rattle.mx_cpus.proofs.WorldLemmas.{actor_there, event_outs, for_all_answer}
-use Rattle.mx_cpus.proofs.SeatLemmas.{accepted_by, desk_after_made, known_by, refused_by, seat_of_event}
+use Rattle.mx_cpus.proofs.SeatLemmas.{accepted_by, desk_after_made, known_by, refused_by, seat_of_event, world_seen}
 use Rattle.mx_cpus.proofs.locked.Locked.event_here.Goals as goal
 
 pub event-requires-clause-actor : goal.event-requires-clause-actor
@@ -46,6 +46,8 @@ returns-in-Ok-clause-ok g c =
     ok.1.recorded now c.facts-in-Ok.ensures.accepted (for_all_answer (replay k) c.actor.result c.args.event c.requires.event ∙ sym ok.0, refl)
 
 pub returns-in-Err-clause-err : goal.returns-in-Err-clause-err
-returns-in-Err-clause-err g c =
-    refused_by g.M.Naming.boot g.M.Naming.table c.self.inside.kernel c.self.inside.desk c.args.seat c.note-seat.result c.actor.result c.args.event c.in-Err.refusal c.self.invariant.0 c.self.invariant.2
-    c.note-seat.ensures.known c.note-seat.ensures.seat c.actor.ensures c.facts-2.ensures.accepted c.in-Err.ensures.err.0
+returns-in-Err-clause-err g c = (
+  refused_by g.M.Naming.boot g.M.Naming.table c.self.inside.kernel c.self.inside.desk c.args.seat c.note-seat.result c.actor.result c.args.event c.in-Err.refusal c.self.invariant.0 c.self.invariant.2
+      c.note-seat.ensures.known c.note-seat.ensures.seat c.actor.ensures c.facts-2.ensures.accepted c.in-Err.ensures.err.0,
+  sym (world_seen g.M.Naming.boot g.M.Naming.table c.self.inside.kernel c.self.inside.desk c.args.seat c.note-seat.result c.self.invariant.0 c.self.invariant.2 c.note-seat.ensures.seat),
+)
