@@ -138,11 +138,10 @@ own_name w =
     name_or (equal_name w) (name_or (order_name w) (name_or (single_name w) (name_or (stack_name w) (data_name w))))
 
 -- instructions of the 80386 that this machine hasn't
-abbrev pub is_bit_word : List ℕ → Bool
-is_bit_word w =
-    list_any (bytes_eq w) (codes "bt" ∷ codes "bts" ∷ codes "btr" ∷ codes "btc" ∷ codes "bsf" ∷ codes "bsr"
-    ∷ codes "rcl" ∷ codes "rcr" ∷ codes "shld" ∷ codes "shrd" ∷ codes "aaa" ∷ codes "aad" ∷ codes "aam"
-    ∷ codes "aas" ∷ codes "daa" ∷ codes "das" ∷ codes "xlat" ∷ codes "xlatb" ∷ [])
+abbrev pub is_decimal_word : List ℕ → Bool
+is_decimal_word w =
+    list_any (bytes_eq w) (codes "rcl" ∷ codes "rcr" ∷ codes "aaa" ∷ codes "aad" ∷ codes "aam" ∷ codes "aas"
+    ∷ codes "daa" ∷ codes "das" ∷ codes "xlat" ∷ codes "xlatb" ∷ [])
 
 abbrev pub is_other_word : List ℕ → Bool
 is_other_word w =
@@ -152,7 +151,7 @@ is_other_word w =
     ∷ codes "arpl" ∷ codes "lar" ∷ codes "lsl" ∷ codes "verr" ∷ codes "verw" ∷ [])
 
 abbrev pub is_of_386 : List ℕ → Bool
-is_of_386 w = is_bit_word w || is_other_word w
+is_of_386 w = is_decimal_word w || is_other_word w
 
 -- ---- advice
 

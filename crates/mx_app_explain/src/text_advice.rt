@@ -3,7 +3,7 @@
 ghost use Rattle.std.specs.Prelude.{◌≡◌, None, Some, MatchOption, false, option_map};
 ghost use Rattle.mx_text.specs.Fields.{fields};
 ghost use Rattle.mx_app_explain.specs.Details.{detail_told};
-ghost use Rattle.mx_app_explain.specs.TextAdvice.{advice_told, advised, after_first, after_label, byte_advice, data_name, equal_name, extra_word, find_word, first_of, is_bit_word, is_of_386, is_other_word, is_sought, lacks_register, lacks_size, may_end, name_or, next_sought, number_advice, number_wanted, only_free_word, operand_advice, operand_word_advice, operator_wanted, order_name, own_name, plain, plain_word_wanted, pop_advice, push_advice, second_address, single_name, size_advice, stack_name, statement_advice, token_wanted, word_advice, word_wanted};
+ghost use Rattle.mx_app_explain.specs.TextAdvice.{advice_told, advised, after_first, after_label, byte_advice, data_name, equal_name, extra_word, find_word, first_of, is_decimal_word, is_of_386, is_other_word, is_sought, lacks_register, lacks_size, may_end, name_or, next_sought, number_advice, number_wanted, only_free_word, operand_advice, operand_word_advice, operator_wanted, order_name, own_name, plain, plain_word_wanted, pop_advice, push_advice, second_address, single_name, size_advice, stack_name, statement_advice, token_wanted, word_advice, word_wanted};
 ghost use Rattle.mx_app_explain.specs.declared.text_advice.Sought.TheVariants.{FreeWord, Unpushed};
 
 use crate::detail::{Detail, Label};
@@ -328,22 +328,15 @@ fn number_wanted(word: &[u8]) -> &'static str
     }
 }
 
-/// Whether a word is an instruction of the 80386 for single bits, or a decimal one, that this machine hasn't.
-fn is_bit_word(word: &[u8]) -> bool
-    ensures { result ≡ is_bit_word word.now }
+/// Whether a word is a decimal instruction of the 80386, one that turns by the carry, or one of a table, that this
+/// machine hasn't.
+fn is_decimal_word(word: &[u8]) -> bool
+    ensures { result ≡ is_decimal_word word.now }
 {
     matches!(
         word,
-        b"bt"
-            | b"bts"
-            | b"btr"
-            | b"btc"
-            | b"bsf"
-            | b"bsr"
-            | b"rcl"
+        b"rcl"
             | b"rcr"
-            | b"shld"
-            | b"shrd"
             | b"aaa"
             | b"aad"
             | b"aam"
@@ -393,7 +386,7 @@ fn is_other_word(word: &[u8]) -> bool
 fn is_of_386(word: &[u8]) -> bool
     ensures { result ≡ is_of_386 word.now }
 {
-    is_bit_word(word) || is_other_word(word)
+    is_decimal_word(word) || is_other_word(word)
 }
 
 /// What is wanted in place of a statement's first word that is nobody's name.

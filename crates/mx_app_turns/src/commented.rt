@@ -37,12 +37,12 @@ impl<'r, R: ReadsLine> ReadsLine for Commented<'r, R> {
 }
 
 /// What the lines say that say anything.
-fn all_said<T: Drop>(alloc: Global, notes: Vec<Option<T>>) -> Result<Vec<T>, AllocError>
-    ensures { IfOk result (λ found. found.items ≡ filter_map (λ note. note) notes.items) }
+fn all_said<T: Copy>(alloc: Global, notes: &[Option<T>]) -> Result<Vec<T>, AllocError>
+    ensures { IfOk result (λ found. found.items ≡ filter_map (λ note. note) notes.now) }
 {
     let mut found = Vec::new(alloc);
     for note in notes {
-        if let Some(said) = note {
+        if let Some(said) = *note {
             found.push(said)?;
         }
     }
@@ -57,12 +57,12 @@ pub fn read_commented<R: ReadsLine>(
     text: &[u8],
 ) -> Result<Vec<R::Said>, BootError>
 where
-    R::Said: Drop,
+    R::Said: Copy,
     ensures read { IfOk result (λ found. AreSaid (R.says reader.now) (lines text.now) found.items) }
     ensures unread { IfErr result (λ e. TellsUnsaid (R.says reader.now) (lines text.now) e) }
 {
     let notes = read_lines(alloc, &Commented { reader }, text)?;
-    match all_said(alloc, notes) {
+    match all_said(alloc, notes.as_slice()) {
         Ok(found) => Ok(found),
         Err(_) => Err(BootError::NoMemory),
     }
