@@ -335,16 +335,7 @@ fn is_decimal_word(word: &[u8]) -> bool
 {
     matches!(
         word,
-        b"rcl"
-            | b"rcr"
-            | b"aaa"
-            | b"aad"
-            | b"aam"
-            | b"aas"
-            | b"daa"
-            | b"das"
-            | b"xlat"
-            | b"xlatb"
+        b"rcl" | b"rcr" | b"aaa" | b"aad" | b"aam" | b"aas" | b"daa" | b"das" | b"xlat" | b"xlatb"
     )
 }
 

@@ -114,9 +114,9 @@ module _ (boot : World) (WasCalled : GateCall → Type 0) where
       elim run.ends [
         | inl full ↦ turns_refused boot s run.last t events.Take LogFull before full
         | inr other ↦ elim other [
-            | inl wait ↦ turns_waited s run.last t false before wait
-            | inr turn ↦ turn_more boot s run.last turn.0.taken t turn.0.lent turn.0.back before turn.0.takes turn.0.gives
-          ]
+          | inl wait ↦ turns_waited s run.last t false before wait
+          | inr turn ↦ turn_more boot s run.last turn.0.taken t turn.0.lent turn.0.back before turn.0.takes turn.0.gives
+        ]
       ]
 
   -- the number of a turn, and the next one's

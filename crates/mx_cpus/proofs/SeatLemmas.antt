@@ -193,7 +193,7 @@ console_seen boot z k d s t is desk shown = ap (λ w. console_of_history w k.his
 
 -- what is known of the answer, by what else is known of it
 answered_as : (boot : World) (s t : SeatView) (e : Recorded) (holding : Option Out) (P Q : World → Answer → Type 0) → ((w : World) (x : Answer) → P w x → Q w x) → IsAcceptedCall boot s t e holding P → IsAcceptedCall boot s t e holding Q
-answered_as boot s t e holding P Q as h = record {
+answered_as boot s t e holding P Q weaker h = record {
   follows = h.follows;
   history = h.history;
   mine = h.mine;
@@ -204,7 +204,7 @@ answered_as boot s t e holding P Q as h = record {
   allowed = h.allowed;
   answer = h.answer;
   moves = h.moves;
-  answered = as (world_after boot h.before) h.answer h.answered;
+  answered = weaker (world_after boot h.before) h.answer h.answered;
 }
 
 -- it was made at some world

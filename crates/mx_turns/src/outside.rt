@@ -59,6 +59,7 @@ pub struct Outside<'a> {
 
 impl<'a> Outside<'a> {
     /// What is to come after so many turns.
+    #[tactic(auto, using(crate::proofs::OutsideLemmas::left_listed, crate::proofs::OutsideLemmas::left_ticks))]
     pub fn after(self, made: u64) -> Outside<'a>
         ensures { outside_events result.entry ≡ drop made (outside_events self.entry) }
     {
