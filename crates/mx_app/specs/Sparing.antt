@@ -46,7 +46,7 @@ is_spared kind front = not (length front == 0) && not (begins_as kind front)
 abbrev pub IsFree : FileKind → List ℕ → List Asked → Type 0
 IsFree kind name qs = (front : List ℕ) × (qs ≡ file_given name front ∷ []) × (is_spared kind front ≡ false)
 
--- they were given, and it is; or they can't be read
+-- they were given, and it is
 abbrev pub IsSpared : FileKind → List ℕ → List Asked → Type 0
 IsSpared kind name qs = (front : List ℕ) × (qs ≡ file_given name front ∷ []) × (is_spared kind front ≡ true)
 
