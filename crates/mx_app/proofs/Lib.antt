@@ -6,4 +6,4 @@ mod Complaints
 mod Grown
 mod Moved
 mod Summed
-mod Sparing
+mod Spared
