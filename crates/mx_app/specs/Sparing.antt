@@ -1,7 +1,7 @@
 -- What is written over: a file that is empty, or that begins as what is written does; any other is spared (our own).
-use Rattle.std.specs.Prelude.{◌≡◌, ◌⊎◌, ◌==◌, ◌&&◌, ◌||◌, not, ℕ, Bool, true, false, if◌then◌else◌, List, [], ◌∷◌, codes, drop, is_nil, length, nat_eq, nat_lt, Option, Some, None, Result, Ok, Err, slice_index, take}
+use Rattle.std.specs.Prelude.{◌≡◌, ◌⊎◌, ◌==◌, ◌&&◌, ◌||◌, not, ℕ, Bool, true, false, if◌then◌else◌, List, [], ◌∷◌, codes, drop, length, nat_eq, nat_lt, Option, Some, None, Result, Ok, Err, slice_index, take}
 use Rattle.std.specs.List.{list_all, starts_with}
-use Rattle.core.specs.Char.{is_ascii_hexdigit}
+use Rattle.std.specs.Char.{is_ascii_hexdigit}
 use Rattle.std.specs.declared.io.ErrorKind.{ErrorKind}
 use Rattle.mx_app_command.specs.Files.{FileWord, file_written, written_kind}
 use Rattle.mx_app_command.specs.declared.command_line.CommandRequest.{CommandRequest}
