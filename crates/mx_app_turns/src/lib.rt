@@ -16,5 +16,5 @@ pub use event_files::{OutsideEvents, outside_event_of, outside_events};
 pub use fault_files::fault_lines;
 pub use nothing_tested::Untested;
 pub use sweeping::{Begun, SweepNames, SweepWanted, Swept, begin_sweep, jobs_of, range_of, sweep};
-pub use turning::{TurnsNames, TurnsWanted, turns};
+pub use turning::{TurnsBegun, TurnsNames, TurnsWanted, begin_turns, turns};
 pub use turns_laws::{bound_is_not_met, turns_again};

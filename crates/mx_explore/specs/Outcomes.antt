@@ -1,0 +1,93 @@
+-- OUTCOMES of schedules: which there are, how many schedules lead to each, and the first of them (our own).
+use Rattle.std.specs.Prelude.{ℕ, ◌+◌, ◌-◌, ◌^◌, ◌==◌, ◌≡◌, nat_lt, min, ◌&&◌, ◌||◌, Bool, true, false, List, [], ◌∷◌, ◌++◌, All, Contains, codes, filter, length, map}
+use Rattle.std.specs.Fmt.{decimal}
+use Rattle.std.specs.List.{IsDistinct}
+use Rattle.std.specs.Str.{bytes_eq}
+use Rattle.mx_machine.specs.declared.events.Event.{Event}
+use Rattle.mx_machine.specs.Proc.TableState.{TableState, process_at}
+use Rattle.mx_machine.specs.Service.{Service}
+use Rattle.mx_machine.specs.World.{World}
+use Rattle.mx_print_report.specs.SlotDoing.{doing_of}
+use Rattle.mx_print_report.specs.declared.doing.Naming.TheVariants.{Slots}
+use Rattle.mx_print_report.specs.Words.{doing_text, name_bytes}
+use Rattle.mx_turns.specs.declared.turns.Ending.{Ending}
+use Rattle.mx_turns.specs.Endings.{ending_word}
+use Rattle.mx_turns.specs.Sweep.{indented, kept_text}
+use Rattle.mx_explore.specs.declared.outcomes.Outcome.{Outcome}
+use Rattle.mx_explore.specs.declared.passing.Departure.{Departure}
+use Rattle.mx_explore.specs.Passing.{run_of_schedule}
+
+-- ---- texts
+
+-- a line for each service, the first of which has this slot: its name, and what its process does
+abbrev pub state_lines : TableState → ℕ → List Service → List ℕ
+state_lines t s [] = []
+state_lines t s (v ∷ vs) =
+    indented (name_bytes v.name.bytes ++ codes " " ++ doing_text (doing_of Slots t s (process_at t s).state))
+    ++ state_lines t (s + 1) vs
+
+-- THE TEXT OF AN OUTCOME: the states of all services, how the turns ended, and the console
+abbrev pub outcome_text : World → Ending → List ℕ
+outcome_text w ending =
+    state_lines w.table 0 w.services ++ indented (ending_word ending)
+    ++ (codes "  console " ++ decimal w.table.devices.console.count ++ codes "\n")
+    ++ kept_text w.table.devices.console.kept
+
+-- ---- the first of schedules
+
+-- What a schedule leads to, and how many records its history has.
+pub record Found : Type 0 where
+  pub text : List ℕ
+  pub departures : List Departure
+  pub records : ℕ
+
+abbrev pub found_by : ℕ → World → List Event → List Departure → Found
+found_by n boot coming ds =
+    let r = run_of_schedule n boot coming ds in
+    record { text = outcome_text r.0.world r.1; departures = ds; records = r.0.world.records }
+
+-- the less of two lists of departures: at the first place where they differ it departs earlier, or waits less long there
+abbrev pub is_less : List Departure → List Departure → Bool
+is_less ds [] = false
+is_less [] (e ∷ es) = true
+is_less (d ∷ ds) (e ∷ es) =
+    nat_lt d.at e.at
+    || ((d.at == e.at) && (nat_lt d.turns e.turns || ((d.turns == e.turns) && is_less ds es)))
+
+-- THE FIRST OF TWO SCHEDULES: the one with fewer departures; of those with as many the one with fewer records; then the
+-- less list
+abbrev pub is_before : Found → Found → Bool
+is_before f g =
+    let few = length f.departures in let many = length g.departures in
+    nat_lt few many
+    || ((few == many)
+    && (nat_lt f.records g.records || ((f.records == g.records) && is_less f.departures g.departures)))
+
+-- ---- a tally
+
+-- the first schedule of an outcome
+abbrev pub first_of : Outcome → Found
+first_of o = record { text = o.text.items; departures = o.departures.items; records = o.records }
+
+-- those that lead to an outcome with this text
+abbrev pub leading_to : List ℕ → List Found → List Found
+leading_to text fs = filter (λ f. bytes_eq f.text text) fs
+
+-- an outcome of some schedules: how many lead to it, as far as 64 bits count, and the first of them
+pub record IsOutcomeOf (fs : List Found) (o : Outcome) : Type 0 where
+  pub count : o.count ≡ min (length (leading_to o.text.items fs)) (2 ^ 64 - 1)
+  pub among : Contains fs (first_of o)
+  pub first : All (λ f. is_before f (first_of o) ≡ false) (leading_to o.text.items fs)
+
+-- each is before the next
+abbrev pub AreInOrder : List Outcome → Type 0
+AreInOrder [] = ⊤
+AreInOrder (o ∷ []) = ⊤
+AreInOrder (o ∷ p ∷ os) = (is_before (first_of o) (first_of p) ≡ true) × AreInOrder (p ∷ os)
+
+-- THE TALLY OF SCHEDULES: every outcome, each once, in the order of their first schedules
+pub record IsTally (fs : List Found) (os : List Outcome) : Type 0 where
+  pub outcomes : All (IsOutcomeOf fs) os
+  pub every : All (λ (f : Found). Contains (map (λ (o : Outcome). o.text.items) os) f.text) fs
+  pub once : IsDistinct bytes_eq (map (λ (o : Outcome). o.text.items) os)
+  pub order : AreInOrder os

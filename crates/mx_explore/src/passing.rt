@@ -1,0 +1,347 @@
+//! Turns in which open offers are passed.
+
+ghost use Rattle.std.specs.Prelude.{◌≡◌, ◌<◌, ◌&&◌, if◌then◌else◌, ℕ, Bool, List, IfOk, OnOk, drop, false, foldl, is_none, length, map, slice_get};
+ghost use Rattle.mx_machine.specs.Rest.{at_rest};
+ghost use Rattle.std.specs.List.{range_with_len};
+ghost use Rattle.mx_machine.specs.Machine.{world_of};
+ghost use Rattle.mx_machine.specs.declared.events.Event.{Event as Events};
+ghost use Rattle.mx_machine.specs.World.{actors};
+ghost use Rattle.mx_turns.specs.Made.{outside_events};
+ghost use Rattle.mx_explore.specs.Passing.{at_place, begins, goes_on, noted, passed_turn, passed_turns, passes};
+ghost use Rattle.mx_explore.specs.Passing.Place as place;
+ghost use Rattle.mx_explore.specs.Passages.{IsMet, IsRun, has_room, passage, standing};
+
+use crate::offers::{Offer, open_back, open_outside, open_respawn, open_take};
+use mx_machine::{Event, Machine};
+use mx_turns::{Ending, Outside, offer, offer_run};
+use std::alloc::{AllocError, Global};
+
+/// A departure from the order of turns: the open offer with this number isn't made. They are numbered from 0, along the
+/// whole run. If it is that of an outside event, the event waits for so many turns: its later offers in these turns
+/// aren't made either, and each of these turns has a record before it. Any other waits for 1 turn.
+#[derive(Clone, Copy, Debug, PartialEq, Eq)]
+pub struct Departure {
+    pub at: usize,
+    pub turns: u32,
+}
+
+/// An open offer that a run met.
+#[derive(Clone, Copy)]
+pub struct Met {
+    pub offer: Offer,
+    /// How many records there were before it.
+    pub records: usize,
+    /// Whether its turn had one of them.
+    pub is_begun: bool,
+}
+
+/// A run with departures: its machine, how it ended, and the open offers that it met.
+#[derive(Drop)]
+pub struct Ran {
+    pub machine: Machine,
+    pub ending: Ending,
+    pub met: Vec<Met>,
+    /// How many of them are not after the last departure.
+    pub after: usize,
+}
+
+/// Where a run is in its schedule.
+#[derive(Drop)]
+pub(crate) struct Schedule<'a> {
+    /// The departures that it hasn't come to.
+    pub(crate) ahead: &'a [Departure],
+    /// For how many turns more the outside's event waits.
+    pub(crate) waits: u32,
+    pub(crate) met: Vec<Met>,
+    pub(crate) after: usize,
+    /// Whether each turn in which an event went on to wait had a record before it.
+    pub(crate) is_kept: bool,
+}
+
+/// Whether the offer goes on waiting for a departure that began at an earlier one.
+fn goes_on(schedule: &Schedule<'_>, offer: Offer) -> bool
+    ensures { result ≡ goes_on (standing schedule.now) offer }
+{
+    schedule.waits > 0 && offer.is_outside()
+}
+
+/// Whether a departure begins at the offer that is met next.
+fn begins(schedule: &Schedule<'_>, offer: Offer) -> bool
+    ensures { result ≡ begins (standing schedule.now) offer }
+{
+    let Some(first) = schedule.ahead.first() else {
+        return false;
+    };
+    if schedule.waits > 0 || first.at != schedule.met.len() {
+        return false;
+    }
+    first.turns == 1 || (first.turns > 1 && offer.is_outside())
+}
+
+/// Meets an open offer. Answers whether it is passed.
+fn meet(schedule: &mut Schedule<'_>, met: Met) -> Result<bool, AllocError>
+    ensures passed { IfOk result (λ is_passed. is_passed
+        ≡ passes (standing schedule.old) met.offer) }
+    ensures noted { OnOk result (standing schedule.new ≡ noted (standing schedule.old) met) }
+{
+    let goes_on = goes_on(schedule, met.offer);
+    let begins = begins(schedule, met.offer);
+    schedule.met.push(met)?;
+    if goes_on {
+        schedule.waits -= 1;
+        schedule.after = schedule.met.len();
+        schedule.is_kept = schedule.is_kept && met.is_begun;
+        return Ok(true);
+    }
+    if !begins {
+        return Ok(false);
+    }
+    let Some((first, later)) = schedule.ahead.split_first() else {
+        unreachable!();
+    };
+    schedule.waits = first.turns - 1;
+    schedule.ahead = later;
+    schedule.after = schedule.met.len();
+    Ok(true)
+}
+
+/// Whether something is made of what may be open, in a turn before which there were so many records.
+fn is_made(
+    machine: &Machine,
+    schedule: &mut Schedule<'_>,
+    begun: usize,
+    opened: Option<Offer>,
+) -> Result<bool, AllocError>
+    ensures { IfOk result (λ is_made. IsMet (world_of machine.now) begun opened
+        (standing schedule.old) (standing schedule.new) is_made) }
+{
+    let Some(offer) = opened else {
+        return Ok(false);
+    };
+    machine.sound();
+    let records = machine.kernel().history().len();
+    let met = Met {
+        offer,
+        records,
+        is_begun: records > begun,
+    };
+    let is_passed = meet(schedule, met)?;
+    Ok(!is_passed)
+}
+
+/// Each processor takes a process, up to the first take that is refused because the history is full. Answers whether
+/// one is.
+fn pass_takes(
+    machine: &mut Machine,
+    schedule: &mut Schedule<'_>,
+    begun: usize,
+    cpus: u8,
+) -> Result<bool, AllocError>
+    ensures passed { (coming : List Events) → (other : ℕ) → IfOk result (λ is_full.
+        passage machine.new coming (standing schedule.new) is_full
+        ≡ foldl (at_place other begun) (passage machine.old coming (standing schedule.old) false)
+        (map place.TakeBy (range_with_len 0 cpus))) }
+    ensures actors { actors (world_of machine.new) ≡ actors (world_of machine.old) }
+{
+    for cpu in 0..cpus {
+        let opened = open_take(machine, cpu);
+        if is_made(machine, schedule, begun, opened)? && offer(machine, cpu, Event::Take) {
+            return Ok(true);
+        }
+    }
+    Ok(false)
+}
+
+/// Each processor brings back what it holds, after its steps.
+fn pass_backs(
+    machine: &mut Machine,
+    schedule: &mut Schedule<'_>,
+    begun: usize,
+    cpus: u8,
+) -> Result<(), AllocError>
+    ensures passed { (coming : List Events) → (other : ℕ) → (is_full : Bool) → OnOk result (
+        passage machine.new coming (standing schedule.new) is_full
+        ≡ foldl (at_place other begun) (passage machine.old coming (standing schedule.old) is_full)
+        (map place.BackBy (range_with_len 0 cpus))) }
+    ensures actors { actors (world_of machine.new) ≡ actors (world_of machine.old) }
+{
+    for cpu in 0..cpus {
+        let opened = open_back(machine, cpu);
+        if is_made(machine, schedule, begun, opened)? {
+            offer_run(machine, cpu);
+        }
+    }
+    Ok(())
+}
+
+/// Each slot that is down and not worn gets a new process, up to the first that the history is too full for. Answers
+/// whether it is.
+fn pass_respawns(
+    machine: &mut Machine,
+    schedule: &mut Schedule<'_>,
+    begun: usize,
+    other: u8,
+    slots: u8,
+) -> Result<bool, AllocError>
+    requires { other < actors (world_of machine.old) }
+    ensures passed { (coming : List Events) → IfOk result (λ is_full.
+        passage machine.new coming (standing schedule.new) is_full
+        ≡ foldl (at_place other begun) (passage machine.old coming (standing schedule.old) false)
+        (map place.NewIn (range_with_len 0 slots))) }
+    ensures actors { actors (world_of machine.new) ≡ actors (world_of machine.old) }
+{
+    for slot in 0..slots {
+        let opened = open_respawn(machine, slot);
+        if is_made(machine, schedule, begun, opened)?
+            && offer(machine, other, Event::Respawn(u32::from(slot)))
+        {
+            return Ok(true);
+        }
+    }
+    Ok(false)
+}
+
+/// How a turn ended.
+#[derive(Clone, Copy)]
+pub(crate) struct Turned {
+    pub(crate) is_full: bool,
+    /// Whether the outside event was offered and not passed.
+    pub(crate) is_gone: bool,
+}
+
+/// The outside's event, if it isn't passed.
+fn pass_outside(
+    machine: &mut Machine,
+    schedule: &mut Schedule<'_>,
+    begun: usize,
+    other: u8,
+    next: Option<Event>,
+) -> Result<Turned, AllocError>
+    requires { other < actors (world_of machine.old) }
+    ensures passed { (coming : List Events) → next ≡ slice_get coming 0 → IfOk result (λ turned.
+        passage machine.new (if turned.is_gone then drop 1 coming else coming)
+        (standing schedule.new) turned.is_full
+        ≡ at_place other begun (passage machine.old coming (standing schedule.old) false)
+        place.FromOutside) }
+    ensures actors { actors (world_of machine.new) ≡ actors (world_of machine.old) }
+{
+    let is_gone = is_made(machine, schedule, begun, open_outside(next))?;
+    let is_full = match next {
+        Some(event) if is_gone => offer(machine, other, event),
+        _ => false,
+    };
+    Ok(Turned { is_full, is_gone })
+}
+
+/// One turn, without the offers that are passed.
+fn pass_turn(
+    machine: &mut Machine,
+    schedule: &mut Schedule<'_>,
+    next: Option<Event>,
+) -> Result<Turned, AllocError>
+    requires { length (world_of machine.old).cpus < actors (world_of machine.old) }
+    ensures passed { (coming : List Events) → next ≡ slice_get coming 0 → IfOk result (λ turned.
+        passage machine.new (if turned.is_gone then drop 1 coming else coming)
+        (standing schedule.new) turned.is_full
+        ≡ passed_turn (passage machine.old coming (standing schedule.old) false)) }
+    ensures room { has_room machine.old → has_room machine.new }
+{
+    machine.sound();
+    let cpus = machine.kernel().cpus();
+    let slots = machine.kernel().table().slot_count();
+    let begun = machine.kernel().history().len();
+    let is_full = pass_takes(machine, schedule, begun, cpus)?;
+    pass_backs(machine, schedule, begun, cpus)?;
+    if is_full {
+        return Ok(Turned {
+            is_full,
+            is_gone: false,
+        });
+    }
+    let turned = pass_outside(machine, schedule, begun, cpus, next)?;
+    if turned.is_full {
+        return Ok(turned);
+    }
+    let is_full = pass_respawns(machine, schedule, begun, cpus, slots)?;
+    Ok(Turned {
+        is_full,
+        is_gone: turned.is_gone,
+    })
+}
+
+/// Whether nothing is left to do: no outside event is to come, and the machine is at rest.
+fn is_over(machine: &Machine, next: Option<Event>) -> bool
+    ensures { result ≡ (is_none next && at_rest (world_of machine.now)) }
+{
+    next.is_none() && machine.kernel().at_rest()
+}
+
+/// Makes the turns of a schedule. Answers how they ended.
+fn pass_turns(
+    machine: &mut Machine,
+    schedule: &mut Schedule<'_>,
+    outside: Outside<'_>,
+    bound: u32,
+) -> Result<Ending, AllocError>
+    requires { has_room machine.old }
+    ensures { IfOk result (λ ending. (coming : List Events) × (is_full : Bool)
+        × ((passage machine.new coming (standing schedule.new) is_full, ending)
+        ≡ passed_turns bound
+        (passage machine.old (outside_events outside.entry) (standing schedule.old) false))) }
+{
+    let mut place: u64 = 0;
+    for _ in 0..bound {
+        let next = outside.get(place);
+        if is_over(machine, next) {
+            return Ok(Ending::Rest);
+        }
+        let turned = pass_turn(machine, schedule, next)?;
+        if turned.is_full {
+            return Ok(Ending::Full);
+        }
+        if turned.is_gone {
+            place += 1;
+        }
+    }
+    if is_over(machine, outside.get(place)) {
+        Ok(Ending::Rest)
+    } else {
+        Ok(Ending::Turns)
+    }
+}
+
+/// Runs a machine by turns, as `make_turns` does, but for the departures of a schedule. Takes memory for what it meets.
+pub fn run_passing(
+    alloc: Global,
+    machine: Machine,
+    outside: Outside<'_>,
+    bound: u32,
+    departures: &[Departure],
+) -> Result<Ran, AllocError>
+    requires { has_room machine }
+    ensures { IfOk result (λ ran. IsRun bound machine (outside_events outside.entry)
+        departures.now ran) }
+{
+    let mut machine = machine;
+    let mut schedule = Schedule {
+        ahead: departures,
+        waits: 0,
+        met: Vec::new(alloc),
+        after: 0,
+        is_kept: true,
+    };
+    let ending = pass_turns(&mut machine, &mut schedule, outside, bound)?;
+    let Schedule {
+        ahead: _,
+        waits: _,
+        met,
+        after,
+        is_kept: _,
+    } = schedule;
+    Ok(Ran {
+        machine,
+        ending,
+        met,
+        after,
+    })
+}
