@@ -4,7 +4,7 @@ use Rattle.std.specs.Str.{bytes_eq}
 use Rattle.mx_app_command.specs.declared.files.NamedWord.{NamedWord}
 use Rattle.mx_app_command.specs.declared.files.ReadWords.{ReadWords}
 use Rattle.mx_app_command.specs.declared.command_line.CommandRequest.{CommandRequest}
-use Rattle.mx_app_command.specs.declared.command_line.CommandRequest.TheVariants.{One, As, Show, Explain, Step, Run, Turns, Live, Sweep, Replay, Trace, Draw, Page, SweptPage, Look, Why, Db}
+use Rattle.mx_app_command.specs.declared.command_line.CommandRequest.TheVariants.{One, As, Show, Explain, Step, Run, Turns, Live, Sweep, Explore, Replay, Trace, Draw, Page, SweptPage, Look, Why, Db}
 
 -- A word of the command line that names a file: the word as help has it, and the name.
 pub record FileWord : Type 0 where
@@ -52,6 +52,7 @@ files_read (Run config log ticks events) = with_events config.now (option_map (�
 files_read (Turns config log ticks events bound) = with_events config.now (option_map (λ s. s.now) events)
 files_read (Live config log raw hertz stop) = one_file (codes "CONFIG") config.now
 files_read (Sweep config log fault bound from to jobs strict save) = with_fault config.now log.now fault.now
+files_read (Explore config departures events bound part strict save) = with_events config.now (option_map (λ s. s.now) events)
 files_read (Replay config log) = with_course config.now (codes "LOG") log.now
 files_read (Trace config log range) = with_course config.now (codes "LOG") log.now
 files_read (Draw config log range) = with_course config.now (codes "LOG") log.now

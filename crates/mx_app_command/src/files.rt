@@ -120,6 +120,7 @@ impl<'a> CommandRequest<'a> {
                 fault,
                 ..
             } => with_fault(config, log, fault),
+            CommandRequest::Explore { config, events, .. } => with_events(config, events),
             CommandRequest::Replay { config, log } => with_course(config, "LOG", log),
             CommandRequest::Trace { config, log, .. } => with_course(config, "LOG", log),
             CommandRequest::Draw { config, log, .. } => with_course(config, "LOG", log),
