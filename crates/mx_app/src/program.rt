@@ -116,6 +116,8 @@ fn status_of(answer: Result<Done, Complaint>) -> Result<u8, Complaint>
 fn unit_of(words: &[&str]) -> &'static str {
     if begin_with(words, "sweep") {
         "positions"
+    } else if begin_with(words, "explore") {
+        "schedules"
     } else {
         "records"
     }

@@ -16,5 +16,5 @@ mod help;
 mod parts;
 
 pub use command_line::{CommandLine, CommandRequest, Listing, Mistake, RecordRange, command};
-pub use files::{NamedWord, ReadWords};
+pub use files::{NamedWord, ReadWords, is_numbered};
 pub use parts::SchedulePart;

@@ -5,22 +5,28 @@ ghost use Rattle.mx_app_command.specs.Parts.{part_asked, part_by, part_said, who
 
 use mx_text::number_up_to;
 
-/// A part of the schedules that are explored, of so many that they are dealt out to. The first part is 0.
+/// A part of the schedules that are explored: how many parts come before it, and how many after it.
 #[derive(Clone, Copy)]
 pub struct SchedulePart {
-    pub index: u32,
-    pub count: u32,
+    pub before: u32,
+    pub after: u32,
 }
 
 /// All schedules.
-pub(crate) const WHOLE: SchedulePart = SchedulePart { index: 0, count: 1 };
+pub(crate) const WHOLE: SchedulePart = SchedulePart {
+    before: 0,
+    after: 0,
+};
 
 /// Part `index` of `count`, if there is one.
 fn part_by(index: Option<u32>, count: Option<u32>) -> Option<SchedulePart>
     ensures { result ≡ part_by index count }
 {
     match (index, count) {
-        (Some(index), Some(count)) if index < count => Some(SchedulePart { index, count }),
+        (Some(index), Some(count)) if index < count => Some(SchedulePart {
+            before: index,
+            after: count - index - 1,
+        }),
         _ => None,
     }
 }

@@ -4,7 +4,7 @@ use Rattle.mx_text.specs.declared.error.BootError.{BootError}
 use Rattle.mx_text.specs.declared.error.BootError.TheVariants as lines
 use Rattle.mx_app_command.specs.Files.{FileWord, file_written, files_read}
 use Rattle.mx_app_command.specs.declared.command_line.CommandRequest.{CommandRequest}
-use Rattle.mx_app_command.specs.declared.command_line.CommandRequest.TheVariants.{Step, Run, Turns, Sweep, SweptPage, Db}
+use Rattle.mx_app_command.specs.declared.command_line.CommandRequest.TheVariants.{Step, Run, Turns, Sweep, Explore, SweptPage, Db}
 use Rattle.mx_app_failure.specs.declared.failure.About.{About}
 use Rattle.mx_app_failure.specs.declared.failure.About.TheVariants as about
 use Rattle.mx_app_failure.specs.declared.failure.FileFailure.{FileFailure}
@@ -81,6 +81,10 @@ subject_of r NoMemory = memory_told
 abbrev pub swept_wanted : List ℕ
 swept_wanted = codes "in LOG a record and its line feed; in FAULT an event of a script, or kill slot S"
 
+-- the lines of a file of outside events
+abbrev pub outside_wanted : List ℕ
+outside_wanted = codes "an outside event: line L, tick or kill E"
+
 -- the lines of a script, of a debugger's script, and of a history
 abbrev pub record_wanted : CommandRequest → List ℕ
 record_wanted (Step config script save numbered) =
@@ -88,7 +92,8 @@ record_wanted (Step config script save numbered) =
 record_wanted (Db config script) = script_lines
 record_wanted (Run config log ticks events) =
     codes "line L, tick, kill E or wait N; --events wants others 2 or more in CONFIG"
-record_wanted (Turns config log ticks events bound) = codes "an outside event: line L, tick or kill E"
+record_wanted (Turns config log ticks events bound) = outside_wanted
+record_wanted (Explore config departures events bound part strict save) = outside_wanted
 record_wanted (Sweep config log fault bound from to jobs strict save) = swept_wanted
 record_wanted (SweptPage config log fault bound from to jobs) = swept_wanted
 record_wanted r =

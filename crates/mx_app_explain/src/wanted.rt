@@ -69,7 +69,9 @@ fn record_wanted(request: CommandRequest<'_>) -> &'static str
         CommandRequest::Run { .. } => {
             "line L, tick, kill E or wait N; --events wants others 2 or more in CONFIG"
         }
-        CommandRequest::Turns { .. } => "an outside event: line L, tick or kill E",
+        CommandRequest::Turns { .. } | CommandRequest::Explore { .. } => {
+            "an outside event: line L, tick or kill E"
+        }
         CommandRequest::Sweep { .. } | CommandRequest::SweptPage { .. } => {
             "in LOG a record and its line feed; in FAULT an event of a script, or kill slot S"
         }

@@ -4,3 +4,4 @@ pub mod Passages
 pub mod Outcomes
 pub mod Schedules
 pub mod Tree
+pub mod Exploring

@@ -3,7 +3,6 @@ use Rattle.std.specs.Prelude.{ℕ, ◌+◌, ◌-◌, ◌^◌, ◌==◌, ◌≡�
 use Rattle.std.specs.Fmt.{decimal}
 use Rattle.std.specs.List.{IsDistinct}
 use Rattle.std.specs.Str.{bytes_eq}
-use Rattle.mx_machine.specs.declared.events.Event.{Event}
 use Rattle.mx_machine.specs.Proc.TableState.{TableState, process_at}
 use Rattle.mx_machine.specs.Service.{Service}
 use Rattle.mx_machine.specs.World.{World}
@@ -15,7 +14,8 @@ use Rattle.mx_turns.specs.Endings.{ending_word}
 use Rattle.mx_turns.specs.Sweep.{indented, kept_text}
 use Rattle.mx_explore.specs.declared.outcomes.Outcome.{Outcome}
 use Rattle.mx_explore.specs.declared.passing.Departure.{Departure}
-use Rattle.mx_explore.specs.Passing.{run_of_schedule}
+use Rattle.mx_explore.specs.declared.outcomes.Tally.{Tally}
+use Rattle.mx_explore.specs.Passing.{Setting, run_of_schedule}
 
 -- ---- texts
 
@@ -41,9 +41,9 @@ pub record Found : Type 0 where
   pub departures : List Departure
   pub records : ℕ
 
-abbrev pub found_by : ℕ → World → List Event → List Departure → Found
-found_by n boot coming ds =
-    let r = run_of_schedule n boot coming ds in
+abbrev pub found_by : Setting → List Departure → Found
+found_by t ds =
+    let r = run_of_schedule t ds in
     record { text = outcome_text r.0.world r.1; departures = ds; records = r.0.world.records }
 
 -- the less of two lists of departures: at the first place where they differ it departs earlier, or waits less long there
@@ -73,11 +73,22 @@ first_of o = record { text = o.text.items; departures = o.departures.items; reco
 abbrev pub leading_to : List ℕ → List Found → List Found
 leading_to text fs = filter (λ f. bytes_eq f.text text) fs
 
--- an outcome of some schedules: how many lead to it, as far as 64 bits count, and the first of them
+-- how many there are, as far as 64 bits count
+abbrev pub count_of : List Found → ℕ
+count_of fs = min (length fs) (2 ^ 64 - 1)
+
+-- an outcome of some schedules: how many lead to it, and the first of them
 pub record IsOutcomeOf (fs : List Found) (o : Outcome) : Type 0 where
-  pub count : o.count ≡ min (length (leading_to o.text.items fs)) (2 ^ 64 - 1)
+  pub count : o.count ≡ count_of (leading_to o.text.items fs)
   pub among : Contains fs (first_of o)
   pub first : All (λ f. is_before f (first_of o) ≡ false) (leading_to o.text.items fs)
+
+-- SCHEDULES ARE COUNTED: every outcome is there, once
+pub record IsCounted (fs : List Found) (t : Tally) : Type 0 where
+  pub schedules : t.schedules ≡ count_of fs
+  pub outcomes : All (IsOutcomeOf fs) t.outcomes.items
+  pub every : All (λ (f : Found). Contains (map (λ (o : Outcome). o.text.items) t.outcomes.items) f.text) fs
+  pub once : IsDistinct bytes_eq (map (λ (o : Outcome). o.text.items) t.outcomes.items)
 
 -- each is before the next
 abbrev pub AreInOrder : List Outcome → Type 0
@@ -85,9 +96,7 @@ AreInOrder [] = ⊤
 AreInOrder (o ∷ []) = ⊤
 AreInOrder (o ∷ p ∷ os) = (is_before (first_of o) (first_of p) ≡ true) × AreInOrder (p ∷ os)
 
--- THE TALLY OF SCHEDULES: every outcome, each once, in the order of their first schedules
-pub record IsTally (fs : List Found) (os : List Outcome) : Type 0 where
-  pub outcomes : All (IsOutcomeOf fs) os
-  pub every : All (λ (f : Found). Contains (map (λ (o : Outcome). o.text.items) os) f.text) fs
-  pub once : IsDistinct bytes_eq (map (λ (o : Outcome). o.text.items) os)
-  pub order : AreInOrder os
+-- THE TALLY OF SCHEDULES: every outcome, once, in the order of their first schedules
+pub record IsTally (fs : List Found) (t : Tally) : Type 0 where
+  pub counted : IsCounted fs t
+  pub order : AreInOrder t.outcomes.items

@@ -146,23 +146,34 @@ passed_turns (suc n) p =
     if is_over p.world p.coming then (p, Rest)
     else let q = passed_turn p in if q.full then (q, Full) else passed_turns n q
 
--- a run at its beginning
-abbrev pub from_boot : World → List Event → List Departure → Passage
-from_boot boot coming ds =
-    record {
-      kernel = record { boot = boot; history = [] };
-      world = boot;
-      coming = coming;
-      standing = standing_at_boot ds;
-      full = false;
-    }
+-- ---- schedules
 
--- THE RUN OF A LIST OF DEPARTURES, of at most n turns
-abbrev pub run_of_schedule : ℕ → World → List Event → List Departure → Passage × Ending
-run_of_schedule n boot coming ds = passed_turns n (from_boot boot coming ds)
+-- What schedules are of: at most so many turns, of a machine that boots so, with these outside events to come.
+pub record Setting : Type 0 where
+  pub turns : ℕ
+  pub boot : World
+  pub coming : List Event
+
+-- a run at its beginning
+abbrev pub from_boot : Setting → List Departure → Passage
+from_boot t ds = record {
+  kernel = record { boot = t.boot; history = [] };
+  world = t.boot;
+  coming = t.coming;
+  standing = standing_at_boot ds;
+  full = false;
+}
+
+-- THE RUN OF A LIST OF DEPARTURES
+unfoldable pub run_of_schedule : Setting → List Departure → Passage × Ending
+run_of_schedule t ds = passed_turns t.turns (from_boot t ds)
+
+-- where it is at its end
+abbrev pub end_of : Setting → List Departure → Standing
+end_of t ds = (run_of_schedule t ds).0.standing
 
 -- A SCHEDULE: its run meets each of its departures, up to the last turn of each
-pub record IsSchedule (n : ℕ) (boot : World) (coming : List Event) (ds : List Departure) : Type 0 where
-  pub begun : (run_of_schedule n boot coming ds).0.standing.ahead ≡ []
-  pub ended : (run_of_schedule n boot coming ds).0.standing.waits ≡ 0
-  pub kept : (run_of_schedule n boot coming ds).0.standing.kept ≡ true
+pub record IsSchedule (t : Setting) (ds : List Departure) : Type 0 where
+  pub begun : (end_of t ds).ahead ≡ []
+  pub ended : (end_of t ds).waits ≡ 0
+  pub kept : (end_of t ds).kept ≡ true

@@ -1,23 +1,11 @@
 -- THE TREE OF SCHEDULES: each one's longer ones, by the offers that its run meets after its last departure (our own).
-use Rattle.std.specs.Prelude.{ℕ, zero, suc, ◌+◌, ◌-◌, ◌==◌, ◌&&◌, ◌||◌, ◌%◌, not, if◌then◌else◌, Bool, true, false, List, [], ◌∷◌, ◌++◌, drop, filter, length, Option, Some, None, slice_get}
+use Rattle.std.specs.Prelude.{ℕ, zero, suc, ◌+◌, ◌-◌, ◌&&◌, if◌then◌else◌, Bool, true, false, List, [], ◌∷◌, ◌++◌, drop, filter, length, Option, Some, None, slice_get}
 use Rattle.std.specs.List.{flat_map, range_with_len}
-use Rattle.mx_machine.specs.declared.events.Event.{Event}
-use Rattle.mx_machine.specs.World.{World}
 use Rattle.mx_explore.specs.Offers.{is_outside}
 use Rattle.mx_explore.specs.declared.passing.Departure.{Departure}
 use Rattle.mx_explore.specs.declared.passing.Met.{Met}
-use Rattle.mx_explore.specs.Passing.{Standing, run_of_schedule}
-use Rattle.mx_explore.specs.Schedules.{is_in_part}
-
--- What all schedules of a tree are run by: at most so many turns, from this boot, with these outside events to come.
-pub record Course : Type 0 where
-  pub turns : ℕ
-  pub boot : World
-  pub coming : List Event
-
--- where the run of a schedule is at its end
-abbrev pub end_of : Course → List Departure → Standing
-end_of c ds = (run_of_schedule c.turns c.boot c.coming ds).0.standing
+use Rattle.mx_explore.specs.Passing.{Setting, Standing, end_of}
+use Rattle.mx_explore.specs.Schedules.{Part, is_in_part}
 
 -- the first offer of the outside among these is in a turn that has a record already
 abbrev pub waits_on : List Met → Bool
@@ -32,25 +20,34 @@ abbrev pub is_of_outside : Option Met → Bool
 is_of_outside None = false
 is_of_outside (Some m) = is_outside m.offer
 
--- what f gives of the schedules that depart once more than ds, at this offer, for so many turns or for more, as many
--- as can be
-abbrev pub departing : (List Departure → List (List Departure)) → Course → List Departure → ℕ → ℕ → ℕ → List (List Departure)
-departing f c ds at turns zero = []
-departing f c ds at turns (suc more) =
-    let es = ds ++ record { at = at; turns = turns } ∷ [] in
-    f es
-    ++ (if can_wait (end_of c es) && is_of_outside (slice_get (end_of c ds).met at)
-    then departing f c ds at (turns + 1) more else [])
+-- with one departure more
+abbrev pub departed : List Departure → ℕ → ℕ → List Departure
+departed ds at turns = ds ++ record { at = at; turns = turns } ∷ []
+
+-- what f gives of the schedules that depart once more than ds, at this offer: for so many turns, and for longer, as
+-- long as can be, but not for more turns than these
+abbrev pub departing : (List Departure → List (List Departure)) → Setting → List Departure → ℕ → ℕ → ℕ → List (List Departure)
+departing f t ds at turns zero = []
+departing f t ds at turns (suc more) =
+    f (departed ds at turns)
+    ++ (if can_wait (end_of t (departed ds at turns)) && is_of_outside (slice_get (end_of t ds).met at)
+    then departing f t ds at (turns + 1) more else [])
 
 -- the offers at which a schedule may depart once more
 abbrev pub next_places : Standing → List ℕ
 next_places s = range_with_len s.after (length s.met - s.after)
 
--- THE SCHEDULES that begin as ds and depart at most k times more
-abbrev pub below : Course → ℕ → List Departure → List (List Departure)
-below c zero ds = ds ∷ []
-below c (suc k) ds = ds ∷ flat_map (λ at. departing (below c k) c ds at 1 c.turns) (next_places (end_of c ds))
+-- those of which the longer schedule is in a part
+abbrev pub asked_places : Part → List Departure → Standing → List ℕ
+asked_places p ds s = filter (λ at. is_in_part p (departed ds at 1)) (next_places s)
 
--- those of them in a part
-abbrev pub tree : Course → ℕ → ℕ → ℕ → List (List Departure)
-tree c k part parts = filter (is_in_part part parts) (below c k [])
+-- a schedule itself, if it is in the part
+abbrev pub itself : Part → List Departure → List (List Departure)
+itself p ds = if is_in_part p ds then ds ∷ [] else []
+
+-- THE SCHEDULES of a part that begin as ds and depart at most k times more
+abbrev pub below : Part → Setting → ℕ → List Departure → List (List Departure)
+below p t zero ds = itself p ds
+below p t (suc k) ds =
+    itself p ds
+    ++ flat_map (λ at. departing (below p t k) t ds at 1 t.turns) (asked_places p ds (end_of t ds))

@@ -1,5 +1,13 @@
 //! The tree of schedules.
 
+ghost use Rattle.std.specs.Prelude.{◌≡◌, ◌==◌, ◌<◌, ◌+◌, ◌-◌, ◌%◌, ◌^◌, ◌++◌, List, IfOk, Some, length, min, slice_get};
+ghost use Rattle.mx_walk.specs.declared.progress.Part.{Part as Parts};
+ghost use Rattle.mx_explore.specs.Exploring.{AreCounted, IsAtBoot, IsDone, part_of, setting};
+ghost use Rattle.mx_explore.specs.declared.outcomes.Outcome.{Outcome as Outcomes};
+ghost use Rattle.mx_explore.specs.Passages.{IsRun};
+ghost use Rattle.mx_explore.specs.Schedules.{is_in_part};
+ghost use Rattle.mx_explore.specs.Tree.{departed, waits_on};
+
 use crate::outcomes::{Tally, outcome_of};
 use crate::passing::{Departure, Met, Ran, run_passing};
 use mx_machine::{Checkpoint, Machine, Service};
@@ -16,30 +24,41 @@ pub struct Terms<'a> {
     pub bound: u32,
     /// The most departures of a schedule.
     pub departures: u32,
-    /// Of the first departures, those whose numbers leave this rest are tried, and the schedule without one if it is 0.
-    pub part: u32,
-    pub parts: u32,
+    /// How many parts of the schedules come before the one that is explored, and how many after it.
+    pub before: u32,
+    pub after: u32,
+}
+
+impl Terms<'_> {
+    /// Whether schedules that depart first at this offer are in the part.
+    fn is_part_of(self, at: usize) -> bool
+        ensures { result ≡ ((at % (self.before + 1 + self.after)) == self.before) }
+    {
+        let parts = u64::from(self.before) + 1 + u64::from(self.after);
+        at as u64 % parts == u64::from(self.before)
+    }
 }
 
 /// What was found: the outcomes in the order of their first schedules; and what a schedule is run again with.
 #[derive(Drop)]
 pub struct Explored {
     pub tally: Tally,
-    boot: Checkpoint,
-    services: Vec<Service>,
+    /// The machine at its boot.
+    pub boot: Checkpoint,
+    /// Its services, but for what `run_first` has taken.
+    pub services: Vec<Service>,
 }
 
 /// Schedules that are run one after another, each from the boot.
 #[derive(Drop)]
-struct Explorer<'a, 'p, P> {
+struct Explorer<'a> {
     terms: Terms<'a>,
     boot: Checkpoint,
     /// The departures of the schedule that is run next.
     departures: Vec<Departure>,
     tally: Tally,
-    progress: &'p mut P,
-    done: usize,
-    all: usize,
+    /// How many schedules are known so far.
+    known: usize,
 }
 
 /// A schedule that was run: the services for the next machine, and what it tells of longer ones.
@@ -50,40 +69,75 @@ struct Tried {
     after: usize,
 }
 
-impl Tried {
-    /// Whether the last departure, of an outside event, can wait for a turn more: a later turn offers the event, and
-    /// has a record before it.
-    fn can_wait(&self) -> bool {
-        for met in self.met.as_slice()[self.after..].iter() {
-            if met.offer.is_outside() {
-                return met.is_begun;
-            }
+/// Whether the first offer of the outside among these is in a turn that has a record already.
+fn waits_on(met: &[Met]) -> bool
+    ensures { result ≡ waits_on met.now }
+{
+    for met in met {
+        if met.offer.is_outside() {
+            return met.is_begun;
         }
-        false
     }
+    false
 }
 
-impl<P: Progress> Explorer<'_, '_, P> {
-    /// Runs the schedule, and counts its outcome.
-    fn run(&mut self, alloc: Global, services: Vec<Service>) -> Result<Tried, NoMemory> {
+impl Explorer<'_> {
+    /// Whether the schedule is in the part that is explored.
+    fn is_in_part(&self) -> bool
+        ensures { result ≡ is_in_part (part_of self.now.terms) self.now.departures.items }
+    {
+        match self.departures.first() {
+            None => self.terms.before == 0,
+            Some(first) => self.terms.is_part_of(first.at),
+        }
+    }
+
+    /// Whether a schedule that departs at this offer next is in the part.
+    fn is_asked(&self, at: usize) -> bool
+        ensures { result ≡ is_in_part (part_of self.now.terms)
+            (departed self.now.departures.items at 1) }
+    {
+        match self.departures.first() {
+            None => self.terms.is_part_of(at),
+            Some(first) => self.terms.is_part_of(first.at),
+        }
+    }
+
+    /// Counts a schedule that was run, if it is in the part.
+    fn count<P: Progress>(
+        &mut self,
+        alloc: Global,
+        progress: &mut P,
+        ran: &Ran,
+    ) -> Result<(), NoMemory> {
+        if self.is_in_part() {
+            let outcome = outcome_of(alloc, ran, self.departures.as_slice())?;
+            self.tally.count(outcome)?;
+            let done = self.tally.schedules as usize;
+            progress.show(Part {
+                done,
+                all: self.known.max(done),
+            });
+        }
+        Ok(())
+    }
+
+    /// Runs the schedule, and counts it.
+    fn run<P: Progress>(
+        &mut self,
+        alloc: Global,
+        progress: &mut P,
+        services: Vec<Service>,
+    ) -> Result<Tried, NoMemory> {
         let machine = self.boot.machine(alloc, services, &[])?;
-        let departures = self.departures.as_slice();
         let ran = run_passing(
             alloc,
             machine,
             self.terms.outside,
             self.terms.bound,
-            departures,
+            self.departures.as_slice(),
         )?;
-        if self.terms.part == 0 || !departures.is_empty() {
-            let outcome = outcome_of(alloc, &ran, departures)?;
-            self.tally.count(outcome)?;
-            self.done += 1;
-            self.progress.show(Part {
-                done: self.done,
-                all: self.all,
-            });
-        }
+        self.count(alloc, progress, &ran)?;
         let Ran {
             machine,
             ending: _,
@@ -98,44 +152,51 @@ impl<P: Progress> Explorer<'_, '_, P> {
         })
     }
 
-    /// Whether a departure at this offer is in the part that is explored, as a schedule's next.
-    fn is_asked(&self, at: usize) -> bool {
-        !self.departures.is_empty()
-            || at as u64 % u64::from(self.terms.parts) == u64::from(self.terms.part)
+    /// Knows of the schedules that depart once more, at these offers, for a turn.
+    fn know(&mut self, from: usize, end: usize) {
+        for at in from..end {
+            if self.is_asked(at) {
+                self.known = self.known.saturating_add(1);
+            }
+        }
     }
 
     /// Runs the schedule and all that depart at most `left` times more. Answers the services, and whether its last
     /// departure can wait for a turn more.
     #[cycle(schedules)]
-    fn explore(
+    fn explore<P: Progress>(
         &mut self,
         alloc: Global,
+        progress: &mut P,
         services: Vec<Service>,
         left: u32,
     ) -> Result<(Vec<Service>, bool), NoMemory> {
-        let tried = self.run(alloc, services)?;
-        let can_wait = tried.can_wait();
+        let tried = self.run(alloc, progress, services)?;
         let Tried {
             mut services,
             met,
             after,
         } = tried;
+        let can_wait = waits_on(&met.as_slice()[after..]);
         if left == 0 {
             return Ok((services, can_wait));
         }
+        self.know(after, met.len());
         for at in after..met.len() {
             if self.is_asked(at) {
-                services = self.depart(alloc, services, left - 1, met[at], at)?;
+                services = self.depart(alloc, progress, services, left - 1, met[at], at)?;
             }
         }
         Ok((services, can_wait))
     }
 
-    /// Runs the schedules whose next departure is at this offer.
+    /// Runs the schedules whose next departure is at this offer: for one turn, and, of an outside event, for as many
+    /// as it can wait.
     #[cycle(schedules)]
-    fn depart(
+    fn depart<P: Progress>(
         &mut self,
         alloc: Global,
+        progress: &mut P,
         services: Vec<Service>,
         left: u32,
         met: Met,
@@ -147,25 +208,32 @@ impl<P: Progress> Explorer<'_, '_, P> {
             let Ok(()) = self.departures.push(departure) else {
                 return Err(NoMemory);
             };
-            let (back, can_wait) = self.explore(alloc, services, left)?;
+            let (back, can_wait) = self.explore(alloc, progress, services, left)?;
             services = back;
             self.departures.pop();
             if !can_wait || !met.offer.is_outside() {
                 break;
             }
+            self.known = self.known.saturating_add(1);
         }
         Ok(services)
     }
 }
 
-/// Runs every schedule that departs at most so often, each from the machine's boot. Answers the outcomes. After each
-/// schedule `progress` is shown how many are done, of those that are known so far.
+/// Runs every schedule of a part that departs at most so often, each from the machine's boot. Answers the outcomes.
+/// After each schedule `progress` is shown how many are done, of those that are known so far.
 pub fn explore<P: Progress>(
     alloc: Global,
     machine: Machine,
     terms: Terms<'_>,
     progress: &mut P,
-) -> Result<Explored, NoMemory> {
+) -> Result<Explored, NoMemory>
+    requires boot { IsAtBoot machine machine.kernel.boot.services }
+    ensures done { IfOk result (IsDone terms.entry machine) }
+    ensures shown { (ps : List Parts) × (P.shown progress.new ≡ P.shown progress.old ++ ps)
+        × AreCounted 0 ps
+        × IfOk result (λ explored. explored.tally.schedules ≡ min (length ps) (2 ^ 64 - 1)) }
+{
     let boot = Checkpoint::new(alloc, &machine)?;
     let services = machine.into_kernel().into_services();
     let mut explorer = Explorer {
@@ -173,19 +241,15 @@ pub fn explore<P: Progress>(
         boot,
         departures: Vec::new(alloc),
         tally: Tally::new(alloc),
-        progress,
-        done: 0,
-        all: 0,
+        known: 1,
     };
-    let (services, _) = explorer.explore(alloc, services, terms.departures)?;
+    let (services, _) = explorer.explore(alloc, progress, services, terms.departures)?;
     let Explorer {
         terms: _,
         boot,
         departures: _,
         mut tally,
-        progress: _,
-        done: _,
-        all: _,
+        known: _,
     } = explorer;
     tally.sort();
     Ok(Explored {
@@ -202,7 +266,15 @@ impl Explored {
         alloc: Global,
         terms: Terms<'_>,
         place: usize,
-    ) -> Result<Ran, NoMemory> {
+    ) -> Result<Ran, NoMemory>
+        requires boot { IsAtBoot self.old.boot self.old.services.items }
+        requires there { place < length self.old.tally.outcomes.items }
+        ensures tally { self.new.tally ≡ self.old.tally }
+        ensures boot { self.new.boot ≡ self.old.boot }
+        ensures ran { IfOk result (λ ran. (o : Outcomes)
+            × (slice_get self.old.tally.outcomes.items place ≡ Some o)
+            × IsRun (setting terms.entry self.old.boot) o.departures.items ran) }
+    {
         let services = mem::replace(&mut self.services, Vec::new(alloc));
         let machine = self.boot.machine(alloc, services, &[])?;
         let departures = self.tally.outcomes[place].departures.as_slice();
@@ -211,7 +283,11 @@ impl Explored {
     }
 
     /// Takes the services of a run back, for the next one.
-    pub fn take_back(&mut self, ran: Ran) {
+    pub fn take_back(&mut self, ran: Ran)
+        ensures tally { self.new.tally ≡ self.old.tally }
+        ensures boot { self.new.boot ≡ self.old.boot }
+        ensures services { self.new.services.items ≡ ran.machine.kernel.boot.services }
+    {
         self.services = ran.machine.into_kernel().into_services();
     }
 }

@@ -35,7 +35,7 @@ impl Offer {
 pub(crate) fn open_take(machine: &Machine, cpu: u8) -> Option<Offer>
     ensures { result ≡ open_take (world_of machine.now) cpu }
 {
-    if machine.kernel().slot_on(cpu).is_some() {
+    if machine.slot_on(cpu).is_some() {
         return None;
     }
     let slot = pick(machine.kernel().table())?;
@@ -46,7 +46,7 @@ pub(crate) fn open_take(machine: &Machine, cpu: u8) -> Option<Offer>
 pub(crate) fn open_back(machine: &Machine, cpu: u8) -> Option<Offer>
     ensures { result ≡ open_back (world_of machine.now) cpu }
 {
-    let slot = machine.kernel().slot_on(cpu)?;
+    let slot = machine.slot_on(cpu)?;
     Some(Offer::Back(cpu, slot))
 }
 

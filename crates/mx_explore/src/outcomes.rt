@@ -1,10 +1,11 @@
 //! Outcomes of schedules: which there are, how many schedules lead to each, and the first of them.
 
-ghost use Rattle.std.specs.Prelude.{◌≡◌, ◌++◌, ◌+◌, ◌-◌, ◌^◌, IfOk, IfSome, OnOk, bytes_eq, min};
+ghost use Rattle.std.specs.Prelude.{◌≡◌, ◌++◌, ◌+◌, ◌-◌, ◌^◌, ◌∷◌, [], List, All, IfOk, MatchOption, OnOk, Some, if◌then◌else◌, min, slice_get};
 ghost use Rattle.mx_machine.specs.Machine.{world_of};
 ghost use Rattle.mx_machine.specs.History.{replay};
-ghost use Rattle.mx_explore.specs.Outcomes.{Found, IsTally, first_of, is_before, is_less, outcome_text, state_lines};
-ghost use Rattle.mx_explore.specs.Tallies.{IsCounted, IsUnsorted};
+ghost use Rattle.std.specs.Str.{bytes_eq};
+ghost use Rattle.mx_explore.specs.declared.outcomes.Outcome.{Outcome as Outcomes};
+ghost use Rattle.mx_explore.specs.Outcomes.{Found, IsCounted, IsTally, first_of, is_before, is_less, outcome_text, state_lines};
 
 use crate::passing::{Departure, Ran};
 use mx_machine::Kernel;
@@ -66,7 +67,12 @@ pub(crate) fn outcome_of(
     alloc: Global,
     ran: &Ran,
     departures: &[Departure],
-) -> Result<Outcome, NoMemory> {
+) -> Result<Outcome, NoMemory>
+    ensures found { IfOk result (λ o. first_of o
+        ≡ record { text = outcome_text (world_of ran.now.machine) ran.now.ending;
+            departures = departures.now; records = (world_of ran.now.machine).records }) }
+    ensures one { IfOk result (λ o. o.count ≡ 1) }
+{
     let kernel = ran.machine.kernel();
     Ok(Outcome {
         text: outcome_text(alloc, kernel, ran.ending)?,
@@ -114,7 +120,12 @@ impl Outcome {
     }
 
     /// Counts the schedules of an outcome that is the same.
-    fn join(&mut self, other: Outcome) {
+    fn join(&mut self, other: Outcome)
+        ensures count { self.new.count ≡ min (self.old.count + other.count) (2 ^ 64 - 1) }
+        ensures first { first_of self.new
+            ≡ (if is_before (first_of other) (first_of self.old) then first_of other
+            else first_of self.old) }
+    {
         let count = self.count.saturating_add(other.count);
         if other.is_before(self) {
             *self = other;
@@ -127,18 +138,29 @@ impl Outcome {
 #[derive(Drop)]
 pub struct Tally {
     pub outcomes: Vec<Outcome>,
+    /// How many schedules are counted.
+    pub schedules: u64,
 }
 
 impl Tally {
     /// The tally of no schedule.
-    pub(crate) fn new(alloc: Global) -> Tally {
+    pub(crate) fn new(alloc: Global) -> Tally
+        ensures { IsCounted [] result }
+    {
         Tally {
             outcomes: Vec::new(alloc),
+            schedules: 0,
         }
     }
 
     /// Where an outcome with this text is.
-    fn place_of(&self, text: &[u8]) -> Option<usize> {
+    fn place_of(&self, text: &[u8]) -> Option<usize>
+        ensures { MatchOption result
+            (All (λ (o : Outcomes). bytes_eq o.text.items text.now ≡ false)
+            self.now.outcomes.items)
+            (λ place. (o : Outcomes) × (slice_get self.now.outcomes.items place ≡ Some o)
+            × (o.text.items ≡ text.now)) }
+    {
         for (place, outcome) in self.outcomes.iter().enumerate() {
             if outcome.text.as_slice() == text {
                 return Some(place);
@@ -147,8 +169,12 @@ impl Tally {
         None
     }
 
-    /// Counts the schedules of an outcome.
-    pub(crate) fn count(&mut self, outcome: Outcome) -> Result<(), NoMemory> {
+    /// Counts a schedule.
+    pub(crate) fn count(&mut self, outcome: Outcome) -> Result<(), NoMemory>
+        requires { outcome.count ≡ 1 }
+        ensures { OnOk result ((fs : List Found) → IsCounted fs self.old
+            → IsCounted (fs ++ first_of outcome ∷ []) self.new) }
+    {
         match self.place_of(outcome.text.as_slice()) {
             Some(place) => self.outcomes[place].join(outcome),
             None => {
@@ -157,20 +183,15 @@ impl Tally {
                 };
             }
         }
+        self.schedules = self.schedules.saturating_add(1);
         Ok(())
     }
 
-    /// How many schedules are counted.
-    pub fn schedules(&self) -> u64 {
-        let mut all: u64 = 0;
-        for outcome in &self.outcomes {
-            all = all.saturating_add(outcome.count);
-        }
-        all
-    }
-
     /// Puts the outcomes in the order of their first schedules.
-    pub(crate) fn sort(&mut self) {
+    pub(crate) fn sort(&mut self)
+        ensures tally { (fs : List Found) → IsCounted fs self.old → IsTally fs self.new }
+        ensures schedules { self.new.schedules ≡ self.old.schedules }
+    {
         for end in 1..self.outcomes.len() {
             self.put_in_place(end);
         }

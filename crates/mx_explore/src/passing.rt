@@ -1,6 +1,6 @@
 //! Turns in which open offers are passed.
 
-ghost use Rattle.std.specs.Prelude.{◌≡◌, ◌<◌, ◌&&◌, if◌then◌else◌, ℕ, Bool, List, IfOk, OnOk, drop, false, foldl, is_none, length, map, slice_get};
+ghost use Rattle.std.specs.Prelude.{◌≡◌, ◌<◌, ◌&&◌, [], if◌then◌else◌, ℕ, Bool, List, IfOk, OnOk, drop, false, foldl, is_none, length, map, slice_get};
 ghost use Rattle.mx_machine.specs.Rest.{at_rest};
 ghost use Rattle.std.specs.List.{range_with_len};
 ghost use Rattle.mx_machine.specs.Machine.{world_of};
@@ -9,7 +9,7 @@ ghost use Rattle.mx_machine.specs.World.{actors};
 ghost use Rattle.mx_turns.specs.Made.{outside_events};
 ghost use Rattle.mx_explore.specs.Passing.{at_place, begins, goes_on, noted, passed_turn, passed_turns, passes};
 ghost use Rattle.mx_explore.specs.Passing.Place as place;
-ghost use Rattle.mx_explore.specs.Passages.{IsMet, IsRun, has_room, passage, standing};
+ghost use Rattle.mx_explore.specs.Passages.{IsMet, IsRun, HasRoom, passage, standing};
 
 use crate::offers::{Offer, open_back, open_outside, open_respawn, open_take};
 use mx_machine::{Event, Machine};
@@ -244,7 +244,7 @@ fn pass_turn(
         passage machine.new (if turned.is_gone then drop 1 coming else coming)
         (standing schedule.new) turned.is_full
         ≡ passed_turn (passage machine.old coming (standing schedule.old) false)) }
-    ensures room { has_room machine.old → has_room machine.new }
+    ensures room { HasRoom machine.old → HasRoom machine.new }
 {
     machine.sound();
     let cpus = machine.kernel().cpus();
@@ -283,7 +283,7 @@ fn pass_turns(
     outside: Outside<'_>,
     bound: u32,
 ) -> Result<Ending, AllocError>
-    requires { has_room machine.old }
+    requires { HasRoom machine.old }
     ensures { IfOk result (λ ending. (coming : List Events) × (is_full : Bool)
         × ((passage machine.new coming (standing schedule.new) is_full, ending)
         ≡ passed_turns bound
@@ -318,9 +318,11 @@ pub fn run_passing(
     bound: u32,
     departures: &[Departure],
 ) -> Result<Ran, AllocError>
-    requires { has_room machine }
-    ensures { IfOk result (λ ran. IsRun bound machine (outside_events outside.entry)
-        departures.now ran) }
+    requires kernel { machine.kernel ≡ record { boot = world_of machine; history = [] } }
+    requires room { HasRoom machine }
+    ensures { IfOk result (IsRun
+        (record { turns = bound; boot = world_of machine; coming = outside_events outside.entry })
+        departures.now) }
 {
     let mut machine = machine;
     let mut schedule = Schedule {
