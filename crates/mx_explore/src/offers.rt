@@ -1,8 +1,9 @@
 //! What a turn offers, and what would come of it.
 
-ghost use Rattle.std.specs.Prelude.{◌≡◌};
+ghost use Rattle.std.specs.Prelude.{◌≡◌, slice_get};
+ghost use Rattle.mx_machine.specs.Proc.TableState.{process_at};
 ghost use Rattle.mx_machine.specs.Machine.{world_of};
-ghost use Rattle.mx_explore.specs.Offers.{is_outside, open_back, open_outside, open_respawn, open_take};
+ghost use Rattle.mx_explore.specs.Offers.{can_respawn, is_outside, open_back, open_outside, open_respawn, open_take};
 
 use mx_machine::{Event, Machine};
 use mx_proc::Slot;
@@ -57,17 +58,26 @@ pub(crate) fn open_outside(next: Option<Event>) -> Option<Offer>
     Some(Offer::Outside(next?))
 }
 
-/// Whether a slot would get a new process: it is down, and not worn.
+/// Whether a slot has a service and its process is down, and not worn.
+#[tactic(auto, unfolding(mx_machine::specs::Machine::world_of))]
+fn can_respawn(machine: &Machine, slot: Slot) -> bool
+    ensures { result ≡ can_respawn (process_at (world_of machine.now).table slot)
+        (slice_get (world_of machine.now).services slot) }
+{
+    machine.sound();
+    let kernel = machine.kernel();
+    let Some(service) = kernel.services().get(slot as usize) else {
+        return false;
+    };
+    let process = kernel.table().process(slot);
+    process.state.is_down() && !is_worn(process, service)
+}
+
+/// Whether a slot would get a new process.
 pub(crate) fn open_respawn(machine: &Machine, slot: Slot) -> Option<Offer>
     ensures { result ≡ open_respawn (world_of machine.now) slot }
 {
-    let kernel = machine.kernel();
-    let service = kernel.services().get(slot as usize)?;
-    if slot >= kernel.table().slot_count() {
-        return None;
-    }
-    let process = kernel.table().process(slot);
-    if process.state.is_down() && !is_worn(process, service) {
+    if can_respawn(machine, slot) {
         Some(Offer::Respawn(slot))
     } else {
         None

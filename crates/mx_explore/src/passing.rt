@@ -105,6 +105,30 @@ fn meet(schedule: &mut Schedule<'_>, met: Met) -> Result<bool, AllocError>
     Ok(true)
 }
 
+/// How many records a machine's history has.
+fn records_of(machine: &Machine) -> usize
+    ensures { result ≡ (world_of machine.now).records }
+{
+    let kernel = machine.kernel();
+    kernel.facts();
+    kernel.history().len()
+}
+
+/// How many processors a machine has.
+fn cpus_of(machine: &Machine) -> u8
+    ensures { result ≡ length (world_of machine.now).cpus }
+{
+    machine.kernel().cpus()
+}
+
+/// How many slots its table has: one for each service.
+fn slots_of(machine: &Machine) -> u8
+    ensures { result ≡ length (world_of machine.now).services }
+{
+    machine.sound();
+    machine.kernel().table().slot_count()
+}
+
 /// Whether something is made of what may be open, in a turn before which there were so many records.
 fn is_made(
     machine: &Machine,
@@ -118,8 +142,7 @@ fn is_made(
     let Some(offer) = opened else {
         return Ok(false);
     };
-    machine.sound();
-    let records = machine.kernel().history().len();
+    let records = records_of(machine);
     let met = Met {
         offer,
         records,
@@ -127,6 +150,26 @@ fn is_made(
     };
     let is_passed = meet(schedule, met)?;
     Ok(!is_passed)
+}
+
+/// A processor takes a process, if it may and its take isn't passed. Answers whether the history is too full for it.
+fn pass_take(
+    machine: &mut Machine,
+    schedule: &mut Schedule<'_>,
+    begun: usize,
+    cpu: u8,
+) -> Result<bool, AllocError>
+    ensures passed { (coming : List Events) → (other : ℕ) → IfOk result (λ is_full.
+        passage machine.new coming (standing schedule.new) is_full
+        ≡ at_place other begun (passage machine.old coming (standing schedule.old) false)
+        (place.TakeBy cpu)) }
+    ensures actors { actors (world_of machine.new) ≡ actors (world_of machine.old) }
+{
+    let opened = open_take(machine, cpu);
+    if !is_made(machine, schedule, begun, opened)? {
+        return Ok(false);
+    }
+    Ok(offer(machine, cpu, Event::Take))
 }
 
 /// Each processor takes a process, up to the first take that is refused because the history is full. Answers whether
@@ -144,12 +187,31 @@ fn pass_takes(
     ensures actors { actors (world_of machine.new) ≡ actors (world_of machine.old) }
 {
     for cpu in 0..cpus {
-        let opened = open_take(machine, cpu);
-        if is_made(machine, schedule, begun, opened)? && offer(machine, cpu, Event::Take) {
+        if pass_take(machine, schedule, begun, cpu)? {
             return Ok(true);
         }
     }
     Ok(false)
+}
+
+/// A processor brings back what it holds, after its steps, if its return isn't passed.
+fn pass_back(
+    machine: &mut Machine,
+    schedule: &mut Schedule<'_>,
+    begun: usize,
+    cpu: u8,
+) -> Result<(), AllocError>
+    ensures passed { (coming : List Events) → (other : ℕ) → (is_full : Bool) → OnOk result (
+        passage machine.new coming (standing schedule.new) is_full
+        ≡ at_place other begun (passage machine.old coming (standing schedule.old) is_full)
+        (place.BackBy cpu)) }
+    ensures actors { actors (world_of machine.new) ≡ actors (world_of machine.old) }
+{
+    let opened = open_back(machine, cpu);
+    if is_made(machine, schedule, begun, opened)? {
+        offer_run(machine, cpu);
+    }
+    Ok(())
 }
 
 /// Each processor brings back what it holds, after its steps.
@@ -166,12 +228,31 @@ fn pass_backs(
     ensures actors { actors (world_of machine.new) ≡ actors (world_of machine.old) }
 {
     for cpu in 0..cpus {
-        let opened = open_back(machine, cpu);
-        if is_made(machine, schedule, begun, opened)? {
-            offer_run(machine, cpu);
-        }
+        pass_back(machine, schedule, begun, cpu)?;
     }
     Ok(())
+}
+
+/// A slot gets a new process, if it may and that isn't passed. Answers whether the history is too full for it.
+fn pass_respawn(
+    machine: &mut Machine,
+    schedule: &mut Schedule<'_>,
+    begun: usize,
+    other: u8,
+    slot: u8,
+) -> Result<bool, AllocError>
+    requires { other < actors (world_of machine.old) }
+    ensures passed { (coming : List Events) → IfOk result (λ is_full.
+        passage machine.new coming (standing schedule.new) is_full
+        ≡ at_place other begun (passage machine.old coming (standing schedule.old) false)
+        (place.NewIn slot)) }
+    ensures actors { actors (world_of machine.new) ≡ actors (world_of machine.old) }
+{
+    let opened = open_respawn(machine, slot);
+    if !is_made(machine, schedule, begun, opened)? {
+        return Ok(false);
+    }
+    Ok(offer(machine, other, Event::Respawn(u32::from(slot))))
 }
 
 /// Each slot that is down and not worn gets a new process, up to the first that the history is too full for. Answers
@@ -191,10 +272,7 @@ fn pass_respawns(
     ensures actors { actors (world_of machine.new) ≡ actors (world_of machine.old) }
 {
     for slot in 0..slots {
-        let opened = open_respawn(machine, slot);
-        if is_made(machine, schedule, begun, opened)?
-            && offer(machine, other, Event::Respawn(u32::from(slot)))
-        {
+        if pass_respawn(machine, schedule, begun, other, slot)? {
             return Ok(true);
         }
     }
@@ -226,10 +304,16 @@ fn pass_outside(
     ensures actors { actors (world_of machine.new) ≡ actors (world_of machine.old) }
 {
     let is_gone = is_made(machine, schedule, begun, open_outside(next))?;
-    let is_full = match next {
-        Some(event) if is_gone => offer(machine, other, event),
-        _ => false,
+    if !is_gone {
+        return Ok(Turned {
+            is_full: false,
+            is_gone,
+        });
+    }
+    let Some(event) = next else {
+        unreachable!();
     };
+    let is_full = offer(machine, other, event);
     Ok(Turned { is_full, is_gone })
 }
 
@@ -246,10 +330,9 @@ fn pass_turn(
         ≡ passed_turn (passage machine.old coming (standing schedule.old) false)) }
     ensures room { HasRoom machine.old → HasRoom machine.new }
 {
-    machine.sound();
-    let cpus = machine.kernel().cpus();
-    let slots = machine.kernel().table().slot_count();
-    let begun = machine.kernel().history().len();
+    let cpus = cpus_of(machine);
+    let slots = slots_of(machine);
+    let begun = records_of(machine);
     let is_full = pass_takes(machine, schedule, begun, cpus)?;
     pass_backs(machine, schedule, begun, cpus)?;
     if is_full {

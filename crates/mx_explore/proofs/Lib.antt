@@ -1,0 +1,2 @@
+mod PassageLemmas
+mod TurnLemmas
