@@ -17,7 +17,7 @@ use Rattle.mx_machine.specs.declared.events.Event.{Event}
 use Rattle.mx_machine.specs.Boot.{world_at_boot}
 use Rattle.mx_machine.specs.Service.{Service}
 use Rattle.mx_walk.specs.declared.progress.Part.{Part as Parts}
-use Rattle.mx_explore.specs.Exploring.{AreCounted}
+use Rattle.mx_explore.specs.Exploring.{ShowsCounts}
 use Rattle.mx_explore.specs.Passing.{Setting, run_of_schedule}
 use Rattle.mx_explore.specs.Schedules.{IsExplored, Part}
 use Rattle.mx_explore.specs.declared.outcomes.Outcome.{Outcome}
@@ -75,18 +75,20 @@ IsUnsaved t name m o ws f = ⊥
 abbrev pub found_of : Tally → Found
 found_of found = if nat_lt 1 (length found.outcomes.items) then Several else One
 
--- ALL SCHEDULES WERE RUN: the outcomes are printed, and their histories are saved
-abbrev pub IsTold : Asking → List Written → (List ℕ → Type 0) → Found → Type 0
-IsTold a ws Prints how =
-    (found : Tally) × IsExplored a.setting a.most a.part found × (how ≡ found_of found)
+-- ALL SCHEDULES WERE RUN: it was shown how many, the outcomes are printed, and their histories are saved
+abbrev pub IsTold : Asking → List Written → List Parts → (List ℕ → Type 0) → Found → Type 0
+IsTold a ws ps Prints how =
+    (found : Tally) × IsExplored a.setting a.most a.part found × ShowsCounts 0 ps found.schedules
+    × (how ≡ found_of found)
     × (ws ≡ saved_of a.setting a.save found.outcomes.items) × Prints (found_text a.setting a.most found)
 
 -- why it isn't finished: memory was out before all were run, and nothing is printed or saved; or then memory, standard
 -- output or a file was wanting, and the first outcomes are saved
-abbrev pub IsUntold : Asking → List Written → (List ℕ → Type 0) → Kind → Type 0
-IsUntold a ws Prints f =
-    ((ws ≡ []) × Prints [] × (f ≡ NoMemory))
+abbrev pub IsUntold : Asking → List Written → List Parts → (List ℕ → Type 0) → Kind → Type 0
+IsUntold a ws ps Prints f =
+    ((n : ℕ) × ShowsCounts 0 ps n × (ws ≡ []) × Prints [] × (f ≡ NoMemory))
     ⊎ ((found : Tally) × (m : ℕ) × (us : List Written) × IsExplored a.setting a.most a.part found
+    × ShowsCounts 0 ps found.schedules
     × (ws ≡ saved_of a.setting a.save (take m found.outcomes.items) ++ us)
     × (((us ≡ []) × IsWanting f)
     ⊎ IsUnsaved a.setting a.save m (slice_get found.outcomes.items m) us f)
@@ -96,11 +98,11 @@ abbrev pub Explores : List ℕ → Option (List ℕ) → Option (List ℕ) → �
     → List Parts → (List ℕ → Type 0) → Result Found Kind → Type 0
 Explores config events save k n before after qs ws ps Prints (Ok how) =
     (c : Config) × (vs : List Service) × (xs : List Event) × IsBegun config events qs c vs xs
-    × (saves_program c save ≡ false) × AreCounted 0 ps × IsTold (asking c vs xs n k before after save) ws Prints how
+    × (saves_program c save ≡ false) × IsTold (asking c vs xs n k before after save) ws ps Prints how
 Explores config events save k n before after qs ws ps Prints (Err f) =
     ((ws ≡ []) × (ps ≡ []) × Prints [] × IsNotBegun config events qs f)
     ⊎ (((c : Config) × (vs : List Service) × (xs : List Event) × IsBegun config events qs c vs xs
     × (saves_program c save ≡ true) × (ws ≡ []) × (ps ≡ []) × Prints [] × (f ≡ over_program))
     ⊎ ((c : Config) × (vs : List Service) × (xs : List Event) × IsBegun config events qs c vs xs
-    × (saves_program c save ≡ false) × AreCounted 0 ps
-    × IsUntold (asking c vs xs n k before after save) ws Prints f))
+    × (saves_program c save ≡ false)
+    × IsUntold (asking c vs xs n k before after save) ws ps Prints f))

@@ -1,2 +1,4 @@
 mod PassageLemmas
 mod TurnLemmas
+mod OrderLemmas
+mod TallyLemmas

@@ -65,11 +65,18 @@ is_before f g =
 
 -- ---- a tally
 
--- the first schedule of an outcome
+-- An outcome of schedules: how many lead to it, and the first of them.
+pub record Tallied : Type 0 where
+  pub count : ℕ
+  pub first : Found
+
 abbrev pub first_of : Outcome → Found
 first_of o = record { text = o.text.items; departures = o.departures.items; records = o.records }
 
--- those that lead to an outcome with this text
+abbrev pub tallied : Outcome → Tallied
+tallied o = record { count = o.count; first = first_of o }
+
+-- those that lead to this text
 abbrev pub leading_to : List ℕ → List Found → List Found
 leading_to text fs = filter (λ f. bytes_eq f.text text) fs
 
@@ -77,26 +84,34 @@ leading_to text fs = filter (λ f. bytes_eq f.text text) fs
 abbrev pub count_of : List Found → ℕ
 count_of fs = min (length fs) (2 ^ 64 - 1)
 
--- an outcome of some schedules: how many lead to it, and the first of them
-pub record IsOutcomeOf (fs : List Found) (o : Outcome) : Type 0 where
-  pub count : o.count ≡ count_of (leading_to o.text.items fs)
-  pub among : Contains fs (first_of o)
-  pub first : All (λ f. is_before f (first_of o) ≡ false) (leading_to o.text.items fs)
+-- an outcome of these schedules
+pub record IsOutcomeOf (fs : List Found) (o : Tallied) : Type 0 where
+  pub count : o.count ≡ count_of (leading_to o.first.text fs)
+  pub among : Contains fs o.first
+  pub first : All (λ f. is_before f o.first ≡ false) (leading_to o.first.text fs)
 
--- SCHEDULES ARE COUNTED: every outcome is there, once
+-- the texts of outcomes
+abbrev pub texts : List Tallied → List (List ℕ)
+texts os = map (λ (o : Tallied). o.first.text) os
+
+-- THESE ARE THE OUTCOMES of schedules: every outcome is there, once
+pub record AreOutcomes (fs : List Found) (os : List Tallied) : Type 0 where
+  pub outcomes : All (IsOutcomeOf fs) os
+  pub every : All (λ (f : Found). Contains (texts os) f.text) fs
+  pub once : IsDistinct bytes_eq (texts os)
+
+-- SCHEDULES ARE COUNTED
 pub record IsCounted (fs : List Found) (t : Tally) : Type 0 where
   pub schedules : t.schedules ≡ count_of fs
-  pub outcomes : All (IsOutcomeOf fs) t.outcomes.items
-  pub every : All (λ (f : Found). Contains (map (λ (o : Outcome). o.text.items) t.outcomes.items) f.text) fs
-  pub once : IsDistinct bytes_eq (map (λ (o : Outcome). o.text.items) t.outcomes.items)
+  pub outcomes : AreOutcomes fs (map tallied t.outcomes.items)
 
 -- each is before the next
-abbrev pub AreInOrder : List Outcome → Type 0
+abbrev pub AreInOrder : List Tallied → Type 0
 AreInOrder [] = ⊤
 AreInOrder (o ∷ []) = ⊤
-AreInOrder (o ∷ p ∷ os) = (is_before (first_of o) (first_of p) ≡ true) × AreInOrder (p ∷ os)
+AreInOrder (o ∷ p ∷ os) = (is_before o.first p.first ≡ true) × AreInOrder (p ∷ os)
 
--- THE TALLY OF SCHEDULES: every outcome, once, in the order of their first schedules
+-- THE TALLY OF SCHEDULES: their outcomes, in the order of their first schedules
 pub record IsTally (fs : List Found) (t : Tally) : Type 0 where
   pub counted : IsCounted fs t
-  pub order : AreInOrder t.outcomes.items
+  pub order : AreInOrder (map tallied t.outcomes.items)

@@ -1,12 +1,12 @@
 //! The tree of schedules.
 
-ghost use Rattle.std.specs.Prelude.{◌≡◌, ◌==◌, ◌<◌, ◌+◌, ◌-◌, ◌%◌, ◌^◌, ◌++◌, List, IfOk, Some, length, min, slice_get};
+ghost use Rattle.std.specs.Prelude.{◌≡◌, ◌==◌, ◌<◌, ◌+◌, ◌%◌, ◌++◌, ℕ, List, IfOk, OnOk, Some, length, slice_get};
 ghost use Rattle.mx_walk.specs.declared.progress.Part.{Part as Parts};
-ghost use Rattle.mx_explore.specs.Exploring.{AreCounted, IsAtBoot, IsDone, part_of, setting};
+ghost use Rattle.mx_explore.specs.Exploring.{HasCounted, IsAtBoot, IsDone, IsSame, ShowsCounts, end_now, part_of, setting};
 ghost use Rattle.mx_explore.specs.declared.outcomes.Outcome.{Outcome as Outcomes};
 ghost use Rattle.mx_explore.specs.Passages.{IsRun};
 ghost use Rattle.mx_explore.specs.Schedules.{is_in_part};
-ghost use Rattle.mx_explore.specs.Tree.{departed, waits_on};
+ghost use Rattle.mx_explore.specs.Tree.{below, can_wait, departed, departing, itself, waits_on};
 
 use crate::outcomes::{Tally, outcome_of};
 use crate::passing::{Departure, Met, Ran, run_passing};
@@ -109,7 +109,14 @@ impl Explorer<'_> {
         alloc: Global,
         progress: &mut P,
         ran: &Ran,
-    ) -> Result<(), NoMemory> {
+    ) -> Result<(), NoMemory>
+        requires { IsRun (setting self.old.terms self.old.boot) self.old.departures.items ran.now }
+        ensures same { OnOk result (IsSame self.old self.new) }
+        ensures counted { OnOk result (HasCounted self.old
+            (itself (part_of self.old.terms) self.old.departures.items) self.new) }
+        ensures shown { (ps : List Parts) × (P.shown progress.new ≡ P.shown progress.old ++ ps)
+            × ShowsCounts self.old.tally.schedules ps self.new.tally.schedules }
+    {
         if self.is_in_part() {
             let outcome = outcome_of(alloc, ran, self.departures.as_slice())?;
             self.tally.count(outcome)?;
@@ -128,7 +135,17 @@ impl Explorer<'_> {
         alloc: Global,
         progress: &mut P,
         services: Vec<Service>,
-    ) -> Result<Tried, NoMemory> {
+    ) -> Result<Tried, NoMemory>
+        requires { IsAtBoot self.old.boot services.items }
+        ensures same { OnOk result (IsSame self.old self.new) }
+        ensures counted { OnOk result (HasCounted self.old
+            (itself (part_of self.old.terms) self.old.departures.items) self.new) }
+        ensures services { IfOk result (λ tried. tried.services.items ≡ services.items) }
+        ensures met { IfOk result (λ tried. tried.met.items ≡ (end_now self.old).met) }
+        ensures after { IfOk result (λ tried. tried.after ≡ (end_now self.old).after) }
+        ensures shown { (ps : List Parts) × (P.shown progress.new ≡ P.shown progress.old ++ ps)
+            × ShowsCounts self.old.tally.schedules ps self.new.tally.schedules }
+    {
         let machine = self.boot.machine(alloc, services, &[])?;
         let ran = run_passing(
             alloc,
@@ -153,7 +170,10 @@ impl Explorer<'_> {
     }
 
     /// Knows of the schedules that depart once more, at these offers, for a turn.
-    fn know(&mut self, from: usize, end: usize) {
+    fn know(&mut self, from: usize, end: usize)
+        ensures same { IsSame self.old self.new }
+        ensures tally { self.new.tally ≡ self.old.tally }
+    {
         for at in from..end {
             if self.is_asked(at) {
                 self.known = self.known.saturating_add(1);
@@ -170,7 +190,16 @@ impl Explorer<'_> {
         progress: &mut P,
         services: Vec<Service>,
         left: u32,
-    ) -> Result<(Vec<Service>, bool), NoMemory> {
+    ) -> Result<(Vec<Service>, bool), NoMemory>
+        requires { IsAtBoot self.old.boot services.items }
+        ensures same { OnOk result (IsSame self.old self.new) }
+        ensures counted { OnOk result (HasCounted self.old (below (part_of self.old.terms)
+            (setting self.old.terms self.old.boot) left self.old.departures.items) self.new) }
+        ensures services { IfOk result (λ r. r.0.items ≡ services.items) }
+        ensures can_wait { IfOk result (λ r. r.1 ≡ can_wait (end_now self.old)) }
+        ensures shown { (ps : List Parts) × (P.shown progress.new ≡ P.shown progress.old ++ ps)
+            × ShowsCounts self.old.tally.schedules ps self.new.tally.schedules }
+    {
         let tried = self.run(alloc, progress, services)?;
         let Tried {
             mut services,
@@ -201,7 +230,18 @@ impl Explorer<'_> {
         left: u32,
         met: Met,
         at: usize,
-    ) -> Result<Vec<Service>, NoMemory> {
+    ) -> Result<Vec<Service>, NoMemory>
+        requires boot { IsAtBoot self.old.boot services.items }
+        requires met { slice_get (end_now self.old).met at ≡ Some met }
+        ensures same { OnOk result (IsSame self.old self.new) }
+        ensures counted { OnOk result (HasCounted self.old
+            (departing (below (part_of self.old.terms) (setting self.old.terms self.old.boot) left)
+            (setting self.old.terms self.old.boot) self.old.departures.items at 1
+            self.old.terms.bound) self.new) }
+        ensures services { IfOk result (λ back. back.items ≡ services.items) }
+        ensures shown { (ps : List Parts) × (P.shown progress.new ≡ P.shown progress.old ++ ps)
+            × ShowsCounts self.old.tally.schedules ps self.new.tally.schedules }
+    {
         let mut services = services;
         for turns in 1..=self.terms.bound {
             let departure = Departure { at, turns };
@@ -230,9 +270,9 @@ pub fn explore<P: Progress>(
 ) -> Result<Explored, NoMemory>
     requires boot { IsAtBoot machine machine.kernel.boot.services }
     ensures done { IfOk result (IsDone terms.entry machine) }
-    ensures shown { (ps : List Parts) × (P.shown progress.new ≡ P.shown progress.old ++ ps)
-        × AreCounted 0 ps
-        × IfOk result (λ explored. explored.tally.schedules ≡ min (length ps) (2 ^ 64 - 1)) }
+    ensures shown { (ps : List Parts) × (n : ℕ)
+        × (P.shown progress.new ≡ P.shown progress.old ++ ps) × ShowsCounts 0 ps n
+        × IfOk result (λ explored. explored.tally.schedules ≡ n) }
 {
     let boot = Checkpoint::new(alloc, &machine)?;
     let services = machine.into_kernel().into_services();

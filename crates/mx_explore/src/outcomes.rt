@@ -1,6 +1,6 @@
 //! Outcomes of schedules: which there are, how many schedules lead to each, and the first of them.
 
-ghost use Rattle.std.specs.Prelude.{◌≡◌, ◌++◌, ◌+◌, ◌-◌, ◌^◌, ◌∷◌, [], List, All, IfOk, MatchOption, OnOk, Some, if◌then◌else◌, min, slice_get};
+ghost use Rattle.std.specs.Prelude.{◌≡◌, ◌++◌, ◌+◌, ◌-◌, ◌^◌, ◌∷◌, [], List, All, IfOk, MatchOption, OnErr, OnOk, Some, if◌then◌else◌, min, slice_get, take, true, false};
 ghost use Rattle.mx_machine.specs.Machine.{world_of};
 ghost use Rattle.mx_machine.specs.History.{replay};
 ghost use Rattle.std.specs.Str.{bytes_eq};
@@ -159,7 +159,9 @@ impl Tally {
             (All (λ (o : Outcomes). bytes_eq o.text.items text.now ≡ false)
             self.now.outcomes.items)
             (λ place. (o : Outcomes) × (slice_get self.now.outcomes.items place ≡ Some o)
-            × (o.text.items ≡ text.now)) }
+            × (bytes_eq o.text.items text.now ≡ true)
+            × All (λ (o : Outcomes). bytes_eq o.text.items text.now ≡ false)
+            (take place self.now.outcomes.items)) }
     {
         for (place, outcome) in self.outcomes.iter().enumerate() {
             if outcome.text.as_slice() == text {
@@ -172,8 +174,11 @@ impl Tally {
     /// Counts a schedule.
     pub(crate) fn count(&mut self, outcome: Outcome) -> Result<(), NoMemory>
         requires { outcome.count ≡ 1 }
-        ensures { OnOk result ((fs : List Found) → IsCounted fs self.old
+        ensures counted { OnOk result ((fs : List Found) → IsCounted fs self.old
             → IsCounted (fs ++ first_of outcome ∷ []) self.new) }
+        ensures more { OnOk result (self.new.schedules
+            ≡ min (self.old.schedules + 1) (2 ^ 64 - 1)) }
+        ensures none { OnErr result (self.new.schedules ≡ self.old.schedules) }
     {
         match self.place_of(outcome.text.as_slice()) {
             Some(place) => self.outcomes[place].join(outcome),
