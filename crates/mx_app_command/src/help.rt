@@ -281,7 +281,13 @@ docs/use/REFERENCE.md.";
 /// Schedules that depart from the order of turns.
 const EXPLORE_EXAMPLE: &str = "In the folder examples/machines/pair:
 
-@EXAMPLE@
+$ mx explore pair.config --departures 2
+outcome 1: 66 schedules, the first with 0 departures and 10 records
+  drv receiving any
+  cli down exit
+  rest
+  console 0
+66 schedules with at most 2 departures, 1 outcomes
 
 Runs every schedule that departs from the order of mx turns in at most K places, each
 from boot. A turn offers each event once, in a fixed order; a departure is an offer of
