@@ -1,12 +1,13 @@
 -- One schedule more in a tally.
-use Rattle.std.proofs.Common.{◌≡◌, ◌∙◌, ◌⊎◌, ◌≤◌, ◌+◌, ◌-◌, ◌^◌, ◌++◌, ℕ, Bool, true, false, List, [], ◌∷◌, map, min, length, length-append, cond, inl, inr, refl, ap, sym, subst, arith, true≢false}
-use Rattle.std.specs.Prelude.{All, Contains, filter}
+use Rattle.std.proofs.Common.{◌≡◌, ◌∙◌, ◌⊎◌, ◌≤◌, ◌+◌, ◌-◌, ◌^◌, ◌++◌, ℕ, zero, suc, Bool, true, false, List, [], ◌∷◌, map, min, take, length, length-append, set, cond, Option, Some, None, inl, inr, refl, ap, sym, subst, arith, true≢false}
+use Rattle.std.specs.Prelude.{All, Contains, filter, slice_get}
 use Rattle.std.specs.List.{IsDistinct, AllByRecursion}
 use Rattle.std.specs.Str.{bytes_eq}
 use Rattle.std.proofs.lemmas.Bool.{cases_Bool}
 use Rattle.std.proofs.lemmas.List.Elements.{All-append, All-cons, All-contains, All-from_recursion, All-map, All-nil, All-weaker, Contains-append_cases, Contains-append_left, Contains-append_right, filter-append, recursion_from_All}
 use Rattle.std.proofs.lemmas.Slice.Eq.{bytes_eq-Decides}
-use Rattle.mx_explore.specs.Outcomes.{AreOutcomes, Found, IsOutcomeOf, Tallied, count_of, is_before, leading_to, texts}
+use Rattle.mx_explore.specs.declared.outcomes.Outcome.{Outcome}
+use Rattle.mx_explore.specs.Outcomes.{AreOutcomes, Found, IsOutcomeOf, Tallied, count_of, is_before, leading_to, tallied, texts}
 use Rattle.mx_explore.proofs.OrderLemmas.{before_through, not_before}
 
 -- an outcome with one schedule more, and the outcomes with it
@@ -177,3 +178,27 @@ module _ (fs : List Found) (f : Found) where
             (All-cons (λ (g : Found). Contains (texts (added f os)) g.text) f [] (text_there os) (All-nil (λ (g : Found). Contains (texts (added f os)) g.text)));
         once = once_added os h.once;
       }
+
+-- ---- the outcomes of a tally
+
+-- the outcome with the schedule's text is joined
+pub set_added : (os : List Outcome) (place : ℕ) (o p : Outcome) (f : Found) → slice_get os place ≡ Some o → bytes_eq o.text.items f.text ≡ true
+    → AllByRecursion (λ (x : Outcome). bytes_eq x.text.items f.text ≡ false) (take place os) → tallied p ≡ joined (tallied o) f
+    → map tallied (set os place p) ≡ added f (map tallied os)
+set_added [] place o p f there is above e = absurd cc
+set_added (x ∷ os) zero o p f there is above e =
+    let same : x ≡ o = cc in
+    let text : bytes_eq x.text.items f.text ≡ true = ap (λ (y : Outcome). bytes_eq y.text.items f.text) same ∙ is in
+    ap (λ (y : Tallied). y ∷ map tallied os) (e ∙ ap (λ (y : Outcome). joined (tallied y) f) (sym same))
+    ∙ ap (λ b. cond b (joined (tallied x) f ∷ map tallied os) (tallied x ∷ added f (map tallied os))) (sym text)
+set_added (x ∷ os) (suc n) o p f there is above e =
+    ap (λ (l : List Tallied). tallied x ∷ l) (set_added os n o p f there is above.1 e)
+    ∙ ap (λ b. cond b (joined (tallied x) f ∷ map tallied os) (tallied x ∷ added f (map tallied os))) (sym above.0)
+
+-- or it is a new one
+pub push_added : (os : List Outcome) (o : Outcome) (f : Found) → AllByRecursion (λ (x : Outcome). bytes_eq x.text.items f.text ≡ false) os
+    → tallied o ≡ record { count = 1; first = f } → map tallied (os ++ o ∷ []) ≡ added f (map tallied os)
+push_added [] o f none e = ap (λ (y : Tallied). y ∷ []) e
+push_added (x ∷ os) o f none e =
+    ap (λ (l : List Tallied). tallied x ∷ l) (push_added os o f none.1 e)
+    ∙ ap (λ b. cond b (joined (tallied x) f ∷ map tallied os) (tallied x ∷ added f (map tallied os))) (sym none.0)
