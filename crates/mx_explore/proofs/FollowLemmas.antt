@@ -29,11 +29,11 @@ begins_longer : (d : Departure) (s : Standing) (ahead : List Departure) (x : Off
 begins_longer d s [] x h = h
 begins_longer d s (e ∷ es) x h = refl
 
-passes_longer : (d : Departure) (s : Standing) (x : Offer) → parts d s s.ahead x ≡ false → passes (longer d s) x ≡ passes s x
+pub passes_longer : (d : Departure) (s : Standing) (x : Offer) → parts d s s.ahead x ≡ false → passes (longer d s) x ≡ passes s x
 passes_longer d s x h = ap (λ b. goes_on s x || b) (begins_longer d s s.ahead x h)
 
 -- what is noted, by whether the offer goes on waiting, and whether a departure begins
-abbrev noted_if : Bool → Bool → Standing → Met → Standing
+abbrev pub noted_if : Bool → Bool → Standing → Met → Standing
 noted_if g b s m =
     let met = s.met ++ m ∷ [] in
     cond g (record s { waits = s.waits - 1; met = met; after = length met; kept = s.kept && m.is_begun })
@@ -51,7 +51,7 @@ longer_noted d s [] m false true some = absurd (true≢false (some refl))
 longer_noted d s (e ∷ es) m false true some = refl
 longer_noted d s ahead m false false some = refl
 
-noted_longer : (d : Departure) (s : Standing) (m : Met) → parts d s s.ahead m.offer ≡ false → noted (longer d s) m ≡ longer d (noted s m)
+pub noted_longer : (d : Departure) (s : Standing) (m : Met) → parts d s s.ahead m.offer ≡ false → noted (longer d s) m ≡ longer d (noted s m)
 noted_longer d s m h =
     ap (λ b. noted_if (goes_on s m.offer) b (longer d s) m) (begins_longer d s s.ahead m.offer h)
     ∙ longer_noted d s s.ahead m (goes_on s m.offer) (begins s m.offer) (some_begins s s.ahead m.offer)
@@ -86,12 +86,12 @@ get_more (z ∷ zs) y (suc k) x h = elim (get_more zs y k x h) [
   | inr last ↦ inr (ap suc last.0, last.1)
 ]
 
-get_kept : {X : Type 0} (xs : List X) (y : X) (k : ℕ) (x : X) → slice_get xs k ≡ Some x → slice_get (xs ++ y ∷ []) k ≡ Some x
+pub get_kept : {X : Type 0} (xs : List X) (y : X) (k : ℕ) (x : X) → slice_get xs k ≡ Some x → slice_get (xs ++ y ∷ []) k ≡ Some x
 get_kept [] y k x h = absurd cc
 get_kept (z ∷ zs) y zero x h = h
 get_kept (z ∷ zs) y (suc k) x h = get_kept zs y k x h
 
-get_last : {X : Type 0} (xs : List X) (y : X) → slice_get (xs ++ y ∷ []) (length xs) ≡ Some y
+pub get_last : {X : Type 0} (xs : List X) (y : X) → slice_get (xs ++ y ∷ []) (length xs) ≡ Some y
 get_last [] y = refl
 get_last (z ∷ zs) y = get_last zs y
 
@@ -130,11 +130,11 @@ pub record Right (d : Departure) (k : Bool) (m : Met) (s : Standing) : Type 0 wh
   pub kept : s.kept ≡ true → k ≡ true
   pub one : d.turns ≡ 1 → (s.waits ≡ 0) × (s.kept ≡ k)
 
-none_begins : (s : Standing) (ahead : List Departure) (x : Offer) → ahead ≡ [] → begins (record s { ahead = ahead }) x ≡ false
+pub none_begins : (s : Standing) (ahead : List Departure) (x : Offer) → ahead ≡ [] → begins (record s { ahead = ahead }) x ≡ false
 none_begins s [] x e = refl
 none_begins s (d ∷ ds) x e = absurd cc
 
-none_goes : (s : Standing) (x : Offer) → s.waits ≡ 0 → goes_on s x ≡ false
+pub none_goes : (s : Standing) (x : Offer) → s.waits ≡ 0 → goes_on s x ≡ false
 none_goes s x w = ap (λ n. nat_lt 0 n && is_outside x) w
 
 left_lasts : (d : Departure) (k : Bool) (n : Met) (s : Standing) (m : Met) → Left d k n s → Left d k n (noted s m)
@@ -178,7 +178,7 @@ no_ahead [] h = refl
 no_ahead (d ∷ ds) h = absurd (true≢false (sym h))
 
 -- what it is that it begins here
-begun_here : (d : Departure) (s : Standing) (x : Offer) → parts d s s.ahead x ≡ true → (s.ahead ≡ []) × (s.waits ≡ 0) × (d.at ≡ length s.met) × (is_at (length s.met) x d ≡ true)
+pub begun_here : (d : Departure) (s : Standing) (x : Offer) → parts d s s.ahead x ≡ true → (s.ahead ≡ []) × (s.waits ≡ 0) × (d.at ≡ length s.met) × (is_at (length s.met) x d ≡ true)
 begun_here d s x h =
     let one = and_parts _ _ h in
     let two = and_parts _ _ one.1 in
@@ -198,7 +198,7 @@ left_begins d s m h b =
       kept = refl;
     })
 
-begins_now : (d : Departure) (s : Standing) (ahead : List Departure) (x : Offer) → ahead ≡ [] → s.waits ≡ 0 → is_at (length s.met) x d ≡ true → begins (record s { ahead = ahead ++ d ∷ [] }) x ≡ true
+pub begins_now : (d : Departure) (s : Standing) (ahead : List Departure) (x : Offer) → ahead ≡ [] → s.waits ≡ 0 → is_at (length s.met) x d ≡ true → begins (record s { ahead = ahead ++ d ∷ [] }) x ≡ true
 begins_now d s [] x a w i = ap (λ n. (n == 0) && is_at (length s.met) x d) w ∙ i
 begins_now d s (e ∷ es) x a w i = absurd cc
 

@@ -5,3 +5,5 @@ mod TallyLemmas
 mod RunLemmas
 mod AlongLemmas
 mod FollowLemmas
+mod WaitLemmas
+mod ScheduleLemmas

@@ -22,8 +22,10 @@ mod exploring;
 mod offers;
 mod outcomes;
 mod passing;
+mod schedule_laws;
 
 pub use exploring::{Explored, Terms, explore};
 pub use offers::Offer;
 pub use outcomes::{Outcome, Tally};
 pub use passing::{Departure, Met, Ran, run_passing};
+pub use schedule_laws::{shorter_is_a_schedule, shorter_wait_is_a_schedule};
