@@ -7,3 +7,6 @@ mod AlongLemmas
 mod FollowLemmas
 mod WaitLemmas
 mod ScheduleLemmas
+mod BoundLemmas
+mod TreeLemmas
+mod CountLemmas

@@ -10,7 +10,7 @@ use Rattle.mx_explore.specs.Tree.{can_wait, is_of_outside, waits_on}
 use Rattle.mx_explore.proofs.FollowLemmas.{departed_by, longer_run}
 use Rattle.mx_explore.proofs.WaitLemmas.{begun_of, first_outside, longer_wait, longer_waiting, waits_by}
 
-no_end : {X : Type 0} (xs : List X) (x : X) → xs ++ x ∷ [] ≡ [] → ⊥
+pub no_end : {X : Type 0} (xs : List X) (x : X) → xs ++ x ∷ [] ≡ [] → ⊥
 no_end [] x e = cc
 no_end (y ∷ ys) x e = cc
 
@@ -41,7 +41,7 @@ one_more t ds at m h there early =
           record { begun = l.ahead; ended = one.0; kept = one.1 ∙ sym s.kept ∙ h.kept }
     ]
 
-both_true : (a b : Bool) → (a && b) ≡ true → (a ≡ true) × (b ≡ true)
+pub both_true : (a b : Bool) → (a && b) ≡ true → (a ≡ true) × (b ≡ true)
 both_true true b h = (refl, h)
 both_true false b h = absurd (true≢false (sym h))
 

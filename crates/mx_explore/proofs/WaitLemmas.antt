@@ -116,7 +116,7 @@ pub record NeverWaits (d : Departure) (s t : Standing) : Type 0 where
 abbrev pub WaitParted : Departure → Standing → Standing → Type 0
 WaitParted d s t = ((n : Met) × IsOver d n s t) ⊎ NeverWaits d s t
 
-noted_quiet : (s : Standing) (m : Met) → s.ahead ≡ [] → s.waits ≡ 0 → noted s m ≡ record s { met = s.met ++ m ∷ [] }
+pub noted_quiet : (s : Standing) (m : Met) → s.ahead ≡ [] → s.waits ≡ 0 → noted s m ≡ record s { met = s.met ++ m ∷ [] }
 noted_quiet s m a w = ap (λ g. noted_if g (begins s m.offer) s m) (none_goes s m.offer w) ∙ ap (λ b. noted_if false b s m) (none_begins s s.ahead m.offer a)
 
 wait_first : (d : Departure) (t s : Standing) (m : Met) → WaitParted d s t → WaitParted d (noted s m) t

@@ -28,4 +28,6 @@ pub use exploring::{Explored, Terms, explore};
 pub use offers::Offer;
 pub use outcomes::{Outcome, Tally};
 pub use passing::{Departure, Met, Ran, run_passing};
-pub use schedule_laws::{shorter_is_a_schedule, shorter_wait_is_a_schedule};
+pub use schedule_laws::{
+    every_schedule_is_in_the_tree, shorter_is_a_schedule, shorter_wait_is_a_schedule,
+};
