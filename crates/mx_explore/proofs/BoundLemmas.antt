@@ -11,7 +11,7 @@ use Rattle.mx_explore.specs.declared.offers.Offer.{Offer}
 use Rattle.mx_explore.specs.declared.passing.Departure.{Departure}
 use Rattle.mx_explore.specs.declared.passing.Met.{Met}
 use Rattle.mx_explore.specs.Passing.{IsSchedule, Passage, Place, Setting, Standing, at_place, begins, end_of, from_boot, goes_on, is_at, made, meets, meets_if, met_in, noted, open_at, passed_turn, passed_turns, passes, places, run_of_schedule, turns_of}
-use Rattle.mx_explore.specs.Passing.Place as place
+use Rattle.mx_explore.specs.Passing.{BackBy, FromOutside, NewIn, TakeBy}
 use Rattle.mx_explore.proofs.PassageLemmas.{At, at_append, back_open, respawn_open, stood, take_open}
 use Rattle.mx_explore.proofs.AlongLemmas.{turns_last}
 use Rattle.mx_explore.proofs.FollowLemmas.{departed_by, none_begins, noted_if}
@@ -58,17 +58,17 @@ inside_at : (other begun : ℕ) (p : Passage) (f : ℕ → Place) → ((n : ℕ)
 inside_at other begun p f h [] = refl
 inside_at other begun p f h (n ∷ ns) = inside_at other begun (at_place other begun p (f n)) f h ns ∙ inside_met other begun p (open_at p (f n)) (h n p)
 
-take_inside : (n : ℕ) → IsInside (place.TakeBy n)
+take_inside : (n : ℕ) → IsInside (TakeBy n)
 take_inside n p x e = by p.full e
   where
     by : (b : Bool) → cond b None (open_take p.world n) ≡ Some x → is_outside x ≡ false
     by true e = absurd cc
     by false e = let it = take_open p.world n x e in ap is_outside it.1
 
-back_inside : (n : ℕ) → IsInside (place.BackBy n)
+back_inside : (n : ℕ) → IsInside (BackBy n)
 back_inside n p x e = let it = back_open p.world n x e in ap is_outside it.1
 
-new_inside : (n : ℕ) → IsInside (place.NewIn n)
+new_inside : (n : ℕ) → IsInside (NewIn n)
 new_inside n p x e = by p.full e
   where
     by : (b : Bool) → cond b None (open_respawn p.world n) ≡ Some x → is_outside x ≡ false
@@ -89,17 +89,17 @@ turn_outs p =
     let cpus = length p.world.cpus in
     let slots = length p.world.services in
     let begun = p.world.records in
-    let takes = map place.TakeBy (range_with_len 0 cpus) in
-    let backs = map place.BackBy (range_with_len 0 cpus) in
-    let news = map place.NewIn (range_with_len 0 slots) in
+    let takes = map TakeBy (range_with_len 0 cpus) in
+    let backs = map BackBy (range_with_len 0 cpus) in
+    let news = map NewIn (range_with_len 0 slots) in
     let q = At cpus begun p takes in
     let r = At cpus begun q backs in
-    let u = at_place cpus begun r place.FromOutside in
-    let one : At cpus begun p (places cpus slots) ≡ At cpus begun u news = at_append cpus begun p takes (backs ++ place.FromOutside ∷ news) ∙ at_append cpus begun q backs (place.FromOutside ∷ news) in
-    let a = inside_at cpus begun p place.TakeBy take_inside (range_with_len 0 cpus) in
-    let b = inside_at cpus begun q place.BackBy back_inside (range_with_len 0 cpus) in
-    let c = one_met cpus begun r (open_at r place.FromOutside) in
-    let d = inside_at cpus begun u place.NewIn new_inside (range_with_len 0 slots) in
+    let u = at_place cpus begun r FromOutside in
+    let one : At cpus begun p (places cpus slots) ≡ At cpus begun u news = at_append cpus begun p takes (backs ++ FromOutside ∷ news) ∙ at_append cpus begun q backs (FromOutside ∷ news) in
+    let a = inside_at cpus begun p TakeBy take_inside (range_with_len 0 cpus) in
+    let b = inside_at cpus begun q BackBy back_inside (range_with_len 0 cpus) in
+    let c = one_met cpus begun r (open_at r FromOutside) in
+    let d = inside_at cpus begun u NewIn new_inside (range_with_len 0 slots) in
     let e = ap (λ (x : Passage). outs x.standing.met) one in
     omega (arith, a, b, c, d, e)
 

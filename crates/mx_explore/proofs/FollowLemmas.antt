@@ -71,7 +71,7 @@ noted_is s m = refl
 bounded_by : (s : Standing) (m : Met) (g b : Bool) → Bounded s → Bounded (noted_if g b s m)
 bounded_by s m true b h = omega arith
 bounded_by s m false true h = omega arith
-bounded_by s m false false h = let more = length-append s.met (m ∷ []) in omega (arith, h, more)
+bounded_by s m false false h = let more : length (s.met ++ m ∷ []) ≡ length s.met + 1 = length-append s.met (m ∷ []) in omega (arith, h, more)
 
 pub bounded : (s : Standing) (m : Met) → Bounded s → Bounded (noted s m)
 bounded s m h = bounded_by s m (goes_on s m.offer) (begins s m.offer) h
@@ -100,8 +100,14 @@ none_parts d s x a w i =
     ap (λ (l : List Departure). parts d s l x) a ∙ ap (λ n. (n == 0) && is_at (length s.met) x d) w ∙ i
 
 not_yet_by : (d : Departure) (s : Standing) (m : Met) (g b : Bool) → parts d s s.ahead m.offer ≡ false → NotYet d s → NotYet d (noted_if g b s m)
-not_yet_by d s m true b h not n there is early a w = let within = slice_get_within (s.met ++ m ∷ []) d.at n there in omega (within, early)
-not_yet_by d s m false true h not n there is early a w = let within = slice_get_within (s.met ++ m ∷ []) d.at n there in omega (within, early)
+not_yet_by d s m true b h not n there is early a w =
+    let within = slice_get_within (s.met ++ m ∷ []) d.at n there in
+    let low : length (s.met ++ m ∷ []) ≤ d.at = early in
+    omega (within, low)
+not_yet_by d s m false true h not n there is early a w =
+    let within = slice_get_within (s.met ++ m ∷ []) d.at n there in
+    let low : length (s.met ++ m ∷ []) ≤ d.at = early in
+    omega (within, low)
 not_yet_by d s m false false h not n there is early a w = elim (get_more s.met m d.at n there) [
   | inl before ↦ not n before is early a w
   | inr last ↦
@@ -194,7 +200,7 @@ left_begins d s m h b =
       waits = here.1;
       there = ap (slice_get (s.met ++ m ∷ [])) here.2 ∙ get_last s.met m;
       is = ap (λ n. is_at n m.offer d) here.2 ∙ here.3;
-      early = omega (b, here.2);
+      early = (let at = here.2 in omega (b, at));
       kept = refl;
     })
 

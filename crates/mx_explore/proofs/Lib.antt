@@ -10,3 +10,4 @@ mod ScheduleLemmas
 mod BoundLemmas
 mod TreeLemmas
 mod CountLemmas
+mod StateLemmas

@@ -1,6 +1,6 @@
 -- The order of schedules.
 use Rattle.std.proofs.Common.{◌≡◌, ◌∙◌, ◌⊎◌, ◌<◌, ◌≤◌, ◌==◌, ◌&&◌, ◌||◌, ℕ, Bool, true, false, List, [], ◌∷◌, nat_lt, length, inl, inr, refl, ap, sym, subst, arith, true≢false}
-use Rattle.std.proofs.lemmas.Bool.Decides.{nat_tests}
+use Rattle.std.proofs.lemmas.Bool.{cases_Bool, eq-eqb, eqb-true, le-ltb, lt-ltb, ltb-true}
 use Rattle.mx_explore.specs.declared.passing.Departure.{Departure}
 use Rattle.mx_explore.specs.Outcomes.{Found, is_before, is_less}
 
@@ -9,11 +9,44 @@ use Rattle.mx_explore.specs.Outcomes.{Found, is_before, is_less}
 abbrev lex : ℕ → ℕ → Bool → Bool
 lex a b r = nat_lt a b || ((a == b) && r)
 
+and_false : (a b : Bool) → b ≡ false → (a && b) ≡ false
+and_false true b h = h
+and_false false b h = refl
+
+or_true : (a b : Bool) → b ≡ true → (a || b) ≡ true
+or_true true b h = refl
+or_true false b h = h
+
+and_parts : (a b : Bool) → (a && b) ≡ true → (a ≡ true) × (b ≡ true)
+and_parts true b h = (refl, h)
+and_parts false b h = absurd (true≢false (sym h))
+
 lex_same : (a : ℕ) (r : Bool) → r ≡ false → lex a a r ≡ false
-lex_same a r h = grind (arith, nat_tests)
+lex_same a r h = ap (λ c. c || ((a == a) && r)) (le-ltb a a (omega arith)) ∙ and_false (a == a) r h
+
+lex_parts : (a b : ℕ) (r : Bool) → lex a b r ≡ true → (a < b) ⊎ ((a ≡ b) × (r ≡ true))
+lex_parts a b r h = elim (cases_Bool (nat_lt a b)) [
+  | inl lt ↦ inl (ltb-true a b lt)
+  | inr no ↦ (let both = and_parts (a == b) r (ap (λ c. c || ((a == b) && r)) (sym no) ∙ h) in inr (eqb-true a b both.0, both.1))
+]
+
+lex_less : (a b : ℕ) (r : Bool) → a < b → lex a b r ≡ true
+lex_less a b r lt = ap (λ c. c || ((a == b) && r)) (lt-ltb a b lt)
+
+lex_equal : (a b : ℕ) (r : Bool) → a ≡ b → r ≡ true → lex a b r ≡ true
+lex_equal a b r e h = or_true (nat_lt a b) ((a == b) && r) (ap (λ c. c && r) (eq-eqb a b e) ∙ h)
 
 lex_through : (a b c : ℕ) (r s t : Bool) → (r ≡ true → s ≡ true → t ≡ true) → lex a b r ≡ true → lex b c s ≡ true → lex a c t ≡ true
-lex_through a b c r s t f h g = grind (arith, nat_tests)
+lex_through a b c r s t f h g = elim (lex_parts a b r h) [
+  | inl lt ↦ elim (lex_parts b c s g) [
+    | inl more ↦ lex_less a c t (omega (lt, more))
+    | inr same ↦ (let e = same.0 in lex_less a c t (omega (lt, e)))
+  ]
+  | inr one ↦ elim (lex_parts b c s g) [
+    | inl more ↦ (let e = one.0 in lex_less a c t (omega (e, more)))
+    | inr same ↦ lex_equal a c t (one.0 ∙ same.0) (f one.1 same.1)
+  ]
+]
 
 -- ---- lists of departures
 

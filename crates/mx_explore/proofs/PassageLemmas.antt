@@ -1,6 +1,6 @@
 -- What a machine does of an open offer, and what a passage says of it.
 use Rattle.std.proofs.Common.{◌≡◌, ◌∙◌, ℕ, zero, suc, ◌+◌, ◌-◌, ◌≤◌, ◌++◌, ◌||◌, not, Bool, true, false, List, [], ◌∷◌, map, take, drop, length, cond, Option, Some, None, is_none, refl, ap, sym, subst, arith, true≢false}
-use Rattle.std.specs.Prelude.{foldl, option_map, slice_get}
+use Rattle.std.specs.Prelude.{fold, option_map, slice_get}
 use Rattle.std.specs.List.{range_with_len}
 use Rattle.std.proofs.lemmas.List.{drop-map, take-append-drop}
 use Rattle.std.proofs.lemmas.List.FromFn.{map-range_with_len_more, take-map-range_with_len}
@@ -18,7 +18,7 @@ use Rattle.mx_explore.specs.declared.offers.Offer.{Offer}
 use Rattle.mx_explore.specs.declared.offers.Offer.TheVariants.{Take, Back, Outside, Respawn}
 use Rattle.mx_explore.specs.Passages.{IsMet, passage}
 use Rattle.mx_explore.specs.Passing.{Passage, Place, Standing, at_place, events_of, made, meets_if, met_in, noted, open_at, passes}
-use Rattle.mx_explore.specs.Passing.Place as place
+use Rattle.mx_explore.specs.Passing.{BackBy, FromOutside, NewIn, TakeBy}
 
 -- ---- one offer
 
@@ -115,18 +115,18 @@ module _ (m : MachineState) (coming : List Event) (other begun : ℕ) (s t : Sta
   pub takes_at : (c : ℕ) (o : Option Offer) (is_made full : Bool) (n : MachineState) → o ≡ open_take (world_of m) c
       → IsMet (world_of m) begun o s t is_made → is_made ≡ true
       → HasOffered m (offered (world_of m) ((c, events.Take) ∷ [])) full n
-      → at_place other begun (passage m coming s false) (place.TakeBy c) ≡ passage n coming t full
+      → at_place other begun (passage m coming s false) (TakeBy c) ≡ passage n coming t full
   takes_at c o is_made full n e h is done =
-      let it = makes_at false (place.TakeBy c) o is_made e h is in
+      let it = makes_at false (TakeBy c) o is_made e h is in
       let x = take_open (world_of m) c it.0 (sym e ∙ it.1) in
       it.2 ∙ ap (made other (passage m coming t false)) x.1 ∙ made_done m n coming t other (Take c x.0) false full done
 
   pub backs_at : (c : ℕ) (o : Option Offer) (is_made full : Bool) (n : MachineState) → o ≡ open_back (world_of m) c
       → IsMet (world_of m) begun o s t is_made → is_made ≡ true
       → HasOffered m (offered (world_of m) (run_of c)) false n
-      → at_place other begun (passage m coming s full) (place.BackBy c) ≡ passage n coming t full
+      → at_place other begun (passage m coming s full) (BackBy c) ≡ passage n coming t full
   backs_at c o is_made full n e h is done =
-      let it = makes_at full (place.BackBy c) o is_made e h is in
+      let it = makes_at full (BackBy c) o is_made e h is in
       let x = back_open (world_of m) c it.0 (sym e ∙ it.1) in
       it.2 ∙ ap (made other (passage m coming t full)) x.1 ∙ made_done m n coming t other (Back c x.0) full false done
       ∙ ap (passage n coming t) (none_more full)
@@ -138,9 +138,9 @@ module _ (m : MachineState) (coming : List Event) (other begun : ℕ) (s t : Sta
   pub respawns_at : (c : ℕ) (o : Option Offer) (is_made full : Bool) (n : MachineState) → o ≡ open_respawn (world_of m) c
       → IsMet (world_of m) begun o s t is_made → is_made ≡ true
       → HasOffered m (offered (world_of m) ((other, events.Respawn c) ∷ [])) full n
-      → at_place other begun (passage m coming s false) (place.NewIn c) ≡ passage n coming t full
+      → at_place other begun (passage m coming s false) (NewIn c) ≡ passage n coming t full
   respawns_at c o is_made full n e h is done =
-      let it = makes_at false (place.NewIn c) o is_made e h is in
+      let it = makes_at false (NewIn c) o is_made e h is in
       let x = respawn_open (world_of m) c it.0 (sym e ∙ it.1) in
       it.2 ∙ ap (made other (passage m coming t false)) x ∙ made_done m n coming t other (Respawn c) false full done
 
@@ -148,9 +148,9 @@ module _ (m : MachineState) (coming : List Event) (other begun : ℕ) (s t : Sta
       → slice_get coming 0 ≡ Some e
       → IsMet (world_of m) begun o s t is_made → is_made ≡ true
       → HasOffered m (offered (world_of m) ((other, e) ∷ [])) full n
-      → at_place other begun (passage m coming s false) place.FromOutside ≡ passage n (drop 1 coming) t full
+      → at_place other begun (passage m coming s false) FromOutside ≡ passage n (drop 1 coming) t full
   outside_at o is_made full n y e next h is done =
-      let it = makes_at false place.FromOutside o is_made e h is in
+      let it = makes_at false FromOutside o is_made e h is in
       let x = outside_open (slice_get coming 0) it.0 (sym e ∙ it.1) in
       let same : Some x.0 ≡ Some y = sym x.1 ∙ next in
       let one : x.0 ≡ y = cc in
@@ -159,7 +159,7 @@ module _ (m : MachineState) (coming : List Event) (other begun : ℕ) (s t : Sta
 -- ---- places in a row
 
 abbrev pub At : ℕ → ℕ → Passage → List Place → Passage
-At other begun p places = foldl (at_place other begun) p places
+At other begun p places = fold (at_place other begun) p places
 
 pub at_append : (other begun : ℕ) (p : Passage) (xs ys : List Place) → At other begun p (xs ++ ys) ≡ At other begun (At other begun p xs) ys
 at_append other begun p [] ys = refl
@@ -175,13 +175,13 @@ one_more other begun p f n =
 abbrev pub NeedsRoom : (ℕ → Place) → Type 0
 NeedsRoom f = (p : Passage) (n : ℕ) → p.full ≡ true → open_at p (f n) ≡ None
 
-pub takes_need : NeedsRoom place.TakeBy
+pub takes_need : NeedsRoom TakeBy
 takes_need p n h = ap (λ b. cond b None (open_take p.world n)) h
 
-pub respawns_need : NeedsRoom place.NewIn
+pub respawns_need : NeedsRoom NewIn
 respawns_need p n h = ap (λ b. cond b None (open_respawn p.world n)) h
 
-pub outside_needs : (p : Passage) → p.full ≡ true → open_at p place.FromOutside ≡ None
+pub outside_needs : (p : Passage) → p.full ≡ true → open_at p FromOutside ≡ None
 outside_needs p h = ap (λ b. cond b None (open_outside (slice_get p.coming 0))) h
 
 pub none_after : (other begun : ℕ) (f : ℕ → Place) → NeedsRoom f → (p : Passage) → p.full ≡ true → (ns : List ℕ) → At other begun p (map f ns) ≡ p

@@ -14,10 +14,15 @@ pub no_end : {X : Type 0} (xs : List X) (x : X) → xs ++ x ∷ [] ≡ [] → �
 no_end [] x e = cc
 no_end (y ∷ ys) x e = cc
 
+-- the runs with and without one departure more meet the offer where it begins
+abbrev pub MeetsAt : Setting → List Departure → Departure → Type 0
+MeetsAt t ds d =
+    (m : Met) × (slice_get (end_of t ds).met d.at ≡ Some m) × (slice_get (end_of t (departed_by ds d)).met d.at ≡ Some m)
+    × (is_at d.at m.offer d ≡ true)
+
 -- A LIST IS A SCHEDULE only if it is one without its last departure, which its run meets after its own last one
 pub shorter : (t : Setting) (ds : List Departure) (d : Departure) → IsSchedule t (departed_by ds d)
-    → IsSchedule t ds × ((end_of t ds).after ≤ d.at)
-    × ((m : Met) × (slice_get (end_of t ds).met d.at ≡ Some m) × (slice_get (end_of t (departed_by ds d)).met d.at ≡ Some m) × (is_at d.at m.offer d ≡ true))
+    → IsSchedule t ds × ((end_of t ds).after ≤ d.at) × MeetsAt t ds d
 shorter t ds d h = elim (longer_run t ds d) [
   | inl on ↦ absurd (no_end (end_of t ds).ahead d (sym (ap (λ (s : Standing). s.ahead) on.0) ∙ h.begun))
   | inr g ↦

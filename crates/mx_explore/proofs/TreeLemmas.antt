@@ -145,7 +145,7 @@ module _ (p : Part) (t : Setting) where
   deeper : (k : ℕ) (ds : List Departure) (d : Departure) (es : List Departure) → IsBelow k (ds ++ d ∷ []) es → IsBelow (suc k) ds es
   deeper k ds d es h = record {
     met = h.met;
-    few = (let few = h.few in let more = length-append ds (d ∷ []) in omega (arith, few, more));
+    few = (let few = h.few in let more : length (ds ++ d ∷ []) ≡ length ds + 1 = length-append ds (d ∷ []) in omega (arith, few, more));
     part = h.part;
     front = (d ∷ h.front.0, h.front.1 ∙ fronts ds d h.front.0);
   }

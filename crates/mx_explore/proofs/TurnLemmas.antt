@@ -12,28 +12,28 @@ use Rattle.mx_turns.specs.declared.turns.Ending.{Ending}
 use Rattle.mx_turns.specs.declared.turns.Ending.TheVariants.{Rest, Turns, Full}
 use Rattle.mx_explore.specs.Passages.{passage}
 use Rattle.mx_explore.specs.Passing.{Passage, Place, Standing, at_place, meets_if, open_at, passed_turn, passed_turns, places}
-use Rattle.mx_explore.specs.Passing.Place as place
+use Rattle.mx_explore.specs.Passing.{BackBy, FromOutside, NewIn, TakeBy}
 use Rattle.mx_explore.proofs.PassageLemmas.{At, at_append, none_after, outside_needs, respawns_need}
 
 -- ---- a turn
 
 abbrev takes_of : ℕ → List Place
-takes_of n = map place.TakeBy (range_with_len 0 n)
+takes_of n = map TakeBy (range_with_len 0 n)
 
 abbrev backs_of : ℕ → List Place
-backs_of n = map place.BackBy (range_with_len 0 n)
+backs_of n = map BackBy (range_with_len 0 n)
 
 abbrev news_of : ℕ → List Place
-news_of n = map place.NewIn (range_with_len 0 n)
+news_of n = map NewIn (range_with_len 0 n)
 
 -- a turn in its parts
-in_parts : (other begun : ℕ) (p q r u : Passage) (cpus slots : ℕ) → q ≡ At other begun p (takes_of cpus) → r ≡ At other begun q (backs_of cpus) → u ≡ at_place other begun r place.FromOutside
+in_parts : (other begun : ℕ) (p q r u : Passage) (cpus slots : ℕ) → q ≡ At other begun p (takes_of cpus) → r ≡ At other begun q (backs_of cpus) → u ≡ at_place other begun r FromOutside
     → At other begun p (places cpus slots) ≡ At other begun u (news_of slots)
 in_parts other begun p q r u cpus slots e f g =
-    at_append other begun p (takes_of cpus) (backs_of cpus ++ place.FromOutside ∷ news_of slots)
-    ∙ ap (λ (x : Passage). At other begun x (backs_of cpus ++ place.FromOutside ∷ news_of slots)) (sym e)
-    ∙ at_append other begun q (backs_of cpus) (place.FromOutside ∷ news_of slots)
-    ∙ ap (λ (x : Passage). At other begun x (place.FromOutside ∷ news_of slots)) (sym f)
+    at_append other begun p (takes_of cpus) (backs_of cpus ++ FromOutside ∷ news_of slots)
+    ∙ ap (λ (x : Passage). At other begun x (backs_of cpus ++ FromOutside ∷ news_of slots)) (sym e)
+    ∙ at_append other begun q (backs_of cpus) (FromOutside ∷ news_of slots)
+    ∙ ap (λ (x : Passage). At other begun x (FromOutside ∷ news_of slots)) (sym f)
     ∙ ap (λ (x : Passage). At other begun x (news_of slots)) (sym g)
 
 -- after a take that met a full history there are the returns alone
@@ -41,15 +41,15 @@ pub turn_full : (other begun : ℕ) (p q r : Passage) (cpus slots : ℕ) → q �
     → At other begun p (places cpus slots) ≡ r
 turn_full other begun p q r cpus slots e f full =
     in_parts other begun p q r r cpus slots e f (sym (ap (meets_if other begun r) (outside_needs r full)))
-    ∙ none_after other begun place.NewIn respawns_need r full (range_with_len 0 slots)
+    ∙ none_after other begun NewIn respawns_need r full (range_with_len 0 slots)
 
 -- after an outside event that met one there is nothing
-pub turn_outside : (other begun : ℕ) (p q r u : Passage) (cpus slots : ℕ) → q ≡ At other begun p (takes_of cpus) → r ≡ At other begun q (backs_of cpus) → u ≡ at_place other begun r place.FromOutside → u.full ≡ true
+pub turn_outside : (other begun : ℕ) (p q r u : Passage) (cpus slots : ℕ) → q ≡ At other begun p (takes_of cpus) → r ≡ At other begun q (backs_of cpus) → u ≡ at_place other begun r FromOutside → u.full ≡ true
     → At other begun p (places cpus slots) ≡ u
 turn_outside other begun p q r u cpus slots e f g full =
-    in_parts other begun p q r u cpus slots e f g ∙ none_after other begun place.NewIn respawns_need u full (range_with_len 0 slots)
+    in_parts other begun p q r u cpus slots e f g ∙ none_after other begun NewIn respawns_need u full (range_with_len 0 slots)
 
-pub turn_whole : (other begun : ℕ) (p q r u v : Passage) (cpus slots : ℕ) → q ≡ At other begun p (takes_of cpus) → r ≡ At other begun q (backs_of cpus) → u ≡ at_place other begun r place.FromOutside
+pub turn_whole : (other begun : ℕ) (p q r u v : Passage) (cpus slots : ℕ) → q ≡ At other begun p (takes_of cpus) → r ≡ At other begun q (backs_of cpus) → u ≡ at_place other begun r FromOutside
     → v ≡ At other begun u (news_of slots) → At other begun p (places cpus slots) ≡ v
 turn_whole other begun p q r u v cpus slots e f g h = in_parts other begun p q r u cpus slots e f g ∙ sym h
 

@@ -80,7 +80,7 @@ not_begun e t (d ∷ ds) x a h =
 stuck_lasts : (e : Departure) (t : Standing) (m : Met) → IsStuck e t → IsStuck e (noted t m)
 stuck_lasts e t m h =
     subst (IsStuck e) (sym (ap (λ g. noted_if g (begins t m.offer) t m) (none_goes t m.offer h.waits) ∙ ap (λ b. noted_if false b t m) (not_begun e t t.ahead m.offer h.ahead h.past)))
-    (let more = length-append t.met (m ∷ []) in record { ahead = h.ahead; waits = h.waits; past = omega (arith, h.past, more) })
+    (let more : length (t.met ++ m ∷ []) ≡ length t.met + 1 = length-append t.met (m ∷ []) in record { ahead = h.ahead; waits = h.waits; past = omega (arith, h.past, more) })
 
 -- ---- the two wait
 
@@ -126,7 +126,7 @@ wait_first d t s m (inl g) =
       ahead = h.ahead;
       waits = h.waits;
       first = ap first_outside (drop_more s.after s.met m h.bounded) ∙ first_kept (drop s.after s.met) m g.0 h.first;
-      bounded = (let more = length-append s.met (m ∷ []) in omega (arith, more, h.bounded));
+      bounded = (let more : length (s.met ++ m ∷ []) ≡ length s.met + 1 = length-append s.met (m ∷ []) in omega (arith, more, h.bounded));
       there = (h.there.0, get_kept s.met m d.at h.there.0 h.there.1, h.there.2);
       then_ahead = h.then_ahead;
       then_waits = h.then_waits;
@@ -235,7 +235,7 @@ one_begins : (d : Departure) (u : Standing) (m : Met) → is_outside m.offer ≡
 one_begins d u m o h g =
     let here = begun_here d u m.offer h in
     let met = u.met ++ m ∷ [] in
-    let more = length-append u.met (m ∷ []) in
+    let more : length (u.met ++ m ∷ []) ≡ length u.met + 1 = length-append u.met (m ∷ []) in
     let quiet : noted u m ≡ record u { met = met } = noted_quiet u m here.0 here.1 in
     record {
       there = (m, ap (λ (s : Standing). slice_get s.met d.at) (begun_noted d u m h) ∙ ap (slice_get met) here.2 ∙ get_last u.met m, o);
@@ -293,7 +293,7 @@ module _ (d : Departure) (s : Standing) (m : Met) (h : Waits d s) where
   dropped = drop_more s.after s.met m h.bounded
 
   fits : s.after ≤ length met
-  fits = let more = length-append s.met (m ∷ []) in omega (arith, more, h.bounded)
+  fits = let more : length (s.met ++ m ∷ []) ≡ length s.met + 1 = length-append s.met (m ∷ []) in omega (arith, more, h.bounded)
 
   -- another offer is made by both
   on_other : is_outside m.offer ≡ false → (passes t m.offer ≡ passes s m.offer) × WaitTogether d (noted s m) (noted t m)

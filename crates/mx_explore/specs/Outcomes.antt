@@ -19,12 +19,15 @@ use Rattle.mx_explore.specs.Passing.{Setting, run_of_schedule}
 
 -- ---- texts
 
--- a line for each service, the first of which has this slot: its name, and what its process does
+-- the line of a slot: the name of its service, and what its process does
+abbrev pub state_line : TableState → ℕ → List ℕ → List ℕ
+state_line t s name =
+    indented (name_bytes name ++ codes " " ++ doing_text (doing_of Slots t s (process_at t s).state))
+
+-- a line for each service, the first of which has this slot
 abbrev pub state_lines : TableState → ℕ → List Service → List ℕ
 state_lines t s [] = []
-state_lines t s (v ∷ vs) =
-    indented (name_bytes v.name.bytes ++ codes " " ++ doing_text (doing_of Slots t s (process_at t s).state))
-    ++ state_lines t (s + 1) vs
+state_lines t s (v ∷ vs) = state_line t s v.name.bytes ++ state_lines t (s + 1) vs
 
 -- THE TEXT OF AN OUTCOME: the states of all services, how the turns ended, and the console
 abbrev pub outcome_text : World → Ending → List ℕ

@@ -1,5 +1,5 @@
 -- RUNS IN WHICH OPEN OFFERS ARE PASSED: the order of turns, departed from in some places (our own).
-use Rattle.std.specs.Prelude.{ℕ, zero, suc, ◌-◌, ◌==◌, ◌≡◌, nat_lt, ◌&&◌, ◌||◌, not, if◌then◌else◌, Bool, true, false, List, [], ◌∷◌, ◌++◌, drop, foldl, length, map, Option, Some, None, slice_get}
+use Rattle.std.specs.Prelude.{ℕ, zero, suc, ◌-◌, ◌==◌, ◌≡◌, nat_lt, ◌&&◌, ◌||◌, not, if◌then◌else◌, Bool, true, false, List, [], ◌∷◌, ◌++◌, drop, fold, length, map, Option, Some, None, slice_get}
 use Rattle.std.specs.List.{range_with_len}
 use Rattle.mx_app_step.specs.Kept.{kept_of}
 use Rattle.mx_machine.specs.declared.events.Event.{Event}
@@ -137,7 +137,7 @@ at_place other begun p place = meets_if other begun p (open_at p place)
 abbrev pub passed_turn : Passage → Passage
 passed_turn p =
     let cpus = length p.world.cpus in
-    foldl (at_place cpus p.world.records) p (places cpus (length p.world.services))
+    fold (at_place cpus p.world.records) p (places cpus (length p.world.services))
 
 -- AT MOST n TURNS: where the run is after them, and how they end
 abbrev pub passed_turns : ℕ → Passage → Passage × Ending

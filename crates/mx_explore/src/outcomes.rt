@@ -1,15 +1,16 @@
 //! Outcomes of schedules: which there are, how many schedules lead to each, and the first of them.
 
-ghost use Rattle.std.specs.Prelude.{◌≡◌, ◌++◌, ◌+◌, ◌-◌, ◌^◌, ◌∷◌, [], List, All, IfOk, MatchOption, OnErr, OnOk, Some, if◌then◌else◌, min, slice_get, take, true, false};
+ghost use Rattle.std.specs.Prelude.{◌≡◌, ◌++◌, ◌+◌, ◌-◌, ◌^◌, ◌∷◌, [], List, All, IfOk, MatchOption, OnErr, OnOk, Some, ◌<◌, if◌then◌else◌, length, min, slice_get, take, true, false};
 ghost use Rattle.mx_machine.specs.Machine.{world_of};
 ghost use Rattle.mx_machine.specs.History.{replay};
 ghost use Rattle.std.specs.Str.{bytes_eq};
 ghost use Rattle.mx_explore.specs.declared.outcomes.Outcome.{Outcome as Outcomes};
-ghost use Rattle.mx_explore.specs.Outcomes.{Found, IsCounted, IsTally, first_of, is_before, is_less, outcome_text, state_lines};
+ghost use Rattle.mx_explore.specs.Outcomes.{Found, IsCounted, IsTally, first_of, is_before, is_less, outcome_text, state_line, state_lines};
 
 use crate::passing::{Departure, Ran};
-use mx_machine::Kernel;
+use mx_machine::{Kernel, Service};
 use mx_print_report::{Naming, doing_of, push_console, push_count, push_doing, push_name};
+use mx_proc::{Slot, Table};
 use mx_turns::{Ending, push_kept};
 use mx_word::NoMemory;
 use std::alloc::{AllocError, Global};
@@ -28,19 +29,37 @@ pub struct Outcome {
     pub records: usize,
 }
 
-/// Appends a line for each service: its name, and what its process does.
-fn push_states(text: &mut Vec<u8>, kernel: &Kernel) -> Result<(), AllocError>
-    ensures { OnOk result (text.new.items ≡ text.old.items
-        ++ state_lines (replay kernel.now).table 0 (replay kernel.now).services) }
+/// Appends the line of a slot: the name of its service, and what its process does.
+fn push_state(
+    text: &mut Vec<u8>,
+    table: &Table,
+    slot: Slot,
+    name: &[u8],
+) -> Result<(), AllocError>
+    requires { slot < length table.now.slots }
+    ensures { OnOk result (text.new.items ≡ text.old.items ++ state_line table.now slot name.now) }
 {
-    let table = kernel.table();
+    text.extend_from_slice(b"  ")?;
+    push_name(text, name)?;
+    text.push(b' ')?;
+    let state = table.process(slot).state;
+    push_doing(text, doing_of(Naming::Slots, table, slot, state))?;
+    text.push(b'\n')
+}
+
+/// Appends a line for each service.
+#[tactic(auto, using(crate::proofs::StateLemmas::state_lines_more))]
+fn push_states(
+    text: &mut Vec<u8>,
+    table: &Table,
+    services: &[Service],
+) -> Result<(), AllocError>
+    requires { length services.now ≡ length table.now.slots }
+    ensures { OnOk result (text.new.items
+        ≡ text.old.items ++ state_lines table.now 0 services.now) }
+{
     for slot in 0..table.slot_count() {
-        text.extend_from_slice(b"  ")?;
-        push_name(text, &kernel.services()[slot as usize].name.bytes)?;
-        text.push(b' ')?;
-        let state = table.process(slot).state;
-        push_doing(text, doing_of(Naming::Slots, table, slot, state))?;
-        text.push(b'\n')?;
+        push_state(text, table, slot, &services[slot as usize].name.bytes)?;
     }
     Ok(())
 }
@@ -49,9 +68,10 @@ fn push_states(text: &mut Vec<u8>, kernel: &Kernel) -> Result<(), AllocError>
 fn outcome_text(alloc: Global, kernel: &Kernel, ending: Ending) -> Result<Vec<u8>, AllocError>
     ensures { IfOk result (λ text. text.items ≡ outcome_text (replay kernel.now) ending) }
 {
+    kernel.facts();
     let console = &kernel.table().devices().console;
     let mut text = Vec::new(alloc);
-    push_states(&mut text, kernel)?;
+    push_states(&mut text, kernel.table(), kernel.services())?;
     text.extend_from_slice(b"  ")?;
     text.extend_from_slice(ending.word().as_bytes())?;
     text.push(b'\n')?;

@@ -1,6 +1,6 @@
 //! Turns in which open offers are passed.
 
-ghost use Rattle.std.specs.Prelude.{◌≡◌, ◌<◌, ◌&&◌, [], if◌then◌else◌, ℕ, Bool, List, IfOk, OnOk, drop, false, foldl, is_none, length, map, slice_get};
+ghost use Rattle.std.specs.Prelude.{◌≡◌, ◌<◌, ◌&&◌, [], if◌then◌else◌, ℕ, Bool, List, IfOk, OnOk, drop, false, fold, is_none, length, map, slice_get};
 ghost use Rattle.mx_machine.specs.Rest.{at_rest};
 ghost use Rattle.std.specs.List.{range_with_len};
 ghost use Rattle.mx_machine.specs.Machine.{world_of};
@@ -8,7 +8,7 @@ ghost use Rattle.mx_machine.specs.declared.events.Event.{Event as Events};
 ghost use Rattle.mx_machine.specs.World.{actors};
 ghost use Rattle.mx_turns.specs.Made.{outside_events};
 ghost use Rattle.mx_explore.specs.Passing.{at_place, begins, goes_on, noted, passed_turn, passed_turns, passes};
-ghost use Rattle.mx_explore.specs.Passing.Place as place;
+ghost use Rattle.mx_explore.specs.Passing.{BackBy, FromOutside, NewIn, TakeBy};
 ghost use Rattle.mx_explore.specs.Passages.{IsMet, IsRun, HasRoom, passage, standing};
 
 use crate::offers::{Offer, open_back, open_outside, open_respawn, open_take};
@@ -162,14 +162,16 @@ fn pass_take(
     ensures passed { (coming : List Events) → (other : ℕ) → IfOk result (λ is_full.
         passage machine.new coming (standing schedule.new) is_full
         ≡ at_place other begun (passage machine.old coming (standing schedule.old) false)
-        (place.TakeBy cpu)) }
+        (TakeBy cpu)) }
     ensures actors { actors (world_of machine.new) ≡ actors (world_of machine.old) }
 {
     let opened = open_take(machine, cpu);
-    if !is_made(machine, schedule, begun, opened)? {
-        return Ok(false);
+    let to_make = is_made(machine, schedule, begun, opened)?;
+    if to_make {
+        Ok(offer(machine, cpu, Event::Take))
+    } else {
+        Ok(false)
     }
-    Ok(offer(machine, cpu, Event::Take))
 }
 
 /// Each processor takes a process, up to the first take that is refused because the history is full. Answers whether
@@ -182,8 +184,8 @@ fn pass_takes(
 ) -> Result<bool, AllocError>
     ensures passed { (coming : List Events) → (other : ℕ) → IfOk result (λ is_full.
         passage machine.new coming (standing schedule.new) is_full
-        ≡ foldl (at_place other begun) (passage machine.old coming (standing schedule.old) false)
-        (map place.TakeBy (range_with_len 0 cpus))) }
+        ≡ fold (at_place other begun) (passage machine.old coming (standing schedule.old) false)
+        (map TakeBy (range_with_len 0 cpus))) }
     ensures actors { actors (world_of machine.new) ≡ actors (world_of machine.old) }
 {
     for cpu in 0..cpus {
@@ -204,12 +206,14 @@ fn pass_back(
     ensures passed { (coming : List Events) → (other : ℕ) → (is_full : Bool) → OnOk result (
         passage machine.new coming (standing schedule.new) is_full
         ≡ at_place other begun (passage machine.old coming (standing schedule.old) is_full)
-        (place.BackBy cpu)) }
+        (BackBy cpu)) }
     ensures actors { actors (world_of machine.new) ≡ actors (world_of machine.old) }
 {
     let opened = open_back(machine, cpu);
-    if is_made(machine, schedule, begun, opened)? {
+    let to_make = is_made(machine, schedule, begun, opened)?;
+    if to_make {
         offer_run(machine, cpu);
+        return Ok(());
     }
     Ok(())
 }
@@ -223,8 +227,8 @@ fn pass_backs(
 ) -> Result<(), AllocError>
     ensures passed { (coming : List Events) → (other : ℕ) → (is_full : Bool) → OnOk result (
         passage machine.new coming (standing schedule.new) is_full
-        ≡ foldl (at_place other begun) (passage machine.old coming (standing schedule.old) is_full)
-        (map place.BackBy (range_with_len 0 cpus))) }
+        ≡ fold (at_place other begun) (passage machine.old coming (standing schedule.old) is_full)
+        (map BackBy (range_with_len 0 cpus))) }
     ensures actors { actors (world_of machine.new) ≡ actors (world_of machine.old) }
 {
     for cpu in 0..cpus {
@@ -245,14 +249,16 @@ fn pass_respawn(
     ensures passed { (coming : List Events) → IfOk result (λ is_full.
         passage machine.new coming (standing schedule.new) is_full
         ≡ at_place other begun (passage machine.old coming (standing schedule.old) false)
-        (place.NewIn slot)) }
+        (NewIn slot)) }
     ensures actors { actors (world_of machine.new) ≡ actors (world_of machine.old) }
 {
     let opened = open_respawn(machine, slot);
-    if !is_made(machine, schedule, begun, opened)? {
-        return Ok(false);
+    let to_make = is_made(machine, schedule, begun, opened)?;
+    if to_make {
+        Ok(offer(machine, other, Event::Respawn(u32::from(slot))))
+    } else {
+        Ok(false)
     }
-    Ok(offer(machine, other, Event::Respawn(u32::from(slot))))
 }
 
 /// Each slot that is down and not worn gets a new process, up to the first that the history is too full for. Answers
@@ -267,8 +273,8 @@ fn pass_respawns(
     requires { other < actors (world_of machine.old) }
     ensures passed { (coming : List Events) → IfOk result (λ is_full.
         passage machine.new coming (standing schedule.new) is_full
-        ≡ foldl (at_place other begun) (passage machine.old coming (standing schedule.old) false)
-        (map place.NewIn (range_with_len 0 slots))) }
+        ≡ fold (at_place other begun) (passage machine.old coming (standing schedule.old) false)
+        (map NewIn (range_with_len 0 slots))) }
     ensures actors { actors (world_of machine.new) ≡ actors (world_of machine.old) }
 {
     for slot in 0..slots {
@@ -300,7 +306,7 @@ fn pass_outside(
         passage machine.new (if turned.is_gone then drop 1 coming else coming)
         (standing schedule.new) turned.is_full
         ≡ at_place other begun (passage machine.old coming (standing schedule.old) false)
-        place.FromOutside) }
+        FromOutside) }
     ensures actors { actors (world_of machine.new) ≡ actors (world_of machine.old) }
 {
     let is_gone = is_made(machine, schedule, begun, open_outside(next))?;
