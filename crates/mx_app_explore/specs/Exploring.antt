@@ -55,20 +55,28 @@ saves_program c (Some name) = list_any (λ (l : ServiceLine). is_numbered name l
 abbrev pub history_text : Setting → Outcome → List ℕ
 history_text t o = text_kept (run_of_schedule t o.departures.items).0.kernel
 
--- those of outcomes, the first of which has this number
-abbrev pub saved_from : Setting → List ℕ → ℕ → List Outcome → List Written
-saved_from t name number [] = []
-saved_from t name number (o ∷ os) =
-    kept (name ++ decimal number) (history_text t o) ∷ saved_from t name (number + 1) os
+-- a text of this number is saved, if that is asked
+abbrev pub saved_one : Option (List ℕ) → ℕ → List ℕ → List Written
+saved_one None number text = []
+saved_one (Some name) number text = kept (name ++ decimal number) text ∷ []
+
+-- or it isn't, and this is why
+abbrev pub IsUnsavedOne : Option (List ℕ) → ℕ → List ℕ → List Written → Kind → Type 0
+IsUnsavedOne None number text ws f = ⊥
+IsUnsavedOne (Some name) number text ws f = IsUnwritten (name ++ decimal number) text ws f
+
+-- the histories of outcomes, the first of which has this number
+abbrev pub saved_from : Setting → Option (List ℕ) → ℕ → List Outcome → List Written
+saved_from t save number [] = []
+saved_from t save number (o ∷ os) = saved_one save number (history_text t o) ++ saved_from t save (number + 1) os
 
 abbrev pub saved_of : Setting → Option (List ℕ) → List Outcome → List Written
-saved_of t None os = []
-saved_of t (Some name) os = saved_from t name 1 os
+saved_of t save os = saved_from t save 1 os
 
 -- the history of the outcome after the first m isn't written
 abbrev pub IsUnsaved : Setting → Option (List ℕ) → ℕ → Option Outcome → List Written → Kind → Type 0
-IsUnsaved t (Some name) m (Some o) ws f = IsUnwritten (name ++ decimal (m + 1)) (history_text t o) ws f
-IsUnsaved t name m o ws f = ⊥
+IsUnsaved t save m None ws f = ⊥
+IsUnsaved t save m (Some o) ws f = IsUnsavedOne save (m + 1) (history_text t o) ws f
 
 -- ---- how it ends
 

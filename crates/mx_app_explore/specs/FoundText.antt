@@ -6,7 +6,7 @@ use Rattle.mx_look.specs.Trace.{event_text}
 use Rattle.mx_machine.specs.KernelState.{recorded_as}
 use Rattle.mx_machine.specs.Service.{Service}
 use Rattle.mx_print_report.specs.Words.{name_bytes}
-use Rattle.mx_explore.specs.Passing.{Setting, end_of}
+use Rattle.mx_explore.specs.Passing.{Setting, end_of, run_of_schedule}
 use Rattle.mx_explore.specs.declared.offers.Offer.{Offer}
 use Rattle.mx_explore.specs.declared.offers.Offer.TheVariants.{Take, Back, Outside, Respawn}
 use Rattle.mx_explore.specs.declared.outcomes.Outcome.{Outcome}
@@ -52,7 +52,9 @@ departure_lines vs met ds = flat_map (λ (d : Departure). departure_line vs d (s
 
 abbrev pub outcome_lines : Setting → ℕ → Outcome → List ℕ
 outcome_lines t number o =
-    head_text number o ++ departure_lines t.boot.services (end_of t o.departures.items).met o.departures.items
+    head_text number o
+    ++ departure_lines (run_of_schedule t o.departures.items).0.world.services (end_of t o.departures.items).met
+    o.departures.items
     ++ o.text.items
 
 -- outcomes, the first of which has this number

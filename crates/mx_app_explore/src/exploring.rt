@@ -1,12 +1,19 @@
 //! A configuration whose schedules are explored.
 
-ghost use Rattle.std.specs.Prelude.{◌≡◌, ◌++◌, List, IfErr, OnOk, false, option_map, true};
+ghost use Rattle.std.specs.Prelude.{◌≡◌, ◌⊎◌, ◌<◌, ◌+◌, ◌++◌, [], ℕ, List, IfErr, IfOk, OnOk, Some, false, length, option_map, slice_get, take, true};
 ghost use Rattle.std.specs.Io.KnownBytes.{Appends};
 ghost use Rattle.mx_app_start.specs.Programs.{over_program};
 ghost use Rattle.mx_app_step.specs.Asked.{Asked};
 ghost use Rattle.mx_app_step.specs.Written.{Written};
 ghost use Rattle.mx_walk.specs.declared.progress.Part.{Part as Parts};
-ghost use Rattle.mx_app_explore.specs.Exploring.{Explores, saves_program};
+ghost use Rattle.mx_app_failure.specs.Failure.{IsWanting, PrintsFront};
+ghost use Rattle.mx_app_step.specs.Kept.{text_kept};
+ghost use Rattle.mx_explore.specs.declared.outcomes.Outcome.{Outcome as Outcomes};
+ghost use Rattle.mx_explore.specs.Exploring.{IsAtBoot, setting};
+ghost use Rattle.mx_explore.specs.Passages.{IsRun};
+ghost use Rattle.mx_explore.specs.Passing.{Setting};
+ghost use Rattle.mx_app_explore.specs.FoundText.{found_text, outcome_lines, total_text};
+ghost use Rattle.mx_app_explore.specs.Exploring.{Explores, IsUnsaved, IsUnsavedOne, found_of, history_text, saved_of, saved_one, saves_program};
 
 use crate::found_text::{push_departures, push_head, push_total};
 use mx_app_command::is_numbered;
@@ -78,7 +85,15 @@ fn save<F: FileWriter>(
     ran: &Ran,
     name: Option<&str>,
     number: u64,
-) -> Result<(), Failure> {
+) -> Result<(), Failure>
+    ensures saved { OnOk result (F.written files.new ≡ F.written files.old
+        ++ saved_one (option_map (λ s. s.now) name.entry) number
+        (text_kept ran.now.machine.kernel)) }
+    ensures unsaved { IfErr result (λ f. (ws : List Written)
+        × (F.written files.new ≡ F.written files.old ++ ws)
+        × IsUnsavedOne (option_map (λ s. s.now) name.entry) number
+        (text_kept ran.now.machine.kernel) ws f) }
+{
     let Some(name) = name else {
         return Ok(());
     };
@@ -92,7 +107,10 @@ fn outcome_lines(
     number: u64,
     outcome: &Outcome,
     ran: &Ran,
-) -> Result<Vec<u8>, AllocError> {
+) -> Result<Vec<u8>, AllocError>
+    ensures { (t : Setting) → IsRun t outcome.now.departures.items ran.now
+        → IfOk result (λ text. text.items ≡ outcome_lines t number outcome.now) }
+{
     let mut text = Vec::new(alloc);
     push_head(&mut text, number, outcome)?;
     push_departures(
@@ -114,7 +132,30 @@ fn print_outcome<F: FileWriter, W: Write>(
     terms: Terms<'_>,
     place: usize,
     name: Option<&str>,
-) -> Result<(), Failure> {
+) -> Result<(), Failure>
+    requires boot { IsAtBoot explored.old.boot explored.old.services.items }
+    requires there { place < length explored.old.tally.outcomes.items }
+    ensures tally { explored.new.tally ≡ explored.old.tally }
+    ensures boot { explored.new.boot ≡ explored.old.boot }
+    ensures ready { OnOk result (IsAtBoot explored.new.boot explored.new.services.items) }
+    ensures told { OnOk result ((o : Outcomes)
+        × (slice_get explored.old.tally.outcomes.items place ≡ Some o)
+        × (F.written files.new ≡ F.written files.old
+        ++ saved_one (option_map (λ s. s.now) name.entry) (place + 1)
+        (history_text (setting terms.entry explored.old.boot) o))
+        × Appends (W.contents out.old) (W.contents out.new)
+        (outcome_lines (setting terms.entry explored.old.boot) (place + 1) o)) }
+    ensures untold { IfErr result (λ f. (o : Outcomes) × (ws : List Written)
+        × (slice_get explored.old.tally.outcomes.items place ≡ Some o)
+        × (F.written files.new ≡ F.written files.old ++ ws)
+        × PrintsFront (λ text. Appends (W.contents out.old) (W.contents out.new) text)
+        (outcome_lines (setting terms.entry explored.old.boot) (place + 1) o)
+        × (((ws ≡ []) × IsWanting f)
+        ⊎ (IsUnsavedOne (option_map (λ s. s.now) name.entry) (place + 1)
+        (history_text (setting terms.entry explored.old.boot) o) ws f
+        ⊎ ((ws ≡ saved_one (option_map (λ s. s.now) name.entry) (place + 1)
+        (history_text (setting terms.entry explored.old.boot) o)) × IsWanting f)))) }
+{
     let number = place as u64 + 1;
     let ran = explored.run_first(alloc, terms, place)?;
     let text = outcome_lines(alloc, number, &explored.tally.outcomes[place], &ran)?;
@@ -129,7 +170,13 @@ fn print_total<W: Write>(
     tally: &Tally,
     departures: u32,
     out: &mut W,
-) -> Result<(), Failure> {
+) -> Result<(), Failure>
+    ensures told { OnOk result (Appends (W.contents out.old) (W.contents out.new)
+        (total_text departures tally.now)) }
+    ensures untold { IfErr result (λ f. IsWanting f
+        × PrintsFront (λ text. Appends (W.contents out.old) (W.contents out.new) text)
+        (total_text departures tally.now)) }
+{
     let mut text = Vec::new(alloc);
     push_total(&mut text, tally, departures)?;
     print_text(text.as_slice(), out)
@@ -143,7 +190,26 @@ fn print_found<F: FileWriter, W: Write>(
     explored: &mut Explored,
     terms: Terms<'_>,
     name: Option<&str>,
-) -> Result<Found, Failure> {
+) -> Result<Found, Failure>
+    requires { IsAtBoot explored.old.boot explored.old.services.items }
+    ensures told { IfOk result (λ found. (found ≡ found_of explored.old.tally)
+        × (F.written files.new ≡ F.written files.old
+        ++ saved_of (setting terms.entry explored.old.boot) (option_map (λ s. s.now) name.entry)
+        explored.old.tally.outcomes.items)
+        × Appends (W.contents out.old) (W.contents out.new)
+        (found_text (setting terms.entry explored.old.boot) terms.entry.departures
+        explored.old.tally)) }
+    ensures untold { IfErr result (λ f. (m : ℕ) × (us : List Written)
+        × (F.written files.new ≡ F.written files.old
+        ++ saved_of (setting terms.entry explored.old.boot) (option_map (λ s. s.now) name.entry)
+        (take m explored.old.tally.outcomes.items) ++ us)
+        × (((us ≡ []) × IsWanting f)
+        ⊎ IsUnsaved (setting terms.entry explored.old.boot) (option_map (λ s. s.now) name.entry) m
+        (slice_get explored.old.tally.outcomes.items m) us f)
+        × PrintsFront (λ text. Appends (W.contents out.old) (W.contents out.new) text)
+        (found_text (setting terms.entry explored.old.boot) terms.entry.departures
+        explored.old.tally)) }
+{
     for place in 0..explored.tally.outcomes.len() {
         print_outcome(alloc, files, out, explored, terms, place, name)?;
     }

@@ -10,7 +10,7 @@ use Rattle.mx_explore.specs.Offers.{is_outside, open_back, open_respawn, open_ta
 use Rattle.mx_explore.specs.declared.offers.Offer.{Offer}
 use Rattle.mx_explore.specs.declared.passing.Departure.{Departure}
 use Rattle.mx_explore.specs.declared.passing.Met.{Met}
-use Rattle.mx_explore.specs.Passing.{IsSchedule, Passage, Place, Setting, Standing, at_place, begins, end_of, from_boot, goes_on, is_at, made, meets, meets_if, met_in, noted, open_at, passed_turn, passed_turns, passes, places, run_of_schedule, turns_of}
+use Rattle.mx_explore.specs.Passing.{IsSchedule, Passage, Place, Setting, Standing, at_place, begins, begins_by, end_of, from_boot, goes_on, is_at, made, meets, meets_if, met_in, noted, open_at, passed_turn, passed_turns, passes, places, run_of_schedule, turns_of}
 use Rattle.mx_explore.specs.Passing.{BackBy, FromOutside, NewIn, TakeBy}
 use Rattle.mx_explore.proofs.PassageLemmas.{At, at_append, back_open, respawn_open, stood, take_open}
 use Rattle.mx_explore.proofs.AlongLemmas.{turns_last}
@@ -39,6 +39,7 @@ met_is s m false false = refl
 outs_met : (other begun : ℕ) (p : Passage) (x : Offer) → outs (meets other begun p x).standing.met ≡ outs p.standing.met + one_if (is_outside x)
 outs_met other begun p x = by (passes p.standing x)
   where
+    m : Met
     m = met_in p.world begun x
     noted_outs : outs (noted p.standing m).met ≡ outs p.standing.met + one_if (is_outside x)
     noted_outs = ap outs (met_is p.standing m (goes_on p.standing x) (begins p.standing x)) ∙ outs_more p.standing.met m
@@ -107,6 +108,7 @@ turns_outs : (k : ℕ) (p : Passage) → outs (passed_turns k p).0.standing.met 
 turns_outs zero p = omega arith
 turns_outs (suc k) p = by (is_over p.world p.coming) (passed_turn p).full
   where
+    turned : outs (passed_turn p).standing.met ≤ outs p.standing.met + 1
     turned = turn_outs p
     by : (over full : Bool) → outs (cond over (let z : Passage × Ending = (p, Rest) in z) (let q = passed_turn p in cond full (let z : Passage × Ending = (q, Full) in z) (passed_turns k q))).0.standing.met ≤ outs p.standing.met + suc k
     by true full = omega arith
@@ -121,7 +123,7 @@ Lasting d s = ((as : List Departure) × (s.ahead ≡ as ++ d ∷ [])) ⊎ ((s.ah
 
 last_begins : (d : Departure) (s : Standing) (m : Met) (as : List Departure) → (s.ahead ≡ as ++ d ∷ []) → begins s m.offer ≡ true → Lasting d (noted_if false true s m)
 last_begins d s m [] e b =
-    let is : is_at (length s.met) m.offer d ≡ true = (both_true _ _ (sym (ap (λ (l : List Departure). Rattle.mx_explore.specs.Passing.begins_by s m.offer (slice_get l 0)) e) ∙ b)).1 in
+    let is : is_at (length s.met) m.offer d ≡ true = (both_true _ _ (sym (ap (λ (l : List Departure). begins_by s m.offer (slice_get l 0)) e) ∙ b)).1 in
     let turns : turns_of (slice_get s.ahead 0) ≡ d.turns = ap (λ (l : List Departure). turns_of (slice_get l 0)) e in
     let more = outs_more s.met m in
     inr (ap (drop 1) e, elim (or_cases _ _ (both_true _ _ is).1) [
@@ -151,6 +153,7 @@ lasting d s m (inl h) = by (goes_on s m.offer) (begins s m.offer) refl
 lasting d s m (inr h) =
     subst (Lasting d) (sym (ap (λ b. noted_if (goes_on s m.offer) b s m) (none_begins s s.ahead m.offer h.0))) (by (goes_on s m.offer) refl)
   where
+    more : outs (s.met ++ m ∷ []) ≡ outs s.met + one_if (is_outside m.offer)
     more = outs_more s.met m
     goes : goes_on s m.offer ≡ true → (0 < s.waits) × (one_if (is_outside m.offer) ≡ 1)
     goes e = let both = both_true _ _ e in (ltb-true 0 s.waits both.0, ap one_if both.1)

@@ -6,13 +6,13 @@ use Rattle.std.proofs.lemmas.List.{drop-map, take-append-drop}
 use Rattle.std.proofs.lemmas.List.FromFn.{map-range_with_len_more, take-map-range_with_len}
 use Rattle.mx_machine.specs.declared.events.Event.{Event}
 use Rattle.mx_machine.specs.declared.events.Event.TheVariants as events
-use Rattle.mx_machine.specs.History.{BootAndHistory}
+use Rattle.mx_machine.specs.History.{BootAndHistory, world_after_events}
 use Rattle.mx_machine.specs.Machine.{MachineState, world_of}
 use Rattle.mx_machine.specs.Proc.Queues.{first_ready}
 use Rattle.mx_machine.specs.Proc.TableState.{process_at}
 use Rattle.mx_machine.specs.World.{World, HeldProcess, held_by}
 use Rattle.mx_turns.specs.Made.{HasOffered}
-use Rattle.mx_turns.specs.Turns.{offered, run_of}
+use Rattle.mx_turns.specs.Turns.{Offered, offered, run_of}
 use Rattle.mx_explore.specs.Offers.{can_respawn, is_outside, open_back, open_outside, open_respawn, open_take}
 use Rattle.mx_explore.specs.declared.offers.Offer.{Offer}
 use Rattle.mx_explore.specs.declared.offers.Offer.TheVariants.{Take, Back, Outside, Respawn}
@@ -52,13 +52,14 @@ pub made_done : (m n : MachineState) (coming : List Event) (s : Standing) (other
     → HasOffered m (offered (world_of m) (events_of other x)) full n
     → made other (passage m coming s before) x ≡ passage n (cond (is_outside x) (drop 1 coming) coming) s (before || full)
 made_done m n coming s other x before full h =
-    ap (λ (k : BootAndHistory). with_parts k (world_of_made) (o.full)) (sym h.made.kernel)
+    ap (λ (k : BootAndHistory). with_parts k world_of_made o.full) (sym h.made.kernel)
     ∙ ap (λ (w : World). with_parts n.kernel w o.full) (sym h.made.world)
     ∙ ap (λ (b : Bool). with_parts n.kernel (world_of n) b) h.full
   where
+    o : Offered
     o = offered (world_of m) (events_of other x)
     world_of_made : World
-    world_of_made = Rattle.mx_machine.specs.History.world_after_events (world_of m) o.made
+    world_of_made = world_after_events (world_of m) o.made
     with_parts : BootAndHistory → World → Bool → Passage
     with_parts k w b = record { kernel = k; world = w; coming = cond (is_outside x) (drop 1 coming) coming; standing = s; full = before || b }
 
@@ -193,7 +194,7 @@ none_after other begun f needs p full (n ∷ ns) =
 pub first_only : (other begun : ℕ) (f : ℕ → Place) → NeedsRoom f → (p q : Passage) (k n : ℕ) → k ≤ n → At other begun p (map f (range_with_len 0 k)) ≡ q → q.full ≡ true
     → At other begun p (map f (range_with_len 0 n)) ≡ q
 first_only other begun f needs p q k n le e full =
-    ap (At other begun p) (parts) ∙ at_append other begun p (map f (range_with_len 0 k)) (map f (drop k (range_with_len 0 n)))
+    ap (At other begun p) parts ∙ at_append other begun p (map f (range_with_len 0 k)) (map f (drop k (range_with_len 0 n)))
     ∙ ap (λ (x : Passage). At other begun x (map f (drop k (range_with_len 0 n)))) e
     ∙ none_after other begun f needs q full (drop k (range_with_len 0 n))
   where

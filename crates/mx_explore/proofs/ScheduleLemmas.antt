@@ -93,4 +93,5 @@ wait_more t ds d m lt h there outside can = elim (longer_waiting t ds d lt) [
   ]
 ]
   where
+    s : Standing
     s = end_of t (departed_by ds d)

@@ -1,11 +1,12 @@
 -- The tree has every schedule, once.
 use Rattle.std.proofs.Common.{◌≡◌, ◌∙◌, ◌⊎◌, ◌≤◌, ◌<◌, ◌+◌, ◌-◌, ◌==◌, ◌&&◌, ◌||◌, ◌++◌, ℕ, zero, suc, Bool, true, false, List, [], ◌∷◌, drop, length, length-append, append_assoc, cond, nat_lt, Option, Some, None, inl, inr, refl, ap, sym, subst, arith, true≢false}
-use Rattle.std.specs.Prelude.{All, Contains, filter, slice_get}
+use Rattle.std.specs.Prelude.{⊤, All, Contains, filter, slice_get, slice_index_or}
 use Rattle.std.specs.List.{AllByRecursion, IsDistinct, flat_map, range_with_len}
 use Rattle.std.proofs.lemmas.Bool.{cases_Bool, cases_lt, eq-eqb, eqb-true, ltb-true, ne_eqb}
 use Rattle.std.proofs.lemmas.List.Elements.{All-from_recursion, Contains-append_cases, Contains-append_left, Contains-append_right}
 use Rattle.std.proofs.lemmas.Option.{slice_get_within}
 use Rattle.mx_explore.specs.Offers.{is_outside}
+use Rattle.mx_explore.specs.declared.offers.Offer.{Offer}
 use Rattle.mx_explore.specs.declared.passing.Departure.{Departure}
 use Rattle.mx_explore.specs.declared.passing.Met.{Met}
 use Rattle.mx_explore.specs.Passing.{IsSchedule, Setting, Standing, end_of, from_boot, is_at, noted, run_of_schedule}
@@ -49,29 +50,29 @@ has_first x xs = (0, (omega arith, refl))
 has_later : {X : Type 0} (y : X) (xs : List X) (x : X) → Contains xs x → Contains (y ∷ xs) x
 has_later y xs x h = Contains-append_right (y ∷ []) xs x h
 
+one_at : {X : Type 0} (y x : X) (k : ℕ) → k < length (y ∷ []) → slice_index_or (y ∷ []) k x ≡ x → x ≡ y
+one_at y x zero low e = sym e
+one_at y x (suc k) low e = absurd (let few : suc k < 1 = low in omega few)
+
+only_one : {X : Type 0} (y x : X) → Contains (y ∷ []) x → x ≡ y
+only_one y x h = one_at y x h.0 h.1 h.2
+
 has_filter : {X : Type 0} (p : X → Bool) (xs : List X) (x : X) → p x ≡ true → Contains xs x → Contains (filter p xs) x
-has_filter p [] x is h = absurd (omega (arith, h.1))
+has_filter p [] x is h = absurd (let none : h.0 < 0 = h.1 in omega none)
 has_filter p (y ∷ ys) x is h = by (p y) refl (Contains-append_cases (y ∷ []) ys x h)
   where
-    one : (z : _) → Contains (y ∷ []) z → z ≡ y
-    one z (zero, c) = sym c.1
-    one z (suc k, c) = absurd (omega (arith, c.0))
     by : (b : Bool) → p y ≡ b → Contains (y ∷ []) x ⊎ Contains ys x → Contains (cond b (y ∷ filter p ys) (filter p ys)) x
-    by true e (inl c) = subst (λ z. Contains (y ∷ filter p ys) z) (sym (one x c)) (has_first y (filter p ys))
+    by true e (inl c) = subst (λ z. Contains (y ∷ filter p ys) z) (sym (only_one y x c)) (has_first y (filter p ys))
     by true e (inr c) = has_later y (filter p ys) x (has_filter p ys x is c)
-    by false e (inl c) = absurd (true≢false (sym is ∙ ap p (one x c) ∙ e))
+    by false e (inl c) = absurd (true≢false (sym is ∙ ap p (only_one y x c) ∙ e))
     by false e (inr c) = has_filter p ys x is c
 
 has_flat : {X Y : Type 0} (f : X → List Y) (xs : List X) (x : X) (y : Y) → Contains xs x → Contains (f x) y → Contains (flat_map f xs) y
-has_flat f [] x y h g = absurd (omega (arith, h.1))
+has_flat f [] x y h g = absurd (let none : h.0 < 0 = h.1 in omega none)
 has_flat f (z ∷ zs) x y h g = elim (Contains-append_cases (z ∷ []) zs x h) [
-  | inl c ↦ Contains-append_left (f z) (flat_map f zs) y (subst (λ w. Contains (f w) y) (one x c) g)
+  | inl c ↦ Contains-append_left (f z) (flat_map f zs) y (subst (λ w. Contains (f w) y) (only_one z x c) g)
   | inr c ↦ Contains-append_right (f z) (flat_map f zs) y (has_flat f zs x y c g)
 ]
-  where
-    one : (w : _) → Contains (z ∷ []) w → w ≡ z
-    one w (zero, c) = sym c.1
-    one w (suc k, c) = absurd (omega (arith, c.0))
 
 has_range : (a n k : ℕ) → a ≤ k → k < a + n → Contains (range_with_len a n) k
 has_range a zero k low high = absurd (omega (low, high))
@@ -108,7 +109,7 @@ front_is_schedule t [] ds h = subst (IsSchedule t) (none ds) h
     none (x ∷ xs) = ap (λ l. x ∷ l) (none xs)
 front_is_schedule t (g ∷ gs) ds h = (shorter t ds g (front_is_schedule t gs (ds ++ g ∷ []) (subst (IsSchedule t) (sym (fronts ds g gs)) h))).0
 
-some_turn : (n : ℕ) (x : _) (d : Departure) → is_at n x d ≡ true → 0 < d.turns
+some_turn : (n : ℕ) (x : Offer) (d : Departure) → is_at n x d ≡ true → 0 < d.turns
 some_turn n x d h = elim (cases_Bool (d.turns == 1)) [
   | inl one ↦ (let e = eqb-true d.turns 1 one in omega e)
   | inr more ↦
@@ -117,7 +118,7 @@ some_turn n x d h = elim (cases_Bool (d.turns == 1)) [
       omega lt)
 ]
 
-of_outside : (n : ℕ) (x : _) (at k : ℕ) → 0 < k → is_at n x (record { at = at; turns = k + 1 }) ≡ true → is_outside x ≡ true
+of_outside : (n : ℕ) (x : Offer) (at k : ℕ) → 0 < k → is_at n x (record { at = at; turns = k + 1 }) ≡ true → is_outside x ≡ true
 of_outside n x at k lt h =
     let more = (both_true _ _ h).1 in
     let one : (k + 1 == 1) ≡ false = ne_eqb (k + 1) 1 (λ e. omega (lt, e)) in
@@ -162,6 +163,7 @@ module _ (p : Part) (t : Setting) where
     where
       d : Departure
       d = record { at = at; turns = n }
+      es : List Departure
       es = departed ds at n
       by : (b : Bool) → (can_wait (end_of t es) && is_of_outside (slice_get (end_of t ds).met at)) ≡ b → AllByRecursion (IsBelow (suc k) ds) (cond b (departing (below p t k) t ds at (n + 1) fuel) [])
       by false e = tt
@@ -342,6 +344,7 @@ module _ (p : Part) (t : Setting) where
   departing_once f all once ds at zero n = tt
   departing_once f all once ds at (suc fuel) n = by (can_wait (end_of t (departed ds at n)) && is_of_outside (slice_get (end_of t ds).met at))
     where
+      es : List Departure
       es = departed ds at n
       apart : (x y : List Departure) → Begins es x → ((m : ℕ) × (n + 1 ≤ m) × Departs ds at m y) → is_same x y ≡ false
       apart x y b c =
@@ -373,6 +376,7 @@ module _ (p : Part) (t : Setting) where
   filter_rises q [] h = tt
   filter_rises q (a ∷ as) h = by (q a)
     where
+      kept : AllByRecursion (λ b. a < b) (filter q as)
       kept = rec_weaker (λ b. (a < b) × (q b ≡ true)) (λ b. a < b) (λ b c. c.0) (filter q as) (rec_filter q (λ b. a < b) as h.0)
       by : (b : Bool) → Rises (cond b (a ∷ filter q as) (filter q as))
       by true = (kept, filter_rises q as h.1)
