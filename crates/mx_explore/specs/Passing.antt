@@ -1,7 +1,7 @@
 -- RUNS IN WHICH OPEN OFFERS ARE PASSED: the order of turns, departed from in some places (our own).
 use Rattle.std.specs.Prelude.{ℕ, zero, suc, ◌-◌, ◌==◌, ◌≡◌, nat_lt, ◌&&◌, ◌||◌, not, if◌then◌else◌, Bool, true, false, List, [], ◌∷◌, ◌++◌, drop, fold, length, map, Option, Some, None, slice_get}
 use Rattle.std.specs.List.{range_with_len}
-use Rattle.mx_app_step.specs.Kept.{kept_of}
+use Rattle.mx_walk.specs.Kept.{kept_of}
 use Rattle.mx_machine.specs.declared.events.Event.{Event}
 use Rattle.mx_machine.specs.declared.events.Event.TheVariants as events
 use Rattle.mx_machine.specs.History.{BootAndHistory}

@@ -44,7 +44,8 @@ fn push_state(
     text.push(b' ')?;
     let state = table.process(slot).state;
     push_doing(text, doing_of(Naming::Slots, table, slot, state))?;
-    text.push(b'\n')
+    text.push(b'\n')?;
+    Ok(())
 }
 
 /// Appends a line for each service.
