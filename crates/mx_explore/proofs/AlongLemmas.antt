@@ -101,17 +101,21 @@ module _ (T A : Standing → Standing → Type 0)
     where
       ends : Passage → Bool → Passage × Ending
       ends u b = cond b (u, Full) (passed_turns k u)
+
       same : (u : Passage) (s : Standing) → T u.standing s → (b : Bool) → Goes (ends u b).0 (ends (stood u s) b).0
       same u s g true = inl (refl, g)
       same u s g false = goes_turns k u s g
+
       apart : (u v : Passage) → A u.standing v.standing → (a b : Bool) → Goes (ends u a).0 (ends v b).0
       apart u v g true true = inr g
       apart u v g true false = inr (rest_parted 0 k u v g)
       apart u v g false true = inr (rest_parted k 0 u v g)
       apart u v g false false = inr (rest_parted k k u v g)
+
       turned : (u v : Passage) → Goes u v → Goes (ends u u.full).0 (ends v v.full).0
       turned u v (inl g) = subst (λ (x : Passage). Goes (ends u u.full).0 (ends x x.full).0) (sym g.0) (same u v.standing g.1 u.full)
       turned u v (inr g) = apart u v g u.full v.full
+
       by : (over : Bool) → Goes (cond over (let z : Passage × Ending = (p, Rest) in z) (ends (passed_turn p) (passed_turn p).full)).0 (cond over (let z : Passage × Ending = (stood p t, Rest) in z) (ends (passed_turn (stood p t)) (passed_turn (stood p t)).full)).0
       by true = inl (refl, h)
       by false = turned (passed_turn p) (passed_turn (stood p t)) (goes_turn p t h)

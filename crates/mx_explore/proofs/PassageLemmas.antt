@@ -58,8 +58,10 @@ made_done m n coming s other x before full h =
   where
     o : Offered
     o = offered (world_of m) (events_of other x)
+
     world_of_made : World
     world_of_made = world_after_events (world_of m) o.made
+
     with_parts : BootAndHistory → World → Bool → Passage
     with_parts k w b = record { kernel = k; world = w; coming = cond (is_outside x) (drop 1 coming) coming; standing = s; full = before || b }
 

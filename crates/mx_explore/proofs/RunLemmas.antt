@@ -35,6 +35,7 @@ turns_boot (suc k) p = by (is_over p.world p.coming) (passed_turn p).full
   where
     turned : (passed_turn p).kernel.boot ≡ p.kernel.boot
     turned = at_boot (length p.world.cpus) p.world.records p (places (length p.world.cpus) (length p.world.services))
+
     by : (over full : Bool) → (cond over (let z : Passage × Ending = (p, Rest) in z) (let q = passed_turn p in cond full (let z : Passage × Ending = (q, Full) in z) (passed_turns k q))).0.kernel.boot ≡ p.kernel.boot
     by true full = refl
     by false true = turned

@@ -62,9 +62,10 @@ shorter_wait t ds d lt h = elim (longer_waiting t ds d lt) [
     | inl g ↦
         let o = g.1 in
         let kept = both_true _ _ (sym o.kept ∙ h.kept) in
-        let s = end_of t (departed_by ds d) in
-        (record { begun = o.ahead; ended = o.waits; kept = kept.0 },
-        waits_by (drop s.after s.met) ∙ ap begun_of o.first ∙ kept.1)
+        let s = end_of t (departed_by ds d) in (
+          record { begun = o.ahead; ended = o.waits; kept = kept.0 },
+          waits_by (drop s.after s.met) ∙ ap begun_of o.first ∙ kept.1,
+        )
     | inr never ↦ absurd (some_ahead (longer_wait d) (sym never.stuck.ahead ∙ h.begun))
   ]
 ]

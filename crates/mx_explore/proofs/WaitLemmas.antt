@@ -122,16 +122,19 @@ noted_quiet s m a w = ap (λ g. noted_if g (begins s m.offer) s m) (none_goes s 
 wait_first : (d : Departure) (t s : Standing) (m : Met) → WaitParted d s t → WaitParted d (noted s m) t
 wait_first d t s m (inl g) =
     let h = g.1 in
-    inl (g.0, subst (λ (x : Standing). IsOver d g.0 x t) (sym (noted_quiet s m h.ahead h.waits)) (record {
-      ahead = h.ahead;
-      waits = h.waits;
-      first = ap first_outside (drop_more s.after s.met m h.bounded) ∙ first_kept (drop s.after s.met) m g.0 h.first;
-      bounded = (let more : length (s.met ++ m ∷ []) ≡ length s.met + 1 = length-append s.met (m ∷ []) in omega (arith, more, h.bounded));
-      there = (h.there.0, get_kept s.met m d.at h.there.0 h.there.1, h.there.2);
-      then_ahead = h.then_ahead;
-      then_waits = h.then_waits;
-      kept = h.kept;
-    }))
+    inl (
+      g.0,
+      subst (λ (x : Standing). IsOver d g.0 x t) (sym (noted_quiet s m h.ahead h.waits)) (record {
+        ahead = h.ahead;
+        waits = h.waits;
+        first = ap first_outside (drop_more s.after s.met m h.bounded) ∙ first_kept (drop s.after s.met) m g.0 h.first;
+        bounded = (let more : length (s.met ++ m ∷ []) ≡ length s.met + 1 = length-append s.met (m ∷ []) in omega (arith, more, h.bounded));
+        there = (h.there.0, get_kept s.met m d.at h.there.0 h.there.1, h.there.2);
+        then_ahead = h.then_ahead;
+        then_waits = h.then_waits;
+        kept = h.kept;
+      }),
+    )
 wait_first d t s m (inr h) = inr (record { there = (h.there.0, in_noted s m d.at h.there.0 (goes_on s m.offer) (begins s m.offer) h.there.1, h.there.2); stuck = h.stuck })
   where
     in_noted : (s : Standing) (m : Met) (k : ℕ) (o : Met) (g b : Bool) → slice_get s.met k ≡ Some o → slice_get (noted_if g b s m).met k ≡ Some o
@@ -142,16 +145,19 @@ wait_first d t s m (inr h) = inr (record { there = (h.there.0, in_noted s m d.at
 wait_second : (d : Departure) (s t : Standing) (m : Met) → WaitParted d s t → WaitParted d s (noted t m)
 wait_second d s t m (inl g) =
     let h = g.1 in
-    inl (g.0, subst (λ (x : Standing). IsOver d g.0 s x) (sym (noted_quiet t m h.then_ahead h.then_waits)) (record {
-      ahead = h.ahead;
-      waits = h.waits;
-      first = h.first;
-      bounded = h.bounded;
-      there = h.there;
-      then_ahead = h.then_ahead;
-      then_waits = h.then_waits;
-      kept = h.kept;
-    }))
+    inl (
+      g.0,
+      subst (λ (x : Standing). IsOver d g.0 s x) (sym (noted_quiet t m h.then_ahead h.then_waits)) (record {
+        ahead = h.ahead;
+        waits = h.waits;
+        first = h.first;
+        bounded = h.bounded;
+        there = h.there;
+        then_ahead = h.then_ahead;
+        then_waits = h.then_waits;
+        kept = h.kept;
+      }),
+    )
 wait_second d s t m (inr h) = inr (record { there = h.there; stuck = stuck_lasts (longer_wait d) t m h.stuck })
 
 -- ---- one offer
@@ -195,9 +201,10 @@ begins_both d u (e ∷ es) m a lt = absurd cc
 
 both_on : (d : Departure) (u : Standing) (m : Met) → Bounded u → parts d u u.ahead m.offer ≡ false → parts (longer_wait d) u u.ahead m.offer ≡ false
     → (passes (longer (longer_wait d) u) m.offer ≡ passes (longer d u) m.offer) × WaitTogether d (noted (longer d u) m) (noted (longer (longer_wait d) u) m)
-both_on d u m b h g =
-    (passes_longer (longer_wait d) u m.offer g ∙ sym (passes_longer d u m.offer h),
-    inl (noted u m, bounded u m b, noted_longer d u m h, noted_longer (longer_wait d) u m g))
+both_on d u m b h g = (
+  passes_longer (longer_wait d) u m.offer g ∙ sym (passes_longer d u m.offer h),
+  inl (noted u m, bounded u m b, noted_longer d u m h, noted_longer (longer_wait d) u m g),
+)
 
 -- what begins is passed
 begun_passes : (d : Departure) (u : Standing) (x : Offer) → parts d u u.ahead x ≡ true → passes (longer d u) x ≡ true
@@ -225,10 +232,13 @@ both_begin d u m lt o h g =
       none = ap first_outside (drop_all met);
       bounded = omega arith;
       there = (m, ap (slice_get met) here.2 ∙ get_last u.met m, o);
-    } in
-    (begun_passes (longer_wait d) u m.offer g ∙ sym (begun_passes d u m.offer h),
-    inr (subst (Waits d) (sym (begun_noted d u m h)) waits,
-    begun_noted (longer_wait d) u m g ∙ begins_both d u u.ahead m here.0 lt ∙ ap (λ (x : Standing). record x { waits = x.waits + 1 }) (sym (begun_noted d u m h))))
+    } in (
+      begun_passes (longer_wait d) u m.offer g ∙ sym (begun_passes d u m.offer h),
+      inr (
+        subst (Waits d) (sym (begun_noted d u m h)) waits,
+        begun_noted (longer_wait d) u m g ∙ begins_both d u u.ahead m here.0 lt ∙ ap (λ (x : Standing). record x { waits = x.waits + 1 }) (sym (begun_noted d u m h)),
+      ),
+    )
 
 one_begins : (d : Departure) (u : Standing) (m : Met) → is_outside m.offer ≡ false → parts d u u.ahead m.offer ≡ true → parts (longer_wait d) u u.ahead m.offer ≡ false
     → NeverWaits d (noted (longer d u) m) (noted (longer (longer_wait d) u) m)
@@ -320,9 +330,13 @@ module _ (d : Departure) (s : Standing) (m : Met) (h : Waits d s) where
         none = ap first_outside (drop_all met);
         bounded = omega arith;
         there = there_still;
-      } in
-      (passed.1 ∙ sym passed.0, inr (subst (Waits d) (sym (s_noted true g)) waits,
-      t_noted true o ∙ ap (λ w. let z : Standing = record s { waits = w; met = met; after = length met; kept = s.kept && m.is_begun } in z) n ∙ ap (λ (x : Standing). record x { waits = x.waits + 1 }) (sym (s_noted true g))))
+      } in (
+        passed.1 ∙ sym passed.0,
+        inr (
+          subst (Waits d) (sym (s_noted true g)) waits,
+          t_noted true o ∙ ap (λ w. let z : Standing = record s { waits = w; met = met; after = length met; kept = s.kept && m.is_begun } in z) n ∙ ap (λ (x : Standing). record x { waits = x.waits + 1 }) (sym (s_noted true g)),
+        ),
+      )
 
   -- the shorter wait is over
   on_one : is_outside m.offer ≡ true → nat_lt 0 s.waits ≡ false → IsOver d m (noted s m) (noted t m)

@@ -30,12 +30,7 @@ pub struct Outcome {
 }
 
 /// Appends the line of a slot: the name of its service, and what its process does.
-fn push_state(
-    text: &mut Vec<u8>,
-    table: &Table,
-    slot: Slot,
-    name: &[u8],
-) -> Result<(), AllocError>
+fn push_state(text: &mut Vec<u8>, table: &Table, slot: Slot, name: &[u8]) -> Result<(), AllocError>
     requires { slot < length table.now.slots }
     ensures { OnOk result (text.new.items ≡ text.old.items ++ state_line table.now slot name.now) }
 {
@@ -50,11 +45,7 @@ fn push_state(
 
 /// Appends a line for each service.
 #[tactic(auto, using(crate::proofs::StateLemmas::state_lines_more))]
-fn push_states(
-    text: &mut Vec<u8>,
-    table: &Table,
-    services: &[Service],
-) -> Result<(), AllocError>
+fn push_states(text: &mut Vec<u8>, table: &Table, services: &[Service]) -> Result<(), AllocError>
     requires { length services.now ≡ length table.now.slots }
     ensures { OnOk result (text.new.items
         ≡ text.old.items ++ state_lines table.now 0 services.now) }
@@ -90,8 +81,11 @@ pub(crate) fn outcome_of(
     departures: &[Departure],
 ) -> Result<Outcome, NoMemory>
     ensures found { IfOk result (λ o. first_of o
-        ≡ record { text = outcome_text (world_of ran.now.machine) ran.now.ending;
-            departures = departures.now; records = (world_of ran.now.machine).records }) }
+        ≡ record {
+          text = outcome_text (world_of ran.now.machine) ran.now.ending;
+          departures = departures.now;
+          records = (world_of ran.now.machine).records;
+        }) }
     ensures one { IfOk result (λ o. o.count ≡ 1) }
 {
     let kernel = ran.machine.kernel();
