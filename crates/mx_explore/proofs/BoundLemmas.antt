@@ -1,4 +1,4 @@
--- A departure lasts at most as many turns as a run has.
+-- A departure lasts at most ahead_of many turns ahead_of a run has.
 use Rattle.std.proofs.Common.{◌≡◌, ◌∙◌, ◌⊎◌, ◌≤◌, ◌<◌, ◌+◌, ◌-◌, ◌==◌, ◌&&◌, ◌||◌, ◌++◌, ℕ, zero, suc, Bool, true, false, List, [], ◌∷◌, drop, length, map, cond, nat_lt, Option, Some, None, inl, inr, refl, ap, sym, subst, arith, true≢false}
 use Rattle.std.specs.Prelude.{slice_get}
 use Rattle.std.specs.List.{range_with_len}
@@ -41,8 +41,10 @@ outs_met other begun p x = by (passes p.standing x)
   where
     m : Met
     m = met_in p.world begun x
+
     noted_outs : outs (noted p.standing m).met ≡ outs p.standing.met + one_if (is_outside x)
     noted_outs = ap outs (met_is p.standing m (goes_on p.standing x) (begins p.standing x)) ∙ outs_more p.standing.met m
+
     by : (b : Bool) → (let q = stood p (noted p.standing m) in outs (cond b q (made other q x)).standing.met ≡ outs p.standing.met + one_if (is_outside x))
     by true = noted_outs
     by false = noted_outs
@@ -110,6 +112,7 @@ turns_outs (suc k) p = by (is_over p.world p.coming) (passed_turn p).full
   where
     turned : outs (passed_turn p).standing.met ≤ outs p.standing.met + 1
     turned = turn_outs p
+
     by : (over full : Bool) → outs (cond over (let z : Passage × Ending = (p, Rest) in z) (let q = passed_turn p in cond full (let z : Passage × Ending = (q, Full) in z) (passed_turns k q))).0.standing.met ≤ outs p.standing.met + suc k
     by true full = omega arith
     by false true = omega (arith, turned)
@@ -119,25 +122,29 @@ turns_outs (suc k) p = by (is_over p.world p.coming) (passed_turn p).full
 
 -- it is ahead; or it has begun, and each of its turns but for those that are left met an offer of the outside
 abbrev Lasting : Departure → Standing → Type 0
-Lasting d s = ((as : List Departure) × (s.ahead ≡ as ++ d ∷ [])) ⊎ ((s.ahead ≡ []) × ((d.turns ≤ 1) ⊎ (d.turns ≤ s.waits + outs s.met)))
+Lasting d s = ((ahead_of : List Departure) × (s.ahead ≡ ahead_of ++ d ∷ [])) ⊎ ((s.ahead ≡ []) × ((d.turns ≤ 1) ⊎ (d.turns ≤ s.waits + outs s.met)))
 
-last_begins : (d : Departure) (s : Standing) (m : Met) (as : List Departure) → (s.ahead ≡ as ++ d ∷ []) → begins s m.offer ≡ true → Lasting d (noted_if false true s m)
+last_begins : (d : Departure) (s : Standing) (m : Met) (ahead_of : List Departure) → (s.ahead ≡ ahead_of ++ d ∷ []) → begins s m.offer ≡ true → Lasting d (noted_if false true s m)
 last_begins d s m [] e b =
     let is : is_at (length s.met) m.offer d ≡ true = (both_true _ _ (sym (ap (λ (l : List Departure). begins_by s m.offer (slice_get l 0)) e) ∙ b)).1 in
     let turns : turns_of (slice_get s.ahead 0) ≡ d.turns = ap (λ (l : List Departure). turns_of (slice_get l 0)) e in
     let more = outs_more s.met m in
-    inr (ap (drop 1) e, elim (or_cases _ _ (both_true _ _ is).1) [
-      | inl one ↦ inl (let n = eqb-true d.turns 1 one in omega n)
-      | inr several ↦
-          (let both = both_true _ _ several in
-          let out : one_if (is_outside m.offer) ≡ 1 = ap one_if both.1 in
-          let lt = ltb-true 1 d.turns both.0 in
-          inr (omega (arith, turns, more, out, lt)))
-    ])
+    inr (
+      ap (drop 1) e,
+      elim (or_cases _ _ (both_true _ _ is).1) [
+        | inl one ↦ inl (let n = eqb-true d.turns 1 one in omega n)
+        | inr several ↦
+            (let both = both_true _ _ several in
+            let out : one_if (is_outside m.offer) ≡ 1 = ap one_if both.1 in
+            let lt = ltb-true 1 d.turns both.0 in
+            inr (omega (arith, turns, more, out, lt)))
+      ],
+    )
   where
     both_true : (a b : Bool) → (a && b) ≡ true → (a ≡ true) × (b ≡ true)
     both_true true b h = (refl, h)
     both_true false b h = absurd (true≢false (sym h))
+
     or_cases : (a b : Bool) → (a || b) ≡ true → (a ≡ true) ⊎ (b ≡ true)
     or_cases true b h = inl refl
     or_cases false b h = inr h
@@ -155,12 +162,14 @@ lasting d s m (inr h) =
   where
     more : outs (s.met ++ m ∷ []) ≡ outs s.met + one_if (is_outside m.offer)
     more = outs_more s.met m
+
     goes : goes_on s m.offer ≡ true → (0 < s.waits) × (one_if (is_outside m.offer) ≡ 1)
     goes e = let both = both_true _ _ e in (ltb-true 0 s.waits both.0, ap one_if both.1)
       where
         both_true : (a b : Bool) → (a && b) ≡ true → (a ≡ true) × (b ≡ true)
         both_true true b h = (refl, h)
         both_true false b h = absurd (true≢false (sym h))
+
     by : (g : Bool) → goes_on s m.offer ≡ g → Lasting d (noted_if g false s m)
     by true e = elim h.1 [
       | inl few ↦ inr (h.0, inl few)
@@ -175,7 +184,7 @@ some_turns : (k : ℕ) (t : Setting) (ds : List Departure) (d : Departure) → (
 some_turns zero t ds d h = absurd (no_end ds d h)
 some_turns (suc k) t ds d h = omega arith
 
--- A DEPARTURE LASTS at most as many turns as a run has
+-- A DEPARTURE LASTS at most ahead_of many turns ahead_of a run has
 pub few_turns : (t : Setting) (ds : List Departure) (d : Departure) → IsSchedule t (departed_by ds d) → d.turns ≤ t.turns
 unfolding run_of_schedule
 few_turns t ds d h =

@@ -14,7 +14,6 @@ use Rattle.mx_explore.specs.Schedules.{AreAll, Part, is_in_part, is_same}
 use Rattle.mx_explore.specs.Tree.{asked_places, below, can_wait, departed, departing, is_of_outside, itself, next_places}
 use Rattle.mx_explore.proofs.AlongLemmas.{turns_last}
 use Rattle.mx_explore.proofs.BoundLemmas.{few_turns}
-
 use Rattle.mx_explore.proofs.ScheduleLemmas.{both_true, one_more, shorter, shorter_wait, wait_more}
 use Rattle.mx_explore.proofs.WaitLemmas.{longer_wait, noted_quiet}
 
@@ -139,6 +138,7 @@ module _ (p : Part) (t : Setting) where
       none : (l : List Departure) → l ++ [] ≡ l
       none [] = refl
       none (x ∷ xs) = ap (λ l. x ∷ l) (none xs)
+
       by : (b : Bool) → is_in_part p ds ≡ b → AllByRecursion (IsBelow k ds) (cond b (ds ∷ []) [])
       by true e = (record { met = h; few = omega arith; part = e; front = ([], sym (none ds)) }, tt)
       by false e = tt
@@ -163,8 +163,10 @@ module _ (p : Part) (t : Setting) where
     where
       d : Departure
       d = record { at = at; turns = n }
+
       es : List Departure
       es = departed ds at n
+
       by : (b : Bool) → (can_wait (end_of t es) && is_of_outside (slice_get (end_of t ds).met at)) ≡ b → AllByRecursion (IsBelow (suc k) ds) (cond b (departing (below p t k) t ds at (n + 1) fuel) [])
       by false e = tt
       by true e =
@@ -185,10 +187,10 @@ module _ (p : Part) (t : Setting) where
       (rec_flat (IsBelow (suc k) ds) (λ at. departing (below p t k) t ds at 1 t.turns) (asked_places p ds s)
       (rec_weaker (λ at. ((s.after ≤ at) × (at < s.after + (length s.met - s.after))) × (is_in_part p (departed ds at 1) ≡ true)) (λ at. AllByRecursion (IsBelow (suc k) ds) (departing (below p t k) t ds at 1 t.turns))
       (λ at g.
-        let low = g.0.0 in
-        let high = g.0.1 in
-        let it = get_within s.met at (omega (low, high)) in
-        departing_below k ds at it.0 (all_below k) it.1 t.turns 1 (omega arith) (one_more t ds at it.0 h it.1 low))
+      let low = g.0.0 in
+      let high = g.0.1 in
+      let it = get_within s.met at (omega (low, high)) in
+      departing_below k ds at it.0 (all_below k) it.1 t.turns 1 (omega arith) (one_more t ds at it.0 h it.1 low))
       (asked_places p ds s) within))
 
   -- ---- what the tree has
@@ -215,6 +217,7 @@ module _ (p : Part) (t : Setting) where
     where
       rest : ℕ → Lists
       rest j = cond (can_wait (end_of t (departed ds at j)) && is_of_outside (slice_get (end_of t ds).met at)) (departing f t ds at (j + 1) fuel) []
+
       -- a schedule's last departure may last fewer turns
       down : (n i : ℕ) → 0 < i → i ≤ n → IsSchedule t (departed ds at n) → IsSchedule t (departed ds at i)
       down zero i some few s = absurd (omega (some, few))
@@ -235,6 +238,7 @@ module _ (p : Part) (t : Setting) where
       none : (l : List Departure) → l ++ [] ≡ l
       none [] = refl
       none (x ∷ xs) = ap (λ l. x ∷ l) (none xs)
+
       has_itself : Contains (itself p ds) (ds ++ [])
       has_itself = subst (λ es. Contains (itself p ds) es) (sym (none ds)) (itself_has ds (ap (is_in_part p) (sym (none ds)) ∙ part))
   every_below zero ds (g ∷ gs) h few part = absurd (omega (arith, few))
@@ -316,6 +320,7 @@ module _ (p : Part) (t : Setting) where
     where
       rest : Bool → Lists
       rest b = cond b (departing f t ds at (n + 1) fuel) []
+
       by : (b : Bool) → AllByRecursion (λ es. (m : ℕ) × (n ≤ m) × Departs ds at m es) (rest b)
       by false = tt
       by true = rec_weaker (λ es. (m : ℕ) × (n + 1 ≤ m) × Departs ds at m es) (λ es. (m : ℕ) × (n ≤ m) × Departs ds at m es) (λ es b. (b.0, (let le = b.1 in omega (arith, le), b.2))) (departing f t ds at (n + 1) fuel) (departing_departs f all ds at fuel (n + 1))
@@ -346,6 +351,7 @@ module _ (p : Part) (t : Setting) where
     where
       es : List Departure
       es = departed ds at n
+
       apart : (x y : List Departure) → Begins es x → ((m : ℕ) × (n + 1 ≤ m) × Departs ds at m y) → is_same x y ≡ false
       apart x y b c =
           let le = c.1 in
@@ -353,6 +359,7 @@ module _ (p : Part) (t : Setting) where
           ∙ ap (is_same (ds ++ record { at = at; turns = n } ∷ b.0)) c.2.1
           ∙ same_fronts ds (record { at = at; turns = n } ∷ b.0) (record { at = at; turns = c.0 } ∷ c.2.0)
           ∙ other_turns at n c.0 b.0 c.2.0 (omega (arith, le))
+
       by : (b : Bool) → IsDistinct is_same (f es ++ cond b (departing f t ds at (n + 1) fuel) [])
       by false = subst (IsDistinct is_same) (sym (none (f es))) (once es)
         where
@@ -366,38 +373,39 @@ module _ (p : Part) (t : Setting) where
   -- places in order
   abbrev Rises : List ℕ → Type 0
   Rises [] = ⊤
-  Rises (a ∷ as) = AllByRecursion (λ b. a < b) as × Rises as
+  Rises (a ∷ places_of) = AllByRecursion (λ b. a < b) places_of × Rises places_of
 
   range_rises : (a n : ℕ) → Rises (range_with_len a n)
   range_rises a zero = tt
   range_rises a (suc n) = (rec_weaker (λ k. (a + 1 ≤ k) × (k < a + 1 + n)) (λ k. a < k) (λ k h. (let low = h.0 in omega (arith, low))) (range_with_len (a + 1) n) (range_within (a + 1) n), range_rises (a + 1) n)
 
-  filter_rises : (q : ℕ → Bool) (as : List ℕ) → Rises as → Rises (filter q as)
+  filter_rises : (q : ℕ → Bool) (places_of : List ℕ) → Rises places_of → Rises (filter q places_of)
   filter_rises q [] h = tt
-  filter_rises q (a ∷ as) h = by (q a)
+  filter_rises q (a ∷ places_of) h = by (q a)
     where
-      kept : AllByRecursion (λ b. a < b) (filter q as)
-      kept = rec_weaker (λ b. (a < b) × (q b ≡ true)) (λ b. a < b) (λ b c. c.0) (filter q as) (rec_filter q (λ b. a < b) as h.0)
-      by : (b : Bool) → Rises (cond b (a ∷ filter q as) (filter q as))
-      by true = (kept, filter_rises q as h.1)
-      by false = filter_rises q as h.1
+      kept : AllByRecursion (λ b. a < b) (filter q places_of)
+      kept = rec_weaker (λ b. (a < b) × (q b ≡ true)) (λ b. a < b) (λ b c. c.0) (filter q places_of) (rec_filter q (λ b. a < b) places_of h.0)
+
+      by : (b : Bool) → Rises (cond b (a ∷ filter q places_of) (filter q places_of))
+      by true = (kept, filter_rises q places_of h.1)
+      by false = filter_rises q places_of h.1
 
   module _ (f : List Departure → Lists) (all : AllBegin f) (once : (es : List Departure) → IsDistinct is_same (f es)) (ds : List Departure) where
     abbrev at_once : ℕ → Lists
     at_once at = departing f t ds at 1 t.turns
 
-    later_departs : (a : ℕ) (as : List ℕ) → AllByRecursion (λ b. a < b) as → AllByRecursion (λ es. (b : ℕ) × (m : ℕ) × (a < b) × Departs ds b m es) (flat_map at_once as)
+    later_departs : (a : ℕ) (places_of : List ℕ) → AllByRecursion (λ b. a < b) places_of → AllByRecursion (λ es. (b : ℕ) × (m : ℕ) × (a < b) × Departs ds b m es) (flat_map at_once places_of)
     later_departs a [] h = tt
     later_departs a (b ∷ bs) h =
         rec_append (λ es. (b : ℕ) × (m : ℕ) × (a < b) × Departs ds b m es) (at_once b) (flat_map at_once bs)
         (rec_weaker (λ es. (m : ℕ) × (1 ≤ m) × Departs ds b m es) (λ es. (b : ℕ) × (m : ℕ) × (a < b) × Departs ds b m es) (λ es c. (b, (c.0, (h.0, c.2)))) (at_once b) (departing_departs f all ds b t.turns 1))
         (later_departs a bs h.1)
 
-    flat_once : (as : List ℕ) → Rises as → IsDistinct is_same (flat_map at_once as)
+    flat_once : (places_of : List ℕ) → Rises places_of → IsDistinct is_same (flat_map at_once places_of)
     flat_once [] h = tt
-    flat_once (a ∷ as) h =
-        distinct_append is_same (at_once a) (flat_map at_once as) (departing_once f all once ds a t.turns 1) (flat_once as h.1)
-        (cross is_same (λ es. (m : ℕ) × (1 ≤ m) × Departs ds a m es) (λ es. (b : ℕ) × (m : ℕ) × (a < b) × Departs ds b m es) apart (at_once a) (flat_map at_once as) (departing_departs f all ds a t.turns 1) (later_departs a as h.0))
+    flat_once (a ∷ places_of) h =
+        distinct_append is_same (at_once a) (flat_map at_once places_of) (departing_once f all once ds a t.turns 1) (flat_once places_of h.1)
+        (cross is_same (λ es. (m : ℕ) × (1 ≤ m) × Departs ds a m es) (λ es. (b : ℕ) × (m : ℕ) × (a < b) × Departs ds b m es) apart (at_once a) (flat_map at_once places_of) (departing_departs f all ds a t.turns 1) (later_departs a places_of h.0))
       where
         apart : (x y : List Departure) → ((m : ℕ) × (1 ≤ m) × Departs ds a m x) → ((b : ℕ) × (m : ℕ) × (a < b) × Departs ds b m y) → is_same x y ≡ false
         apart x y c e =
@@ -405,9 +413,9 @@ module _ (p : Part) (t : Setting) where
             ∙ same_fronts ds (record { at = a; turns = c.0 } ∷ c.2.0) (record { at = e.0; turns = e.1 } ∷ e.3.0)
             ∙ other_place a e.0 c.0 e.1 c.2.0 e.3.0 e.2
 
-    none_is_itself : (as : List ℕ) → AllByRecursion (λ es. (d : Departure) × (gs : List Departure) × (es ≡ ds ++ d ∷ gs)) (flat_map at_once as)
-    none_is_itself as = every_of (λ es. (d : Departure) × (gs : List Departure) × (es ≡ ds ++ d ∷ gs)) at_once
-        (λ a. rec_weaker (λ es. (m : ℕ) × (1 ≤ m) × Departs ds a m es) (λ es. (d : Departure) × (gs : List Departure) × (es ≡ ds ++ d ∷ gs)) (λ es c. (record { at = a; turns = c.0 }, (c.2.0, c.2.1))) (at_once a) (departing_departs f all ds a t.turns 1)) as
+    none_is_itself : (places_of : List ℕ) → AllByRecursion (λ es. (d : Departure) × (gs : List Departure) × (es ≡ ds ++ d ∷ gs)) (flat_map at_once places_of)
+    none_is_itself places_of = every_of (λ es. (d : Departure) × (gs : List Departure) × (es ≡ ds ++ d ∷ gs)) at_once
+        (λ a. rec_weaker (λ es. (m : ℕ) × (1 ≤ m) × Departs ds a m es) (λ es. (d : Departure) × (gs : List Departure) × (es ≡ ds ++ d ∷ gs)) (λ es c. (record { at = a; turns = c.0 }, (c.2.0, c.2.1))) (at_once a) (departing_departs f all ds a t.turns 1)) places_of
 
   itself_once : (ds : List Departure) → IsDistinct is_same (itself p ds)
   itself_once ds = by (is_in_part p ds)
@@ -419,10 +427,10 @@ module _ (p : Part) (t : Setting) where
   below_once : (k : ℕ) (ds : List Departure) → IsDistinct is_same (below p t k ds)
   below_once zero ds = itself_once ds
   below_once (suc k) ds =
-      let as = asked_places p ds (end_of t ds) in
+      let places_of = asked_places p ds (end_of t ds) in
       let rises = filter_rises (λ at. is_in_part p (departed ds at 1)) (next_places (end_of t ds)) (range_rises (end_of t ds).after (length (end_of t ds).met - (end_of t ds).after)) in
-      distinct_append is_same (itself p ds) (flat_map (λ at. departing (below p t k) t ds at 1 t.turns) as) (itself_once ds) (flat_once (below p t k) (begins_below k) (below_once k) ds as rises)
-      (cross is_same (λ es. es ≡ ds) (λ es. (d : Departure) × (gs : List Departure) × (es ≡ ds ++ d ∷ gs)) apart (itself p ds) (flat_map (λ at. departing (below p t k) t ds at 1 t.turns) as) (itself_begins ds) (none_is_itself (below p t k) (begins_below k) (below_once k) ds as))
+      distinct_append is_same (itself p ds) (flat_map (λ at. departing (below p t k) t ds at 1 t.turns) places_of) (itself_once ds) (flat_once (below p t k) (begins_below k) (below_once k) ds places_of rises)
+      (cross is_same (λ es. es ≡ ds) (λ es. (d : Departure) × (gs : List Departure) × (es ≡ ds ++ d ∷ gs)) apart (itself p ds) (flat_map (λ at. departing (below p t k) t ds at 1 t.turns) places_of) (itself_begins ds) (none_is_itself (below p t k) (begins_below k) (below_once k) ds places_of))
     where
       apart : (x y : List Departure) → x ≡ ds → ((d : Departure) × (gs : List Departure) × (y ≡ ds ++ d ∷ gs)) → is_same x y ≡ false
       apart x y e g =
