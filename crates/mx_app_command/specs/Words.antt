@@ -118,6 +118,12 @@ page_shape =
     ∷ number_after (codes "to") (codes "B") ∷ after_name (codes "fault") (codes "FAULT")
     ∷ number_after (codes "turns") (codes "N") ∷ jobs_after (codes "jobs") (codes "J") ∷ sums_rule ∷ [])
 
+-- `why CONFIG LOG --strict --sums SUMS`
+abbrev pub why_shape : Shape
+why_shape =
+    subcommand (codes "why")
+    (required_text (codes "CONFIG") ∷ required_text (codes "LOG") ∷ flag (codes "strict") ∷ sums_rule ∷ [])
+
 -- one of the subcommands is wanted
 abbrev pub top_app : App
 top_app = record {
@@ -169,7 +175,7 @@ mx_grammar = record {
       ∷ looking_shape (codes "draw")
       ∷ page_shape
       ∷ following_shape (codes "look")
-      ∷ following_shape (codes "why")
+      ∷ why_shape
       ∷ of_two (codes "db") (codes "CONFIG") (codes "SCRIPT")
       ∷ [];
 }
@@ -270,8 +276,9 @@ AsksBy (SweptPage config log fault bound from to jobs) name rows =
     × HasNumberOr 4294967295 (codes "B") rows to × HasNumberIf (codes "J") rows jobs
 AsksBy (Look config log) name rows =
     (name ≡ codes "look") × HasText (codes "CONFIG") rows config.now × HasText (codes "LOG") rows log.now
-AsksBy (Why config log) name rows =
+AsksBy (Why config log strict) name rows =
     (name ≡ codes "why") × HasText (codes "CONFIG") rows config.now × HasText (codes "LOG") rows log.now
+    × IsFlag (codes "strict") rows strict
 AsksBy (Db config script) name rows =
     (name ≡ codes "db") × HasText (codes "CONFIG") rows config.now × HasText (codes "SCRIPT") rows script.now
 

@@ -147,10 +147,11 @@ pub enum CommandRequest<'a> {
         config: &'a str,
         log: &'a str,
     },
-    /// `why CONFIG LOG`.
+    /// `why CONFIG LOG`, with `--strict` or without.
     Why {
         config: &'a str,
         log: &'a str,
+        strict: bool,
     },
     /// `db CONFIG SCRIPT`.
     Db {
@@ -470,7 +471,12 @@ fn reading_request<'a>(
     } else if name == "look" {
         CommandRequest::Look { config, log }
     } else if name == "why" {
-        CommandRequest::Why { config, log }
+        let strict = flag_asked(matches, "strict");
+        CommandRequest::Why {
+            config,
+            log,
+            strict,
+        }
     } else {
         records_request(name, config, log, matches)
     }
