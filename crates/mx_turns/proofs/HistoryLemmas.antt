@@ -1,8 +1,8 @@
 -- Histories that begin as others.
-use Rattle.std.proofs.Common.{◌≡◌, ◌∙◌, ◌≤◌, ◌++◌, ℕ, List, [], ◌∷◌, append-nil, append_assoc, Option, Some, None, Result, Ok, Err, drop, take, length, length-take, refl, ap, arith, sym}
+use Rattle.std.proofs.Common.{◌≡◌, ◌∙◌, ◌≤◌, ◌-◌, ◌++◌, ℕ, List, [], ◌∷◌, append-nil, append_assoc, Option, Some, None, Result, Ok, Err, drop, take, length, length-take, refl, ap, arith, sym}
 use Rattle.std.proofs.Math.Nat.{min-le_right}
 use Rattle.std.proofs.Math.Seq.{take-append_seam}
-use Rattle.std.proofs.lemmas.List.{take-append-drop}
+use Rattle.std.proofs.lemmas.List.{take-append-drop, take_rest}
 use Rattle.mx_app_step.proofs.AcceptedLemmas.{front_accepted}
 use Rattle.mx_app_step.specs.Kept.{event_of_line, kept_by}
 use Rattle.mx_app_step.specs.Machine.{MachineState}
@@ -128,3 +128,8 @@ module _ (m : MachineState) (p : Parts) (are : ArePartsOf m p) where
   pub parts_whole : p.records.items ++ drop (length p.records.items) m.kernel.history ≡ m.kernel.history
   parts_whole =
       ap (λ l. l ++ drop (length p.records.items) m.kernel.history) (sym are.records) ∙ take-append-drop (length p.records.items) m.kernel.history
+
+  -- where the rest of the history is a slice
+  pub parts_rest : (xs : List Record) (made : ℕ) → xs ≡ m.kernel.history → made ≡ length p.records.items → p.records.items ++ take (length xs - made) (drop made xs) ≡ m.kernel.history
+  parts_rest xs made same is =
+      ap (λ l. p.records.items ++ l) (take_rest xs made) ∙ ap (λ n. p.records.items ++ drop n xs) is ∙ ap (λ (l : List Record). p.records.items ++ drop (length p.records.items) l) same ∙ parts_whole

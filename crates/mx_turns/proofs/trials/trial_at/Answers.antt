@@ -1,4 +1,5 @@
-use Rattle.std.proofs.Common.{◌∙◌, IfOk, ap, subst, sym}
+use Rattle.std.proofs.Common.{◌∙◌, IfOk, List, ap, length, subst, sym, take}
+use Rattle.mx_machine.specs.declared.history.Record.{Record}
 use Rattle.mx_machine.specs.History.{BootAndHistory}
 use Rattle.mx_machine.specs.World.{World}
 use Rattle.mx_turns.specs.declared.trials.Trial.{Trial}
@@ -22,10 +23,11 @@ trial_here-requires-clause-parts c =
     let records = c.args.sweep.records.now in
     let pair = c.args.pair in
     let is = c.parts_of-parts.ensures in
+    let here = c.history.ensures ∙ ap (λ (k : BootAndHistory). k.history) c.kernel.ensures in
     record {
       services = is.services ∙ ap (λ (w : World). w.services) (c.requires.pair.boot ∙ sym c.go_along.ensures.boot);
       records =
-          first_records pair.along.kernel.history c.go_along.new.machine.kernel.history c.parts_of-parts.result.records.items (is.records ∙ c.requires.pair.begins)
+          first_records pair.along.kernel.history c.go_along.new.machine.kernel.history c.parts_of-parts.result.records.items (is.records ∙ ap (λ (xs : List Record). take (length xs) pair.copy.kernel.history) here ∙ c.requires.pair.begins)
           (later_on records pair.position pair.along c.requires.pair.along c.args.position c.go_along.new.machine c.requires.later c.go_along.ensures.along c.go_along.ensures.boot c.requires.swept.accepted);
     }
 

@@ -1,5 +1,6 @@
 use Rattle.std.proofs.Common.{◌∙◌, List, [], ap, ap₂, length, refl, take}
 use Rattle.std.specs.Str.{bytes_eq}
+use Rattle.mx_machine.specs.declared.history.Record.{Record}
 use Rattle.mx_machine.specs.History.{BootAndHistory}
 use Rattle.mx_machine.specs.World.{World}
 use Rattle.mx_turns.specs.Findings.{is_full, refusal_of}
@@ -26,11 +27,12 @@ compared_at-requires-2-clause-parts c =
     let along = c.args.along in
     let run = c.in_ok-copy.ensures.run.0 in
     let is = c.parts_of-parts.ensures in
+    let here = c.history.ensures ∙ ap (λ (k : BootAndHistory). k.history) c.kernel.ensures in
     record {
       services = is.services ∙ ap (λ (w : World). w.services) c.in_ok-copy.ensures.boot;
       records =
           own_records along.kernel.history c.parts_of-parts.result.records.items
-          (is.records ∙ ap (λ (k : BootAndHistory). take (length along.kernel.history) k.history) run.kernel
+          (is.records ∙ ap (λ (xs : List Record). take (length xs) c.in_ok-copy.copy.kernel.history) here ∙ ap (λ (k : BootAndHistory). take (length along.kernel.history) k.history) run.kernel
           ∙ run_begins s.records.now c.args.position along c.requires.along s.other s.bound []);
     }
 
