@@ -18,5 +18,5 @@
 
 mod runs;
 
-pub use mx_exec_cache::Cache;
+pub use mx_exec_cache::{Cache, spare_of};
 pub use runs::{Runs, Stop, run_by_text, run_with};

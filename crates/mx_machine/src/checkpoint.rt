@@ -1,10 +1,10 @@
 //! Checkpoints: copies of a machine, from which it can be made again.
 
-ghost use Rattle.std.specs.Prelude.{◌≡◌, IfOk};
+ghost use Rattle.std.specs.Prelude.{◌≡◌, ◌<◌, IfOk};
 
 use crate::stored::StoredKernel;
 use crate::{Decoded, Kernel, Machine, Out, Record, Service};
-use mx_exec::{CopyFor, copy_image};
+use mx_exec::{CopyFor, Spares, copy_image};
 use mx_word::NoMemory;
 use std::alloc::Global;
 use std::marker::Model;
@@ -33,13 +33,19 @@ impl Model for Checkpoint {
 }
 
 /// A copy of what a processor holds, if it holds anything. It has no cache.
-fn copy_held(alloc: Global, held: &Option<Out>, purpose: CopyFor) -> Result<Option<Out>, NoMemory>
+fn copy_held(
+    alloc: Global,
+    held: &Option<Out>,
+    purpose: CopyFor,
+    slot: usize,
+    spares: &mut Spares,
+) -> Result<Option<Out>, NoMemory>
     ensures { IfOk result (λ copy. copy ≡ held.now) }
 {
     let Some(out) = held else {
         return Ok(None);
     };
-    let image = copy_image(alloc, &out.image, purpose)?;
+    let image = copy_image(alloc, &out.image, purpose, slot, spares)?;
     Ok(Some(Out {
         image,
         budget: out.budget,
@@ -50,17 +56,29 @@ fn copy_held(alloc: Global, held: &Option<Out>, purpose: CopyFor) -> Result<Opti
     }))
 }
 
+/// The slot whose process a processor holds; another number, of no slot, if it holds none.
+fn slot_of(kernel: &Kernel, cpu: usize) -> usize
+    requires { cpu < 8 }
+{
+    match kernel.slot_on(cpu as u8) {
+        Some(slot) => slot as usize,
+        None => usize::MAX,
+    }
+}
+
 /// Copies of what the processors hold.
 fn copy_outs(
     alloc: Global,
     outs: &[Option<Out>; 8],
     purpose: CopyFor,
+    kernel: &Kernel,
+    spares: &mut Spares,
 ) -> Result<[Option<Out>; 8], NoMemory>
     ensures { IfOk result (λ copies. copies ≡ outs.now) }
 {
     let mut copies = [None, None, None, None, None, None, None, None];
     for cpu in 0..outs.len() {
-        copies[cpu] = copy_held(alloc, &outs[cpu], purpose)?;
+        copies[cpu] = copy_held(alloc, &outs[cpu], purpose, slot_of(kernel, cpu), spares)?;
     }
     Ok(copies)
 }
@@ -92,24 +110,31 @@ impl Checkpoint {
     {
         machine.facts();
         let kernel = machine.kernel.to_stored(alloc)?;
-        let outs = copy_outs(alloc, &machine.outs, CopyFor::Storing)?;
+        let outs = copy_outs(
+            alloc,
+            &machine.outs,
+            CopyFor::Storing,
+            &machine.kernel,
+            &mut Spares::none(alloc),
+        )?;
         Ok(Checkpoint { kernel, outs })
     }
 
-    /// The machine again, with its services and its records. Its caches are empty, as at boot. Takes memory, for the
-    /// records too if they haven't as much room as those of the machine.
+    /// The machine again, with its services and its records. Its texts get the spare caches of their slots. Takes memory,
+    /// for the records too if they haven't as much room as those of the machine.
     pub fn machine(
         &self,
         alloc: Global,
         services: Vec<Service>,
         records: Vec<Record>,
+        spares: &mut Spares,
     ) -> Result<Machine, NoMemory>
         requires services { services.items ≡ self.now.kernel.boot.services }
         requires records { records.items ≡ self.now.kernel.history }
         ensures { IfOk result (λ machine. machine ≡ self.now) }
     {
-        let mut kernel = self.kernel.restore(alloc, services, records)?;
-        let mut outs = copy_outs(alloc, &self.outs, CopyFor::Running)?;
+        let mut kernel = self.kernel.restore(alloc, services, records, spares)?;
+        let mut outs = copy_outs(alloc, &self.outs, CopyFor::Running, &kernel, spares)?;
         give_caches(&mut kernel, &mut outs);
         Ok(Machine { kernel, outs })
     }

@@ -20,9 +20,10 @@ use crate::stored::StoredState;
 use crate::{
     Answer, Decoded, Event, Lease, Out, Refusal, Service, Stop, is_worn, raise, respawn, tick,
 };
-use mx_exec::CopyFor;
+use mx_exec::{CopyFor, Spares};
+use mx_image::spare_of;
 use mx_ipc::pick;
-use mx_proc::{Endpoint, Slot, Table, endpoint_from};
+use mx_proc::{Endpoint, Process, Slot, Table, endpoint_from};
 use mx_word::NoMemory;
 use std::alloc::Global;
 use std::marker::Model;
@@ -71,6 +72,16 @@ fn count_out(leases: &[Option<Lease>]) -> usize
     count
 }
 
+/// Keeps the caches of the texts of processes.
+fn keep_caches(processes: Vec<Process>, spares: &mut Spares) {
+    let mut processes = processes;
+    for slot in 0..processes.len() {
+        if let Some(cache) = spare_of(&mut processes[slot].image) {
+            spares.keep(slot, cache);
+        }
+    }
+}
+
 impl CurrentState {
     /// A table with nothing recorded yet.
     pub(crate) fn new(
@@ -104,7 +115,9 @@ impl CurrentState {
     pub(crate) fn to_stored(&self, alloc: Global) -> Result<StoredState, NoMemory>
         ensures { IfOk result (λ stored. stored ≡ self.now) }
     {
-        let table = self.table.copied(alloc, CopyFor::Storing)?;
+        let table = self
+            .table
+            .copied(alloc, CopyFor::Storing, &mut Spares::none(alloc))?;
         let leases = Vec::from_slice(alloc, self.leases.as_slice())?;
         Ok(StoredState {
             table,
@@ -163,18 +176,19 @@ impl CurrentState {
         self.services.as_slice()
     }
 
-    /// The services, of which each slot was made; all else is dropped.
-    pub(crate) fn into_services(self) -> Vec<Service>
+    /// The services, of which each slot was made. The caches of the slots' texts are kept; all else is dropped.
+    pub(crate) fn into_services(self, spares: &mut Spares) -> Vec<Service>
         ensures { result.items ≡ self.services }
     {
         let CurrentState {
-            table: _,
+            table,
             leases: _,
             others: _,
             services,
             records: _,
             capacity: _,
         } = self;
+        keep_caches(table.into_slots(), spares);
         services
     }
 

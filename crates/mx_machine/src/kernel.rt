@@ -19,6 +19,7 @@ use crate::caches::Caches;
 use crate::current::CurrentState;
 use crate::stored::StoredKernel;
 use crate::{Answer, Config, Decoded, Event, Out, Record, Recorded, Refusal, Service};
+use mx_exec::Spares;
 use mx_proc::{Delivery, Rules, Slot, Table};
 use mx_word::NoMemory;
 use std::alloc::Global;
@@ -257,8 +258,9 @@ impl Kernel {
         self.caches.lend(self.present.lease(cpu))
     }
 
-    /// Ends the kernel, and hands back what its slots were made from, and its records. Takes no memory.
-    pub fn into_parts(self) -> (Vec<Service>, Vec<Record>)
+    /// Ends the kernel, and hands back what its slots were made from, and its records. The caches of its slots' texts are
+    /// kept. Takes no memory.
+    pub fn into_parts(self, spares: &mut Spares) -> (Vec<Service>, Vec<Record>)
         ensures services { result.0.items ≡ self.boot.services }
         ensures records { result.1.items ≡ self.history }
     {
@@ -269,14 +271,15 @@ impl Kernel {
             rules: _,
             caches: _,
         } = self;
-        (present.into_services(), records)
+        (present.into_services(spares), records)
     }
 
     /// Ends the kernel, and hands back what its slots were made from. Takes no memory.
     pub fn into_services(self) -> Vec<Service>
         ensures { result.items ≡ self.boot.services }
     {
-        let (services, _) = self.into_parts();
+        let mut spares = Spares::none(*self.records.allocator());
+        let (services, _) = self.into_parts(&mut spares);
         services
     }
 

@@ -6,7 +6,7 @@ ghost use Rattle.std.specs.Prelude.{◌≡◌, ◌≤◌, IfOk, length, vec_capa
 use crate::caches::Caches;
 use crate::current::CurrentState;
 use crate::{Kernel, Lease, Record, Service};
-use mx_exec::CopyFor;
+use mx_exec::{CopyFor, Spares};
 use mx_proc::{Rules, Table};
 use mx_word::NoMemory;
 use std::alloc::Global;
@@ -57,11 +57,12 @@ impl StoredState {
         &self,
         alloc: Global,
         services: Vec<Service>,
+        spares: &mut Spares,
     ) -> Result<CurrentState, NoMemory>
         requires { services.items ≡ self.now.services }
         ensures { IfOk result (λ present. present ≡ self.now) }
     {
-        let table = self.table.copied(alloc, CopyFor::Running)?;
+        let table = self.table.copied(alloc, CopyFor::Running, spares)?;
         let leases = Vec::from_slice(alloc, self.leases.as_slice())?;
         Ok(CurrentState {
             table,
@@ -118,12 +119,13 @@ fn with_room(records: Vec<Record>, capacity: u32) -> Result<Vec<Record>, NoMemor
 }
 
 impl StoredKernel {
-    /// The kernel again, with its services and its records. The caches are empty, as at boot.
+    /// The kernel again, with its services and its records. Of the caches nothing is validated.
     pub(crate) fn restore(
         &self,
         alloc: Global,
         services: Vec<Service>,
         records: Vec<Record>,
+        spares: &mut Spares,
     ) -> Result<Kernel, NoMemory>
         requires services { services.items ≡ self.now.boot.services }
         requires records { records.items ≡ self.now.history }
@@ -131,7 +133,7 @@ impl StoredKernel {
     {
         let records = with_room(records, self.present.capacity())?;
         let caches = Caches::new(alloc, services.as_slice())?;
-        let present = self.present.restore(alloc, services)?;
+        let present = self.present.restore(alloc, services, spares)?;
         Ok(Kernel {
             present,
             records,

@@ -10,6 +10,7 @@ ghost use Rattle.mx_turns.specs.Swept.{ArePartsOf, HasRun, IsPlace, IsSwept};
 use crate::faults::{FaultLine, perform_fault_line};
 use crate::{Ending, Outside, make_turns};
 use mx_app_start::NoProgress;
+use mx_exec::Spares;
 use mx_machine::{Checkpoint, Config, Event, Machine, Record, Service};
 use mx_print_answers::Said;
 use mx_word::NoMemory;
@@ -99,21 +100,28 @@ pub(crate) struct Place<'a> {
     pub events: &'a [Event],
 }
 
-/// What a machine is made with again: its services, and the first records of its history.
+/// What a machine is made with again: its services, the first records of its history, and spare caches.
 #[derive(Drop)]
 pub(crate) struct Parts {
     pub services: Vec<Service>,
     pub records: Vec<Record>,
+    pub spares: Spares,
 }
 
-/// The parts of a machine, with so many of its records. Takes no memory.
-pub(crate) fn parts_of(machine: Machine, first: usize) -> Parts
-    ensures services { result.services.items ≡ machine.kernel.boot.services }
-    ensures records { result.records.items ≡ take first machine.kernel.history }
+/// The parts of a machine, with so many of its records. Takes memory for a place for each slot's cache.
+pub(crate) fn parts_of(alloc: Global, machine: Machine, first: usize) -> Result<Parts, NoMemory>
+    ensures services { IfOk result (λ parts. parts.services.items ≡ machine.kernel.boot.services) }
+    ensures records { IfOk result (λ parts.
+        parts.records.items ≡ take first machine.kernel.history) }
 {
-    let (services, mut records) = machine.into_kernel().into_parts();
+    let mut spares = Spares::for_slots(alloc, machine.kernel().services().len())?;
+    let (services, mut records) = machine.into_kernel().into_parts(&mut spares);
     records.truncate(first);
-    Parts { services, records }
+    Ok(Parts {
+        services,
+        records,
+        spares,
+    })
 }
 
 /// Makes the machine of a place's checkpoint, does what the fault's lines say, and makes turns, with the lines and the
@@ -136,11 +144,14 @@ pub(crate) fn run_at(
     let Parts {
         services,
         mut records,
+        mut spares,
     } = parts;
     let history = place.along.kernel().history();
     let made = records.len();
     records.extend_from_slice(&history[made..])?;
-    let mut machine = place.checkpoint.machine(alloc, services, records)?;
+    let mut machine = place
+        .checkpoint
+        .machine(alloc, services, records, &mut spares)?;
     let course = run_on(alloc, &mut machine, sweep, place.events)?;
     Ok((machine, course))
 }

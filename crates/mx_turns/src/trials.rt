@@ -251,7 +251,7 @@ fn trial_here(
         ..sweep
     };
     let (copy, _, without) = compared_at(alloc, place, parts, unharmed)?;
-    let parts = parts_of(copy, along.kernel().history().len());
+    let parts = parts_of(alloc, copy, along.kernel().history().len())?;
     let (copy, course, with) = compared_at(alloc, place, parts, sweep)?;
     let mut text = Vec::new(alloc);
     push_trial(alloc, &mut text, &copy, &course)?;
@@ -293,7 +293,7 @@ pub fn trial_at(
         mut coming,
         copy,
     } = pair;
-    let parts = parts_of(copy, along.kernel().history().len());
+    let parts = parts_of(alloc, copy, along.kernel().history().len())?;
     go_along(&mut along, sweep, from, position);
     coming.pass(&sweep.records[from..position]);
     trial_here(alloc, along, coming, parts, sweep, position)

@@ -18,7 +18,7 @@ ghost use Rattle.mx_walk.specs.Positions.{IsAt, IsPosition, IsUpTo, first};
 ghost use Rattle.mx_walk.specs.Walks.{checkpoint_before};
 
 use crate::{FIRST, Position, is_up_to, steps_in};
-use mx_exec::{Code, Image};
+use mx_exec::{Code, Image, Spares};
 use mx_machine::{Checkpoint, Machine, Record};
 use mx_word::NoMemory;
 use std::alloc::Global;
@@ -298,8 +298,11 @@ pub(crate) fn machine_of(
     ensures actors { IfOk result (λ again.
         actors (world_of again) ≡ actors machine.kernel.boot) }
 {
-    let (services, mut earlier) = machine.into_kernel().into_parts();
+    let mut spares = Spares::for_slots(alloc, machine.kernel().services().len())?;
+    let (services, mut earlier) = machine.into_kernel().into_parts(&mut spares);
     earlier.clear();
     earlier.extend_from_slice(&records[..stored.position.records])?;
-    stored.checkpoint.machine(alloc, services, earlier)
+    stored
+        .checkpoint
+        .machine(alloc, services, earlier, &mut spares)
 }

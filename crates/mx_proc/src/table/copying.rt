@@ -4,25 +4,36 @@ ghost use Rattle.std.specs.Prelude.{◌≡◌, IfOk};
 
 use super::Table;
 use crate::process::Process;
-use mx_exec::{CopyFor, copy_image};
+use mx_exec::{CopyFor, Spares, copy_image};
 use mx_word::NoMemory;
 use std::alloc::Global;
 
 /// A process with the same fields and a copy of the image.
-fn copy_process(alloc: Global, process: &Process, purpose: CopyFor) -> Result<Process, NoMemory>
+fn copy_process(
+    alloc: Global,
+    process: &Process,
+    purpose: CopyFor,
+    slot: usize,
+    spares: &mut Spares,
+) -> Result<Process, NoMemory>
     ensures { IfOk result (λ copy. copy ≡ process.now) }
 {
-    let image = copy_image(alloc, &process.image, purpose)?;
+    let image = copy_image(alloc, &process.image, purpose, slot, spares)?;
     Ok(Process { image, ..*process })
 }
 
 /// Copies of these processes, in room for 32 of them.
-fn copy_slots(alloc: Global, slots: &[Process], purpose: CopyFor) -> Result<Vec<Process>, NoMemory>
+fn copy_slots(
+    alloc: Global,
+    slots: &[Process],
+    purpose: CopyFor,
+    spares: &mut Spares,
+) -> Result<Vec<Process>, NoMemory>
     ensures { IfOk result (λ copies. copies.items ≡ slots.now) }
 {
     let mut copies = Vec::with_capacity(alloc, 32)?;
-    for process in slots {
-        let Ok(()) = copies.push(copy_process(alloc, process, purpose)?) else {
+    for slot in 0..slots.len() {
+        let Ok(()) = copies.push(copy_process(alloc, &slots[slot], purpose, slot, spares)?) else {
             return Err(NoMemory);
         };
     }
@@ -31,11 +42,16 @@ fn copy_slots(alloc: Global, slots: &[Process], purpose: CopyFor) -> Result<Vec<
 
 impl Table {
     /// A table with the same processes, queues, devices and deliveries. Takes memory: answers `NoMemory` if
-    /// there isn't enough.
-    pub fn copied(&self, alloc: Global, purpose: CopyFor) -> Result<Table, NoMemory>
+    /// there isn't enough. If it is to run, a slot's text gets the slot's spare cache.
+    pub fn copied(
+        &self,
+        alloc: Global,
+        purpose: CopyFor,
+        spares: &mut Spares,
+    ) -> Result<Table, NoMemory>
         ensures { IfOk result (λ copy. copy ≡ self.now) }
     {
-        let slots = copy_slots(alloc, self.slots.as_slice(), purpose)?;
+        let slots = copy_slots(alloc, self.slots.as_slice(), purpose, spares)?;
         let devices = self.devices.copied(alloc)?;
         let deliveries = self.deliveries.copied(alloc)?;
         Ok(Table {
@@ -48,5 +64,22 @@ impl Table {
             deliveries,
             rules: self.rules,
         })
+    }
+
+    /// Ends the table, and hands back its processes. Takes no memory.
+    pub fn into_slots(self) -> Vec<Process>
+        ensures { result.items ≡ self.slots }
+    {
+        let Table {
+            slots,
+            ready: _,
+            waits: _,
+            renewed: _,
+            uptime: _,
+            devices: _,
+            deliveries: _,
+            rules: _,
+        } = self;
+        slots
     }
 }

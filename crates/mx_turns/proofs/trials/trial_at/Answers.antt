@@ -21,11 +21,11 @@ pub trial_here-requires-clause-parts : goal.trial_here-requires-clause-parts
 trial_here-requires-clause-parts c =
     let records = c.args.sweep.records.now in
     let pair = c.args.pair in
-    let is = c.parts_of-parts.ensures in
+    let is = c.in_ok-parts.ensures in
     record {
       services = is.services ∙ ap (λ (w : World). w.services) (c.requires.pair.boot ∙ sym c.go_along.ensures.boot);
       records =
-          first_records pair.along.kernel.history c.go_along.new.machine.kernel.history c.parts_of-parts.result.records.items (is.records ∙ c.requires.pair.begins)
+          first_records pair.along.kernel.history c.go_along.new.machine.kernel.history c.in_ok-parts.parts.records.items (is.records ∙ c.requires.pair.begins)
           (later_on records pair.position pair.along c.requires.pair.along c.args.position c.go_along.new.machine c.requires.later c.go_along.ensures.along c.go_along.ensures.boot c.requires.swept.accepted);
     }
 

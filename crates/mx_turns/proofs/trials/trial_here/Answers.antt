@@ -25,11 +25,11 @@ compared_at-requires-2-clause-parts c =
     let s = c.args.sweep in
     let along = c.args.along in
     let run = c.in_ok-copy.ensures.run.0 in
-    let is = c.parts_of-parts.ensures in
+    let is = c.in_ok-parts.ensures in
     record {
       services = is.services ∙ ap (λ (w : World). w.services) c.in_ok-copy.ensures.boot;
       records =
-          own_records along.kernel.history c.parts_of-parts.result.records.items
+          own_records along.kernel.history c.in_ok-parts.parts.records.items
           (is.records ∙ ap (λ (k : BootAndHistory). take (length along.kernel.history) k.history) run.kernel
           ∙ run_begins s.records.now c.args.position along c.requires.along s.other s.bound []);
     }
