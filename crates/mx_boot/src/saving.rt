@@ -32,12 +32,17 @@ fn push_bytes(line: &mut Line, bytes: &[u8])
     }
 }
 
-/// Appends a number.
+/// Appends a number. Most have one digit: an actor's, and the steps of a process that asks often.
+#[tactic(auto, using(std::proofs::lemmas::Fmt::decimal_digit))]
 fn push_number(line: &mut Line, number: u32)
     requires { array_vec_len line.old ≤ 22 }
     ensures bytes { line.new.items ≡ line.old.items ++ decimal number }
     ensures few { array_vec_len line.new ≤ array_vec_len line.old + 10 }
 {
+    if number < 10 {
+        line.push(b'0' + number as u8);
+        return;
+    }
     push_bytes(line, Buffer::new().format(number).as_bytes());
 }
 

@@ -96,15 +96,16 @@ impl Checkpoint {
         Ok(Checkpoint { kernel, outs })
     }
 
-    /// The machine again, with its services and its records. Its caches are empty, as at boot. Takes memory.
+    /// The machine again, with its services and its records. Its caches are empty, as at boot. Takes memory, for the
+    /// records too if they haven't as much room as those of the machine.
     pub fn machine(
         &self,
         alloc: Global,
         services: Vec<Service>,
-        records: &[Record],
+        records: Vec<Record>,
     ) -> Result<Machine, NoMemory>
         requires services { services.items ≡ self.now.kernel.boot.services }
-        requires records { records.now ≡ self.now.kernel.history }
+        requires records { records.items ≡ self.now.kernel.history }
         ensures { IfOk result (λ machine. machine ≡ self.now) }
     {
         let mut kernel = self.kernel.restore(alloc, services, records)?;

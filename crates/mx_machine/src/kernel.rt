@@ -257,18 +257,27 @@ impl Kernel {
         self.caches.lend(self.present.lease(cpu))
     }
 
-    /// Ends the kernel, and hands back what its slots were made from. Takes no memory.
-    pub fn into_services(self) -> Vec<Service>
-        ensures { result.items ≡ self.boot.services }
+    /// Ends the kernel, and hands back what its slots were made from, and its records. Takes no memory.
+    pub fn into_parts(self) -> (Vec<Service>, Vec<Record>)
+        ensures services { result.0.items ≡ self.boot.services }
+        ensures records { result.1.items ≡ self.history }
     {
         let Kernel {
             present,
-            records: _,
+            records,
             processors: _,
             rules: _,
             caches: _,
         } = self;
-        present.into_services()
+        (present.into_services(), records)
+    }
+
+    /// Ends the kernel, and hands back what its slots were made from. Takes no memory.
+    pub fn into_services(self) -> Vec<Service>
+        ensures { result.items ≡ self.boot.services }
+    {
+        let (services, _) = self.into_parts();
+        services
     }
 
     /// The slot whose process the kernel has lent to a processor.

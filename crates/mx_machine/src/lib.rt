@@ -9,7 +9,7 @@
 //! # The kernel
 //!
 //! `take` lends a process to a processor, `back` takes it home, and `event` is all else. The services are
-//! moved into the kernel, and `into_services` hands them back.
+//! moved into the kernel; `into_parts` hands them back, and the records.
 //!
 //! # The machine of one thread
 //!

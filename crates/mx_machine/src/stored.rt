@@ -105,15 +105,16 @@ impl Model for StoredKernel {
         }) };
 }
 
-/// The records of a kernel that has room for so many.
-fn copy_records(alloc: Global, records: &[Record], capacity: u32) -> Result<Vec<Record>, NoMemory>
-    requires { length records.now ≤ capacity }
-    ensures items { IfOk result (λ copy. copy.items ≡ records.now) }
-    ensures room { IfOk result (λ copy. capacity ≤ vec_capacity copy) }
+/// These records, with room for so many.
+fn with_room(records: Vec<Record>, capacity: u32) -> Result<Vec<Record>, NoMemory>
+    requires { length records.items ≤ capacity }
+    ensures items { IfOk result (λ roomy. roomy.items ≡ records.items) }
+    ensures room { IfOk result (λ roomy. capacity ≤ vec_capacity roomy) }
 {
-    let mut copy = Vec::with_capacity(alloc, capacity as usize)?;
-    copy.extend_from_slice(records)?;
-    Ok(copy)
+    let mut records = records;
+    let left = capacity as usize - records.len();
+    records.reserve_exact(left)?;
+    Ok(records)
 }
 
 impl StoredKernel {
@@ -122,13 +123,13 @@ impl StoredKernel {
         &self,
         alloc: Global,
         services: Vec<Service>,
-        records: &[Record],
+        records: Vec<Record>,
     ) -> Result<Kernel, NoMemory>
         requires services { services.items ≡ self.now.boot.services }
-        requires records { records.now ≡ self.now.history }
+        requires records { records.items ≡ self.now.history }
         ensures { IfOk result (λ kernel. kernel ≡ self.now) }
     {
-        let records = copy_records(alloc, records, self.present.capacity())?;
+        let records = with_room(records, self.present.capacity())?;
         let caches = Caches::new(alloc, services.as_slice())?;
         let present = self.present.restore(alloc, services)?;
         Ok(Kernel {

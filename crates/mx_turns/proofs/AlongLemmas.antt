@@ -1,5 +1,5 @@
 -- A machine that goes along a history.
-use Rattle.std.proofs.Common.{◌≡◌, ◌∙◌, ◌<◌, ◌≤◌, ◌+◌, ◌-◌, ℕ, ◌++◌, All, List, [], ◌∷◌, append_assoc, Result, Ok, Err, IfOk, drop, take, refl, ap, arith, subst, sym}
+use Rattle.std.proofs.Common.{◌≡◌, ◌∙◌, ◌<◌, ◌≤◌, ◌+◌, ◌-◌, ℕ, ◌++◌, All, List, [], ◌∷◌, append_assoc, Result, Ok, Err, IfOk, drop, length, take, refl, ap, arith, subst, sym}
 use Rattle.std.proofs.lemmas.List.{drop-take, take-append-drop, take-take}
 use Rattle.std.proofs.lemmas.List.Elements.{All-drop, All-take}
 use Rattle.mx_app_step.proofs.AcceptedLemmas.{front_accepted}
@@ -36,6 +36,12 @@ along_at_boot records m is =
     let here : m.kernel.boot ≡ world_of m = ap (λ (k : BootAndHistory). k.boot) is in
     record { world = sym here; kernel = is ∙ ap first (sym here) }
 
+-- and has no records there
+no_records : (p : Pair) → p.along.kernel ≡ record { boot = world_of p.along; history = [] } → take (length p.along.kernel.history) p.copy.kernel.history ≡ p.along.kernel.history
+no_records p is =
+    let none : p.along.kernel.history ≡ [] = ap (λ (k : BootAndHistory). k.history) is in
+    ap (λ (xs : List Record). take (length xs) p.copy.kernel.history) none ∙ sym none
+
 -- A PAIR AT BOOT, by what is known of it where there was memory for it
 module _ (E : Type 0) (records : List Record) (r : Result Pair E) where
   pub first_pair : IfOk r (λ p. p.position ≡ 0) → IfOk r (λ p. p.along.kernel ≡ record { boot = world_of p.along; history = [] }) → IfOk r (λ p. p.copy.kernel.boot ≡ p.along.kernel.boot)
@@ -49,6 +55,7 @@ module _ (E : Type 0) (records : List Record) (r : Result Pair E) where
         coming = subst (λ k. IsComing records k p.coming) (sym none) coming;
         within = omega (arith, none);
         boot = boot;
+        begins = no_records p kernel;
       }
       by (Err e) none kernel boot coming = tt
 
@@ -71,6 +78,9 @@ taken_on records from to later =
     sym (take-append-drop from (take to records)) ∙ ap (λ xs. xs ++ drop from (take to records)) (take-take from to records later)
     ∙ ap (λ xs. take from records ++ xs) (ap (λ n. drop from (take n records)) (sym there) ∙ drop-take from (to - from) records)
 
+pub events_on : (records : List Record) (from to : ℕ) → from ≤ to → events_of_history (take to records) ≡ events_of_history (take from records) ++ events_of_history (take (to - from) (drop from records))
+events_on records from to later = ap events_of_history (taken_on records from to later) ∙ events_both (take from records) (take (to - from) (drop from records))
+
 module _ (records : List Record) (from to : ℕ) (later : from ≤ to) (m : MachineState) (is : IsAlong records from m) where
   -- the records from one position to another
   abbrev pub between : List Record
@@ -83,7 +93,7 @@ module _ (records : List Record) (from to : ℕ) (later : from ≤ to) (m : Mach
   made = events_of_history (take from records)
 
   events_whole : events_of_history (take to records) ≡ made ++ events_of_history between
-  events_whole = ap events_of_history (taken_on records from to later) ∙ events_both (take from records) between
+  events_whole = events_on records from to later
 
   pub accepted_between : AreAccepted boot (events_of_history records) → AreAccepted (world_of m) (events_of_history between)
   accepted_between h =

@@ -7,6 +7,7 @@ pub mod GrowthLemmas
 pub mod ShownLemmas
 pub mod AlongLemmas
 pub mod ComingLemmas
+pub mod HistoryLemmas
 pub mod RunLemmas
 pub mod LineLemmas
 pub mod AheadLemmas

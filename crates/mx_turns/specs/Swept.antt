@@ -9,6 +9,7 @@ use Rattle.mx_machine.specs.World.{World, actors}
 use Rattle.mx_turns.specs.declared.coming.Coming.{Coming}
 use Rattle.mx_turns.specs.declared.pairs.Pair.{Pair}
 use Rattle.mx_turns.specs.declared.faulted_run.Course.{Course}
+use Rattle.mx_turns.specs.declared.faulted_run.Parts.{Parts}
 use Rattle.mx_turns.specs.declared.faulted_run.Place.{Place}
 use Rattle.mx_turns.specs.declared.faulted_run.Sweep.{Sweep}
 use Rattle.mx_turns.specs.declared.faults.FaultLine.{FaultLine}
@@ -49,12 +50,18 @@ pub record IsComing (records : List Record) (k : ℕ) (c : Coming) : Type 0 wher
   pub past : c.past ≡ length (coming (take k records))
 
 -- one machine of a pair has gone along a history up to its position, what comes from outside after it is known, and the
--- other machine is of the same boot
+-- other machine is of the same boot, with a history that begins as that of the first
 pub record IsPair (records : List Record) (p : Pair) : Type 0 where
   pub along : IsAlong records p.position p.along
   pub coming : IsComing records p.position p.coming
   pub within : p.position ≤ length records
   pub boot : p.copy.kernel.boot ≡ p.along.kernel.boot
+  pub begins : take (length p.along.kernel.history) p.copy.kernel.history ≡ p.along.kernel.history
+
+-- parts are of a machine: its services, and the first records of its history
+pub record ArePartsOf (m : MachineState) (p : Parts) : Type 0 where
+  pub services : p.services.items ≡ m.kernel.boot.services
+  pub records : take (length p.records.items) m.kernel.history ≡ p.records.items
 
 -- a machine has gone along a history to a place's position, the checkpoint is of it, and the events are those that come
 -- from outside after it

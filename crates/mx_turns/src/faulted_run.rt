@@ -1,11 +1,11 @@
 //! A run with a fault at a position of a history.
 
-ghost use Rattle.std.specs.Prelude.{◌≡◌, ◌<◌, IfOk, OnOk, length};
+ghost use Rattle.std.specs.Prelude.{◌≡◌, ◌<◌, IfOk, OnOk, length, take};
 ghost use Rattle.mx_app_step.specs.Machine.{world_of};
 ghost use Rattle.mx_machine.specs.World.{actors};
 ghost use Rattle.mx_turns.specs.Faults.{faults_kept, faults_made};
 ghost use Rattle.mx_turns.specs.Sweep.{run_from, run_of};
-ghost use Rattle.mx_turns.specs.Swept.{HasRun, IsPlace, IsSwept};
+ghost use Rattle.mx_turns.specs.Swept.{ArePartsOf, HasRun, IsPlace, IsSwept};
 
 use crate::faults::{FaultLine, perform_fault_line};
 use crate::{Ending, Outside, make_turns};
@@ -99,16 +99,33 @@ pub(crate) struct Place<'a> {
     pub events: &'a [Event],
 }
 
+/// What a machine is made with again: its services, and the first records of its history.
+#[derive(Drop)]
+pub(crate) struct Parts {
+    pub services: Vec<Service>,
+    pub records: Vec<Record>,
+}
+
+/// The parts of a machine, with so many of its records. Takes no memory.
+pub(crate) fn parts_of(machine: Machine, first: usize) -> Parts
+    ensures services { result.services.items ≡ machine.kernel.boot.services }
+    ensures records { result.records.items ≡ take first machine.kernel.history }
+{
+    let (services, mut records) = machine.into_kernel().into_parts();
+    records.truncate(first);
+    Parts { services, records }
+}
+
 /// Makes the machine of a place's checkpoint, does what the fault's lines say, and makes turns, with the lines and the
 /// ticks of the other records to come. Answers the machine, and how it ran.
 pub(crate) fn run_at(
     alloc: Global,
     place: Place<'_>,
-    services: Vec<Service>,
+    parts: Parts,
     sweep: Sweep<'_>,
 ) -> Result<(Machine, Course), NoMemory>
     requires place { IsPlace sweep.records.now place }
-    requires services { services.items ≡ place.along.now.kernel.boot.services }
+    requires parts { ArePartsOf place.along.now parts }
     requires swept { IsSwept sweep place.along.now.kernel.boot }
     ensures run { IfOk result (λ done. HasRun (run_of place.entry.along.now.kernel.boot
         sweep.entry.other sweep.entry.records.now sweep.entry.bound sweep.entry.fault.now
@@ -116,7 +133,13 @@ pub(crate) fn run_at(
     ensures boot { IfOk result (λ done.
         done.0.kernel.boot ≡ place.entry.along.now.kernel.boot) }
 {
-    let records = place.along.kernel().history();
+    let Parts {
+        services,
+        mut records,
+    } = parts;
+    let history = place.along.kernel().history();
+    let made = records.len();
+    records.extend_from_slice(&history[made..])?;
     let mut machine = place.checkpoint.machine(alloc, services, records)?;
     let course = run_on(alloc, &mut machine, sweep, place.events)?;
     Ok((machine, course))

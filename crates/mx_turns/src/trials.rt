@@ -7,11 +7,11 @@ ghost use Rattle.mx_machine.specs.History.{replay};
 ghost use Rattle.mx_print_report.specs.declared.doing.Naming.TheVariants as by;
 ghost use Rattle.mx_turns.specs.Sweep.{end_text, kept_text, process_lines, run_of, said_text, seen_text, shown};
 ghost use Rattle.mx_turns.specs.Findings.{is_full, is_refused, refusal_of};
-ghost use Rattle.mx_turns.specs.Swept.{HasRun, IsAlong, IsComing, IsPair, IsPlace, IsSwept, IsTrial};
+ghost use Rattle.mx_turns.specs.Swept.{ArePartsOf, HasRun, IsAlong, IsComing, IsPair, IsPlace, IsSwept, IsTrial};
 
 use crate::Ending;
 use crate::coming::Coming;
-use crate::faulted_run::{Course, Place, Sweep, run_at};
+use crate::faulted_run::{Course, Parts, Place, Sweep, parts_of, run_at};
 use crate::pairs::{Pair, go_along};
 use mx_machine::{Checkpoint, Kernel, Machine, Refusal, Service};
 use mx_print_answers::Said;
@@ -205,11 +205,11 @@ fn push_trial(
 fn compared_at(
     alloc: Global,
     place: Place<'_>,
-    services: Vec<Service>,
+    parts: Parts,
     sweep: Sweep<'_>,
 ) -> Result<(Machine, Course, Vec<u8>), NoMemory>
     requires place { IsPlace sweep.records.now place }
-    requires services { services.items ≡ place.along.now.kernel.boot.services }
+    requires parts { ArePartsOf place.along.now parts }
     requires swept { IsSwept sweep place.along.now.kernel.boot }
     ensures run { IfOk result (λ done. let run = run_of place.entry.along.now.kernel.boot
         sweep.entry.other sweep.entry.records.now sweep.entry.bound sweep.entry.fault.now
@@ -217,7 +217,7 @@ fn compared_at(
     ensures boot { IfOk result (λ done.
         done.0.kernel.boot ≡ place.entry.along.now.kernel.boot) }
 {
-    let (machine, course) = run_at(alloc, place, services, sweep)?;
+    let (machine, course) = run_at(alloc, place, parts, sweep)?;
     let seen = compared_text(alloc, &machine, course.ending)?;
     Ok((machine, course, seen))
 }
@@ -228,14 +228,14 @@ fn trial_here(
     alloc: Global,
     along: Machine,
     coming: Coming,
-    services: Vec<Service>,
+    parts: Parts,
     sweep: Sweep<'_>,
     position: usize,
 ) -> Result<Trial, NoMemory>
     requires swept { IsSwept sweep along.kernel.boot }
     requires along { IsAlong sweep.records.now position along }
     requires coming { IsComing sweep.records.now position coming }
-    requires services { services.items ≡ along.kernel.boot.services }
+    requires parts { ArePartsOf along parts }
     requires position { position ≤ length sweep.records.now }
     ensures { IfOk result (λ done. IsTrial sweep.entry along.kernel.boot position done) }
 {
@@ -250,9 +250,9 @@ fn trial_here(
         fault: &[],
         ..sweep
     };
-    let (copy, _, without) = compared_at(alloc, place, services, unharmed)?;
-    let services = copy.into_kernel().into_services();
-    let (copy, course, with) = compared_at(alloc, place, services, sweep)?;
+    let (copy, _, without) = compared_at(alloc, place, parts, unharmed)?;
+    let parts = parts_of(copy, along.kernel().history().len());
+    let (copy, course, with) = compared_at(alloc, place, parts, sweep)?;
     let mut text = Vec::new(alloc);
     push_trial(alloc, &mut text, &copy, &course)?;
     let findings = Findings {
@@ -293,8 +293,8 @@ pub fn trial_at(
         mut coming,
         copy,
     } = pair;
+    let parts = parts_of(copy, along.kernel().history().len());
     go_along(&mut along, sweep, from, position);
     coming.pass(&sweep.records[from..position]);
-    let services = copy.into_kernel().into_services();
-    trial_here(alloc, along, coming, services, sweep, position)
+    trial_here(alloc, along, coming, parts, sweep, position)
 }

@@ -284,8 +284,8 @@ pub(crate) fn near_before(records: &[Record], to: Position) -> Position
     }
 }
 
-/// The machine of a checkpoint. The services are taken from another machine of the same boot, which is let go.
-/// Takes memory for the images and the table.
+/// The machine of a checkpoint. The services are taken from another machine of the same boot, which is let go, and so is
+/// the room for records. Takes memory for the images and the table.
 pub(crate) fn machine_of(
     alloc: Global,
     machine: Machine,
@@ -298,7 +298,8 @@ pub(crate) fn machine_of(
     ensures actors { IfOk result (λ again.
         actors (world_of again) ≡ actors machine.kernel.boot) }
 {
-    let services = machine.into_kernel().into_services();
-    let earlier = &records[..stored.position.records];
+    let (services, mut earlier) = machine.into_kernel().into_parts();
+    earlier.clear();
+    earlier.extend_from_slice(&records[..stored.position.records])?;
     stored.checkpoint.machine(alloc, services, earlier)
 }

@@ -1,12 +1,21 @@
-use Rattle.std.proofs.Common.{◌∙◌, ◌<◌, ap, drop, length, refl, subst, sym, take}
+use Rattle.std.proofs.Common.{◌≡◌, ◌∙◌, ◌<◌, ap, drop, length, refl, rules, subst, sym, take, vec_len}
 use Rattle.mx_app_step.specs.Machine.{MachineState, world_of}
 use Rattle.mx_machine.specs.History.{BootAndHistory, events_of_history}
 use Rattle.mx_machine.specs.World.{actors}
 use Rattle.mx_turns.specs.Sweep.{Run, coming}
 use Rattle.mx_turns.specs.Swept.{HasRun}
 use Rattle.mx_turns.proofs.AlongLemmas.{along_actors}
+use Rattle.mx_turns.proofs.HistoryLemmas.{parts_rest}
 use Rattle.mx_turns.proofs.RunLemmas.{alone_still, run_boot, run_same}
 use Rattle.mx_turns.proofs.faulted_run.run_at.Goals as goal
+
+-- the rest of the records are after those that the parts have
+pub machine-requires-clause-records : goal.machine-requires-clause-records
+machine-requires-clause-records c =
+    let m = c.args.place.along.now in
+    let same = c.history-history.ensures ∙ ap (λ (k : BootAndHistory). k.history) c.kernel.ensures in
+    let many : vec_len c.args.parts.records ≡ length c.args.parts.records.items = search rules in
+    c.in_ok-extend_from_slice.ensures.items ∙ parts_rest m c.args.parts c.requires.parts _ _ same (c.len-made.ensures ∙ many) ∙ ap (λ (x : MachineState). x.kernel.history) (sym c.requires.place.same)
 
 pub run_on-requires-clause-other : goal.run_on-requires-clause-other
 run_on-requires-clause-other c =

@@ -1,9 +1,13 @@
-use Rattle.std.proofs.Common.{◌∙◌, List, [], ap, ap₂, refl}
+use Rattle.std.proofs.Common.{◌∙◌, List, [], ap, ap₂, length, refl, take}
 use Rattle.std.specs.Str.{bytes_eq}
+use Rattle.mx_machine.specs.declared.history.Record.{Record}
+use Rattle.mx_machine.specs.History.{BootAndHistory}
+use Rattle.mx_machine.specs.World.{World}
 use Rattle.mx_turns.specs.Findings.{is_full, refusal_of}
 use Rattle.mx_turns.specs.declared.faults.FaultLine.{FaultLine}
 use Rattle.mx_turns.specs.Sweep.{run_of}
 use Rattle.mx_turns.proofs.ComingLemmas.{is_place, past_within}
+use Rattle.mx_turns.proofs.HistoryLemmas.{own_records, run_begins}
 use Rattle.mx_turns.proofs.LineLemmas.{findings_are, trial_is}
 use Rattle.mx_turns.proofs.trials.trial_here.Goals as goal
 
@@ -15,6 +19,22 @@ compared_at-requires-clause-place c = is_place c.args.sweep.records.now _ c.args
 
 pub compared_at-requires-2-clause-place : goal.compared_at-requires-2-clause-place
 compared_at-requires-2-clause-place c = is_place c.args.sweep.records.now _ c.args.coming c.requires.coming c.requires.along c.in_ok-checkpoint.ensures c.left.ensures c.requires.position
+
+-- the second copy's records are those that the first one began with
+pub compared_at-requires-2-clause-parts : goal.compared_at-requires-2-clause-parts
+compared_at-requires-2-clause-parts c =
+    let s = c.args.sweep in
+    let along = c.args.along in
+    let run = c.in_ok-copy.ensures.run.0 in
+    let is = c.parts_of-parts.ensures in
+    let here = c.history.ensures ∙ ap (λ (k : BootAndHistory). k.history) c.kernel.ensures in
+    record {
+      services = is.services ∙ ap (λ (w : World). w.services) c.in_ok-copy.ensures.boot;
+      records =
+          own_records along.kernel.history c.parts_of-parts.result.records.items
+          (is.records ∙ ap (λ (xs : List Record). take (length xs) c.in_ok-copy.copy.kernel.history) here ∙ ap (λ (k : BootAndHistory). take (length along.kernel.history) k.history) run.kernel
+          ∙ run_begins s.records.now c.args.position along c.requires.along s.other s.bound []);
+    }
 
 -- without its fault a sweep is of the same machine and history
 pub compared_at-requires-clause-swept : goal.compared_at-requires-clause-swept
@@ -29,7 +49,14 @@ returns c =
     let with = c.in_ok-copy-2.ensures.run in
     let without = c.in_ok-copy.ensures.run in
     record {
-      pair = record { along = c.requires.along; coming = c.requires.coming; within = c.requires.position; boot = c.in_ok-copy-2.ensures.boot };
+      pair = record {
+        along = c.requires.along;
+        coming = c.requires.coming;
+        within = c.requires.position;
+        boot = c.in_ok-copy-2.ensures.boot;
+        begins = ap (λ (k : BootAndHistory). take (length c.args.along.kernel.history) k.history) with.0.kernel
+            ∙ run_begins s.records.now c.args.position c.args.along c.requires.along s.other s.bound s.fault.now;
+      };
       there = refl;
       boot = refl;
       kernel = with.0.kernel;

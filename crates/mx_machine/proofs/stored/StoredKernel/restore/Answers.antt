@@ -7,8 +7,8 @@ use Rattle.mx_machine.specs.KernelState.{KernelState}
 use Rattle.mx_machine.proofs.StoredLemmas.{with_room}
 use Rattle.mx_machine.proofs.stored.StoredKernel.restore.Goals as goal
 
-pub copy_records-requires : goal.copy_records-requires
-copy_records-requires c = omega (arith, c.capacity.ensures.room, c.self.invariant.records, ap length (c.requires.records ∙ sym (ap (λ (x : BootAndHistory). x.history) c.self.view_is)))
+pub with_room-requires : goal.with_room-requires
+with_room-requires c = omega (arith, c.capacity.ensures.room, c.self.invariant.records, ap length (c.requires.records ∙ sym (ap (λ (x : BootAndHistory). x.history) c.self.view_is)))
 
 pub invariant_of-result : goal.invariant_of-result
 invariant_of-result c =
