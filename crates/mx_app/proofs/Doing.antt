@@ -16,6 +16,7 @@ use Rattle.mx_app_db.specs.Asked.{Asked}
 use Rattle.mx_app_db.specs.Written.{Written, kept}
 use Rattle.mx_app_start.specs.Programs.{SparesProgram, names_program}
 use Rattle.mx_app_start.proofs.Appended.{appends_nothing}
+use Rattle.mx_app_start.proofs.SetupLemmas.{asked_on}
 use Rattle.mx_walk.specs.declared.progress.Part.{Part}
 use Rattle.mx_app_db.specs.Text.{saved_text}
 use Rattle.mx_app_db.specs.Config.{Config}
@@ -53,6 +54,7 @@ use Rattle.mx_why.specs.Telling.{IsWhyPrinted}
 use Rattle.mx_app.specs.Deeds.{Deeds, IsAlone, nothing_done}
 use Rattle.mx_app.specs.Explained.{ExplainsConfig}
 use Rattle.mx_app.specs.Named.{Assembles, ShowsFile}
+use Rattle.mx_app.specs.Sparing.{SparesRequest}
 use Rattle.mx_app.specs.declared.performing.Done.{Done}
 use Rattle.mx_app.specs.Requests.{Debugs, Draws, Explains, Looks, Pages, Performs, PerformsApart, PerformsUntyped, Replays, SavesSteps, Shows, Steps, Traces, Whys, done_after_live, done_after_replay, done_after_run, done_after_sweep, done_after_turns, done_after_work, over_read}
 
@@ -272,16 +274,25 @@ module _ (asked now : List Asked) (files : List Written) where
   whys config log x y (Ok how) r p f e = (p.0, [], p.4, sym (append-nil files), (Ok how, refl, (p.1, p.2, p.3, p.5, p.6), e))
   whys config log x y (Err why) r p f e = (f.0, [], f.1, sym (append-nil files), (Err why, refl, f.2, e))
 
--- ---- whether it writes over what it reads
+-- ---- whether it writes over what it reads, or over a file that is spared
 
-pub spared : (WasShown : Part → Type 0) {given : List (Option (List ℕ))} {heard : List Heard} {told : List Note} {shown : List Part} (asks : Bool) (asked : List Asked) (files : List Written) (known : Option (List ℕ)) (r : Result Done Kind) (request : CommandRequest)
+pub over : (WasShown : Part → Type 0) {given : List (Option (List ℕ))} {heard : List Heard} {told : List Note} {shown : List Part} (asks force : Bool) (asked : List Asked) (files : List Written) (known : Option (List ℕ)) (r : Result Done Kind) (request : CommandRequest)
     → writes_over request ≡ true → r ≡ Err over_read
-    → Grows asked asked files files given given heard heard told told shown shown (λ did. Performs WasShown request asks did (λ text. Appends known known text) r)
-spared WasShown {given} {heard} {told} {shown} asks asked files known r request over e =
-    (nothing_done, sym (append-nil asked), sym (append-nil files), sym (append-nil given), sym (append-nil heard), sym (append-nil told), sym (append-nil shown), inl (over, refl, appends_nothing known, e))
+    → Grows asked asked files files given given heard heard told told shown shown (λ did. Performs WasShown request force asks did (λ text. Appends known known text) r)
+over WasShown {given} {heard} {told} {shown} asks force asked files known r request read e =
+    (nothing_done, sym (append-nil asked), sym (append-nil files), sym (append-nil given), sym (append-nil heard), sym (append-nil told), sym (append-nil shown), inl (read, refl, appends_nothing known, e))
 
-pub apart : (WasShown : Part → Type 0) (asked now : List Asked) (files written : List Written) (given typed : List (Option (List ℕ))) (heard heard_now : List Heard) (told told_now : List Note) (shown later : List Part) (asks : Bool) (Prints : List ℕ → Type 0) (r : Result Done Kind) (request : CommandRequest)
+pub spared : (WasShown : Part → Type 0) {given : List (Option (List ℕ))} {heard : List Heard} {told : List Note} {shown : List Part} (asks force : Bool) (asked now : List Asked) (files : List Written) (known : Option (List ℕ)) (f : Kind) (r : Result Done Kind) (request : CommandRequest)
     → writes_over request ≡ false
-    → Grows asked now files written given typed heard heard_now told told_now shown later (λ did. PerformsApart WasShown request asks did Prints r)
-    → Grows asked now files written given typed heard heard_now told told_now shown later (λ did. Performs WasShown request asks did Prints r)
-apart WasShown asked now files written given typed heard heard_now told told_now shown later asks Prints r request other done = (done.0, done.1, done.2, done.3, done.4, done.5, done.6, inr (other, done.7))
+    → (qs : List Asked) × (now ≡ asked ++ qs) × SparesRequest request force qs (Err f) → r ≡ Err f
+    → Grows asked now files files given given heard heard told told shown shown (λ did. Performs WasShown request force asks did (λ text. Appends known known text) r)
+spared WasShown {given} {heard} {told} {shown} asks force asked now files known f r request other p e =
+    (record nothing_done { asked = p.0 }, p.1, sym (append-nil files), sym (append-nil given), sym (append-nil heard), sym (append-nil told), sym (append-nil shown), inr (other, inl (f, (refl, refl, (refl, refl), refl, appends_nothing known), p.2, e)))
+
+pub apart : (WasShown : Part → Type 0) (asked between now : List Asked) (files written : List Written) (given typed : List (Option (List ℕ))) (heard heard_now : List Heard) (told told_now : List Note) (shown later : List Part) (asks force : Bool) (Prints : List ℕ → Type 0) (r : Result Done Kind) (request : CommandRequest)
+    → writes_over request ≡ false
+    → (qs : List Asked) × (between ≡ asked ++ qs) × SparesRequest request force qs (Ok tt)
+    → Grows between now files written given typed heard heard_now told told_now shown later (λ did. PerformsApart WasShown request asks did Prints r)
+    → Grows asked now files written given typed heard heard_now told told_now shown later (λ did. Performs WasShown request force asks did Prints r)
+apart WasShown asked between now files written given typed heard heard_now told told_now shown later asks force Prints r request other p done =
+    (record done.0 { asked = p.0 ++ done.0.asked }, asked_on asked between now p.0 done.0.asked p.1 done.1, done.2, done.3, done.4, done.5, done.6, inr (other, inr (p.0, done.0.asked, refl, p.2, done.7)))
