@@ -3,7 +3,7 @@ use Rattle.std.specs.Prelude.{◌≡◌, ◌⊎◌, ℕ, ◌-◌, Bool, true, fa
 use Rattle.mx_app_command.specs.Files.{writes_over}
 use Rattle.mx_app_command.specs.declared.command_line.CommandRequest.{CommandRequest}
 use Rattle.mx_app_command.specs.declared.command_line.RecordRange.{RecordRange}
-use Rattle.mx_app_command.specs.declared.command_line.CommandRequest.TheVariants.{One, As, Show, Explain, Step, Run, Turns, Live, Sweep, Replay, Trace, Draw, Page, SweptPage, Look, Why, Db}
+use Rattle.mx_app_command.specs.declared.command_line.CommandRequest.TheVariants.{One, As, Show, Explain, Step, Run, Turns, Live, Sweep, Replay, Trace, Draw, Page, SweptPage, Look, Gdb, Why, Db}
 use Rattle.mx_app_db.specs.ScriptLine.{ScriptLine}
 use Rattle.mx_app_db.specs.declared.script.DebugLine.{DebugLine}
 use Rattle.mx_app_failure.specs.declared.failure.Failure.{Failure as Kind}
@@ -34,6 +34,9 @@ use Rattle.mx_app_db.specs.Traces.{IsTracePrinted}
 use Rattle.mx_app_db.specs.Replayed.{Replayed}
 use Rattle.mx_app_db.specs.Replayed.TheVariants as replayed
 use Rattle.mx_app_draw.specs.Scenes.{IsDrawingPrinted}
+use Rattle.mx_app_gdb.specs.Talks.{IsTalked}
+use Rattle.mx_app_gdb.specs.declared.talking.TalkEnding.{TalkEnding}
+use Rattle.mx_app_gdb.specs.declared.talking.TalkEnding.TheVariants as talks
 use Rattle.mx_app_page.specs.Pages.{IsPagePrinted, run_of_files}
 use Rattle.mx_app_page.specs.Strips.{PrintsSweptPage}
 use Rattle.mx_app_live.specs.declared.session.SessionEnding.{SessionEnding}
@@ -64,7 +67,7 @@ use Rattle.mx_app.specs.declared.performing.Done.{Done}
 
 -- done with this status, and with no more to tell
 abbrev pub with_status : ℕ → Done
-with_status n = record { status = n; ending = None; untested = None }
+with_status n = record { status = n; ending = None; untested = None; absent = None }
 
 abbrev pub done_after_work : Result (Unit {0}) Kind → Result Done Kind
 done_after_work (Ok u) = Ok (with_status 0)
@@ -78,7 +81,7 @@ done_after_replay (Err f) = Err f
 
 -- turns are done, however they ended
 abbrev pub done_after_turns : Result Ending Kind → Result Done Kind
-done_after_turns (Ok ending) = Ok (record { status = 0; ending = Some (driven.Turns ending); untested = None })
+done_after_turns (Ok ending) = Ok (record { status = 0; ending = Some (driven.Turns ending); untested = None; absent = None })
 done_after_turns (Err f) = Err f
 
 -- the status of a session is 130 if it was stopped
@@ -98,7 +101,7 @@ run_status runs.Stopped = 5
 
 abbrev pub done_after_run : Result RunEnding Kind → Result Done Kind
 done_after_run (Ok ending) =
-    Ok (record { status = run_status ending; ending = Some (driven.Run ending); untested = None })
+    Ok (record { status = run_status ending; ending = Some (driven.Run ending); untested = None; absent = None })
 done_after_run (Err f) = Err f
 
 -- a sweep, or a page with one, is done; its status is 1 if the history is refused, and, if it is strict, if an outcome
@@ -107,7 +110,7 @@ abbrev pub done_after_sweep : Bool → Result Swept Kind → Result Done Kind
 done_after_sweep strict (Ok swept.Alike) = Ok (with_status 0)
 done_after_sweep strict (Ok swept.Differs) = Ok (with_status (if strict then 1 else 0))
 done_after_sweep strict (Ok (swept.Nothing why)) =
-    Ok (record { status = (if strict then 1 else 0); ending = None; untested = Some why })
+    Ok (record { status = (if strict then 1 else 0); ending = None; untested = Some why; absent = None })
 done_after_sweep strict (Ok swept.Refused) = Ok (with_status 1)
 done_after_sweep strict (Err f) = Err f
 
@@ -193,6 +196,20 @@ Looks config log asks qs typed ps Prints (Ok u) =
     × Prints (begun_text asks k ++ text)
 Looks config log asks qs typed ps Prints (Err f) = HasFailed config log qs ps f
 
+-- a talk with gdb over a history: what is written is determined by the bytes that come, up to one that ends it or to the
+-- end of the input
+abbrev pub Talks : List ℕ → List ℕ → Option ℕ → List Asked → List (Option (List ℕ)) → List Part → (List ℕ → Type 0)
+    → Result TalkEnding Kind → Type 0
+Talks config log slot qs typed ps Prints (Ok ending) = IsTalked config log slot qs typed ps Prints ending
+Talks config log slot qs typed ps Prints (Err f) = HasFailed config log qs ps f
+
+-- the status is 0, unless it didn't begin
+abbrev pub done_after_gdb : Result TalkEnding Kind → Result Done Kind
+done_after_gdb (Ok talks.Over) = Ok (with_status 0)
+done_after_gdb (Ok (talks.NoService s)) =
+    Ok (record { status = 2; ending = None; untested = None; absent = Some s })
+done_after_gdb (Err f) = Err f
+
 -- ---- requests
 
 -- a file is read, shown, and none is written
@@ -237,19 +254,24 @@ PerformsUntyped (Page config log range) qs ws Prints r =
     (d : Result Replayed Kind) × (ws ≡ []) × Pages config.now log.now range qs Prints d × (r ≡ done_after_replay d)
 PerformsUntyped (SweptPage config log fault bound from to jobs) qs ws Prints r = ⊥
 PerformsUntyped (Look config log) qs ws Prints r = ⊥
+PerformsUntyped (Gdb config log slot) qs ws Prints r = ⊥
 PerformsUntyped (Why config log) qs ws Prints r =
     (d : Result Replayed Kind) × (ws ≡ []) × Whys config.now log.now qs Prints d × (r ≡ done_after_replay d)
 PerformsUntyped (Db config script) qs ws Prints r =
     (d : Result (Unit {0}) Kind) × (ws ≡ []) × Debugs config.now script.now qs Prints d × (r ≡ done_after_work d)
 
 -- what is done of a request that writes over nothing that it reads, by what a command did, by what is printed, and by
--- how it ends. Only `look` takes lines, and somebody sits only at a live machine; `look`, turns, a sweep and a page with
--- one show progress. What the threads of a run show is no list, since they have no order: WasShown holds of it.
+-- how it ends. Only `look` takes lines, and `gdb` bytes; somebody sits only at a live machine; these two, turns, a sweep
+-- and a page with one show progress. What the threads of a run show is no list, since they have no order: WasShown holds
+-- of it.
 abbrev pub PerformsApart : (Part → Type 0) → CommandRequest → Bool → Deeds → (List ℕ → Type 0) → Result Done Kind
     → Type 0
 PerformsApart WasShown (Look config log) asks did Prints r =
     IsAlone did × (d : Result (Unit {0}) Kind) × (did.written ≡ [])
     × Looks config.now log.now asks did.asked did.typed did.shown Prints d × (r ≡ done_after_work d)
+PerformsApart WasShown (Gdb config log slot) asks did Prints r =
+    IsAlone did × (d : Result TalkEnding Kind) × (did.written ≡ [])
+    × Talks config.now log.now slot did.asked did.typed did.shown Prints d × (r ≡ done_after_gdb d)
 PerformsApart WasShown (Run config log ticks events) asks did Prints r =
     IsAlone did × (did.typed ≡ []) × (did.shown ≡ []) × (d : Result RunEnding Kind)
     × Runs WasShown config.now (option_map (λ s. s.now) events) log.now ticks did.asked did.written Prints d

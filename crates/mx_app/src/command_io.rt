@@ -7,7 +7,7 @@ use mx_app_start::Channels;
 #[derive(Drop)]
 pub struct CommandIo<R: Drop, F: Drop, W: Drop, L: Drop, O: Drop, P: Drop> {
     pub channels: Channels<R, F, W>,
-    /// The lines that are typed. Only `look` takes any.
+    /// The lines that are typed. Only `look` takes any, and `gdb` bytes.
     pub lines: L,
     /// Who sits at the machine of `turns --live`.
     pub seat: O,

@@ -2,7 +2,7 @@
 
 ghost use Rattle.std.specs.Prelude.{◌≡◌};
 ghost use Rattle.mx_app.specs.Deeds.{Does};
-ghost use Rattle.mx_app.specs.Requests.{Performs, PerformsApart, done_after_live, done_after_replay, done_after_run, done_after_sweep, done_after_turns, done_after_work, run_status, with_status};
+ghost use Rattle.mx_app.specs.Requests.{Performs, PerformsApart, done_after_gdb, done_after_live, done_after_replay, done_after_run, done_after_sweep, done_after_turns, done_after_work, run_status, with_status};
 
 use crate::command_io::CommandIo;
 use crate::ending::DrivenEnding;
@@ -13,6 +13,7 @@ use mx_app_command::{CommandRequest, RecordRange};
 use mx_app_db::{HistoryPart, NamedScript, Replayed, db, replay, step, step_saved, trace};
 use mx_app_draw::draw;
 use mx_app_failure::{About, Failure, FileProblem};
+use mx_app_gdb::{TalkEnding, TalkWanted, gdb};
 use mx_app_live::{LiveNames, Outside, SessionEnding, Sitting, live};
 use mx_app_look::{SessionWanted, look};
 use mx_app_page::{page, swept_page};
@@ -39,6 +40,8 @@ pub struct Done {
     pub ending: Option<DrivenEnding>,
     /// Why a sweep tested nothing, if the command made one that did.
     pub untested: Option<Untested>,
+    /// The slot that gdb was to have, if it has no service.
+    pub absent: Option<u32>,
 }
 
 impl Done {
@@ -50,6 +53,7 @@ impl Done {
             status,
             ending: None,
             untested: None,
+            absent: None,
         }
     }
 }
@@ -90,6 +94,7 @@ fn done_after_run(done: Result<RunEnding, Failure>) -> Result<Done, Failure>
             },
             ending: Some(DrivenEnding::Run(ending)),
             untested: None,
+            absent: None,
         }),
         Err(failure) => Err(failure),
     }
@@ -104,6 +109,7 @@ fn done_after_turns(done: Result<Ending, Failure>) -> Result<Done, Failure>
             status: 0,
             ending: Some(DrivenEnding::Turns(ending)),
             untested: None,
+            absent: None,
         }),
         Err(failure) => Err(failure),
     }
@@ -135,8 +141,28 @@ fn done_after_sweep(done: Result<Swept, Failure>, strict: bool) -> Result<Done, 
             status: u8::from(strict),
             ending: None,
             untested: Some(why),
+            absent: None,
         }),
         Ok(Swept::Refused) => Ok(Done::with_status(1)),
+        Err(failure) => Err(failure),
+    }
+}
+
+/// The status where words ask for what isn't there.
+const MISTAKEN: u8 = 2;
+
+/// What is done after a talk with gdb: the status is 0, unless it didn't begin.
+fn done_after_gdb(done: Result<TalkEnding, Failure>) -> Result<Done, Failure>
+    ensures { result ≡ done_after_gdb done }
+{
+    match done {
+        Ok(TalkEnding::Over) => Ok(Done::with_status(0)),
+        Ok(TalkEnding::NoService(slot)) => Ok(Done {
+            status: MISTAKEN,
+            ending: None,
+            untested: None,
+            absent: Some(slot),
+        }),
         Err(failure) => Err(failure),
     }
 }
@@ -350,14 +376,26 @@ fn perform_apart<
             let progress = &mut io.progress;
             done_after_work(look(alloc, channels, lines, progress, wanted))
         }
+        CommandRequest::Gdb { config, log, slot } => {
+            let wanted = TalkWanted { config, log, slot };
+            let lines = &mut io.lines;
+            let progress = &mut io.progress;
+            done_after_gdb(gdb(alloc, channels, lines, progress, wanted))
+        }
     }
 }
 
 /// Does what a request asks for, and answers the status to end with, and how turns or a run ended. The
+<<<<<<< HEAD
 /// processors of `run` are threads, and `sweep` has some. `look` answers the typed lines. It shows its
 /// progress, and so do `run`, `turns`, `sweep` and a page with a sweep. No file that is read is written over: nothing is
 /// read or written then. Two names of one file aren't seen to be one. Nor is a file written over that holds something
 /// else than what is written, unless that is forced: only its first bytes are read then.
+=======
+/// processors of `run` are threads, and `sweep` has some. `look` answers the typed lines, and `gdb` the bytes that
+/// come. They show their progress, and so do `run`, `turns`, `sweep` and a page with a sweep. No file that is read is
+/// written over: nothing is read or written then. Two names of one file aren't seen to be one.
+>>>>>>> gdb
 pub fn perform<
     T: Threads + Wait + Clock + Sync,
     R: Reader + Drop,

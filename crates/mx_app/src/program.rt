@@ -83,8 +83,8 @@ fn help_after(
         Ok(done) => printed_text(words, *done),
         Err(_) => PrintedText::Other,
     };
-    // a session's reader has ended the last line
-    let last = if begin_with(words, "look") {
+    // a session's reader has ended the last line, and gdb reads packets
+    let last = if begin_with(words, "look") || begin_with(words, "gdb") {
         None
     } else {
         last
@@ -92,12 +92,20 @@ fn help_after(
     help_reader(rt, terminals, printed, last);
 }
 
-/// Says on standard error why a sweep tested nothing, if a command made one that did.
+/// Says on standard error why a sweep tested nothing, or that gdb was to have a slot that isn't there.
+fn tell_missing(rt: &impl Eprint, done: Done) {
+    if let Some(why) = done.untested {
+        let _ = eprint!(rt; "{why}\n");
+    }
+    if let Some(slot) = done.absent {
+        let _ = eprint!(rt; "mx: slot {slot} has no service\n");
+    }
+}
+
+/// Says on standard error what a command has missed, if it is done.
 fn tell_untested(rt: &impl Eprint, answer: &Result<Done, Complaint>) {
     if let Ok(done) = answer {
-        if let Some(why) = done.untested {
-            let _ = eprint!(rt; "{why}\n");
-        }
+        tell_missing(rt, *done);
     }
 }
 

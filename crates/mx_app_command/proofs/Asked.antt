@@ -2,7 +2,7 @@
 use Rattle.std.proofs.Common.{◌≡◌, ◌∙◌, ◌⊎◌, true, false, List, codes, ap, inl, inr, sym, refl, true≢false}
 use Rattle.std.specs.Str.{bytes_eq}
 use Rattle.clap.specs.Words.{Row, Text}
-use Rattle.mx_app_command.specs.Words.{IsHistoryAsked, IsMachineAsked, IsOtherHistoryAsked, IsRecordsAsked, MayHaveRange, MayHaveStrip, MayHaveSweep}
+use Rattle.mx_app_command.specs.Words.{IsHistoryAsked, IsMachineAsked, IsOtherHistoryAsked, IsRecordsAsked, MayHaveNumber, MayHaveRange, MayHaveStrip, MayHaveSweep}
 
 not_named : (name word : Text) → bytes_eq word word ≡ true → bytes_eq name word ≡ false → name ≡ word → ⊥
 not_named name word same h e = true≢false (sym same ∙ ap (λ (t : Text). bytes_eq t word) (sym e) ∙ h)
@@ -53,7 +53,58 @@ sweep_left name rows is asked =
         ]
         | inr more ↦ elim more [
           | inl turns ↦ absurd (one_name name (codes "turns") (codes "sweep") refl is turns.0)
-          | inr sweep ↦ sweep.1
+          | inr last ↦ elim last [
+            | inl sweep ↦ sweep.1
+            | inr gdb ↦ absurd (one_name name (codes "gdb") (codes "sweep") refl is gdb.0)
+          ]
+        ]
+      ]
+    ]
+
+-- `gdb` may have a number
+pub gdb_left : (name : Text) (rows : List Row) → bytes_eq name (codes "gdb") ≡ true → IsOtherHistoryAsked name rows → MayHaveNumber (codes "S") rows
+gdb_left name rows is asked =
+    elim asked [
+      | inl reads ↦ elim reads [
+        | inl e ↦ absurd (one_name name (codes "replay") (codes "gdb") refl is e)
+        | inr two ↦ elim two [
+          | inl e ↦ absurd (one_name name (codes "look") (codes "gdb") refl is e)
+          | inr e ↦ absurd (one_name name (codes "why") (codes "gdb") refl is e)
+        ]
+      ]
+      | inr rest ↦ elim rest [
+        | inl records ↦ elim records.0 [
+          | inl e ↦ absurd (one_name name (codes "trace") (codes "gdb") refl is e)
+          | inr two ↦ elim two [
+            | inl e ↦ absurd (one_name name (codes "draw") (codes "gdb") refl is e)
+            | inr e ↦ absurd (one_name name (codes "page") (codes "gdb") refl is e)
+          ]
+        ]
+        | inr more ↦ elim more [
+          | inl turns ↦ absurd (one_name name (codes "turns") (codes "gdb") refl is turns.0)
+          | inr last ↦ elim last [
+            | inl sweep ↦ absurd (one_name name (codes "sweep") (codes "gdb") refl is sweep.0)
+            | inr gdb ↦ gdb.1
+          ]
+        ]
+      ]
+    ]
+
+-- what is none of these only reads a history
+pub reading_left : (name : Text) (rows : List Row) → bytes_eq name (codes "turns") ≡ false → bytes_eq name (codes "sweep") ≡ false → bytes_eq name (codes "gdb") ≡ false → IsOtherHistoryAsked name rows
+    → ((name ≡ codes "replay") ⊎ ((name ≡ codes "look") ⊎ (name ≡ codes "why")))
+    ⊎ (((name ≡ codes "trace") ⊎ ((name ≡ codes "draw") ⊎ (name ≡ codes "page"))) × MayHaveRange rows)
+reading_left name rows turns sweep gdb asked =
+    elim asked [
+      | inl reads ↦ inl reads
+      | inr rest ↦ elim rest [
+        | inl records ↦ inr records
+        | inr more ↦ elim more [
+          | inl t ↦ absurd (not_named name (codes "turns") refl turns t.0)
+          | inr last ↦ elim last [
+            | inl s ↦ absurd (not_named name (codes "sweep") refl sweep s.0)
+            | inr g ↦ absurd (not_named name (codes "gdb") refl gdb g.0)
+          ]
         ]
       ]
     ]

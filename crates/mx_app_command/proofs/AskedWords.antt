@@ -15,7 +15,11 @@ use Rattle.clap.specs.Faults.{defaults_fault, entered_fault, level_fault, settle
 use Rattle.clap.specs.Walk.{answers_to, finished, nothing_held, rows_after, settled, stop_after, walk, walk_from}
 use Rattle.clap.specs.declared.builder.value_parser.ValueParser.TheVariants.{Signed}
 use Rattle.clap.proofs.ValueTestLemmas.{accepts-Accepts}
+<<<<<<< HEAD
 use Rattle.mx_app_command.specs.Words.{HasNumber, IsAsked, IsGiven, MayHaveNumber, MayHaveRange, as_shape, following_shape, jobs_after, looking_shape, mx_grammar, number_after, of_one, of_two, one_shape, page_shape, run_shape, step_shape, sweep_shape, turns_shape, required_text, required_number}
+=======
+use Rattle.mx_app_command.specs.Words.{HasNumber, IsAsked, IsGiven, MayHaveNumber, MayHaveRange, following_shape, gdb_shape, jobs_after, looking_shape, mx_grammar, number_after, of_one, of_two, one_shape, page_shape, run_shape, step_shape, sweep_shape, turns_shape, required_text, required_number}
+>>>>>>> gdb
 use Rattle.mx_app_command.proofs.Given.{IsOnly, SetsValue, all_found, has_wanted, no_fault, value_given, value_if_given}
 
 -- the grammar as a parse sees it: with the help flag, and each argument's place
@@ -322,7 +326,7 @@ sweep_fits words fine =
     let from = number_if_given sweep_whole (codes "from") (codes "A") 5 only_sweep_from words fine in
     let to = number_if_given sweep_whole (codes "to") (codes "B") 6 only_sweep_to words fine in
     let jobs = jobs_if_given sweep_whole (codes "jobs") (codes "J") 7 only_sweep_jobs words fine in
-    ((λ e. (ap is_some config.1, inr (inr (ap is_some log.1, inr (inr (inr (inr (refl, record { fault = ap is_some fault.1; bound = bound; range = (from, to); jobs = jobs })))))))), (λ e. absurd (true≢false e)))
+    ((λ e. (ap is_some config.1, inr (inr (ap is_some log.1, inr (inr (inr (inr (inl (refl, record { fault = ap is_some fault.1; bound = bound; range = (from, to); jobs = jobs }))))))))), (λ e. absurd (true≢false e)))
 
 abbrev following_whole : Text → Shape
 following_whole name = whole_of (following_shape name)
@@ -423,6 +427,28 @@ look_fits : Fits (following_whole (codes "look"))
 look_fits words fine = let given = following_values (codes "look") words fine in
     ((λ e. (given.0, inr (inr (given.1, inr (inl (inr (inl refl))))))), (λ e. absurd (true≢false e)))
 
+abbrev gdb_whole : Shape
+gdb_whole = whole_of gdb_shape
+
+abbrev slot_rule : Rule
+slot_rule = with_index 3 (filled (number_after (codes "slot") (codes "S")))
+
+only_gdb_config : IsOnly config_rule gdb_whole.rules
+only_gdb_config = ((λ e. refl), ((λ e. never e), ((λ e. never e), ((λ e. never e), ((λ e. never e), ((λ e. never e), ((λ e. never e), tt)))))))
+
+only_gdb_log : IsOnly log_rule gdb_whole.rules
+only_gdb_log = ((λ e. never e), ((λ e. refl), ((λ e. never e), ((λ e. never e), ((λ e. never e), ((λ e. never e), ((λ e. never e), tt)))))))
+
+only_slot : IsOnly slot_rule gdb_whole.rules
+only_slot = ((λ e. never e), ((λ e. never e), ((λ e. refl), ((λ e. never e), ((λ e. never e), ((λ e. never e), ((λ e. never e), tt)))))))
+
+gdb_fits : Fits gdb_whole
+gdb_fits words fine =
+    let config = value_given config_rule (required_sets (codes "CONFIG") 1) gdb_whole only_gdb_config words refl (inl refl) refl fine in
+    let log = value_given log_rule (required_sets (codes "LOG") 2) gdb_whole only_gdb_log words refl (inr (inl refl)) refl fine in
+    let slot = number_if_given gdb_whole (codes "slot") (codes "S") 3 only_slot words fine in
+    ((λ e. (ap is_some config.1, inr (inr (ap is_some log.1, inr (inr (inr (inr (inr (refl, slot))))))))), (λ e. absurd (true≢false e)))
+
 why_fits : Fits (following_whole (codes "why"))
 why_fits words fine = let given = following_values (codes "why") words fine in
     ((λ e. (given.0, inr (inr (given.1, inr (inl (inr (inr refl))))))), (λ e. absurd (true≢false e)))
@@ -436,7 +462,7 @@ explain_fits words fine = let given = one_text_given (codes "explain") (codes "C
     ((λ e. (given, inl refl)), (λ e. absurd (true≢false e)))
 
 all_fit : AllByRecursion Fits whole.subs
-all_fit = (one_fits, (as_fits, (dis_fits, (nm_fits, (explain_fits, (step_fits, (run_fits, (turns_fits, (sweep_fits, (replay_fits, (trace_fits, (draw_fits, (page_fits, (look_fits, (why_fits, (db_fits, tt))))))))))))))))
+all_fit = (one_fits, (as_fits, (dis_fits, (nm_fits, (explain_fits, (step_fits, (run_fits, (turns_fits, (sweep_fits, (replay_fits, (trace_fits, (draw_fits, (page_fits, (look_fits, (gdb_fits, (why_fits, (db_fits, tt)))))))))))))))))
 
 -- ---- the words of a command line
 

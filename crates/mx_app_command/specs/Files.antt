@@ -6,7 +6,7 @@ use Rattle.mx_app_command.specs.declared.files.FileKind.TheVariants as kinds
 use Rattle.mx_app_command.specs.declared.files.NamedWord.{NamedWord}
 use Rattle.mx_app_command.specs.declared.files.ReadWords.{ReadWords}
 use Rattle.mx_app_command.specs.declared.command_line.CommandRequest.{CommandRequest}
-use Rattle.mx_app_command.specs.declared.command_line.CommandRequest.TheVariants.{One, As, Show, Explain, Step, Run, Turns, Live, Sweep, Replay, Trace, Draw, Page, SweptPage, Look, Why, Db}
+use Rattle.mx_app_command.specs.declared.command_line.CommandRequest.TheVariants.{One, As, Show, Explain, Step, Run, Turns, Live, Sweep, Replay, Trace, Draw, Page, SweptPage, Look, Gdb, Why, Db}
 
 -- A word of the command line that names a file: the word as help has it, and the name.
 pub record FileWord : Type 0 where
@@ -60,6 +60,7 @@ files_read (Draw config log range) = with_course config.now (codes "LOG") log.no
 files_read (Page config log range) = with_course config.now (codes "LOG") log.now
 files_read (SweptPage config log fault bound from to jobs) = with_fault config.now log.now fault.now
 files_read (Look config log) = with_course config.now (codes "LOG") log.now
+files_read (Gdb config log slot) = with_course config.now (codes "LOG") log.now
 files_read (Why config log) = with_course config.now (codes "LOG") log.now
 files_read (Db config script) = with_course config.now (codes "SCRIPT") script.now
 

@@ -13,7 +13,7 @@ use Rattle.mx_app_command.specs.declared.command_line.CommandRequest.{CommandReq
 use Rattle.mx_app_command.specs.declared.command_line.Listing.{Listing}
 use Rattle.mx_app_command.specs.declared.command_line.Listing.TheVariants.{Instructions, Symbols}
 use Rattle.mx_app_command.specs.declared.command_line.RecordRange.{RecordRange}
-use Rattle.mx_app_command.specs.declared.command_line.CommandRequest.TheVariants.{One, As, Show, Explain, Step, Run, Turns, Live, Sweep, Replay, Trace, Draw, Page, SweptPage, Look, Why, Db}
+use Rattle.mx_app_command.specs.declared.command_line.CommandRequest.TheVariants.{One, As, Show, Explain, Step, Run, Turns, Live, Sweep, Replay, Trace, Draw, Page, SweptPage, Look, Gdb, Why, Db}
 
 -- ---- the grammar
 
@@ -127,6 +127,13 @@ page_shape =
     ∷ number_after (codes "to") (codes "B") ∷ after_name (codes "fault") (codes "FAULT")
     ∷ number_after (codes "turns") (codes "N") ∷ jobs_after (codes "jobs") (codes "J") ∷ sums_rule ∷ [])
 
+-- `gdb CONFIG LOG --slot S --sums SUMS`
+abbrev pub gdb_shape : Shape
+gdb_shape =
+    subcommand (codes "gdb")
+    (required_text (codes "CONFIG") ∷ required_text (codes "LOG") ∷ number_after (codes "slot") (codes "S")
+    ∷ sums_rule ∷ [])
+
 -- one of the subcommands is wanted
 abbrev pub top_app : App
 top_app = record {
@@ -178,6 +185,7 @@ mx_grammar = record {
       ∷ looking_shape (codes "draw")
       ∷ page_shape
       ∷ following_shape (codes "look")
+      ∷ gdb_shape
       ∷ following_shape (codes "why")
       ∷ of_two (codes "db") (codes "CONFIG") (codes "SCRIPT")
       ∷ [];
@@ -279,6 +287,9 @@ AsksBy (SweptPage config log fault bound from to jobs) name rows =
     × HasNumberOr 4294967295 (codes "B") rows to × HasNumberIf (codes "J") rows jobs
 AsksBy (Look config log) name rows =
     (name ≡ codes "look") × HasText (codes "CONFIG") rows config.now × HasText (codes "LOG") rows log.now
+AsksBy (Gdb config log slot) name rows =
+    (name ≡ codes "gdb") × HasText (codes "CONFIG") rows config.now × HasText (codes "LOG") rows log.now
+    × HasNumberIf (codes "S") rows slot
 AsksBy (Why config log) name rows =
     (name ≡ codes "why") × HasText (codes "CONFIG") rows config.now × HasText (codes "LOG") rows log.now
 AsksBy (Db config script) name rows =
@@ -355,13 +366,14 @@ abbrev pub IsRecordsAsked : Text → List Row → Type 0
 IsRecordsAsked name rows =
     (name ≡ codes "trace") ⊎ ((name ≡ codes "draw") ⊎ ((name ≡ codes "page") × MayHaveStrip rows))
 
--- those with a history but for `run`: `turns`, `trace`, `draw` and `page` may have two numbers, `sweep` four
+-- those with a history but for `run`: `gdb` may have a number, `turns`, `trace`, `draw` and `page` two, `sweep` four
 abbrev pub IsOtherHistoryAsked : Text → List Row → Type 0
 IsOtherHistoryAsked name rows =
     ((name ≡ codes "replay") ⊎ ((name ≡ codes "look") ⊎ (name ≡ codes "why")))
     ⊎ ((IsRecordsAsked name rows × MayHaveRange rows)
     ⊎ (((name ≡ codes "turns") × MayHaveTurns rows)
-    ⊎ ((name ≡ codes "sweep") × MayHaveSweep rows)))
+    ⊎ (((name ≡ codes "sweep") × MayHaveSweep rows)
+    ⊎ ((name ≡ codes "gdb") × MayHaveNumber (codes "S") rows))))
 
 -- those with a history: `run` may have a number
 abbrev pub IsHistoryAsked : Text → List Row → Type 0
@@ -382,7 +394,8 @@ is_following name =
     || (bytes_eq name (codes "trace")
     || (bytes_eq name (codes "draw")
     || (bytes_eq name (codes "page")
-    || (bytes_eq name (codes "look") || (bytes_eq name (codes "why") || bytes_eq name (codes "db"))))))
+    || (bytes_eq name (codes "look")
+    || (bytes_eq name (codes "gdb") || (bytes_eq name (codes "why") || bytes_eq name (codes "db")))))))
 
 abbrev pub is_machine : Text → Bool
 is_machine name =

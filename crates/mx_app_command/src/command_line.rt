@@ -147,6 +147,13 @@ pub enum CommandRequest<'a> {
         config: &'a str,
         log: &'a str,
     },
+    /// `gdb CONFIG LOG`, with `--slot S` or without.
+    Gdb {
+        config: &'a str,
+        log: &'a str,
+        /// The only slot that gdb is to have.
+        slot: Option<u32>,
+    },
     /// `why CONFIG LOG`.
     Why {
         config: &'a str,
@@ -478,6 +485,17 @@ fn reading_request<'a>(
     }
 }
 
+/// What the words of `gdb` ask for.
+fn gdb_request<'a>(config: &'a str, log: &'a str, matches: &ArgMatches<'a>) -> CommandRequest<'a>
+    requires config { HasText (codes "CONFIG") (rows_of (found_of matches.now)) config.now }
+    requires log { HasText (codes "LOG") (rows_of (found_of matches.now)) log.now }
+    requires slot { MayHaveNumber (codes "S") (rows_of (found_of matches.now)) }
+    ensures { AsksBy result (codes "gdb") (rows_of (found_of matches.now)) }
+{
+    let slot = number_if_asked(matches, "S");
+    CommandRequest::Gdb { config, log, slot }
+}
+
 /// What the words of a subcommand with a history ask for, of one that isn't `run`.
 fn other_history_request<'a>(
     name: &str,
@@ -494,6 +512,8 @@ fn other_history_request<'a>(
         turns_request(config, log, matches)
     } else if name == "sweep" {
         sweep_request(config, log, matches)
+    } else if name == "gdb" {
+        gdb_request(config, log, matches)
     } else {
         reading_request(name, config, log, matches)
     }
@@ -537,6 +557,7 @@ fn is_following(name: &str) -> bool
         || name == "draw"
         || name == "page"
         || name == "look"
+        || name == "gdb"
         || name == "why"
         || name == "db"
 }

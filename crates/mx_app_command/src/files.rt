@@ -136,6 +136,7 @@ impl<'a> CommandRequest<'a> {
             CommandRequest::Draw { config, log, .. } => with_course(config, "LOG", log),
             CommandRequest::Page { config, log, .. } => with_course(config, "LOG", log),
             CommandRequest::Look { config, log } => with_course(config, "LOG", log),
+            CommandRequest::Gdb { config, log, .. } => with_course(config, "LOG", log),
             CommandRequest::Why { config, log } => with_course(config, "LOG", log),
         }
     }

@@ -270,6 +270,13 @@ const PAGE_JOBS: CommandArgument<'static> = CommandArgument {
     form: ArgumentForm::JobsAfter("jobs"),
 };
 
+/// The only slot that gdb has.
+const SLOT: CommandArgument<'static> = CommandArgument {
+    name: "S",
+    help: "The only slot whose process gdb is to have; all by default",
+    form: ArgumentForm::NumberAfter("slot"),
+};
+
 /// What happens to it, and what is looked at.
 const COMMANDS: CommandArgument<'static> = CommandArgument {
     name: "SCRIPT",
@@ -425,7 +432,7 @@ static TURN_COMMANDS: [Subcommand<'static>; 2] = [
 ];
 
 /// Those that follow a history or a script.
-static HISTORY_COMMANDS: [Subcommand<'static>; 7] = [
+static HISTORY_COMMANDS: [Subcommand<'static>; 8] = [
     Subcommand {
         name: "replay",
         help: "Runs a saved history again and prints the report",
@@ -458,6 +465,12 @@ static HISTORY_COMMANDS: [Subcommand<'static>; 7] = [
         help: "Looks at a saved history forward and back, by commands on standard input",
         arguments: &[CONFIG, LOG, SUMS, EXPLAIN, SILENT],
         example: Example::Look,
+    },
+    Subcommand {
+        name: "gdb",
+        help: "Lets gdb look at a saved history, forward and back: target remote | mx gdb CONFIG LOG",
+        arguments: &[CONFIG, LOG, SLOT, SUMS, EXPLAIN, SILENT],
+        example: Example::Gdb,
     },
     Subcommand {
         name: "why",

@@ -32,6 +32,8 @@ pub(crate) enum Example {
     Page,
     /// A session over a history.
     Look,
+    /// gdb over a history.
+    Gdb,
     /// What became of a history.
     Why,
     /// A debugger's script.
@@ -56,6 +58,7 @@ impl Example {
             Example::Draw => DRAW_EXAMPLE,
             Example::Page => PAGE_EXAMPLE,
             Example::Look => LOOK_EXAMPLE,
+            Example::Gdb => GDB_EXAMPLE,
             Example::Why => WHY_EXAMPLE,
             Example::Db => DB_EXAMPLE,
         }
@@ -322,6 +325,25 @@ help, quit
 
 Status: 0 the session ended; 1 a text or a program's file is refused; 2 a mistake in
 the words; 3 a file can't be read; 4 no memory. Formats: docs/use/REFERENCE.md.";
+
+/// gdb over a history.
+const GDB_EXAMPLE: &str = "In the folder examples/c, after make out/sensor.gdb:
+
+gdb out/sensor.gdb -ex 'target remote | mx gdb sensor.config LOG --slot 0'
+
+and in gdb continue, backtrace, watch NAME, reverse-continue, reverse-step, finish;
+monitor where, ps, why, messages, list S and the other commands of mx look that stay
+where they are, and monitor goto K.J. Nothing can be written. Code is at 80000000.
+A long history is walked before the first packet is answered: set remotetimeout 600.
+
+Without --slot each service is a process of its own, with the symbols of out/NAME.gdb
+beside its program's file; gdb 13 then wants what the file mx.gdb says:
+
+gdb -x mx.gdb -ex 'mx sensor.config LOG'
+
+Status: 0 gdb has left, or the input ended; 1 a text or a program's file is refused; 2 a
+mistake in the words, or no such slot; 3 a file can't be read; 4 no memory. Formats:
+docs/use/REFERENCE.md.";
 
 /// A debugger's script.
 const DB_EXAMPLE: &str = "In the folder examples/machines/pair:

@@ -1,0 +1,5 @@
+mod Folders
+mod Lists
+mod Setting
+mod Conversing
+mod Unchanged

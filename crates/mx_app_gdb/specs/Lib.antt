@@ -1,0 +1,12 @@
+pub mod Addresses
+pub mod Console
+pub mod Halts
+pub mod Marks
+pub mod Moves
+pub mod Points
+pub mod Replied
+pub mod Replies
+pub mod Stops
+pub mod SymbolFiles
+pub mod Talks
+pub mod Threads

@@ -1,0 +1,106 @@
+//! The parts of a move: the next event, and a search on.
+
+ghost use Rattle.std.specs.Prelude.{◌≡◌, IfOk, MatchOption, None, Some};
+ghost use Rattle.mx_walk.specs.Parts.{HasGrown};
+ghost use Rattle.mx_walk.specs.Positions.{next_position};
+ghost use Rattle.mx_app_look.specs.Searches.{next_made};
+ghost use Rattle.mx_app_gdb.specs.Halts.{IsUnchanged};
+ghost use Rattle.mx_app_gdb.specs.Moves.{IsMadeNext, IsSearchedOn, stands, stands_in};
+ghost use Rattle.mx_walk.specs.Positions.{IsPosition, IsUpTo};
+
+use crate::halts::{Halted, Halts, halted_here};
+use crate::marks::{Faulting, moves, stands_within};
+use crate::ranges::Range;
+use mx_app_look::{break_places, halts_mark, slot_next};
+use mx_proc::Slot;
+use mx_walk::{Either, Halt, Mark, NextEvent, Progress, Walker, is_up_to, next_event};
+use mx_word::NoMemory;
+use std::alloc::Global;
+
+/// The event after a position, if it can be made.
+pub(crate) fn next_made(walker: &Walker) -> Option<NextEvent>
+    ensures { MatchOption result (next_made walker.now ≡ None)
+        (λ next. (next_made walker.now ≡ Some (next.actor, next.event))
+        × (next.position ≡ next_position walker.now.records walker.now.here)) }
+{
+    if is_up_to(walker.last(), walker.here()) {
+        return None;
+    }
+    next_event(walker.records(), walker.here())
+}
+
+/// Whether the next event is a step of a slot's process.
+pub(crate) fn stands(walker: &Walker, slot: Slot) -> bool
+    ensures { result ≡ stands walker.now slot }
+{
+    match next_made(walker) {
+        Some(next) => moves(walker.machine(), next.actor, next.event, slot),
+        None => false,
+    }
+}
+
+/// Whether the next event is a step of a slot's process within a range of code.
+pub(crate) fn stands_in(walker: &Walker, slot: Slot, range: Range) -> bool
+    ensures { result ≡ stands_in walker.now slot range }
+{
+    match next_made(walker) {
+        Some(next) => stands_within(walker.machine(), next.actor, slot, range),
+        None => false,
+    }
+}
+
+/// Makes the next event, of which no breakpoint counts. Answers why it halts there, if it does.
+pub(crate) fn make_next<P: Progress>(
+    alloc: Global,
+    walker: Walker,
+    halts: &Halts,
+    progress: &mut P,
+) -> Result<(Walker, Option<Halted>), NoMemory>
+    requires unchanged { IsUnchanged walker halts.now }
+    ensures same { IfOk result (λ r. r.0 ≡ record walker { here = r.0.here }) }
+    ensures made { IfOk result (λ r. IsMadeNext walker halts.now (r.0.here, r.1)) }
+    ensures grown { HasGrown (P.shown progress.old) (P.shown progress.new) }
+{
+    match next_made(&walker) {
+        Some(next) => {
+            let walker = walker.go_to(alloc, next.position, progress)?;
+            let halted = halted_here(alloc, &walker, halts)?;
+            Ok((walker, halted))
+        }
+        None => {
+            let mover = halts.mover;
+            Ok((walker, Some(Halted::AtEnd(mover))))
+        }
+    }
+}
+
+/// Goes on up to the next step at a breakpoint, or right after the next event that changes watched bytes, ends in a
+/// fault, comes to a breakpoint or is marked. Answers why it halts there, if it does.
+pub(crate) fn search_on<M: Mark + Drop, P: Progress>(
+    alloc: Global,
+    walker: &mut Walker,
+    halts: &Halts,
+    mark: M,
+    progress: &mut P,
+) -> Result<Option<Halted>, NoMemory>
+    requires unchanged { IsUnchanged walker.old halts.now }
+    ensures same { walker.new ≡ record walker.old { here = walker.new.here } }
+    ensures position { IsPosition walker.new.records walker.new.here
+        × IsUpTo walker.new.here walker.new.last }
+    ensures searched { IfOk result (λ halted. IsSearchedOn walker.old halts.now (M.marks mark)
+        (walker.new.here, halted)) }
+    ensures grown { HasGrown (P.shown progress.old) (P.shown progress.new) }
+{
+    let places = break_places(alloc, &halts.points)?;
+    let points = halts_mark(alloc, &halts.points)?;
+    let others = Either::new(Faulting::new(halts.counted), mark);
+    let mut all = Either::new(points, others);
+    match walker.seek_halt(places.as_slice(), &mut all, progress) {
+        Halt::Before => {
+            let slot = slot_next(walker).unwrap_or(halts.mover);
+            Ok(Some(Halted::AtBreak(slot)))
+        }
+        Halt::After => Ok(halted_here(alloc, walker, halts)?),
+        Halt::Nowhere => Ok(Some(Halted::AtEnd(halts.mover))),
+    }
+}

@@ -1,0 +1,5 @@
+pub mod PacketLemmas
+pub mod HeardLemmas
+pub mod ReplyLemmas
+pub mod Lists
+mod Features
