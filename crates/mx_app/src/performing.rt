@@ -386,16 +386,10 @@ fn perform_apart<
 }
 
 /// Does what a request asks for, and answers the status to end with, and how turns or a run ended. The
-<<<<<<< HEAD
-/// processors of `run` are threads, and `sweep` has some. `look` answers the typed lines. It shows its
-/// progress, and so do `run`, `turns`, `sweep` and a page with a sweep. No file that is read is written over: nothing is
-/// read or written then. Two names of one file aren't seen to be one. Nor is a file written over that holds something
-/// else than what is written, unless that is forced: only its first bytes are read then.
-=======
 /// processors of `run` are threads, and `sweep` has some. `look` answers the typed lines, and `gdb` the bytes that
 /// come. They show their progress, and so do `run`, `turns`, `sweep` and a page with a sweep. No file that is read is
-/// written over: nothing is read or written then. Two names of one file aren't seen to be one.
->>>>>>> gdb
+/// written over: nothing is read or written then. Two names of one file aren't seen to be one. Nor is a file written over
+/// that holds something else than what is written, unless that is forced: only its first bytes are read then.
 pub fn perform<
     T: Threads + Wait + Clock + Sync,
     R: Reader + Drop,

@@ -15,11 +15,7 @@ use Rattle.clap.specs.Faults.{defaults_fault, entered_fault, level_fault, settle
 use Rattle.clap.specs.Walk.{answers_to, finished, nothing_held, rows_after, settled, stop_after, walk, walk_from}
 use Rattle.clap.specs.declared.builder.value_parser.ValueParser.TheVariants.{Signed}
 use Rattle.clap.proofs.ValueTestLemmas.{accepts-Accepts}
-<<<<<<< HEAD
-use Rattle.mx_app_command.specs.Words.{HasNumber, IsAsked, IsGiven, MayHaveNumber, MayHaveRange, as_shape, following_shape, jobs_after, looking_shape, mx_grammar, number_after, of_one, of_two, one_shape, page_shape, run_shape, step_shape, sweep_shape, turns_shape, required_text, required_number}
-=======
-use Rattle.mx_app_command.specs.Words.{HasNumber, IsAsked, IsGiven, MayHaveNumber, MayHaveRange, following_shape, gdb_shape, jobs_after, looking_shape, mx_grammar, number_after, of_one, of_two, one_shape, page_shape, run_shape, step_shape, sweep_shape, turns_shape, required_text, required_number}
->>>>>>> gdb
+use Rattle.mx_app_command.specs.Words.{HasNumber, IsAsked, IsGiven, MayHaveNumber, MayHaveRange, as_shape, following_shape, gdb_shape, jobs_after, looking_shape, mx_grammar, number_after, of_one, of_two, one_shape, page_shape, run_shape, step_shape, sweep_shape, turns_shape, required_text, required_number}
 use Rattle.mx_app_command.proofs.Given.{IsOnly, SetsValue, all_found, has_wanted, no_fault, value_given, value_if_given}
 
 -- the grammar as a parse sees it: with the help flag, and each argument's place
