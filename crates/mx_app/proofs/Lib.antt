@@ -6,4 +6,3 @@ mod Complaints
 mod Grown
 mod Moved
 mod Summed
-mod Spared

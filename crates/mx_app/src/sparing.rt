@@ -2,7 +2,9 @@
 //! that is forced.
 
 ghost use Rattle.std.specs.Prelude.{◌≡◌, ◌++◌, ◌∷◌, [], IfErr, IfOk, List, ℕ};
+ghost use Rattle.std.specs.Char.{is_ascii_hexdigit};
 ghost use Rattle.std.specs.IoError.{error_kind};
+ghost use Rattle.std.specs.List.{list_all};
 ghost use Rattle.mx_app_db.specs.Asked.{Asked, file_given, file_missed};
 ghost use Rattle.mx_app.specs.Sparing.{SparesRequest, SparesSums, begins_as, begins_program, begins_sums, is_spared};
 
@@ -28,6 +30,13 @@ fn begins_program(front: &[u8]) -> bool
 /// How many digits a sum has.
 const DIGITS: usize = 64;
 
+/// Whether all of these bytes are hexadecimal digits.
+fn are_digits(bytes: &[u8]) -> bool
+    ensures { result ≡ list_all is_ascii_hexdigit bytes.now }
+{
+    bytes.iter().all(|byte| byte.is_ascii_hexdigit())
+}
+
 /// Whether bytes begin as sums do: with the line of the configuration's sum.
 fn begins_sums(front: &[u8]) -> bool
     ensures { result ≡ begins_sums front.now }
@@ -36,7 +45,7 @@ fn begins_sums(front: &[u8]) -> bool
         return false;
     }
     let (digits, rest) = front.split_at(DIGITS);
-    digits.iter().all(|byte| byte.is_ascii_hexdigit()) && rest.starts_with(b"  configuration\n")
+    are_digits(digits) && rest.starts_with(b"  configuration\n")
 }
 
 /// Whether bytes begin as what a file of this kind holds.
