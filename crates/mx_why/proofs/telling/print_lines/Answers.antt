@@ -10,7 +10,7 @@ use Rattle.mx_why.proofs.telling.print_lines.Goals as goal
 
 pub returns-clause-front : goal.returns-clause-front
 returns-clause-front g c =
-    let lines : End → List ℕ = λ e. lines_text e c.args.notes.now c.args.calls.now c.args.records c.args.log in
+    let lines : End → List ℕ = λ e. lines_text c.args.config.now e c.args.notes.now c.args.calls.now c.args.records in
     let text : c.as_slice.result.now ≡ lines (end_of (world_of c.args.machine.now)) =
     c.as_slice.ensures.value ∙ c.in_ok-push_lines.ensures ∙ ap (λ (t : List ℕ). t ++ lines c.end_of-end.result) c.new-text.ensures.items ∙ ap lines c.end_of-end.ensures in
     IfErr-weaker c.print_text.result _ _ (λ f h. subst (λ (t : List ℕ). PrintsFront (λ s. Appends (g.W.Write.contents c.args.out.now) (g.W.Write.contents c.print_text.new.out) s) t) text h) c.print_text.ensures.front
