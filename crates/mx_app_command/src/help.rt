@@ -430,7 +430,8 @@ with waits: of a process that an interrupt line or an alarm may make go on; with
 one that computes without a call; with CONFIG: of what the configuration alone forbids.
 
 Status: 0 done; 1 a text or a program's file is refused, or an event, whose line is
-named; 2 a mistake in the words; 3 a file can't be read; 4 no memory. Formats:
+named, or, with --strict, a line tells what no right machine does; 2 a mistake in the
+words; 3 a file can't be read; 4 no memory. Formats:
 docs/use/REFERENCE.md.";
 
 /// A picture of a history.

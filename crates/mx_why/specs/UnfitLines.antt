@@ -1,5 +1,5 @@
 -- THE LINES of what can't work by a configuration alone (our own).
-use Rattle.std.specs.Prelude.{ℕ, ◌^◌, nat_lt, if◌then◌else◌, List, [], ◌++◌, codes, length, take, Option, Some, None, slice_get}
+use Rattle.std.specs.Prelude.{ℕ, List, [], ◌++◌, codes, length, take, Option, Some, None, slice_get}
 use Rattle.std.specs.Fmt.{decimal}
 use Rattle.std.specs.List.{flat_map}
 use Rattle.mx_insn_words.specs.Numbers.{hexadecimal}
@@ -13,6 +13,7 @@ use Rattle.mx_why.specs.declared.unfit.Pair.{Pair}
 use Rattle.mx_why.specs.declared.unfit.Pair.TheVariants.{Unnamed, Unanswered, Unheard}
 use Rattle.mx_why.specs.declared.unfit.Unfit.{Unfit}
 use Rattle.mx_why.specs.Lines.{left_out_text}
+use Rattle.mx_why.specs.Reasons.{bit_text}
 
 -- ---- of one
 
@@ -31,16 +32,13 @@ no_code_text l = name_of l ++ codes ": its program " ++ l.file ++ codes " has no
 
 -- ---- of one and another
 
-abbrev pub bit_of : ℕ → ℕ
-bit_of s = if nat_lt s 32 then 2 ^ s else 0
-
 unfoldable pub asks_text : ServiceLine → ServiceLine → List ℕ
 asks_text l o = name_of l ++ codes ": may only ask " ++ name_of o ++ codes " by SENDREC, and " ++ name_of o
 
 unfoldable pub unnamed_text : ServiceLine → ℕ → ServiceLine → List ℕ
 unnamed_text l s o =
     asks_text l o ++ codes "'s send " ++ hexadecimal o.terms.masks.sends ++ codes " has no bit for slot "
-    ++ decimal s ++ codes " (" ++ hexadecimal (bit_of s) ++ codes "): no answer can come"
+    ++ decimal s ++ bit_text s ++ codes ": no answer can come"
 
 unfoldable pub unanswered_text : ServiceLine → ServiceLine → List ℕ
 unanswered_text l o =

@@ -2,10 +2,11 @@
 
 ghost use Rattle.std.specs.Prelude.{◌≡◌, ◌++◌, OnOk, slice_get};
 ghost use Rattle.std.specs.List.{flat_map};
-ghost use Rattle.mx_why.specs.UnfitLines.{alone_text, asks_text, bit_of, lack_text, no_code_text, pair_text, stray_text, towards_text, unanswered_text, unfit_line, unfit_lines, unfit_text, unheard_text, unnamed_text};
+ghost use Rattle.mx_why.specs.UnfitLines.{alone_text, asks_text, lack_text, no_code_text, pair_text, stray_text, towards_text, unanswered_text, unfit_line, unfit_lines, unfit_text, unheard_text, unnamed_text};
 
 use crate::hexadecimal::push_mask;
 use crate::lines::{MOST_LINES, push_left_out};
+use crate::reasons::push_bit;
 use crate::unfit::{Lack, Pair, Unfit};
 use mx_machine::{Config, ServiceLine};
 use mx_print_report::{push_decimal, push_name};
@@ -76,13 +77,6 @@ fn push_asks(out: &mut Vec<u8>, line: &ServiceLine, other: &ServiceLine) -> Resu
     push_name(out, &other.name.bytes)
 }
 
-/// The bit of a slot in a mask.
-fn bit_of(slot: u32) -> u32
-    ensures { result ≡ bit_of slot }
-{
-    if slot < 32 { 1 << slot } else { 0 }
-}
-
 /// Appends that a service can only ask another, who may not send to it.
 #[tactic(auto, unfolding(crate::specs::UnfitLines::unnamed_text))]
 fn push_unnamed(
@@ -98,9 +92,8 @@ fn push_unnamed(
     push_mask(out, other.terms.masks.sends)?;
     out.extend_from_slice(b" has no bit for slot ")?;
     push_decimal(out, slot)?;
-    out.extend_from_slice(b" (")?;
-    push_mask(out, bit_of(slot))?;
-    out.extend_from_slice(b"): no answer can come")
+    push_bit(out, slot)?;
+    out.extend_from_slice(b": no answer can come")
 }
 
 /// Appends that a service can only ask another, who has no trap for an answer.
