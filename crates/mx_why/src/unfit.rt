@@ -1,6 +1,6 @@
 //! What can't work by a configuration alone.
 
-ghost use Rattle.std.specs.Prelude.{◌≡◌, ◌++◌, ◌==◌, IfOk, OnOk, length, not};
+ghost use Rattle.std.specs.Prelude.{◌≡◌, ◌<◌, ◌++◌, ◌==◌, IfOk, OnOk, length, not};
 ghost use Rattle.std.specs.List.{flat_map, range_with_len};
 ghost use Rattle.mx_why.specs.Unfit.{allows, bare, bare_at, calls_of, has_call, if_so, lacking_in, may_answer, may_receive, may_send, names, names_other, names_some, only_asks, silent_in, stray_bits_of, stray_calls, stray_in, stray_traps, towards, towards_all, towards_at, unfit, unfit_at, unfit_masks, unfit_of};
 
