@@ -14,4 +14,4 @@ gdb_request-requires-clause-slot c =
 pub reading_request-requires-clause-asked : goal.reading_request-requires-clause-asked
 reading_request-requires-clause-asked c =
     reading_left c.args.name.now (rows_of (found_of c.args.matches.now)) (sym c.eq.ensures ∙ c.if-eq.false) (sym c.eq-else-eq.ensures ∙ c.if-eq-2.false)
-        (sym c.eq-else-eq-2.ensures ∙ c.if-eq-3.false) c.requires.asked
+    (sym c.eq-else-eq-2.ensures ∙ c.if-eq-3.false) c.requires.asked
