@@ -35,6 +35,8 @@ use Rattle.mx_app_db.specs.Replayed.{Replayed}
 use Rattle.mx_app_db.specs.DebugLines.{DebuggedWorld, debug_lines_made}
 use Rattle.mx_app_db.specs.LineTexts.{debug_lines_text}
 use Rattle.mx_app_draw.specs.Scenes.{IsDrawingPrinted}
+use Rattle.mx_app_gdb.specs.Talks.{IsTalked}
+use Rattle.mx_app_gdb.specs.declared.talking.TalkEnding.{TalkEnding}
 use Rattle.mx_app_page.specs.Pages.{IsPagePrinted, run_of_files}
 use Rattle.mx_app_page.specs.Strips.{PrintsSweptPage}
 use Rattle.mx_app_look.specs.Sessions.{HasFailed, IsBegun, IsSession, IsWhole, begun_text, sight_at}
@@ -57,7 +59,7 @@ use Rattle.mx_app.specs.Named.{Assembles, ShowsFile}
 use Rattle.mx_app.specs.Sparing.{SparesRequest}
 use Rattle.mx_app.specs.declared.performing.Done.{Done}
 use Rattle.mx_why.specs.declared.telling.Told.{Told}
-use Rattle.mx_app.specs.Requests.{Debugs, Draws, Explains, Looks, Pages, Performs, PerformsApart, PerformsUntyped, Replays, SavesSteps, Shows, Steps, Traces, Whys, done_after_live, done_after_replay, done_after_run, done_after_sweep, done_after_turns, done_after_why, done_after_work, over_read}
+use Rattle.mx_app.specs.Requests.{Debugs, Draws, Explains, Looks, Pages, Performs, PerformsApart, PerformsUntyped, Replays, SavesSteps, Shows, Steps, Talks, Traces, Whys, done_after_gdb, done_after_live, done_after_replay, done_after_run, done_after_sweep, done_after_turns, done_after_why, done_after_work, over_read}
 
 -- what a request asked for and wrote, and what is done of it
 abbrev pub AsksAndWrites : List Asked → List Asked → List Written → List Written → (List Asked → List Written → Type 0) → Type 0
@@ -121,6 +123,18 @@ pub looks : {heard : List Heard} {told : List Note} (asked now : List Asked) (fi
 looks {heard} {told} asked now files files_now given given_now shown later config log asks x y (Ok u) r p f e same =
     (record { asked = p.0; written = []; typed = p.5; heard = []; told = []; shown = walk_shown p.4.records p.4.last ++ p.7 }, p.8, same ∙ sym (append-nil files), p.9, sym (append-nil heard), sym (append-nil told), p.11, ((refl, refl), Ok u, refl, (p.1, p.2, p.3, p.4, p.6, p.7, p.12, p.13, refl, p.10, p.14, p.15), e))
 looks {heard} {told} asked now files files_now given given_now shown later config log asks x y (Err why) r p f e same =
+    (record { asked = f.0; written = []; typed = f.1; heard = []; told = []; shown = f.2 }, f.3, same ∙ sym (append-nil files), f.4, sym (append-nil heard), sym (append-nil told), f.5, ((refl, refl), Err why, refl, f.6, e))
+
+-- a talk with gdb was held, or didn't begin
+pub talked : {heard : List Heard} {told : List Note} (asked now : List Asked) (files files_now : List Written) (given given_now : List (Option (List ℕ))) (shown later : List Part) (config log : List ℕ) (slot : Option ℕ) (x y : Option (List ℕ)) (d : Result TalkEnding Kind) (r : Result Done Kind)
+    → IfOk d (λ ending. (qs : List Asked) × (typed : List (Option (List ℕ))) × (ps : List Part)
+    × (now ≡ asked ++ qs) × (given_now ≡ given ++ typed) × (later ≡ shown ++ ps) × IsTalked config log slot qs typed ps (λ text. Appends x y text) ending)
+    → IfErr d (λ f. (qs : List Asked) × (typed : List (Option (List ℕ))) × (ps : List Part) × (now ≡ asked ++ qs) × (given_now ≡ given ++ typed) × (later ≡ shown ++ ps) × HasFailed config log qs ps f)
+    → r ≡ done_after_gdb d → files_now ≡ files
+    → Grows asked now files files_now given given_now heard heard told told shown later (λ did. IsAlone did × (e : Result TalkEnding Kind) × (did.written ≡ []) × Talks config log slot did.asked did.typed did.shown (λ text. Appends x y text) e × (r ≡ done_after_gdb e))
+talked {heard} {told} asked now files files_now given given_now shown later config log slot x y (Ok ending) r p f e same =
+    (record { asked = p.0; written = []; typed = p.1; heard = []; told = []; shown = p.2 }, p.3, same ∙ sym (append-nil files), p.4, sym (append-nil heard), sym (append-nil told), p.5, ((refl, refl), Ok ending, refl, p.6, e))
+talked {heard} {told} asked now files files_now given given_now shown later config log slot x y (Err why) r p f e same =
     (record { asked = f.0; written = []; typed = f.1; heard = []; told = []; shown = f.2 }, f.3, same ∙ sym (append-nil files), f.4, sym (append-nil heard), sym (append-nil told), f.5, ((refl, refl), Err why, refl, f.6, e))
 
 -- a text was assembled, and nothing printed
