@@ -7,6 +7,8 @@ use Rattle.mx_app_start.specs.Machine.{world_of}
 use Rattle.mx_app_step.proofs.FrontLemmas.{err_always}
 use Rattle.mx_machine.specs.declared.events.Refusal.{Refusal}
 use Rattle.mx_why.specs.declared.telling.Told.TheVariants.{Whole, Refused}
+use Rattle.mx_why.specs.Marks.{is_marked}
+use Rattle.mx_why.specs.Seeing.{end_of}
 use Rattle.mx_why.specs.Telling.{IsNoted}
 use Rattle.mx_why.proofs.NoteLemmas.{lines_printed, refusal_printed}
 use Rattle.mx_why.proofs.telling.print_history.Goals as goal
@@ -24,7 +26,7 @@ returns-in_err-print_lines-in-None-clause-begun g c =
     let noted = subst (λ (o : Option (ℕ × Refusal)). IsNoted w u c.args.records.now o ns cs) c.in-None.is c.in_ok-note_records.ensures.noted in
     err_always c.from_residual-in_err-print_lines-in-None.result _
     (inr (
-      Whole _,
+      Whole (is_marked c.args.config.now (end_of u) c.as_slice-noted.result.now (length c.args.records.now)),
       lines_printed front c.args.config.now w u c.args.records.now ns c.as_slice-noted.result.now cs c.as_slice-counted.result.now (length c.args.records.now) _
           c.as_slice-noted.ensures.value c.as_slice-counted.ensures.value refl noted refl c.in_err-print_lines-in-None.ensures.front,
     ))
