@@ -16,19 +16,19 @@ use Rattle.mx_why.proofs.telling.print_history.Goals as goal
 pub returns-in_err-note_records-clause-begun : goal.returns-in_err-note_records-clause-begun
 returns-in_err-note_records-clause-begun g c = err_always c.from_residual.result _ (inl (Appends-nil _))
 
-pub returns-in_err-print_lines-in-None-clause-begun : goal.returns-in_err-print_lines-in-None-clause-begun
-returns-in_err-print_lines-in-None-clause-begun g c =
+pub returns-in_err-marked-in-None-clause-begun : goal.returns-in_err-marked-in-None-clause-begun
+returns-in_err-marked-in-None-clause-begun g c =
     let w = world_of c.args.machine.now in
     let u = world_of c.note_records.new.machine in
     let ns = c.note_records.new.notes.items in
     let cs = c.note_records.new.calls.items in
     let front : List ℕ → Type 0 = λ text. PrintsFront (λ t. Appends (g.W.Write.contents c.args.out.now) (g.W.Write.contents c.print_lines.new.out) t) text in
     let noted = subst (λ (o : Option (ℕ × Refusal)). IsNoted w u c.args.records.now o ns cs) c.in-None.is c.in_ok-note_records.ensures.noted in
-    err_always c.from_residual-in_err-print_lines-in-None.result _
+    err_always c.from_residual-in_err-marked-in-None.result _
     (inr (
       Whole (is_marked c.args.config.now (end_of u) c.as_slice-noted.result.now (length c.args.records.now)),
       lines_printed front c.args.config.now w u c.args.records.now ns c.as_slice-noted.result.now cs c.as_slice-counted.result.now (length c.args.records.now) _
-          c.as_slice-noted.ensures.value c.as_slice-counted.ensures.value refl noted refl c.in_err-print_lines-in-None.ensures.front,
+          c.as_slice-noted.ensures.value c.as_slice-counted.ensures.value refl noted refl c.in_err-marked-in-None.ensures.front,
     ))
 
 pub returns-in-None-clause-printed : goal.returns-in-None-clause-printed
@@ -39,7 +39,7 @@ returns-in-None-clause-printed g c =
     let cs = c.note_records.new.calls.items in
     let noted = subst (λ (o : Option (ℕ × Refusal)). IsNoted w u c.args.records.now o ns cs) c.in-None.is c.in_ok-note_records.ensures.noted in
     lines_printed (λ (t : List ℕ). Appends (g.W.Write.contents c.args.out.now) (g.W.Write.contents c.print_lines.new.out) t) c.args.config.now w u c.args.records.now ns c.as_slice-noted.result.now cs c.as_slice-counted.result.now (length c.args.records.now) _
-    c.as_slice-noted.ensures.value c.as_slice-counted.ensures.value refl noted c.in_ok-print_lines-in-None.ensures.marked c.in_ok-print_lines-in-None.ensures.bytes
+    c.as_slice-noted.ensures.value c.as_slice-counted.ensures.value refl noted c.in_ok-marked-in-None.ensures.marked c.in_ok-marked-in-None.ensures.bytes
 
 pub returns-in_err-print_refusal-in-Some-clause-begun : goal.returns-in_err-print_refusal-in-Some-clause-begun
 returns-in_err-print_refusal-in-Some-clause-begun g c =
