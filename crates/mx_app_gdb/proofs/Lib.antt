@@ -2,4 +2,5 @@ mod Folders
 mod Lists
 mod Setting
 mod Conversing
+mod Held
 mod Unchanged
