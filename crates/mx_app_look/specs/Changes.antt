@@ -45,3 +45,8 @@ changes_since u (s ∷ ss) = change_line s.0 s.1 (bytes_of u s.0) ++ changes_sin
 -- HOW THE BYTES of each watch change from one world to another
 abbrev pub change_text : Points → World → World → List ℕ
 change_text s w u = changes_since u (map (seen_in w) s.watches)
+
+-- the first watch whose bytes changed
+abbrev pub first_change : World → List (Watch × List ℕ) → Option Watch
+first_change u [] = None
+first_change u (s ∷ ss) = if pointwise nat_eq s.1 (bytes_of u s.0) then first_change u ss else Some s.0

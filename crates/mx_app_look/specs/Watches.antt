@@ -1,5 +1,5 @@
 -- Bytes that are watched (our own).
-use Rattle.std.specs.Prelude.{ℕ, ◌==◌, ◌^◌, ◌&&◌, nat_le, nat_lt, Bool, if◌then◌else◌, List, [], ◌∷◌, ◌++◌, length, Option, Some, None, Result, Ok, Err}
+use Rattle.std.specs.Prelude.{ℕ, ◌==◌, ◌^◌, ◌&&◌, nat_le, nat_lt, not, Bool, if◌then◌else◌, List, [], ◌∷◌, ◌++◌, filter, length, Option, Some, None, Result, Ok, Err}
 use Rattle.std.specs.List.{flat_map, list_any, range_with_len}
 use Rattle.mx_debug.specs.declared.error.DebugError.{DebugError}
 use Rattle.mx_debug.specs.declared.error.DebugError.TheVariants.{NotHere, TooMany}
@@ -22,6 +22,10 @@ is_watch x y = (y.slot == x.slot) && (y.address == x.address) && (y.count == x.c
 abbrev pub with_watch : List Watch → Watch → Option (List Watch)
 with_watch xs x =
     if list_any (is_watch x) xs then Some xs else if nat_lt (length xs) 8 then Some (xs ++ x ∷ []) else None
+
+-- without one
+abbrev pub without_watch : List Watch → Watch → List Watch
+without_watch xs x = filter (λ y. not (is_watch x y)) xs
 
 abbrev pub watch_added : List Watch → Option (List Watch) → Result (Unit {0}) DebugError × List Watch
 watch_added xs None = (Err TooMany, xs)

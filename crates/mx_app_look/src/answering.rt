@@ -290,7 +290,7 @@ fn is_quit(request: &Option<Request>) -> bool
 
 /// The answer to a line, and what asks for the next; nothing if it ends the session. What is at a terminal of a
 /// walk's progress is gone.
-pub(crate) fn answer_line<P: Progress>(
+pub fn answer_line<P: Progress>(
     alloc: Global,
     sight: Sight,
     line: &[u8],

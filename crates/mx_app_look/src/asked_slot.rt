@@ -12,7 +12,7 @@ use mx_proc::Slot;
 use mx_walk::Walker;
 
 /// The slot of the process on the processor whose record is next, if there is one.
-fn slot_next(walker: &Walker) -> Option<Slot>
+pub fn slot_next(walker: &Walker) -> Option<Slot>
     ensures { result ≡ slot_next (world_here walker.now)
         (slice_get walker.now.records walker.now.here.records) }
 {
@@ -52,7 +52,7 @@ pub(crate) fn address_here(walker: &Walker, slot: Slot, asked: &AddressWord) -> 
 }
 
 /// How many bytes the memory of a slot's process has.
-pub(crate) fn limit_here(walker: &Walker, slot: Slot) -> usize
+pub fn limit_here(walker: &Walker, slot: Slot) -> usize
     ensures { result ≡ limit_in (world_here walker.now) slot }
 {
     match image_in(walker.machine(), slot) {

@@ -4,7 +4,7 @@ ghost use Rattle.std.specs.Prelude.{◌≡◌, ◌++◌, IfOk, OnOk, map, string
 ghost use Rattle.std.specs.List.{flat_map};
 ghost use Rattle.mx_machine.specs.Machine.{world_of};
 ghost use Rattle.mx_print_answers.specs.Processes.{byte_field};
-ghost use Rattle.mx_app_look.specs.Changes.{as_seen, bytes_of, change_line, changes_since, listed_bytes, seen_in};
+ghost use Rattle.mx_app_look.specs.Changes.{as_seen, bytes_of, change_line, changes_since, first_change, listed_bytes, seen_in};
 
 use crate::watches::{Watch, places_of};
 use mx_insn_words::push_eight_digits;
@@ -37,13 +37,13 @@ fn bytes_of(alloc: Global, machine: &Machine, watch: Watch) -> Result<Vec<u8>, A
 
 /// The bytes of a watch, as they were seen.
 #[derive(Drop)]
-pub(crate) struct Seen {
+pub struct Seen {
     watch: Watch,
     bytes: Vec<u8>,
 }
 
 /// The bytes of each watch, as they are now.
-pub(crate) fn all_bytes(
+pub fn all_bytes(
     alloc: Global,
     machine: &Machine,
     watches: &[Watch],
@@ -111,4 +111,22 @@ pub(crate) fn push_changes(
         push_change(out, one.watch, one.bytes.as_slice(), after.as_slice())?;
     }
     Ok(())
+}
+
+/// The first watch whose bytes have changed since they were seen.
+pub fn first_change(
+    alloc: Global,
+    machine: &Machine,
+    seen: &[Seen],
+) -> Result<Option<Watch>, AllocError>
+    ensures { IfOk result (λ watch. watch
+        ≡ first_change (world_of machine.now) (map as_seen seen.now)) }
+{
+    for one in seen {
+        let after = bytes_of(alloc, machine, one.watch)?;
+        if one.bytes.as_slice() != after.as_slice() {
+            return Ok(Some(one.watch));
+        }
+    }
+    Ok(None)
 }

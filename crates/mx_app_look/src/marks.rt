@@ -66,7 +66,7 @@ pub(crate) fn breaks_mark(alloc: Global, points: &Points) -> Result<Several<Leav
 }
 
 /// The places of the breakpoints.
-pub(crate) fn break_places(alloc: Global, points: &Points) -> Result<Vec<CodePlace>, AllocError>
+pub fn break_places(alloc: Global, points: &Points) -> Result<Vec<CodePlace>, AllocError>
     ensures { IfOk result (λ places. places.items ≡ map code_place points.now.breakpoints) }
 {
     let mut places = Vec::new(alloc);
@@ -80,7 +80,7 @@ pub(crate) fn break_places(alloc: Global, points: &Points) -> Result<Vec<CodePla
 }
 
 /// What marks the changes of the bytes that are watched, and what comes to a breakpoint.
-pub(crate) fn halts_mark(
+pub fn halts_mark(
     alloc: Global,
     points: &Points,
 ) -> Result<Either<Several<ByteChange>, Coming>, AllocError>
@@ -95,7 +95,7 @@ pub(crate) fn halts_mark(
 }
 
 /// What marks both.
-pub(crate) fn points_mark(
+pub fn points_mark(
     alloc: Global,
     points: &Points,
 ) -> Result<Either<Several<ByteChange>, Several<Leaving>>, AllocError>

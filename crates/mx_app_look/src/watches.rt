@@ -2,7 +2,7 @@
 
 ghost use Rattle.std.specs.Prelude.{◌≡◌, ◌+◌, ◌++◌, Some, None, IfErr, IfOk, OnErr, OnOk};
 ghost use Rattle.std.specs.List.{list_any};
-ghost use Rattle.mx_app_look.specs.Watches.{is_watch, place_at, places_of, watch_set, with_watch};
+ghost use Rattle.mx_app_look.specs.Watches.{is_watch, place_at, places_of, watch_set, with_watch, without_watch};
 ghost use Rattle.mx_debug.specs.declared.error.DebugError.TheVariants as errors;
 
 use arrayvec::ArrayVec;
@@ -68,7 +68,7 @@ impl Watches {
     }
 
     /// Adds a watch; one that is there already isn't added again. Refuses a ninth, and then changes nothing.
-    fn add(&mut self, watch: Watch) -> Result<(), DebugError>
+    pub fn add(&mut self, watch: Watch) -> Result<(), DebugError>
         ensures added { OnOk result (with_watch self.old watch ≡ Some self.new) }
         ensures full { OnErr result (with_watch self.old watch ≡ None) }
         ensures unchanged { OnErr result (self.new ≡ self.old) }
@@ -94,6 +94,13 @@ impl Watches {
             return Err(DebugError::NotHere);
         }
         self.add(watch)
+    }
+
+    /// Watches these bytes no more, if they are watched.
+    pub fn remove(&mut self, watch: Watch)
+        ensures { self.new ≡ without_watch self.old watch }
+    {
+        self.watches.retain(|other| !is_watch(watch, other));
     }
 }
 

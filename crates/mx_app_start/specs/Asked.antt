@@ -1,5 +1,5 @@
 -- What a reader was asked for (our own).
-use Rattle.std.specs.Prelude.{ℕ, Bool, if◌then◌else◌, List, map, Option, Some, None, Result, Ok, Err}
+use Rattle.std.specs.Prelude.{ℕ, Bool, if◌then◌else◌, List, map, Option, Some, None, Result, Ok, Err, [], ◌∷◌}
 use Rattle.std.specs.declared.io.ErrorKind.{ErrorKind}
 use Rattle.mx_app_start.specs.declared.noted.Noted.{Noted}
 
@@ -43,3 +43,8 @@ lines_in lines = map line_in lines
 -- what is remembered of an answer: the line, or that the input ends
 abbrev pub line_or_end : Bool → List ℕ → Option (List ℕ)
 line_or_end more line = if more then Some line else None
+
+-- and of a byte, which is as a line of it alone
+abbrev pub byte_line : Option ℕ → Option (List ℕ)
+byte_line None = None
+byte_line (Some b) = Some (b ∷ [])

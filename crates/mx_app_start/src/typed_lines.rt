@@ -1,7 +1,7 @@
 //! What gives the lines that are typed.
 
 ghost use Rattle.std.specs.Prelude.{◌≡◌, ◌++◌, ◌∷◌, [], ℕ, List, Option, Some, None, IfOk, OnErr, true, false};
-ghost use Rattle.mx_app_start.specs.Asked.{line_in, line_or_end, lines_in};
+ghost use Rattle.mx_app_start.specs.Asked.{byte_line, line_in, line_or_end, lines_in};
 
 use crate::noted::Noted;
 use crate::noting::{Bytes, bytes_noted};
@@ -13,7 +13,8 @@ const GIVEN: usize = 4097;
 
 /// Gives the lines that are typed.
 pub trait LineReader {
-    /// Its answers, in order: a line, or `None` at the end of the input.
+    /// Its answers, in order: a line, or `None` at the end of the input. A byte that is asked for alone is as a line of
+    /// that byte.
     ghost given: { Self → List (Option (List ℕ)) };
 
     /// Puts the next line, without its line feed, in place of what `line` had. Answers false at the end of
@@ -23,6 +24,11 @@ pub trait LineReader {
             → given self.new ≡ given self.old ++ Some line.new.items ∷ []) }
         ensures end { IfOk result (λ more. more ≡ false
             → given self.new ≡ given self.old ++ None ∷ []) }
+        ensures failed { OnErr result (given self.new ≡ given self.old) };
+
+    /// The next byte, as soon as it is there; `None` at the end of the input. Out of memory is the error `OutOfMemory`.
+    fn next_byte(&mut self) -> io::Result<Option<u8>>
+        ensures given { IfOk result (λ byte. given self.new ≡ given self.old ++ byte_line byte ∷ []) }
         ensures failed { OnErr result (given self.new ≡ given self.old) };
 }
 
@@ -65,6 +71,27 @@ fn read_line<B: BufRead>(input: &mut B, line: &mut Vec<u8>) -> io::Result<bool> 
     Ok(count > 0)
 }
 
+/// Reads a byte, if the input isn't at its end.
+fn read_byte<B: BufRead>(input: &mut B) -> io::Result<Option<u8>> {
+    let mut bytes = [0; 1];
+    let count = input.read(&mut bytes)?;
+    if count > 0 {
+        Ok(Some(bytes[0]))
+    } else {
+        Ok(None)
+    }
+}
+
+/// Remembers an answer: a byte, or the end of the input.
+fn byte_noted(byte: Option<u8>) -> Option<Bytes>
+    ensures { line_in result ≡ byte_line byte }
+{
+    match byte {
+        Some(byte) => Some(bytes_noted(&[byte])),
+        None => None,
+    }
+}
+
 impl<B: BufRead + Drop> LineReader for InputLines<B> {
     ghost given = { λ lines. lines_in lines.lines.items };
 
@@ -73,5 +100,11 @@ impl<B: BufRead + Drop> LineReader for InputLines<B> {
         let more = read_line(&mut self.input, line)?;
         self.lines = self.lines.and(&line_noted(more, line.as_slice()));
         Ok(more)
+    }
+
+    fn next_byte(&mut self) -> io::Result<Option<u8>> {
+        let byte = read_byte(&mut self.input)?;
+        self.lines = self.lines.and(&byte_noted(byte));
+        Ok(byte)
     }
 }
