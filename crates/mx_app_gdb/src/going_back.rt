@@ -10,10 +10,10 @@ ghost use Rattle.mx_app_look.specs.Searches.{next_made};
 ghost use Rattle.mx_app_gdb.specs.Moves.{IsGoneBack, IsSteppedBack, changed_by};
 
 use crate::halts::{Halted, Halts};
-use crate::marks::Moving;
+use crate::marks::{Moving, is_step};
 use crate::moving::next_made;
 use mx_app_look::{all_bytes, first_change, points_mark, slot_next};
-use mx_machine::{Event, Machine};
+use mx_machine::{Machine, at_stop};
 use mx_proc::Slot;
 use mx_walk::{NextEvent, Progress, Walker};
 use mx_word::NoMemory;
@@ -51,17 +51,15 @@ fn break_at(machine: &Machine, halts: &Halts, next: NextEvent) -> Option<Slot>
         (world_of machine.now) ≡ true)
         × (option_map (λ l. l.slot) (held_by (world_of machine.now) next.actor) ≡ Some s)) }
 {
-    match next.event {
-        Event::Step => {
-            let slot = machine.slot_on(next.actor)?;
-            let image = machine.image(next.actor)?;
-            if halts.points.breakpoints.has_breakpoint(slot, image.eip) {
-                Some(slot)
-            } else {
-                None
-            }
-        }
-        _ => None,
+    if !is_step(next.event) {
+        return None;
+    }
+    let slot = machine.slot_on(next.actor)?;
+    let out = machine.out(next.actor)?;
+    if halts.points.breakpoints.has_breakpoint(slot, out.image.eip) && !at_stop(out) {
+        Some(slot)
+    } else {
+        None
     }
 }
 

@@ -21,12 +21,14 @@ use std::alloc::Global;
 pub(crate) fn next_made(walker: &Walker) -> Option<NextEvent>
     ensures { MatchOption result (next_made walker.now ≡ None)
         (λ next. (next_made walker.now ≡ Some (next.actor, next.event))
-        × (next.position ≡ next_position walker.now.records walker.now.here)) }
+        × (next.position ≡ next_position walker.now.records walker.now.here)
+        × IsPosition walker.now.records next.position × IsUpTo next.position walker.now.last) }
 {
-    if is_up_to(walker.last(), walker.here()) {
+    let here = walker.here();
+    if is_up_to(walker.last(), here) {
         return None;
     }
-    next_event(walker.records(), walker.here())
+    next_event(walker.records(), here)
 }
 
 /// Whether the next event is a step of a slot's process.
@@ -91,11 +93,15 @@ pub(crate) fn search_on<M: Mark + Drop, P: Progress>(
         (walker.new.here, halted)) }
     ensures grown { HasGrown (P.shown progress.old) (P.shown progress.new) }
 {
+    let _ = walker.here();
     let places = break_places(alloc, &halts.points)?;
     let points = halts_mark(alloc, &halts.points)?;
     let others = Either::new(Faulting::new(halts.counted), mark);
     let mut all = Either::new(points, others);
-    match walker.seek_halt(places.as_slice(), &mut all, progress) {
+    let halt = walker.seek_halt(places.as_slice(), &mut all, progress);
+    // Where it is now is a position, and not past the last.
+    let _ = walker.here();
+    match halt {
         Halt::Before => {
             let slot = slot_next(walker).unwrap_or(halts.mover);
             Ok(Some(Halted::AtBreak(slot)))
