@@ -1,5 +1,12 @@
-mod Folders
-mod Lists
-mod Setting
-mod Conversing
-mod Unchanged
+
+mod SameBytes
+mod RightAfter
+mod Onward
+mod SearchedOn
+mod Stepped
+mod OnToStep
+mod InRange
+mod HaltedOn
+mod SteppedOn
+mod Grown
+mod Behind

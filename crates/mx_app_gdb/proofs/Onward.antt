@@ -1,5 +1,5 @@
 -- From one position to the next, and the events on the way from one to another.
-use Rattle.std.proofs.Common.{◌≡◌, ◌≢◌, ◌∙◌, ◌⊎◌, ◌<◌, ◌≤◌, ◌+◌, ◌-◌, ℕ, Bool, true, false, cond, List, [], ◌∷◌, ◌++◌, append_assoc, append-nil, length, length-append, nat_eq, nat_le, nat_lt, Option, Some, None, refl, ap, sym, subst, inl, inr, arith}
+use Rattle.std.proofs.Common.{◌≡◌, ◌≢◌, ◌∙◌, ◌⊎◌, ◌<◌, ◌≤◌, ◌+◌, ◌-◌, ℕ, Bool, true, false, cond, List, [], ◌∷◌, ◌++◌, append_assoc, append-nil, length, length-append, MatchOption, nat_eq, nat_le, nat_lt, Option, Some, None, refl, ap, sym, subst, inl, inr, arith}
 use Rattle.std.proofs.lemmas.Bool.{eq-eqb, le-ltb, lt-leb, ne_eqb}
 use Rattle.mx_machine.specs.declared.events.Event.{Event}
 use Rattle.mx_machine.specs.declared.history.Record.{Record}
@@ -18,6 +18,10 @@ use Rattle.mx_walk.proofs.Next.{above_inside_too, above_it, above_to, back_next,
 use Rattle.mx_walk.proofs.Unleft.{up_by_events}
 use Rattle.mx_app_look.specs.Searches.{next_made}
 use Rattle.mx_app_gdb.specs.Moves.{at}
+
+pub match_weaker : {A : Type 0} (o : Option A) (N M : Type 0) (S T : A → Type 0) → (N → M) → ((a : A) → S a → T a) → MatchOption o N S → MatchOption o M T
+match_weaker None N M S T f g h = f h
+match_weaker (Some a) N M S T f g h = g a h
 
 -- what two lists have after the same elements
 pub same_rest : {X : Type 0} (xs ys zs : List X) → xs ++ ys ≡ xs ++ zs → ys ≡ zs

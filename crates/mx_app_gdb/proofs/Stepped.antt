@@ -103,6 +103,22 @@ at_places l (b ∷ bs) goes =
     ∙ ap (λ c. (c && nat_eq at b.address) || rest) (flip l.slot b.slot) ∙ ap (λ c. (nat_eq b.slot l.slot && c) || rest) (flip at b.address)
     ∙ ap (λ c. is_at l.slot at b || c) (at_places l bs goes)
 
+or_and : (a b n : Bool) → (a && n) || (b && n) ≡ (a || b) && n
+or_and true b true = refl
+or_and true true false = refl
+or_and true false false = refl
+or_and false b n = refl
+
+-- whether or not it can step
+pub at_any : (l : HeldProcess) (bs : List Breakpoint) → stands_at_any (Some l) (map code_place bs) ≡ has_breakpoint bs l.slot l.out.image.eip && not (at_stop l.out)
+at_any l [] = refl
+at_any l (b ∷ bs) =
+    let at = l.out.image.eip in
+    let n = not (at_stop l.out) in
+    ap (λ c. ((c && nat_eq at b.address) && n) || stands_at_any (Some l) (map code_place bs)) (flip l.slot b.slot)
+    ∙ ap (λ c. ((nat_eq b.slot l.slot && c) && n) || stands_at_any (Some l) (map code_place bs)) (flip at b.address)
+    ∙ ap (λ c. (is_at l.slot at b && n) || c) (at_any l bs) ∙ or_and (is_at l.slot at b) (has_breakpoint bs l.slot at) n
+
 -- whether a step is at a breakpoint, by whom it is
 pub at_breakpoint : (s : ℕ) (l : HeldProcess) (bs : List Breakpoint) (w u : World) (x : ℕ × Event) → is_step x.1 ≡ true → held_by w x.0 ≡ Some l → l.slot ≡ s → at_stop l.out ≡ false
     → leaves_any (map code_place bs) w x u ≡ has_breakpoint bs s l.out.image.eip

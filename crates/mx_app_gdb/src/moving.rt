@@ -6,7 +6,7 @@ ghost use Rattle.mx_walk.specs.Positions.{next_position};
 ghost use Rattle.mx_app_look.specs.Searches.{next_made};
 ghost use Rattle.mx_app_gdb.specs.Halts.{IsUnchanged};
 ghost use Rattle.mx_app_gdb.specs.Moves.{IsMadeNext, IsSearchedOn, stands, stands_in};
-ghost use Rattle.mx_walk.specs.Positions.{IsPosition, IsUpTo};
+ghost use Rattle.mx_walk.specs.Positions.{IsBefore, IsPosition, IsUpTo};
 
 use crate::halts::{Halted, Halts, halted_here};
 use crate::marks::{Faulting, moves, stands_within};
@@ -61,8 +61,11 @@ pub(crate) fn make_next<P: Progress>(
     requires unchanged { IsUnchanged walker halts.now }
     ensures same { IfOk result (λ r. r.0 ≡ record walker { here = r.0.here }) }
     ensures made { IfOk result (λ r. IsMadeNext walker halts.now (r.0.here, r.1)) }
+    ensures on { IfOk result (λ r. r.1 ≡ None → IsBefore walker.here r.0.here) }
+    ensures unchanged { IfOk result (λ r. r.1 ≡ None → IsUnchanged r.0 halts.now) }
     ensures grown { HasGrown (P.shown progress.old) (P.shown progress.new) }
 {
+    let _ = walker.here();
     match next_made(&walker) {
         Some(next) => {
             let walker = walker.go_to(alloc, next.position, progress)?;
@@ -93,7 +96,8 @@ pub(crate) fn search_on<M: Mark + Drop, P: Progress>(
         (walker.new.here, halted)) }
     ensures grown { HasGrown (P.shown progress.old) (P.shown progress.new) }
 {
-    let _ = walker.here();
+    // Where it is, and the last position, are positions.
+    let _ = (walker.here(), walker.last());
     let places = break_places(alloc, &halts.points)?;
     let points = halts_mark(alloc, &halts.points)?;
     let others = Either::new(Faulting::new(halts.counted), mark);

@@ -26,10 +26,11 @@ fn come_to_step<P: Progress>(
     requires unchanged { IsUnchanged walker halts.now }
     ensures same { IfOk result (λ r. r.0 ≡ record walker { here = r.0.here }) }
     ensures come { IfOk result (λ r. IsComeFrom walker halts.now slot walker.here (r.0.here, r.1)) }
-    ensures on { IfOk result (λ r. IsUpTo walker.here r.0.here) }
+    ensures on { IfOk result (λ r. r.1 ≡ None → IsUpTo walker.here r.0.here) }
     ensures there { IfOk result (λ r. r.1 ≡ None → IsAtStep r.0 halts.now slot) }
     ensures grown { HasGrown (P.shown progress.old) (P.shown progress.new) }
 {
+    let _ = (walker.here(), walker.last());
     let mut walker = walker;
     let mut halted = None;
     while halted.is_none() && !stands(&walker, slot) {
@@ -53,6 +54,7 @@ fn go_to_step<P: Progress>(
     ensures there { IfOk result (λ r. r.1 ≡ None → IsAtStep r.0 halts.now slot) }
     ensures grown { HasGrown (P.shown progress.old) (P.shown progress.new) }
 {
+    let _ = walker.here();
     if stands(&walker, slot) {
         return Ok((walker, None));
     }
@@ -76,10 +78,11 @@ fn leave_range<P: Progress>(
     ensures same { IfOk result (λ r. r.0 ≡ record walker { here = r.0.here }) }
     ensures left { IfOk result (λ r. LeadsOn (IsSteppedFrom walker halts.now slot range)
         walker.here r.0.here r.1) }
-    ensures on { IfOk result (λ r. IsUpTo walker.here r.0.here) }
+    ensures on { IfOk result (λ r. r.1 ≡ None → IsUpTo walker.here r.0.here) }
     ensures unchanged { IfOk result (λ r. r.1 ≡ None → IsUnchanged r.0 halts.now) }
     ensures grown { HasGrown (P.shown progress.old) (P.shown progress.new) }
 {
+    let _ = (walker.here(), walker.last());
     let mut walker = walker;
     let mut halted = None;
     while halted.is_none() && stands_in(&walker, slot, range) {
@@ -129,6 +132,7 @@ fn step_within<P: Progress>(
     ensures there { IfOk result (λ r. r.1 ≡ None → IsAtStep r.0 halts.now slot) }
     ensures grown { HasGrown (P.shown progress.old) (P.shown progress.new) }
 {
+    let _ = walker.here();
     let (walker, halted) = make_next(alloc, walker, halts, progress)?;
     if halted.is_some() {
         return Ok((walker, halted));
@@ -159,11 +163,14 @@ pub(crate) fn step_on<P: Progress>(
     ensures halted { IfOk result (λ r. IsStepped walker halts.now slot range (r.0.here, Some r.1)) }
     ensures grown { HasGrown (P.shown progress.old) (P.shown progress.new) }
 {
+    let _ = walker.last();
     let (mut walker, mut halted) = go_to_step(alloc, walker, halts, slot, progress)?;
+    let _ = walker.here();
     while halted.is_none() {
         let (gone, why) = step_within(alloc, walker, halts, slot, range, progress)?;
         walker = gone;
         halted = why;
+        let _ = walker.here();
     }
     match halted {
         Some(halted) => Ok((walker, halted)),
