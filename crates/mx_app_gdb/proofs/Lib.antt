@@ -1,4 +1,9 @@
-
+mod Folders
+mod Lists
+mod Setting
+mod Conversing
+mod Held
+mod Unchanged
 mod SameBytes
 mod RightAfter
 mod Onward

@@ -12,8 +12,8 @@ use Rattle.std.specs.List.{range_with_len}
 -- what is set after one more, if there is room
 pub set_is : {E X : Type 0} (r : Result (Unit {0}) E) (w : Option (List X)) (new old : List X)
     → OnOk r (w ≡ Some new) → OnErr r (w ≡ None) → OnErr r (new ≡ old) → new ≡ unwrap_or w old
-set_is (Ok u) w new old a b c = sym (ap (λ (o : Option (List X)). unwrap_or o old) a)
-set_is (Err e) w new old a b c = c ∙ sym (ap (λ (o : Option (List X)). unwrap_or o old) b)
+set_is {X = X} (Ok u) w new old a b c = sym (ap (λ (o : Option (List X)). unwrap_or o old) a)
+set_is {X = X} (Err e) w new old a b c = c ∙ sym (ap (λ (o : Option (List X)). unwrap_or o old) b)
 
 -- one more breakpoint that counts, and one that doesn't
 module _ (f : Breakpoint → Bool) (ps : List Breakpoint) (i : ℕ) (d : Breakpoint) (lt : i < length ps) (old whole : List Breakpoint)

@@ -129,11 +129,14 @@ pub(crate) fn push_current(
 }
 
 /// The line of a slot in a report, from its name to its state.
+#[tactic(auto, unfolding(mx_machine::specs::Machine::world_of))]
 fn push_state(alloc: Global, out: &mut Vec<u8>, stub: &Stub, slot: Slot) -> Result<(), AllocError>
     ensures { OnOk result (out.new.items ≡ out.old.items
         ++ state_of (world_of_stub stub.now) (Some slot)) }
 {
     let kernel = stub.sight.walker.machine().kernel();
+    // Each slot has a service.
+    kernel.facts();
     let mut line = Vec::new(alloc);
     match kernel.services().get(slot as usize) {
         Some(service) => {
