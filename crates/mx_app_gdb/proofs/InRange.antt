@@ -8,6 +8,7 @@ use Rattle.mx_machine.specs.declared.history.Record.{Record}
 use Rattle.mx_machine.specs.History.{world_after_events}
 use Rattle.mx_machine.specs.Move.{at_stop, world_after_event}
 use Rattle.mx_machine.specs.World.{HeldProcess, World, held_by}
+use Rattle.mx_walk.specs.declared.either.Either.{Either}
 use Rattle.mx_walk.specs.declared.positions.Position.{Position}
 use Rattle.mx_walk.specs.Positions.{IsBefore, IsPosition, IsUpTo, events_before, next_event, next_position, position_before, world_at}
 use Rattle.mx_walk.specs.Seeking.{IsFirstMarked, IsPassed, NoneMarked, is_marked}
@@ -23,6 +24,8 @@ use Rattle.mx_app_look.specs.Slots.{slot_next}
 use Rattle.mx_app_gdb.specs.declared.halts.Halted.{Halted}
 use Rattle.mx_app_gdb.specs.declared.halts.Halted.TheVariants.{AtBreak, AtEnd, There}
 use Rattle.mx_app_gdb.specs.declared.halts.Halts.{Halts}
+use Rattle.mx_app_gdb.specs.declared.marks.ComingOut.{ComingOut}
+use Rattle.mx_app_gdb.specs.declared.marks.Ending.{Ending}
 use Rattle.mx_app_gdb.specs.declared.ranges.Range.{Range}
 use Rattle.mx_app_gdb.specs.Halts.{halted_here, halts_after}
 use Rattle.mx_app_gdb.specs.Marks.{comes_out, is_of, is_within, moves, stands_within}
@@ -60,6 +63,12 @@ module _ (k : Walk) (h : Halts) (s : ℕ) (g : Range) where
   -- what a search within the range is told of: what comes out of it, and the ends of records
   abbrev pub leaving : Marks
   leaving v x u = comes_out s g v x u || ending v x u
+
+  pub leaving_is : (m : Either ComingOut Ending) (c : ComingOut) → m.one ≡ c → c.slot ≡ s → c.range ≡ g → (λ v x u. comes_out m.one.slot m.one.range v x u || ending v x u) ≡ leaving
+  leaving_is m c a slot range =
+      ap (λ (n : ComingOut). let i : Marks = λ v x u. comes_out n.slot n.range v x u || ending v x u in i) a
+      ∙ ap (λ (n : ℕ). let i : Marks = λ v x u. comes_out n c.range v x u || ending v x u in i) slot
+      ∙ ap (λ (n : Range). let i : Marks = λ v x u. comes_out s n v x u || ending v x u in i) range
 
   -- ---- a step of the process, and what comes after it
 

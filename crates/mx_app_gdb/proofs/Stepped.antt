@@ -119,6 +119,10 @@ at_any l (b ∷ bs) =
     ∙ ap (λ c. ((nat_eq b.slot l.slot && c) && n) || stands_at_any (Some l) (map code_place bs)) (flip at b.address)
     ∙ ap (λ c. (is_at l.slot at b && n) || c) (at_any l bs) ∙ or_and (is_at l.slot at b) (has_breakpoint bs l.slot at) n
 
+pub none_stands : (bs : List Breakpoint) → stands_at_any None (map code_place bs) ≡ false
+none_stands [] = refl
+none_stands (b ∷ bs) = none_stands bs
+
 -- whether a step is at a breakpoint, by whom it is
 pub at_breakpoint : (s : ℕ) (l : HeldProcess) (bs : List Breakpoint) (w u : World) (x : ℕ × Event) → is_step x.1 ≡ true → held_by w x.0 ≡ Some l → l.slot ≡ s → at_stop l.out ≡ false
     → leaves_any (map code_place bs) w x u ≡ has_breakpoint bs s l.out.image.eip

@@ -1,5 +1,5 @@
 -- Moves that begin with the next event, and steps one after the other.
-use Rattle.std.proofs.Common.{◌≡◌, ◌∙◌, ℕ, Bool, true, false, cond, Option, Some, None, is_some, nat_eq, nat_le, nat_lt, refl, ap, sym, subst, inl, inr, arith}
+use Rattle.std.proofs.Common.{◌≡◌, ◌∙◌, ℕ, Bool, true, false, cond, Option, Some, None, is_none, is_some, nat_eq, nat_le, nat_lt, refl, ap, sym, subst, inl, inr, arith}
 use Rattle.std.proofs.lemmas.Bool.{eq-eqb, le-leb}
 use Rattle.mx_machine.specs.declared.events.Event.{Event}
 use Rattle.mx_machine.specs.World.{World}
@@ -193,3 +193,54 @@ module _ (k : Walk) (h : Halts) (s : ℕ) (g : Range) where
     walker = moved ∙ ap (λ (w : Walk). at w i.here) way.walker;
     steps = steps_led j i o way.steps (subst (λ (w : Walk). LeadsOn (AreStepped w h s g) j.here i.here o) way.walker led) there;
   }
+
+-- ---- what tests tell
+
+pub none_of : (o : Option Halted) → is_none o ≡ true → o ≡ None
+none_of None e = refl
+none_of (Some why) e = absurd cc
+
+pub led_there : (From : Position → Halt → Type 0) (p q : Position) (o : Option Halted) → is_none o ≡ false → LeadsOn From p q o → From p (q, o)
+led_there From p q None e led = absurd cc
+led_there From p q (Some why) e led = led
+
+module _ (k : Walk) (h : Halts) (s : ℕ) (still : IsUnchanged k h) (start : IsPosition k.records k.here) (isnt : stands k s ≡ false) where
+  pub come_made : (q : Position) (o : Option Halted) → IsMadeNext k h (q, o) → is_some o ≡ true → IsCome k h s (q, o)
+  come_made q None made e = absurd cc
+  come_made q (Some why) made e = come_halts k h s q why isnt (comes_made k h (IsComeFrom k h s) q (Some why) still start made)
+
+  pub come_on : (j : Walk) (o : Option Halted) (r : Halt) → j ≡ at k j.here → IsMadeNext k h (j.here, o) → is_some o ≡ false → IsComeFrom j h s j.here r → IsCome k h s r
+  come_on j None r moved made e come =
+      come_then k h s j.here r isnt (comes_made k h (IsComeFrom k h s) j.here None still start made) (subst (λ (w : Walk). IsComeFrom w h s j.here r) moved come)
+  come_on j (Some why) r moved made e come = absurd cc
+
+-- ---- a step, as it is made
+
+module _ (k : Walk) (h : Halts) (s : ℕ) (g : Range) (there : IsAtStep k h s) (start : IsPosition k.records k.here) (early : IsUpTo k.here k.last) where
+  pub within_made : (q : Position) (o : Option Halted) → IsMadeNext k h (q, o) → is_some o ≡ true → LeadsOn (AreStepped k h s g) k.here q o
+  within_made q None made e = absurd cc
+  within_made q (Some why) made e = first_halts k h s g there start early q why made
+
+  -- the walker after the step, and after those within the range
+  module _ (j : Walk) (moved : j ≡ at k j.here) (made : IsMadeNext k h (j.here, None)) where
+    led_as : (q : Position) (o : Option Halted) → LeadsOn (IsSteppedFrom j h s g) j.here q o → LeadsOn (IsSteppedFrom k h s g) j.here q o
+    led_as q o led = same_leads k h s g j.here k.here j.here q o (subst (λ (w : Walk). LeadsOn (IsSteppedFrom w h s g) j.here q o) moved led)
+
+    pub within_range : (q : Position) (o : Option Halted) → LeadsOn (IsSteppedFrom j h s g) j.here q o → is_some o ≡ true → LeadsOn (AreStepped k h s g) k.here q o
+    within_range q None led e = absurd cc
+    within_range q (Some why) led e = range_ends k h s g there start early j.here q made why (led_as q (Some why) led)
+
+    module _ (i : Walk) (on : i ≡ at j i.here) (led : LeadsOn (IsSteppedFrom j h s g) j.here i.here None) where
+      i_there : i ≡ at k i.here
+      i_there = on ∙ ap (λ (w : Walk). at w i.here) moved
+
+      pub within_come : (t : Position) (o : Option Halted) → IsComeFrom i h s i.here (t, o) → is_some o ≡ true → LeadsOn (AreStepped k h s g) k.here t o
+      within_come t None come e = absurd cc
+      within_come t (Some why) come e =
+          come_ends k h s g there start early j.here i.here made (led_as i.here None led) t why (subst (λ (w : Walk). IsComeFrom w h s i.here (t, Some why)) i_there come)
+
+      pub within_step : (u : Walk) (o : Option Halted) → u ≡ at i u.here → IsComeFrom i h s i.here (u.here, None) → o ≡ ends_of h s g (process_next u) → LeadsOn (AreStepped k h s g) k.here u.here o
+      within_step u o to come is =
+          let u_there : u ≡ at k u.here = to ∙ ap (λ (w : Walk). at w u.here) i_there in
+          step_ends k h s g there start early j.here i.here made (led_as i.here None led) u.here o (subst (λ (w : Walk). IsComeFrom w h s i.here (u.here, None)) i_there come)
+          (is ∙ ap (λ (w : Walk). ends_of h s g (process_next w)) u_there)
