@@ -122,7 +122,7 @@ made_by false o x e = e
 pub made_is : (k : Walk) (x : ℕ × Event) → next_made k ≡ Some x → next_event k.records k.here ≡ Some x
 made_is k x e = made_by (is_up_to k.last k.here) (next_event k.records k.here) x e
 
-none_is : (o : Option Halted) → is_some o ≡ false → o ≡ None
+pub none_is : (o : Option Halted) → is_some o ≡ false → o ≡ None
 none_is None e = refl
 none_is (Some why) e = absurd cc
 

@@ -1,23 +1,28 @@
 -- Moves that begin with the next event, and steps one after the other.
-use Rattle.std.proofs.Common.{◌≡◌, ◌∙◌, ℕ, Bool, true, false, cond, Option, Some, None, is_none, is_some, nat_eq, nat_le, nat_lt, refl, ap, sym, subst, inl, inr, arith}
+use Rattle.std.proofs.Common.{◌≡◌, ◌∙◌, ◌<◌, ◌+◌, ◌-◌, ℕ, Bool, true, false, cond, Option, Some, None, is_some, map, nat_eq, nat_le, nat_lt, not, refl, ap, sym, subst, inl, inr, arith}
 use Rattle.std.proofs.lemmas.Bool.{eq-eqb, le-leb}
 use Rattle.mx_machine.specs.declared.events.Event.{Event}
 use Rattle.mx_machine.specs.World.{World}
 use Rattle.mx_walk.specs.declared.positions.Position.{Position}
+use Rattle.mx_walk.specs.declared.several.Several.{Several}
+use Rattle.mx_walk.specs.Several.{any_marks}
 use Rattle.mx_walk.specs.Positions.{IsBefore, IsPosition, IsUpTo, is_up_to, next_event, next_position}
 use Rattle.mx_walk.specs.Seeking.{IsPassed, is_marked}
 use Rattle.mx_walk.specs.Walks.{Walk, world_here}
 use Rattle.mx_walk.proofs.Along.{itself, up_trans}
 use Rattle.mx_walk.proofs.Next.{above_to, above_trans, up_to_of}
 use Rattle.mx_walk.proofs.Passing.{found_more, passed_more}
+use Rattle.mx_walk.proofs.Unleft.{fewer_to}
 use Rattle.mx_app_look.specs.Searches.{next_made}
 use Rattle.mx_app_gdb.specs.declared.halts.Halted.{Halted}
 use Rattle.mx_app_gdb.specs.declared.halts.Halted.TheVariants.{AtEnd}
 use Rattle.mx_app_gdb.specs.declared.halts.Halts.{Halts}
+use Rattle.mx_app_gdb.specs.declared.marks.Moving.{Moving}
 use Rattle.mx_app_gdb.specs.declared.ranges.Range.{Range}
+use Rattle.mx_app_gdb.specs.Marks.{moves}
 use Rattle.mx_app_gdb.specs.Halts.{IsUnchanged, halted_here, halts_after}
 use Rattle.mx_app_gdb.specs.Moves.{AreStepped, EndsBy, Halt, IsAfterNext, IsAtStep, IsCome, IsComeFrom, IsComeIf, IsHaltFrom, IsMadeNext, IsOnFrom, IsSearchedOn, IsStepped, IsSteppedFrom, LeadsOn, Marks, at, ended, ends_of, further, halted, is_met, moves_next, process_next, stands, stands_in}
-use Rattle.mx_app_gdb.proofs.HaltedOn.{OnWay, leads_trans, made_halts, made_is, made_on}
+use Rattle.mx_app_gdb.proofs.HaltedOn.{OnWay, events_to, left_of, leads_trans, made_halts, made_is, made_on}
 use Rattle.mx_app_gdb.proofs.InRange.{leaving, range_halts, range_on, stepped_in}
 use Rattle.mx_app_gdb.proofs.OnToStep.{come_at, come_more, ending, halts_on, passes_on}
 use Rattle.mx_app_gdb.proofs.RightAfter.{halts_is, none_halts}
@@ -70,6 +75,13 @@ module _ (k : Walk) (h : Halts) (s : ℕ) (g : Range) where
   same_leads a b p q (Some why) led = same_from a b p (q, Some why) led
 
 -- ---- on to the next halt
+
+-- any of these steps, as a search is told of them
+abbrev by_moving : Moving → Marks
+by_moving m w x u = moves m.slot w x
+
+abbrev pub any_moving : Several Moving → Marks
+any_moving m w x u = any_marks (map by_moving m.marks.items) w x u
 
 module _ (k : Walk) (h : Halts) where
   -- what is on the way to a position is on the way from an earlier one
@@ -196,13 +208,13 @@ module _ (k : Walk) (h : Halts) (s : ℕ) (g : Range) where
 
 -- ---- what tests tell
 
-pub none_of : (o : Option Halted) → is_none o ≡ true → o ≡ None
-none_of None e = refl
-none_of (Some why) e = absurd cc
+pub none_of : (o : Option Halted) (b : Bool) → is_some o ≡ not b → b ≡ true → o ≡ None
+none_of None b e is = refl
+none_of (Some why) b e is = let clash : true ≡ false = e ∙ ap not is in absurd cc
 
-pub led_there : (From : Position → Halt → Type 0) (p q : Position) (o : Option Halted) → is_none o ≡ false → LeadsOn From p q o → From p (q, o)
-led_there From p q None e led = absurd cc
-led_there From p q (Some why) e led = led
+pub led_there : (From : Position → Halt → Type 0) (p q : Position) (o : Option Halted) (b : Bool) → is_some o ≡ not b → b ≡ false → LeadsOn From p q o → From p (q, o)
+led_there From p q None b e is led = let clash : false ≡ true = e ∙ ap not is in absurd cc
+led_there From p q (Some why) b e is led = led
 
 module _ (k : Walk) (h : Halts) (s : ℕ) (still : IsUnchanged k h) (start : IsPosition k.records k.here) (isnt : stands k s ≡ false) where
   pub come_made : (q : Position) (o : Option Halted) → IsMadeNext k h (q, o) → is_some o ≡ true → IsCome k h s (q, o)
@@ -244,3 +256,9 @@ module _ (k : Walk) (h : Halts) (s : ℕ) (g : Range) (there : IsAtStep k h s) (
           let u_there : u ≡ at k u.here = to ∙ ap (λ (w : Walk). at w u.here) i_there in
           step_ends k h s g there start early j.here i.here made (led_as i.here None led) u.here o (subst (λ (w : Walk). IsComeFrom w h s i.here (u.here, None)) i_there come)
           (is ∙ ap (λ (w : Walk). ends_of h s g (process_next w)) u_there)
+
+-- fewer events are left after a step
+pub fewer_left : (k : Walk) (p q : Position) (o : Option Halted) → IsPosition k.records p → IsPosition k.records q → IsPosition k.records k.last → IsUpTo q k.last → (o ≡ None → IsBefore p q)
+    → left_of o (events_to k q) < left_of None (events_to k p)
+fewer_left k p q None i j l up later = let less : events_to k q < events_to k p = fewer_to k.records p q k.last i j l (later refl) up in omega (arith, less)
+fewer_left k p q (Some why) i j l up later = omega arith

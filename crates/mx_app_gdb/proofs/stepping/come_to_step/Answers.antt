@@ -22,7 +22,7 @@ loop-walker-smaller g c =
     let i = c.search_on.new.walker in
     let o = c.in_ok-halted.halted in
     let l = subst (λ (p : Position). IsPosition k.records p) c.last.ensures.last c.last.ensures.is.position in
-    let none = none_of c.loop-walker.halted (sym c.is_none.ensures ∙ c.loop-walker-test.true) in
+    let none = none_of c.loop-walker.halted c.is_none.result c.is_none.ensures c.loop-walker-test.true in
     let way = subst (λ (n : Option Halted). OnWay k h (LeadsOn (IsComeFrom k h s) k.here) j n) none c.loop-walker.invariant.way in
     let e = c.in_ok-halted.ensures in
     subst (λ (n : Option Halted). left_of o (events_to k i.here) < left_of n (events_to k j.here)) (sym none)
@@ -37,7 +37,7 @@ loop-walker-preserved g c =
     let i = c.search_on.new.walker in
     let o = c.in_ok-halted.halted in
     let l = subst (λ (p : Position). IsPosition k.records p) c.last.ensures.last c.last.ensures.is.position in
-    let none = none_of c.loop-walker.halted (sym c.is_none.ensures ∙ c.loop-walker-test.true) in
+    let none = none_of c.loop-walker.halted c.is_none.result c.is_none.ensures c.loop-walker-test.true in
     let way = subst (λ (n : Option Halted). OnWay k h (LeadsOn (IsComeFrom k h s) k.here) j n) none c.loop-walker.invariant.way in
     let e = c.in_ok-halted.ensures in
     let away = ap (λ (w : Walk). stands w s) (sym way.walker) ∙ sym c.stands.ensures ∙ c.if-not-stands.true in
@@ -57,8 +57,8 @@ returns-clause-come g c =
     let l = subst (λ (p : Position). IsPosition k.records p) c.last.ensures.last c.last.ensures.is.position in
     elim c.loop-walker-test.branch [
       | then-loop-walker-test+else-not-stands w ↦
-          let none = none_of o (sym c.is_none.ensures ∙ w.loop-walker-test.true) in
+          let none = none_of o c.is_none.result c.is_none.ensures w.loop-walker-test.true in
           let way = subst (λ (n : Option Halted). OnWay k h (LeadsOn (IsComeFrom k h s) k.here) j n) none c.loop-walker.invariant.way in
           subst (λ (n : Option Halted). IsComeFrom k h s k.here (j.here, n)) (sym none) (come_there k h s j way l (sym w.stands.ensures ∙ w.if-not-stands.false))
-      | else-loop-walker-test w ↦ led_there (IsComeFrom k h s) k.here j.here o (sym c.is_none.ensures ∙ w.loop-walker-test.false) c.loop-walker.invariant.way.leads
+      | else-loop-walker-test w ↦ led_there (IsComeFrom k h s) k.here j.here o c.is_none.result c.is_none.ensures w.loop-walker-test.false c.loop-walker.invariant.way.leads
     ]
