@@ -1,7 +1,7 @@
 -- A talk, a byte more.
 use Rattle.std.proofs.KnownBytes.{Appends-nil, Appends-trans}
 use Rattle.std.specs.Io.KnownBytes.{Appends}
-use Rattle.std.proofs.Common.{◌≡◌, ◌-◌, ◌+◌, ◌<◌, ◌≤◌, ◌++◌, ℕ, suc, List, [], ◌∷◌, append-nil, append_assoc, Option, Some, None, Result, Ok, Err, IfOk, OnOk, ap, refl, sym, subst, arith}
+use Rattle.std.proofs.Common.{◌≡◌, ◌∙◌, ◌-◌, ◌+◌, ◌<◌, ◌≤◌, ◌++◌, ℕ, suc, List, [], ◌∷◌, append-nil, append_assoc, Option, Some, None, Result, Ok, Err, IfOk, OnOk, ap, refl, sym, subst, arith}
 use Rattle.mx_rsp.specs.declared.hearing.Heard.{Heard}
 use Rattle.mx_rsp.specs.Hearing.{heard_of, reading_after}
 use Rattle.mx_app_gdb.specs.declared.talking.Talk.{Talk}
