@@ -1,5 +1,6 @@
 mod Folders
 mod Lists
+mod Moved
 mod Setting
 mod Conversing
 mod Held

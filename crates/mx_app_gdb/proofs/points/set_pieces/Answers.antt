@@ -1,8 +1,8 @@
-use Rattle.std.proofs.Common.{◌∙◌, ◌<◌, ℕ, List, ap, subst}
+use Rattle.std.proofs.Common.{◌∙◌, ◌<◌, ℕ, ap, subst}
 use Rattle.std.specs.Prelude.{unwrap_or}
 use Rattle.mx_app_look.specs.declared.watches.Watch.{Watch}
 use Rattle.mx_app_look.specs.Watches.{with_watch}
-use Rattle.mx_app_gdb.specs.Points.{piece_at, pieces, pieces_of}
+use Rattle.mx_app_gdb.specs.Points.{piece_at, pieces_of}
 use Rattle.mx_app_gdb.proofs.Setting.{piece_more, set_is}
 use Rattle.mx_app_gdb.proofs.points.set_pieces.Goals as goal
 
