@@ -16,3 +16,4 @@ mod HaltedOn
 mod SteppedOn
 mod Grown
 mod Behind
+mod Opening
