@@ -1,4 +1,5 @@
-# What gdb 13 wants to be told of a machine; then `mx CONFIG LOG` begins, with each service as a process of its own:
+# What gdb 13 wants to be told of a machine; then `mx CONFIG LOG` begins, with each service as a process of its own, if the
+# command mx is in the PATH:
 #     gdb -x mx.gdb -ex 'mx session.config run.log'
 # At the begin the whole history is walked once, which gdb has to wait for.
 set remotetimeout 600

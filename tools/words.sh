@@ -13,15 +13,28 @@ show_first_steps() {
         "$1 --prove" "$3"
 }
 
+# Prints yes if a failure of these words is explained: if that is asked for, or if standard error is a terminal, unless it
+# is asked not to.
+explains_words() {
+    explained=''
+    [ ! -t 2 ] || explained=yes
+    for word in "$@"; do
+        case $word in
+            --no-explain) return 0 ;;
+            --explain) explained=yes ;;
+        esac
+    done
+    [ -z "$explained" ] || echo yes
+}
+
 # Ends with status 3 if these words are those of an `as` that would write a program over its own text, also by another
 # name of the same file.
 refuse_own_text() {
     [ "${1-}" = as ] || return 0
-    text='' file='' explains=''
+    text='' file='' explains=$(explains_words "$@")
     for word in "$@"; do
         case $word in
-            as) ;;
-            --explain) explains=yes ;;
+            as | --explain | --no-explain | --force) ;;
             *)
                 [ -z "$file" ] || return 0
                 if [ -z "$text" ]; then text=$word; else file=$word; fi ;;
@@ -52,7 +65,8 @@ refuse_same() {
 # sums over a file that it reads, or its sums over its history, also by another name of the same file.
 refuse_own_files() {
     case ${1-} in step | run | turns | sweep) ;; *) return 0 ;; esac
-    command=$1 config='' second='' third='' label=LOG save='' events='' sums='' compared='' explains='' option=''
+    command=$1 config='' second='' third='' label=LOG save='' events='' sums='' compared='' option=''
+    explains=$(explains_words "$@")
     shift
     for word in "$@"; do
         case $option in
@@ -62,8 +76,7 @@ refuse_own_files() {
             ?*) option='' ; continue ;;
         esac
         case $word in
-            --explain) explains=yes ;;
-            --numbered | --no-explain | --strict | --live | --raw) ;;
+            --numbered | --explain | --no-explain | --force | --strict | --live | --raw) ;;
             --save=*) save=${word#*=} ;;
             --events=*) events=${word#*=} ;;
             --sums=*) sums=${word#*=} ;;

@@ -16,6 +16,7 @@ use Rattle.mx_app_db.specs.Asked.{Asked}
 use Rattle.mx_app_db.specs.Written.{Written, kept}
 use Rattle.mx_app_start.specs.Programs.{SparesProgram, names_program}
 use Rattle.mx_app_start.proofs.Appended.{appends_nothing}
+use Rattle.mx_app_start.proofs.SetupLemmas.{asked_on}
 use Rattle.mx_walk.specs.declared.progress.Part.{Part}
 use Rattle.mx_app_db.specs.Text.{saved_text}
 use Rattle.mx_app_db.specs.Config.{Config}
@@ -34,6 +35,8 @@ use Rattle.mx_app_db.specs.Replayed.{Replayed}
 use Rattle.mx_app_db.specs.DebugLines.{DebuggedWorld, debug_lines_made}
 use Rattle.mx_app_db.specs.LineTexts.{debug_lines_text}
 use Rattle.mx_app_draw.specs.Scenes.{IsDrawingPrinted}
+use Rattle.mx_app_gdb.specs.Talks.{IsTalked}
+use Rattle.mx_app_gdb.specs.declared.talking.TalkEnding.{TalkEnding}
 use Rattle.mx_app_page.specs.Pages.{IsPagePrinted, run_of_files}
 use Rattle.mx_app_page.specs.Strips.{PrintsSweptPage}
 use Rattle.mx_app_look.specs.Sessions.{HasFailed, IsBegun, IsSession, IsWhole, begun_text, sight_at}
@@ -53,8 +56,9 @@ use Rattle.mx_why.specs.Telling.{IsWhyPrinted}
 use Rattle.mx_app.specs.Deeds.{Deeds, IsAlone, nothing_done}
 use Rattle.mx_app.specs.Explained.{ExplainsConfig}
 use Rattle.mx_app.specs.Named.{Assembles, ShowsFile}
+use Rattle.mx_app.specs.Sparing.{SparesRequest}
 use Rattle.mx_app.specs.declared.performing.Done.{Done}
-use Rattle.mx_app.specs.Requests.{Debugs, Draws, Explains, Looks, Pages, Performs, PerformsApart, PerformsUntyped, Replays, SavesSteps, Shows, Steps, Traces, Whys, done_after_live, done_after_replay, done_after_run, done_after_sweep, done_after_turns, done_after_work, over_read}
+use Rattle.mx_app.specs.Requests.{Debugs, Draws, Explains, Looks, Pages, Performs, PerformsApart, PerformsUntyped, Replays, SavesSteps, Shows, Steps, Talks, Traces, Whys, done_after_gdb, done_after_live, done_after_replay, done_after_run, done_after_sweep, done_after_turns, done_after_work, over_read}
 
 -- what a request asked for and wrote, and what is done of it
 abbrev pub AsksAndWrites : List Asked → List Asked → List Written → List Written → (List Asked → List Written → Type 0) → Type 0
@@ -118,6 +122,18 @@ pub looks : {heard : List Heard} {told : List Note} (asked now : List Asked) (fi
 looks {heard} {told} asked now files files_now given given_now shown later config log asks x y (Ok u) r p f e same =
     (record { asked = p.0; written = []; typed = p.5; heard = []; told = []; shown = walk_shown p.4.records p.4.last ++ p.7 }, p.8, same ∙ sym (append-nil files), p.9, sym (append-nil heard), sym (append-nil told), p.11, ((refl, refl), Ok u, refl, (p.1, p.2, p.3, p.4, p.6, p.7, p.12, p.13, refl, p.10, p.14, p.15), e))
 looks {heard} {told} asked now files files_now given given_now shown later config log asks x y (Err why) r p f e same =
+    (record { asked = f.0; written = []; typed = f.1; heard = []; told = []; shown = f.2 }, f.3, same ∙ sym (append-nil files), f.4, sym (append-nil heard), sym (append-nil told), f.5, ((refl, refl), Err why, refl, f.6, e))
+
+-- a talk with gdb was held, or didn't begin
+pub talked : {heard : List Heard} {told : List Note} (asked now : List Asked) (files files_now : List Written) (given given_now : List (Option (List ℕ))) (shown later : List Part) (config log : List ℕ) (slot : Option ℕ) (x y : Option (List ℕ)) (d : Result TalkEnding Kind) (r : Result Done Kind)
+    → IfOk d (λ ending. (qs : List Asked) × (typed : List (Option (List ℕ))) × (ps : List Part)
+    × (now ≡ asked ++ qs) × (given_now ≡ given ++ typed) × (later ≡ shown ++ ps) × IsTalked config log slot qs typed ps (λ text. Appends x y text) ending)
+    → IfErr d (λ f. (qs : List Asked) × (typed : List (Option (List ℕ))) × (ps : List Part) × (now ≡ asked ++ qs) × (given_now ≡ given ++ typed) × (later ≡ shown ++ ps) × HasFailed config log qs ps f)
+    → r ≡ done_after_gdb d → files_now ≡ files
+    → Grows asked now files files_now given given_now heard heard told told shown later (λ did. IsAlone did × (e : Result TalkEnding Kind) × (did.written ≡ []) × Talks config log slot did.asked did.typed did.shown (λ text. Appends x y text) e × (r ≡ done_after_gdb e))
+talked {heard} {told} asked now files files_now given given_now shown later config log slot x y (Ok ending) r p f e same =
+    (record { asked = p.0; written = []; typed = p.1; heard = []; told = []; shown = p.2 }, p.3, same ∙ sym (append-nil files), p.4, sym (append-nil heard), sym (append-nil told), p.5, ((refl, refl), Ok ending, refl, p.6, e))
+talked {heard} {told} asked now files files_now given given_now shown later config log slot x y (Err why) r p f e same =
     (record { asked = f.0; written = []; typed = f.1; heard = []; told = []; shown = f.2 }, f.3, same ∙ sym (append-nil files), f.4, sym (append-nil heard), sym (append-nil told), f.5, ((refl, refl), Err why, refl, f.6, e))
 
 -- a text was assembled, and nothing printed
@@ -272,16 +288,25 @@ module _ (asked now : List Asked) (files : List Written) where
   whys config log x y (Ok how) r p f e = (p.0, [], p.4, sym (append-nil files), (Ok how, refl, (p.1, p.2, p.3, p.5, p.6), e))
   whys config log x y (Err why) r p f e = (f.0, [], f.1, sym (append-nil files), (Err why, refl, f.2, e))
 
--- ---- whether it writes over what it reads
+-- ---- whether it writes over what it reads, or over a file that is spared
 
-pub spared : (WasShown : Part → Type 0) {given : List (Option (List ℕ))} {heard : List Heard} {told : List Note} {shown : List Part} (asks : Bool) (asked : List Asked) (files : List Written) (known : Option (List ℕ)) (r : Result Done Kind) (request : CommandRequest)
+pub over : (WasShown : Part → Type 0) {given : List (Option (List ℕ))} {heard : List Heard} {told : List Note} {shown : List Part} (asks force : Bool) (asked : List Asked) (files : List Written) (known : Option (List ℕ)) (r : Result Done Kind) (request : CommandRequest)
     → writes_over request ≡ true → r ≡ Err over_read
-    → Grows asked asked files files given given heard heard told told shown shown (λ did. Performs WasShown request asks did (λ text. Appends known known text) r)
-spared WasShown {given} {heard} {told} {shown} asks asked files known r request over e =
-    (nothing_done, sym (append-nil asked), sym (append-nil files), sym (append-nil given), sym (append-nil heard), sym (append-nil told), sym (append-nil shown), inl (over, refl, appends_nothing known, e))
+    → Grows asked asked files files given given heard heard told told shown shown (λ did. Performs WasShown request force asks did (λ text. Appends known known text) r)
+over WasShown {given} {heard} {told} {shown} asks force asked files known r request read e =
+    (nothing_done, sym (append-nil asked), sym (append-nil files), sym (append-nil given), sym (append-nil heard), sym (append-nil told), sym (append-nil shown), inl (read, refl, appends_nothing known, e))
 
-pub apart : (WasShown : Part → Type 0) (asked now : List Asked) (files written : List Written) (given typed : List (Option (List ℕ))) (heard heard_now : List Heard) (told told_now : List Note) (shown later : List Part) (asks : Bool) (Prints : List ℕ → Type 0) (r : Result Done Kind) (request : CommandRequest)
+pub spared : (WasShown : Part → Type 0) {given : List (Option (List ℕ))} {heard : List Heard} {told : List Note} {shown : List Part} (asks force : Bool) (asked now : List Asked) (files : List Written) (known : Option (List ℕ)) (f : Kind) (r : Result Done Kind) (request : CommandRequest)
     → writes_over request ≡ false
-    → Grows asked now files written given typed heard heard_now told told_now shown later (λ did. PerformsApart WasShown request asks did Prints r)
-    → Grows asked now files written given typed heard heard_now told told_now shown later (λ did. Performs WasShown request asks did Prints r)
-apart WasShown asked now files written given typed heard heard_now told told_now shown later asks Prints r request other done = (done.0, done.1, done.2, done.3, done.4, done.5, done.6, inr (other, done.7))
+    → (qs : List Asked) × (now ≡ asked ++ qs) × SparesRequest request force qs (Err f) → r ≡ Err f
+    → Grows asked now files files given given heard heard told told shown shown (λ did. Performs WasShown request force asks did (λ text. Appends known known text) r)
+spared WasShown {given} {heard} {told} {shown} asks force asked now files known f r request other p e =
+    (record nothing_done { asked = p.0 }, p.1, sym (append-nil files), sym (append-nil given), sym (append-nil heard), sym (append-nil told), sym (append-nil shown), inr (other, inl (f, (refl, refl, (refl, refl), refl, appends_nothing known), p.2, e)))
+
+pub apart : (WasShown : Part → Type 0) (asked between now : List Asked) (files written : List Written) (given typed : List (Option (List ℕ))) (heard heard_now : List Heard) (told told_now : List Note) (shown later : List Part) (asks force : Bool) (Prints : List ℕ → Type 0) (r : Result Done Kind) (request : CommandRequest)
+    → writes_over request ≡ false
+    → (qs : List Asked) × (between ≡ asked ++ qs) × SparesRequest request force qs (Ok tt)
+    → Grows between now files written given typed heard heard_now told told_now shown later (λ did. PerformsApart WasShown request asks did Prints r)
+    → Grows asked now files written given typed heard heard_now told told_now shown later (λ did. Performs WasShown request force asks did Prints r)
+apart WasShown asked between now files written given typed heard heard_now told told_now shown later asks force Prints r request other p done =
+    (record done.0 { asked = p.0 ++ done.0.asked }, asked_on asked between now p.0 done.0.asked p.1 done.1, done.2, done.3, done.4, done.5, done.6, inr (other, inr (p.0, done.0.asked, refl, p.2, done.7)))

@@ -43,6 +43,10 @@ Does old new asked written contents typed heard told shown Holds =
 abbrev pub IsAlone : Deeds → Type 0
 IsAlone did = (did.heard ≡ []) × (did.told ≡ [])
 
+-- nothing was written, typed, heard, told, shown or printed
+abbrev pub IsIdle : Deeds → (List ℕ → Type 0) → Type 0
+IsIdle did Prints = (did.written ≡ []) × (did.typed ≡ []) × IsAlone did × (did.shown ≡ []) × Prints []
+
 -- THE SAME of a command that takes no lines and shows no progress, by the files that it asked for and wrote
 abbrev pub DoesUntyped : {R F W : Type 0} → Channels R F W → Channels R F W → (R → List Asked) → (F → List Written)
     → (W → Option (List ℕ))

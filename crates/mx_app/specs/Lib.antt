@@ -4,5 +4,6 @@ pub mod Ending
 pub mod Explained
 pub mod Named
 pub mod Requests
+pub mod Sparing
 pub mod Summing
 pub mod Words

@@ -56,9 +56,10 @@ use Rattle.mx_walk.specs.Walks.{Walk}
 use Rattle.mx_app_db.specs.DebugLines.{DebuggedWorld, debug_lines_made}
 use Rattle.mx_app_db.specs.LineTexts.{debug_lines_text}
 use Rattle.mx_why.specs.Telling.{IsWhyPrinted}
-use Rattle.mx_app.specs.Deeds.{Deeds, IsAlone, nothing_done}
+use Rattle.mx_app.specs.Deeds.{Deeds, IsAlone, IsIdle, nothing_done}
 use Rattle.mx_app.specs.Explained.{ExplainsConfig}
 use Rattle.mx_app.specs.Named.{Assembles, ShowsFile}
+use Rattle.mx_app.specs.Sparing.{SparesRequest}
 use Rattle.mx_app.specs.declared.ending.DrivenEnding.TheVariants as driven
 use Rattle.mx_app.specs.declared.performing.Done.{Done}
 
@@ -300,8 +301,18 @@ PerformsApart WasShown request asks did Prints r =
 abbrev pub over_read : Kind
 over_read = failure_if (Some OverRead) FileWritten
 
--- WHAT IS DONE OF A REQUEST: nothing, if it would write over what it reads
-abbrev pub Performs : (Part → Type 0) → CommandRequest → Bool → Deeds → (List ℕ → Type 0) → Result Done Kind → Type 0
-Performs WasShown request asks did Prints r =
+-- what is done of a request that writes over nothing that it reads: nothing, if a file is spared that it would write
+-- over
+abbrev pub PerformsSpared : (Part → Type 0) → CommandRequest → Bool → Bool → Deeds → (List ℕ → Type 0)
+    → Result Done Kind → Type 0
+PerformsSpared WasShown request force asks did Prints r =
+    ((f : Kind) × IsIdle did Prints × SparesRequest request force did.asked (Err f) × (r ≡ Err f))
+    ⊎ ((before after : List Asked) × (did.asked ≡ before ++ after) × SparesRequest request force before (Ok tt)
+    × PerformsApart WasShown request asks (record did { asked = after }) Prints r)
+
+-- WHAT IS DONE OF A REQUEST, which may be forced to write over any file: nothing, if it would write over what it reads
+abbrev pub Performs : (Part → Type 0) → CommandRequest → Bool → Bool → Deeds → (List ℕ → Type 0) → Result Done Kind
+    → Type 0
+Performs WasShown request force asks did Prints r =
     ((writes_over request ≡ true) × (did ≡ nothing_done) × Prints [] × (r ≡ Err over_read))
-    ⊎ ((writes_over request ≡ false) × PerformsApart WasShown request asks did Prints r)
+    ⊎ ((writes_over request ≡ false) × PerformsSpared WasShown request force asks did Prints r)

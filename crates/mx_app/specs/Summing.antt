@@ -20,8 +20,9 @@ use Rattle.mx_app_explain.specs.declared.sums_fault.SumsFault.TheVariants.{NameT
 use Rattle.mx_app_explain.specs.declared.sums.MachinePart.{MachinePart}
 use Rattle.mx_app_explain.specs.declared.sums.PartSum.{PartSum}
 use Rattle.mx_walk.specs.declared.progress.Part.{Part}
-use Rattle.mx_app.specs.Deeds.{Deeds, IsAlone}
+use Rattle.mx_app.specs.Deeds.{Deeds, IsIdle}
 use Rattle.mx_app.specs.Requests.{Performs}
+use Rattle.mx_app.specs.Sparing.{SparesSums}
 use Rattle.mx_app.specs.declared.performing.Done.{Done}
 use Rattle.mx_app.specs.declared.summing.LineFailure.{LineFailure}
 use Rattle.mx_app.specs.declared.summing.LineFailure.TheVariants.{Request, Sums}
@@ -82,22 +83,18 @@ WritesSums name text w (Err f) = (kind : ErrorKind) × (w ≡ unkept name text k
 
 -- ---- the request, and the sums before or after it
 
--- nothing was written, typed, heard, told, shown or printed
-abbrev pub IsIdle : Deeds → (List ℕ → Type 0) → Type 0
-IsIdle did Prints = (did.written ≡ []) × (did.typed ≡ []) × IsAlone did × (did.shown ≡ []) × Prints []
-
 abbrev pub by_request : Result Done Kind → Result Done LineFailure
 by_request (Ok done) = Ok done
 by_request (Err f) = Err (Request f)
 
 -- the request is done of a machine that has the file's sums, and of no other
-abbrev pub PerformsCompared : (Part → Type 0) → CommandRequest → List ℕ → Bool → Deeds → (List ℕ → Type 0)
+abbrev pub PerformsCompared : (Part → Type 0) → CommandRequest → Bool → List ℕ → Bool → Deeds → (List ℕ → Type 0)
     → Result Done LineFailure → Type 0
-PerformsCompared WasShown request name asks did Prints r =
+PerformsCompared WasShown request force name asks did Prints r =
     ((f : LineFailure) × IsIdle did Prints × IsCompared (first_name request) name did.asked (Err f) × (r ≡ Err f))
     ⊎ ((before after : List Asked) × (d : Result Done Kind) × (did.asked ≡ before ++ after)
     × IsCompared (first_name request) name before (Ok tt)
-    × Performs WasShown request asks (record did { asked = after }) Prints d × (r ≡ by_request d))
+    × Performs WasShown request force asks (record did { asked = after }) Prints d × (r ≡ by_request d))
 
 -- what was written after a request, and how the line ends: the sums of this text if the request is done, and nothing if
 -- it failed
@@ -109,34 +106,43 @@ IsWrittenAfter name text ws (Ok done) r =
     ⊎ ((f : SumsFault) × WritesSums name text w (Err f) × (r ≡ Err (Sums f))))
 
 -- the request is done of a machine that has sums, and then they are written
-abbrev pub PerformsSummed : (Part → Type 0) → CommandRequest → List ℕ → Bool → Deeds → (List ℕ → Type 0)
+abbrev pub PerformsSummed : (Part → Type 0) → CommandRequest → Bool → List ℕ → Bool → Deeds → (List ℕ → Type 0)
     → Result Done LineFailure → Type 0
-PerformsSummed WasShown request name asks did Prints r =
+PerformsSummed WasShown request force name asks did Prints r =
     ((f : Kind) × IsIdle did Prints × IsUnsummed (first_name request) did.asked f × (r ≡ Err (Request f)))
     ⊎ ((before after : List Asked) × (c : Config) × (vs : List Service) × (first last : List Written)
     × (d : Result Done Kind)
     × (did.asked ≡ before ++ after) × (did.written ≡ first ++ last) × IsSetup (first_name request) before c vs
-    × Performs WasShown request asks (record did { asked = after; written = first }) Prints d
+    × Performs WasShown request force asks (record did { asked = after; written = first }) Prints d
     × IsWrittenAfter name (sums_text (machine_sums c vs)) last d r)
 
--- with a file of sums: another word may not name it
-abbrev pub PerformsWith : (Part → Type 0) → CommandRequest → List ℕ → Bool → Deeds → (List ℕ → Type 0)
+-- the same, if the file of sums isn't spared
+abbrev pub PerformsSparing : (Part → Type 0) → CommandRequest → Bool → List ℕ → Bool → Deeds → (List ℕ → Type 0)
     → Result Done LineFailure → Type 0
-PerformsWith WasShown request name asks did Prints r =
+PerformsSparing WasShown request force name asks did Prints r =
+    ((f : SumsFault) × IsIdle did Prints × SparesSums name force did.asked (Err f) × (r ≡ Err (Sums f)))
+    ⊎ ((before after : List Asked) × (did.asked ≡ before ++ after) × SparesSums name force before (Ok tt)
+    × PerformsSummed WasShown request force name asks (record did { asked = after }) Prints r)
+
+-- with a file of sums: another word may not name it
+abbrev pub PerformsWith : (Part → Type 0) → CommandRequest → Bool → List ℕ → Bool → Deeds → (List ℕ → Type 0)
+    → Result Done LineFailure → Type 0
+PerformsWith WasShown request force name asks did Prints r =
     ((names_file request name ≡ true) × (did.asked ≡ []) × IsIdle did Prints × (r ≡ Err (Sums NameTaken)))
     ⊎ (((names_file request name ≡ false) × (writes_sums request ≡ true)
-    × PerformsSummed WasShown request name asks did Prints r)
+    × PerformsSparing WasShown request force name asks did Prints r)
     ⊎ ((names_file request name ≡ false) × (writes_sums request ≡ false)
-    × PerformsCompared WasShown request name asks did Prints r))
+    × PerformsCompared WasShown request force name asks did Prints r))
 
-abbrev pub PerformsBy : (Part → Type 0) → CommandRequest → Option (List ℕ) → Bool → Deeds → (List ℕ → Type 0)
+abbrev pub PerformsBy : (Part → Type 0) → CommandRequest → Bool → Option (List ℕ) → Bool → Deeds → (List ℕ → Type 0)
     → Result Done LineFailure → Type 0
-PerformsBy WasShown request None asks did Prints r =
-    (d : Result Done Kind) × Performs WasShown request asks did Prints d × (r ≡ by_request d)
-PerformsBy WasShown request (Some name) asks did Prints r = PerformsWith WasShown request name asks did Prints r
+PerformsBy WasShown request force None asks did Prints r =
+    (d : Result Done Kind) × Performs WasShown request force asks did Prints d × (r ≡ by_request d)
+PerformsBy WasShown request force (Some name) asks did Prints r =
+    PerformsWith WasShown request force name asks did Prints r
 
 -- WHAT IS DONE OF A COMMAND LINE, by what its request does
 abbrev pub PerformsLine : (Part → Type 0) → CommandLine → Bool → Deeds → (List ℕ → Type 0) → Result Done LineFailure
     → Type 0
 PerformsLine WasShown line asks did Prints r =
-    PerformsBy WasShown line.request (option_map (λ s. s.now) line.sums) asks did Prints r
+    PerformsBy WasShown line.request line.force (option_map (λ s. s.now) line.sums) asks did Prints r

@@ -12,7 +12,7 @@ use Rattle.mx_app_explain.specs.Explaining.{explained}
 use Rattle.mx_app_command.specs.Mistakes.{IsMistake, mistake_given}
 use Rattle.mx_app_command.specs.declared.command_line.Mistake.{Mistake}
 use Rattle.mx_app_command.specs.declared.command_line.Mistake.TheVariants as mistakes
-use Rattle.mx_app_command.specs.Words.{Asks, AsksForSilence, AsksForSums, AsksToExplain, mx_grammar}
+use Rattle.mx_app_command.specs.Words.{Asks, AsksForForce, AsksForSilence, AsksForSums, AsksToExplain, mx_grammar}
 use Rattle.mx_app_failure.specs.declared.failure.Failure.{Failure as Kind}
 use Rattle.mx_app_failure.specs.declared.failure.Failure.TheVariants.{NotText, NoMemory}
 use Rattle.mx_app_failure.specs.Failure.{IsWanting}
@@ -146,6 +146,7 @@ IsPerformed WasShown texts asks shows did Prints r =
     × AsksToExplain line.explains (subcommand_of mx_grammar texts)
     × AsksForSilence line.silent (subcommand_of mx_grammar texts)
     × AsksForSums (option_map (λ s. s.now) line.sums) (subcommand_of mx_grammar texts)
+    × AsksForForce line.force (subcommand_of mx_grammar texts)
     × (mistake_given (subcommand_of mx_grammar texts) ≡ None)
     × PerformsLine WasShown line asks did Prints d × IsAnswered line shows d r)
     ⊎ ((m : Mistake) × IsMistake texts m × (did.asked ≡ []) × (did.written ≡ []) × (did.typed ≡ []) × IsAlone did

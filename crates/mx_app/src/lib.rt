@@ -11,6 +11,7 @@ mod explain;
 mod named;
 mod performing;
 mod program;
+mod sparing;
 mod summing;
 
 pub use asking::texts_asked;

@@ -1,4 +1,4 @@
-//! Does what the program's words ask for, unless it would write over a file that it reads.
+//! Does what the program's words ask for, unless it would write over a file that it reads, or that is spared.
 
 ghost use Rattle.std.specs.Prelude.{◌≡◌};
 ghost use Rattle.mx_app.specs.Deeds.{Does};
@@ -8,6 +8,7 @@ use crate::command_io::CommandIo;
 use crate::ending::DrivenEnding;
 use crate::explain::explain_named;
 use crate::named::{as_named, listing_named, one_named};
+use crate::sparing::spare_for_request;
 use mx_app_command::{CommandRequest, RecordRange};
 use mx_app_db::{HistoryPart, NamedScript, Replayed, db, replay, step, step_saved, trace};
 use mx_app_draw::draw;
@@ -387,7 +388,8 @@ fn perform_apart<
 /// Does what a request asks for, and answers the status to end with, and how turns or a run ended. The
 /// processors of `run` are threads, and `sweep` has some. `look` answers the typed lines, and `gdb` the bytes that
 /// come. They show their progress, and so do `run`, `turns`, `sweep` and a page with a sweep. No file that is read is
-/// written over: nothing is read or written then. Two names of one file aren't seen to be one.
+/// written over: nothing is read or written then. Two names of one file aren't seen to be one. Nor is a file written over
+/// that holds something else than what is written, unless that is forced: only its first bytes are read then.
 pub fn perform<
     T: Threads + Wait + Clock + Sync,
     R: Reader + Drop,
@@ -401,14 +403,16 @@ pub fn perform<
     alloc: Global,
     io: &mut CommandIo<R, F, W, L, O, P>,
     request: CommandRequest<'_>,
+    force: bool,
 ) -> Result<Done, Failure>
     ensures asks { io.new.asks ≡ io.old.asks }
     ensures done { Does io.old io.new R.asked F.written W.contents L.given O.heard O.told P.shown
         (λ did Prints. Performs (P.was_shown io.old.progress)
-        request.entry io.old.asks did Prints result) }
+        request.entry force io.old.asks did Prints result) }
 {
     if request.writes_over() {
         return Err(Failure::of(Some(FileProblem::OverRead), About::Written));
     }
+    spare_for_request(alloc, &mut io.channels.reader, request, force)?;
     perform_apart(rt, alloc, io, request)
 }

@@ -8,10 +8,11 @@ ghost use Rattle.mx_app_db.specs.Setup.{IsSetup};
 ghost use Rattle.mx_app_db.specs.Written.{Written};
 ghost use Rattle.mx_app_explain.specs.Sums.{machine_sums, sums_text};
 ghost use Rattle.mx_app.specs.Deeds.{Does};
-ghost use Rattle.mx_app.specs.Summing.{ComparesSums, IsCompared, IsUnsummed, PerformsCompared, PerformsLine, PerformsSummed, PerformsWith, WritesSums, first_name, line_failure_status, writes_sums};
+ghost use Rattle.mx_app.specs.Summing.{ComparesSums, IsCompared, IsUnsummed, PerformsCompared, PerformsLine, PerformsSparing, PerformsSummed, PerformsWith, WritesSums, first_name, line_failure_status, writes_sums};
 
 use crate::command_io::CommandIo;
 use crate::performing::{Done, perform};
+use crate::sparing::spare_for_sums;
 use mx_app_command::{CommandLine, CommandRequest};
 use mx_app_explain::{
     PartSum, SumsFault, first_other, machine_sums, passed_sums_are_own, sums_text, unread,
@@ -208,17 +209,44 @@ fn perform_summed<
     alloc: Global,
     io: &mut CommandIo<R, F, W, L, O, P>,
     request: CommandRequest<'_>,
+    force: bool,
     name: &str,
 ) -> Result<Done, LineFailure>
     ensures asks { io.new.asks ≡ io.old.asks }
     ensures done { Does io.old io.new R.asked F.written W.contents L.given O.heard O.told P.shown
         (λ did Prints. PerformsSummed (P.was_shown io.old.progress)
-        request.entry name.now io.old.asks did Prints result) }
+        request.entry force name.now io.old.asks did Prints result) }
 {
     let text = sums_text_named(alloc, &mut io.channels.reader, first_name(request))?;
-    let done = perform(rt, alloc, io, request)?;
+    let done = perform(rt, alloc, io, request, force)?;
     write_sums(alloc, &mut io.channels.files, name, text.as_slice())?;
     Ok(done)
+}
+
+/// Does the same, unless the file of sums is spared.
+fn perform_sparing<
+    T: Threads + Wait + Clock + Sync,
+    R: Reader + Drop,
+    F: FileWriter + Drop,
+    W: Write + Drop,
+    L: LineReader + Drop,
+    O: Outside + Drop,
+    P: Progress + SharedProgress + Sync + Drop,
+>(
+    rt: &T,
+    alloc: Global,
+    io: &mut CommandIo<R, F, W, L, O, P>,
+    request: CommandRequest<'_>,
+    force: bool,
+    name: &str,
+) -> Result<Done, LineFailure>
+    ensures asks { io.new.asks ≡ io.old.asks }
+    ensures done { Does io.old io.new R.asked F.written W.contents L.given O.heard O.told P.shown
+        (λ did Prints. PerformsSparing (P.was_shown io.old.progress)
+        request.entry force name.now io.old.asks did Prints result) }
+{
+    spare_for_sums(alloc, &mut io.channels.reader, name, force)?;
+    perform_summed(rt, alloc, io, request, force, name)
 }
 
 /// Does a request of a machine that has the sums of a file, and of no other.
@@ -235,15 +263,16 @@ fn perform_compared<
     alloc: Global,
     io: &mut CommandIo<R, F, W, L, O, P>,
     request: CommandRequest<'_>,
+    force: bool,
     name: &str,
 ) -> Result<Done, LineFailure>
     ensures asks { io.new.asks ≡ io.old.asks }
     ensures done { Does io.old io.new R.asked F.written W.contents L.given O.heard O.told P.shown
         (λ did Prints. PerformsCompared (P.was_shown io.old.progress)
-        request.entry name.now io.old.asks did Prints result) }
+        request.entry force name.now io.old.asks did Prints result) }
 {
     compare_named(alloc, &mut io.channels.reader, first_name(request), name)?;
-    let compared = perform(rt, alloc, io, request)?;
+    let compared = perform(rt, alloc, io, request, force)?;
     Ok(compared)
 }
 
@@ -262,20 +291,21 @@ fn perform_with_sums<
     alloc: Global,
     io: &mut CommandIo<R, F, W, L, O, P>,
     request: CommandRequest<'_>,
+    force: bool,
     name: &str,
 ) -> Result<Done, LineFailure>
     ensures asks { io.new.asks ≡ io.old.asks }
     ensures done { Does io.old io.new R.asked F.written W.contents L.given O.heard O.told P.shown
         (λ did Prints. PerformsWith (P.was_shown io.old.progress)
-        request.entry name.now io.old.asks did Prints result) }
+        request.entry force name.now io.old.asks did Prints result) }
 {
     if request.names_file(name) {
         return Err(LineFailure::Sums(SumsFault::NameTaken));
     }
     if writes_sums(request) {
-        perform_summed(rt, alloc, io, request, name)
+        perform_sparing(rt, alloc, io, request, force, name)
     } else {
-        perform_compared(rt, alloc, io, request, name)
+        perform_compared(rt, alloc, io, request, force, name)
     }
 }
 
@@ -302,9 +332,9 @@ pub fn perform_line<
 {
     match line.sums {
         None => {
-            let done = perform(rt, alloc, io, line.request)?;
+            let done = perform(rt, alloc, io, line.request, line.force)?;
             Ok(done)
         }
-        Some(name) => perform_with_sums(rt, alloc, io, line.request, name),
+        Some(name) => perform_with_sums(rt, alloc, io, line.request, line.force, name),
     }
 }

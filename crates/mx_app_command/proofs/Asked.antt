@@ -77,7 +77,7 @@ gdb_left name rows is asked =
           | inl e ↦ absurd (one_name name (codes "trace") (codes "gdb") refl is e)
           | inr two ↦ elim two [
             | inl e ↦ absurd (one_name name (codes "draw") (codes "gdb") refl is e)
-            | inr e ↦ absurd (one_name name (codes "page") (codes "gdb") refl is e)
+            | inr p ↦ absurd (one_name name (codes "page") (codes "gdb") refl is p.0)
           ]
         ]
         | inr more ↦ elim more [
@@ -90,10 +90,9 @@ gdb_left name rows is asked =
       ]
     ]
 
--- what is none of these only reads a history
+-- a subcommand with a history that is neither `turns`, `sweep` nor `gdb` only reads one
 pub reading_left : (name : Text) (rows : List Row) → bytes_eq name (codes "turns") ≡ false → bytes_eq name (codes "sweep") ≡ false → bytes_eq name (codes "gdb") ≡ false → IsOtherHistoryAsked name rows
-    → ((name ≡ codes "replay") ⊎ ((name ≡ codes "look") ⊎ (name ≡ codes "why")))
-    ⊎ (((name ≡ codes "trace") ⊎ ((name ≡ codes "draw") ⊎ (name ≡ codes "page"))) × MayHaveRange rows)
+    → ((name ≡ codes "replay") ⊎ ((name ≡ codes "look") ⊎ (name ≡ codes "why"))) ⊎ (IsRecordsAsked name rows × MayHaveRange rows)
 reading_left name rows turns sweep gdb asked =
     elim asked [
       | inl reads ↦ inl reads
@@ -118,18 +117,3 @@ page_left name rows trace draw asked = elim asked [
     | inr page ↦ page
   ]
 ]
-
--- a subcommand with a history that is neither `turns` nor `sweep` only reads one
-pub reading_left : (name : Text) (rows : List Row) → bytes_eq name (codes "turns") ≡ false → bytes_eq name (codes "sweep") ≡ false → IsOtherHistoryAsked name rows
-    → ((name ≡ codes "replay") ⊎ ((name ≡ codes "look") ⊎ (name ≡ codes "why"))) ⊎ (IsRecordsAsked name rows × MayHaveRange rows)
-reading_left name rows turns sweep asked =
-    elim asked [
-      | inl reads ↦ inl reads
-      | inr rest ↦ elim rest [
-        | inl records ↦ inr records
-        | inr more ↦ elim more [
-          | inl t ↦ absurd (not_named name (codes "turns") refl turns t.0)
-          | inr s ↦ absurd (not_named name (codes "sweep") refl sweep s.0)
-        ]
-      ]
-    ]

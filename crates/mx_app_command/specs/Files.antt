@@ -1,6 +1,8 @@
 -- The files that a request names: those that it reads, in order, and the one that it writes (our own).
 use Rattle.std.specs.Prelude.{◌||◌, ℕ, Bool, false, List, codes, Option, Some, None, option_map}
 use Rattle.std.specs.Str.{bytes_eq}
+use Rattle.mx_app_command.specs.declared.files.FileKind.{FileKind}
+use Rattle.mx_app_command.specs.declared.files.FileKind.TheVariants as kinds
 use Rattle.mx_app_command.specs.declared.files.NamedWord.{NamedWord}
 use Rattle.mx_app_command.specs.declared.files.ReadWords.{ReadWords}
 use Rattle.mx_app_command.specs.declared.command_line.CommandRequest.{CommandRequest}
@@ -71,6 +73,11 @@ file_written (Turns config log ticks events bound) = Some (file_word (codes "LOG
 file_written (Live config log raw hertz stop) = Some (file_word (codes "LOG") log.now)
 file_written (Sweep config log fault bound from to jobs strict (Some file)) = Some (file_word (codes "FILE") file.now)
 file_written r = None
+
+-- what that file holds
+abbrev pub written_kind : CommandRequest → FileKind
+written_kind (As text file) = kinds.Program
+written_kind r = kinds.History
 
 -- ---- names
 

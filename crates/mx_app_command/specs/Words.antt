@@ -58,6 +58,10 @@ of_two name first second = subcommand name (required_text first ∷ required_tex
 abbrev pub sums_rule : Rule
 sums_rule = after_name (codes "sums") (codes "SUMS")
 
+-- `--force`: what a file holds may be written over
+abbrev pub force_rule : Rule
+force_rule = flag (codes "force")
+
 -- `NAME CONFIG LOG --sums SUMS`, what follows a history
 abbrev pub following_shape : Text → Shape
 following_shape name = subcommand name (required_text (codes "CONFIG") ∷ required_text (codes "LOG") ∷ sums_rule ∷ [])
@@ -70,38 +74,43 @@ IsLocal c = (out-Command c).has_globals ≡ false
 abbrev pub one_shape : Shape
 one_shape = subcommand (codes "one") (required_text (codes "FILE") ∷ required_number (codes "N") ∷ [])
 
--- `step CONFIG SCRIPT --save LOG --numbered --sums SUMS`
+-- `as TEXT FILE --force`
+abbrev pub as_shape : Shape
+as_shape =
+    subcommand (codes "as") (required_text (codes "TEXT") ∷ required_text (codes "FILE") ∷ force_rule ∷ [])
+
+-- `step CONFIG SCRIPT --save LOG --numbered --sums SUMS --force`
 abbrev pub step_shape : Shape
 step_shape =
     subcommand (codes "step")
     (required_text (codes "CONFIG") ∷ required_text (codes "SCRIPT") ∷ after_name (codes "save") (codes "LOG")
-    ∷ flag (codes "numbered") ∷ sums_rule ∷ [])
+    ∷ flag (codes "numbered") ∷ sums_rule ∷ force_rule ∷ [])
 
--- `run CONFIG LOG --ticks T --events EVENTS --sums SUMS`
+-- `run CONFIG LOG --ticks T --events EVENTS --sums SUMS --force`
 abbrev pub run_shape : Shape
 run_shape =
     subcommand (codes "run")
     (required_text (codes "CONFIG") ∷ required_text (codes "LOG") ∷ number_after (codes "ticks") (codes "T")
-    ∷ after_name (codes "events") (codes "EVENTS") ∷ sums_rule ∷ [])
+    ∷ after_name (codes "events") (codes "EVENTS") ∷ sums_rule ∷ force_rule ∷ [])
 
--- `turns CONFIG LOG --ticks T --events EVENTS --turns N --live --raw --hertz H --stop FILE --sums SUMS`; which of them
--- exclude each other, `Mistakes` has
+-- `turns CONFIG LOG --ticks T --events EVENTS --turns N --live --raw --hertz H --stop FILE --sums SUMS
+-- --force`; which of them exclude each other, `Mistakes` has
 abbrev pub turns_shape : Shape
 turns_shape =
     subcommand (codes "turns")
     (required_text (codes "CONFIG") ∷ required_text (codes "LOG") ∷ number_after (codes "ticks") (codes "T")
     ∷ after_name (codes "events") (codes "EVENTS") ∷ number_after (codes "turns") (codes "N")
     ∷ flag (codes "live") ∷ flag (codes "raw") ∷ number_after (codes "hertz") (codes "H")
-    ∷ after_name (codes "stop") (codes "FILE") ∷ sums_rule ∷ [])
+    ∷ after_name (codes "stop") (codes "FILE") ∷ sums_rule ∷ force_rule ∷ [])
 
--- `sweep CONFIG LOG FAULT --turns N --from A --to B --jobs J --strict --save FILE --sums SUMS`
+-- `sweep CONFIG LOG FAULT --turns N --from A --to B --jobs J --strict --save FILE --sums SUMS --force`
 abbrev pub sweep_shape : Shape
 sweep_shape =
     subcommand (codes "sweep")
     (required_text (codes "CONFIG") ∷ required_text (codes "LOG") ∷ required_text (codes "FAULT")
     ∷ number_after (codes "turns") (codes "N") ∷ number_after (codes "from") (codes "A")
     ∷ number_after (codes "to") (codes "B") ∷ jobs_after (codes "jobs") (codes "J") ∷ flag (codes "strict")
-    ∷ after_name (codes "save") (codes "FILE") ∷ sums_rule ∷ [])
+    ∷ after_name (codes "save") (codes "FILE") ∷ sums_rule ∷ force_rule ∷ [])
 
 -- `NAME CONFIG LOG --from A --to B --sums SUMS`, what is printed of a history's records
 abbrev pub looking_shape : Text → Shape
@@ -139,7 +148,7 @@ top_app = record {
 -- the subcommands that work on one program
 abbrev pub program_shapes : List Shape
 program_shapes = one_shape
-    ∷ of_two (codes "as") (codes "TEXT") (codes "FILE")
+    ∷ as_shape
     ∷ of_one (codes "dis") (codes "FILE") []
     ∷ of_one (codes "nm") (codes "FILE") []
     ∷ []
@@ -300,6 +309,11 @@ AsksForSilence silent None = ⊥
 abbrev pub AsksForSums : Option Text → Option (Text × List Row) → Type 0
 AsksForSums sums (Some found) = MayHaveText (codes "SUMS") found.1 sums
 AsksForSums sums None = ⊥
+
+-- the words ask that a file is written over whatever it holds, or they don't
+abbrev pub AsksForForce : Bool → Option (Text × List Row) → Type 0
+AsksForForce force (Some found) = force ≡ is_on (codes "force") found.1
+AsksForForce force None = ⊥
 
 abbrev pub Asks : CommandRequest → Option (Text × List Row) → Type 0
 Asks request (Some found) = AsksBy request found.0 found.1

@@ -1,7 +1,7 @@
 //! The files that a request names: those that it reads, and the one that it writes.
 
 ghost use Rattle.std.specs.Prelude.{◌≡◌, codes, option_map};
-ghost use Rattle.mx_app_command.specs.Files.{file_word, file_written, files_in, files_read, has_name, names, names_file, one_file, with_course, with_events, with_fault, word_of, writes_over};
+ghost use Rattle.mx_app_command.specs.Files.{file_word, file_written, files_in, files_read, has_name, names, names_file, one_file, with_course, with_events, with_fault, word_of, writes_over, written_kind};
 
 use crate::command_line::CommandRequest;
 
@@ -21,6 +21,17 @@ pub struct ReadWords<'a> {
     pub course: Option<NamedWord<'a>>,
     /// The fault of a sweep.
     pub fault: Option<NamedWord<'a>>,
+}
+
+/// What a file that is written holds.
+#[derive(Clone, Copy, Debug, PartialEq, Eq)]
+pub enum FileKind {
+    /// A program, as an a.out file.
+    Program,
+    /// The history of a machine.
+    History,
+    /// The sums of a machine.
+    Sums,
 }
 
 /// A word with this label.
@@ -148,6 +159,16 @@ impl<'a> CommandRequest<'a> {
                 ..
             } => Some(word("FILE", file)),
             _ => None,
+        }
+    }
+
+    /// What the file holds that it writes.
+    pub fn written_kind(self) -> FileKind
+        ensures { result ≡ written_kind self.entry }
+    {
+        match self {
+            CommandRequest::As { .. } => FileKind::Program,
+            _ => FileKind::History,
         }
     }
 

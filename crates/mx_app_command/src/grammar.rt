@@ -298,6 +298,13 @@ const SUMS: CommandArgument<'static> = CommandArgument {
     form: ArgumentForm::After("sums"),
 };
 
+/// Whether what a file holds is kept.
+const FORCE: CommandArgument<'static> = CommandArgument {
+    name: "force",
+    help: "Writes over a file that holds something else, as a source in place of a program",
+    form: ArgumentForm::Flag,
+};
+
 /// Whether a failure is explained.
 const EXPLAIN: CommandArgument<'static> = CommandArgument {
     name: "explain",
@@ -323,7 +330,7 @@ static PROGRAM_COMMANDS: [Subcommand<'static>; 4] = [
     Subcommand {
         name: "as",
         help: "Assembles a text to a program",
-        arguments: &[TEXT, WRITTEN, EXPLAIN, SILENT],
+        arguments: &[TEXT, WRITTEN, FORCE, EXPLAIN, SILENT],
         example: Example::As,
     },
     Subcommand {
@@ -357,6 +364,7 @@ static MACHINE_COMMANDS: [Subcommand<'static>; 3] = [
             SAVED,
             NUMBERED,
             WRITTEN_SUMS,
+            FORCE,
             EXPLAIN,
             SILENT,
         ],
@@ -371,6 +379,7 @@ static MACHINE_COMMANDS: [Subcommand<'static>; 3] = [
             TICKS,
             CALLS,
             WRITTEN_SUMS,
+            FORCE,
             EXPLAIN,
             SILENT,
         ],
@@ -394,6 +403,7 @@ static TURN_COMMANDS: [Subcommand<'static>; 2] = [
             HERTZ,
             STOP,
             WRITTEN_SUMS,
+            FORCE,
             EXPLAIN,
             SILENT,
         ],
@@ -413,6 +423,7 @@ static TURN_COMMANDS: [Subcommand<'static>; 2] = [
             STRICT,
             SAVED_FAULT,
             SUMS,
+            FORCE,
             EXPLAIN,
             SILENT,
         ],

@@ -5,8 +5,8 @@
 //!
 //! A subcommand's arguments are a row of `grammar`, and its definition a shape (`specs/Words`): words ask for something
 //! if they fit the shape. clap reads the words by the same rows, and help, man pages and completions are made of them.
-//! Whether a file to be written is also read is decided in `files` (`writes_over`), for all requests, and asked at one
-//! place, `perform` of `mx_app`.
+//! Whether a file to be written is also read, and what it holds, is decided in `files` (`writes_over`, `written_kind`),
+//! for all requests, and asked at one place, `perform` of `mx_app`.
 #![tactic(auto)]
 
 mod command_line;
@@ -15,4 +15,4 @@ mod grammar;
 mod help;
 
 pub use command_line::{CommandLine, CommandRequest, Listing, Mistake, RecordRange, command};
-pub use files::{NamedWord, ReadWords};
+pub use files::{FileKind, NamedWord, ReadWords};

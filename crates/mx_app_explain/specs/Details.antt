@@ -21,6 +21,7 @@ abbrev pub label_told : Label → List ℕ
 label_told labels.Nowhere = []
 label_told (labels.Value name) = value_told name.now
 label_told (labels.After first second) = after_told first.now second.now
+label_told (labels.In words) = words.now ++ codes "; "
 
 -- the two words before a place, if they can be printed
 abbrev pub after_words : Option (List ℕ) → Option (List ℕ) → List ℕ

@@ -2,14 +2,14 @@
 use Rattle.std.specs.Prelude.{◌++◌, ℕ, List, [], codes, Option, Some, None, option_map, string_bytes}
 use Rattle.mx_text.specs.declared.error.BootError.{BootError}
 use Rattle.mx_text.specs.declared.error.BootError.TheVariants as lines
-use Rattle.mx_app_command.specs.Files.{FileWord, file_written, files_read}
+use Rattle.mx_app_command.specs.Files.{FileWord, file_written, files_read, written_kind}
 use Rattle.mx_app_command.specs.declared.command_line.CommandRequest.{CommandRequest}
 use Rattle.mx_app_command.specs.declared.command_line.CommandRequest.TheVariants.{Step, Run, Turns, Sweep, SweptPage, Db}
 use Rattle.mx_app_failure.specs.declared.failure.About.{About}
 use Rattle.mx_app_failure.specs.declared.failure.About.TheVariants as about
 use Rattle.mx_app_failure.specs.declared.failure.FileFailure.{FileFailure}
 use Rattle.mx_app_failure.specs.declared.failure.FileProblem.{FileProblem}
-use Rattle.mx_app_failure.specs.declared.failure.FileProblem.TheVariants.{Refused, Faulty, Misstated, Unread, NotUtf8, IsProgram, Unwritten, OverRead, OverProgram}
+use Rattle.mx_app_failure.specs.declared.failure.FileProblem.TheVariants.{Refused, Faulty, Misstated, Unread, NotUtf8, IsProgram, Unwritten, OverRead, OverProgram, OtherKind}
 use Rattle.mx_app_failure.specs.declared.failure.OutputProblem.{OutputProblem}
 use Rattle.mx_app_failure.specs.declared.failure.OutputProblem.TheVariants.{ReaderEnded, NoRoom, Other}
 use Rattle.mx_app_failure.specs.declared.failure.Failure.{Failure as Kind}
@@ -17,7 +17,7 @@ use Rattle.mx_app_failure.specs.declared.failure.Failure.TheVariants.{Of, NotTex
 use Rattle.mx_app_db.specs.Looks.{script_lines}
 use Rattle.mx_app_explain.specs.Details.{config_detail, detail_told, wanted_told}
 use Rattle.mx_app_explain.specs.TextAdvice.{advice_told, advised, words_at}
-use Rattle.mx_app_explain.specs.Wanted.{problem_wanted, refusal_wanted}
+use Rattle.mx_app_explain.specs.Wanted.{kind_said, kind_wanted, problem_wanted, refusal_wanted}
 use Rattle.mx_app_explain.specs.declared.explaining.Explanation.{Explanation}
 use Rattle.mx_app_explain.specs.declared.explaining.Said.{Said}
 use Rattle.mx_app_explain.specs.declared.explaining.Said.TheVariants as saids
@@ -117,11 +117,17 @@ file_wanted r IsProgram = codes "a text in UTF-8; it is a program"
 file_wanted r Unwritten = codes "a file that can be written"
 file_wanted r OverRead = codes "another file than the one that is read"
 file_wanted r OverProgram = codes "another file than a service's program"
+file_wanted r OtherKind = kind_wanted (written_kind r)
 
 -- ---- the word at fault
 
+-- of a file that would be written over it is said first that it is there
+abbrev pub file_label : CommandRequest → FileProblem → List ℕ
+file_label r OtherKind = kind_said (written_kind r) ++ codes "; "
+file_label r p = []
+
 abbrev pub plain_detail : CommandRequest → FileProblem → List ℕ
-plain_detail r p = wanted_told [] (file_wanted r p) []
+plain_detail r p = wanted_told (file_label r p) (file_wanted r p) []
 
 -- the words of the line at fault of a text for the assembler
 abbrev pub faulty_words : FileProblem → Option (List ℕ) → List (List ℕ)

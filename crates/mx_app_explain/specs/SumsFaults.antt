@@ -1,11 +1,13 @@
 -- What is wrong with a file of sums, or with a machine by it: the two lines that are printed, and the status (our own).
-use Rattle.std.specs.Prelude.{ℕ, if◌then◌else◌, List, ◌++◌, codes}
+use Rattle.std.specs.Prelude.{ℕ, if◌then◌else◌, List, [], ◌++◌, codes}
 use Rattle.std.specs.Str.{is_utf8}
 use Rattle.std.specs.declared.io.ErrorKind.{ErrorKind}
 use Rattle.std.specs.declared.io.ErrorKind.TheVariants as kinds
+use Rattle.mx_app_command.specs.declared.files.FileKind.TheVariants.{Sums}
 use Rattle.mx_app_explain.specs.Sums.{part_word}
+use Rattle.mx_app_explain.specs.Wanted.{kind_said, kind_wanted}
 use Rattle.mx_app_explain.specs.declared.sums_fault.SumsFault.{SumsFault}
-use Rattle.mx_app_explain.specs.declared.sums_fault.SumsFault.TheVariants.{NameTaken, Unread, Unwritten, NoMemory, OtherMachine}
+use Rattle.mx_app_explain.specs.declared.sums_fault.SumsFault.TheVariants.{NameTaken, Unread, Unwritten, OtherKind, NoMemory, OtherMachine}
 use Rattle.mx_app_explain.specs.declared.sums.MachinePart.{MachinePart}
 
 -- of an error of input and output: when the file was read, and when it was written
@@ -21,6 +23,7 @@ abbrev pub fault_status : SumsFault → ℕ
 fault_status NameTaken = 3
 fault_status Unread = 3
 fault_status Unwritten = 3
+fault_status OtherKind = 3
 fault_status NoMemory = 4
 fault_status (OtherMachine part) = 1
 
@@ -36,6 +39,7 @@ abbrev pub fault_line : SumsFault → List ℕ
 fault_line NameTaken = codes "mx: 80 File"
 fault_line Unread = codes "mx: 80 File"
 fault_line Unwritten = codes "mx: 80 File"
+fault_line OtherKind = codes "mx: 80 File"
 fault_line NoMemory = codes "mx: 90 NoMemory"
 fault_line (OtherMachine part) = codes "mx: 64 OtherMachine " ++ part_told part
 
@@ -45,9 +49,15 @@ abbrev pub fault_wanted : SumsFault → List ℕ
 fault_wanted NameTaken = codes "a file that no other word names"
 fault_wanted Unread = codes "a file that can be read"
 fault_wanted Unwritten = codes "a file that can be written"
+fault_wanted OtherKind = kind_wanted Sums
 fault_wanted NoMemory = codes "more memory"
 fault_wanted (OtherMachine part) = codes "the configuration and programs whose sums it has"
 
+-- of a file that would be written over it is said first that it is there
+abbrev pub fault_label : SumsFault → List ℕ
+fault_label OtherKind = kind_said Sums ++ codes "; "
+fault_label f = []
+
 -- THE LINE THAT EXPLAINS a fault with the file of this name, without its end
 abbrev pub fault_explained : List ℕ → SumsFault → List ℕ
-fault_explained name f = codes "mx: SUMS " ++ name ++ codes ": wanted " ++ fault_wanted f
+fault_explained name f = codes "mx: SUMS " ++ name ++ codes ": " ++ fault_label f ++ codes "wanted " ++ fault_wanted f

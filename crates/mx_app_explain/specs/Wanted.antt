@@ -1,7 +1,10 @@
--- What is wanted of a program's file, and of a line of a text for the assembler (our own words).
+-- What is wanted of a program's file, of a line of a text for the assembler, and of a file that is written over (our own
+-- words).
 use Rattle.std.specs.Prelude.{ℕ, List, ◌++◌, codes}
 use Rattle.mx_aout.specs.declared.program.FileError.{FileError}
 use Rattle.mx_aout.specs.declared.program.FileError.TheVariants as errors
+use Rattle.mx_app_command.specs.declared.files.FileKind.{FileKind}
+use Rattle.mx_app_command.specs.declared.files.FileKind.TheVariants as kinds
 use Rattle.mx_asm.specs.declared.fault.Problem.{Problem}
 use Rattle.mx_asm.specs.declared.fault.Problem.TheVariants as problems
 
@@ -31,3 +34,14 @@ problem_wanted problems.TooFar = codes "a target at most 127 bytes ahead or 128 
 problem_wanted problems.WrongSection = codes "a statement that may stand in this section"
 problem_wanted problems.TooLarge = codes "a program within the limits of a file"
 problem_wanted problems.LongName = codes "a name of at most 8 bytes"
+
+-- what is wrong with a file that is there, if what is to be written holds this; and what was wanted in its place
+abbrev pub kind_said : FileKind → List ℕ
+kind_said kinds.Program = codes "is there and is no program"
+kind_said kinds.History = codes "is there and is no history"
+kind_said kinds.Sums = codes "is there and has no sums"
+
+abbrev pub kind_wanted : FileKind → List ℕ
+kind_wanted kinds.Program = codes "a new name, an empty file or a program, or --force"
+kind_wanted kinds.History = codes "a new name, an empty file or a history, or --force"
+kind_wanted kinds.Sums = codes "a new name, an empty file or sums, or --force"

@@ -23,6 +23,8 @@ pub enum Label<'a> {
     Value(&'static str),
     /// After these two words.
     After(&'a str, &'a str),
+    /// In a file of which these words say what is wrong with it.
+    In(&'static str),
 }
 
 /// As it is in a line, with a colon and a space.
@@ -37,6 +39,7 @@ impl fmt::Display for Label<'_> {
             Label::Nowhere => Ok(()),
             Label::Value(name) => write!(f, "{name}: "),
             Label::After(first, second) => write!(f, "after \"{first} {second}\": "),
+            Label::In(words) => write!(f, "{words}; "),
         }
     }
 }

@@ -1,8 +1,8 @@
 //! The second line of a failure.
 
 ghost use Rattle.std.specs.Prelude.{◌≡◌, IfOk, option_map, string_bytes};
-ghost use Rattle.mx_app_explain.specs.Details.{detail_told};
-ghost use Rattle.mx_app_explain.specs.Explaining.{explained, faulty_words, file_said, file_subject, line_detail, output_said, plain_detail, said_line, subject_told, text_of};
+ghost use Rattle.mx_app_explain.specs.Details.{detail_told, label_told};
+ghost use Rattle.mx_app_explain.specs.Explaining.{explained, faulty_words, file_label, file_said, file_subject, line_detail, output_said, plain_detail, said_line, subject_told, text_of};
 ghost use Rattle.mx_text.specs.Fields.{fields};
 
 use crate::detail::{Detail, Label, config_detail, line_below};
@@ -10,7 +10,7 @@ use crate::found_word::FoundWord;
 use crate::subject::{Subject, file_subject, first_subject};
 use crate::text_advice::advice_on;
 use crate::text_words::with_spaces;
-use crate::wanted::file_wanted;
+use crate::wanted::{file_wanted, kind_said};
 use mx_app_command::CommandRequest;
 use mx_app_failure::{Failure, FileFailure, FileProblem, OutputProblem};
 use mx_text::BootError;
@@ -93,12 +93,22 @@ fn line_detail<'a>(failure: &'a FileFailure, words: &'a [u8]) -> Option<Detail<'
     }
 }
 
+/// What is said of a file before what was wanted: that it is there, if it would be written over.
+fn file_label<'a>(request: CommandRequest<'_>, problem: FileProblem) -> Label<'a>
+    ensures { label_told result ≡ file_label request.entry problem }
+{
+    match problem {
+        FileProblem::OtherKind => Label::In(kind_said(request.written_kind())),
+        _ => Label::Nowhere,
+    }
+}
+
 /// What was wanted of a file of which no line is at fault.
 fn plain_detail<'a>(request: CommandRequest<'_>, problem: FileProblem) -> Detail<'a>
     ensures { detail_told result ≡ plain_detail request.entry problem }
 {
     Detail {
-        label: Label::Nowhere,
+        label: file_label(request, problem),
         wanted: file_wanted(request, problem),
         found: FoundWord::Unseen,
     }

@@ -2,9 +2,13 @@
 
 ghost use Rattle.std.specs.Prelude.{◌≡◌, IfOk, string_bytes};
 ghost use Rattle.std.specs.IoError.{error_kind};
-ghost use Rattle.mx_app_explain.specs.SumsFaults.{fault_explained, fault_status, fault_wanted, part_told, unread_of, unwritten_of};
+ghost use Rattle.mx_app_explain.specs.Details.{label_told};
+ghost use Rattle.mx_app_explain.specs.SumsFaults.{fault_explained, fault_label, fault_status, fault_wanted, part_told, unread_of, unwritten_of};
 
+use crate::detail::Label;
 use crate::sums::{MachinePart, part_word};
+use crate::wanted::{kind_said, kind_wanted};
+use mx_app_command::FileKind;
 use std::alloc::{AllocError, Global};
 use std::{fmt, io, str};
 
@@ -17,6 +21,8 @@ pub enum SumsFault {
     Unread,
     /// It can't be written.
     Unwritten,
+    /// It holds something else than sums, and would be written over.
+    OtherKind,
     /// There isn't enough memory.
     NoMemory,
     /// This part of the machine has another sum.
@@ -30,7 +36,10 @@ impl SumsFault {
         ensures { result ≡ fault_status self }
     {
         match self {
-            SumsFault::NameTaken | SumsFault::Unread | SumsFault::Unwritten => 3,
+            SumsFault::NameTaken
+            | SumsFault::Unread
+            | SumsFault::Unwritten
+            | SumsFault::OtherKind => 3,
             SumsFault::NoMemory => 4,
             SumsFault::OtherMachine(_) => 1,
         }
@@ -77,9 +86,10 @@ impl fmt::Display for SumsFault {
 
     fn fmt<W: fmt::Write>(&self, f: &mut fmt::Formatter<W>) -> fmt::Result {
         match self {
-            SumsFault::NameTaken | SumsFault::Unread | SumsFault::Unwritten => {
-                f.write_str("mx: 80 File")
-            }
+            SumsFault::NameTaken
+            | SumsFault::Unread
+            | SumsFault::Unwritten
+            | SumsFault::OtherKind => f.write_str("mx: 80 File"),
             SumsFault::NoMemory => f.write_str("mx: 90 NoMemory"),
             SumsFault::OtherMachine(part) => {
                 let name = part_text(part);
@@ -97,8 +107,19 @@ fn fault_wanted(fault: SumsFault) -> &'static str
         SumsFault::NameTaken => "a file that no other word names",
         SumsFault::Unread => "a file that can be read",
         SumsFault::Unwritten => "a file that can be written",
+        SumsFault::OtherKind => kind_wanted(FileKind::Sums),
         SumsFault::NoMemory => "more memory",
         SumsFault::OtherMachine(_) => "the configuration and programs whose sums it has",
+    }
+}
+
+/// What is said of the file before what was wanted.
+fn fault_label(fault: SumsFault) -> Label<'static>
+    ensures { label_told result ≡ fault_label fault }
+{
+    match fault {
+        SumsFault::OtherKind => Label::In(kind_said(FileKind::Sums)),
+        _ => Label::Nowhere,
     }
 }
 
@@ -118,8 +139,9 @@ impl fmt::Display for SumsExplanation<'_> {
 
     fn fmt<W: fmt::Write>(&self, f: &mut fmt::Formatter<W>) -> fmt::Result {
         let name = self.name;
+        let label = fault_label(self.fault);
         let wanted = fault_wanted(self.fault);
-        write!(f, "mx: SUMS {name}: wanted {wanted}")
+        write!(f, "mx: SUMS {name}: {label}wanted {wanted}")
     }
 }
 

@@ -1,11 +1,11 @@
 //! What was wanted in place of what a command met.
 
 ghost use Rattle.std.specs.Prelude.{◌≡◌};
-ghost use Rattle.mx_app_explain.specs.Wanted.{problem_wanted, refusal_wanted};
+ghost use Rattle.mx_app_explain.specs.Wanted.{kind_said, kind_wanted, problem_wanted, refusal_wanted};
 ghost use Rattle.mx_app_explain.specs.Explaining.{file_wanted, lines_wanted, record_wanted};
 
 use mx_aout::FileError;
-use mx_app_command::CommandRequest;
+use mx_app_command::{CommandRequest, FileKind};
 use mx_app_db::script_lines;
 use mx_app_failure::FileProblem;
 use mx_asm::Problem;
@@ -99,6 +99,28 @@ fn lines_wanted(request: CommandRequest<'_>, error: BootError) -> &'static str
     }
 }
 
+/// What is wrong with a file that is there, if what is to be written holds this.
+pub(crate) fn kind_said(kind: FileKind) -> &'static str
+    ensures { result.now ≡ kind_said kind }
+{
+    match kind {
+        FileKind::Program => "is there and is no program",
+        FileKind::History => "is there and is no history",
+        FileKind::Sums => "is there and has no sums",
+    }
+}
+
+/// What was wanted in place of such a file.
+pub(crate) fn kind_wanted(kind: FileKind) -> &'static str
+    ensures { result.now ≡ kind_wanted kind }
+{
+    match kind {
+        FileKind::Program => "a new name, an empty file or a program, or --force",
+        FileKind::History => "a new name, an empty file or a history, or --force",
+        FileKind::Sums => "a new name, an empty file or sums, or --force",
+    }
+}
+
 /// What was wanted of a file.
 pub(crate) fn file_wanted(request: CommandRequest<'_>, problem: FileProblem) -> &'static str
     ensures { result.now ≡ file_wanted request.entry problem }
@@ -113,5 +135,6 @@ pub(crate) fn file_wanted(request: CommandRequest<'_>, problem: FileProblem) -> 
         FileProblem::Unwritten => "a file that can be written",
         FileProblem::OverRead => "another file than the one that is read",
         FileProblem::OverProgram => "another file than a service's program",
+        FileProblem::OtherKind => kind_wanted(request.written_kind()),
     }
 }

@@ -50,6 +50,8 @@ pub enum FileProblem {
     OverRead,
     /// It is a service's program, and would be written over.
     OverProgram,
+    /// It holds something else than what would be written over it.
+    OtherKind,
 }
 
 /// Which file fails, and why.

@@ -13,6 +13,9 @@ const LONGEST_TEXT: u64 = 64 * 1024 * 1024;
 /// The longest header of a program's file.
 const LONGEST_HEADER: u64 = 48;
 
+/// How many first bytes of a file say what it holds.
+const FRONT: u64 = 128;
+
 /// Reads at most `most` more bytes of a file, and appends them.
 fn read_more<F: Read + Drop>(file: F, most: u64, bytes: &mut Vec<u8>) -> io::Result<F> {
     let mut front = file.take(most);
@@ -42,5 +45,22 @@ pub(crate) fn read_program<R: Files + AllocGlobal>(rt: &R, name: &str) -> io::Re
     // What follows doesn't matter, however long it is.
     let asked = length_asked(bytes.as_slice());
     read_more(file, asked.saturating_sub(LONGEST_HEADER), &mut bytes)?;
+    Ok(bytes)
+}
+
+/// Whether a name is that of a regular file, or leads to one.
+fn is_regular(rt: &impl Files, name: &str) -> bool {
+    match fs::metadata(rt, name) {
+        Ok(metadata) => metadata.is_file(),
+        Err(_) => false,
+    }
+}
+
+/// The first bytes of a regular file. Nothing else is opened: to open a pipe waits for who writes to it.
+pub(crate) fn read_front<R: Files + AllocGlobal>(rt: &R, name: &str) -> io::Result<Vec<u8>> {
+    let mut bytes = Vec::new(rt.alloc());
+    if is_regular(rt, name) {
+        read_more(fs::open(rt, name)?, FRONT, &mut bytes)?;
+    }
     Ok(bytes)
 }

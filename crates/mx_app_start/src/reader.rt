@@ -26,4 +26,12 @@ pub trait Reader {
             ++ record { name = name.now; answer = Ok bytes.items } ∷ []) }
         ensures missed { IfErr result (λ e. asked self.new ≡ asked self.old
             ++ record { name = name.now; answer = Err (error_kind e) } ∷ []) };
+
+    /// The first bytes of the regular file that has a name, by which what it holds is known. A name that no regular
+    /// file has, as a new one or that of a pipe, has none. Out of memory is the error `OutOfMemory`.
+    fn read_front(&mut self, alloc: Global, name: &str) -> io::Result<Vec<u8>>
+        ensures given { IfOk result (λ bytes. asked self.new ≡ asked self.old
+            ++ record { name = name.now; answer = Ok bytes.items } ∷ []) }
+        ensures missed { IfErr result (λ e. asked self.new ≡ asked self.old
+            ++ record { name = name.now; answer = Err (error_kind e) } ∷ []) };
 }

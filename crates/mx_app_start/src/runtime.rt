@@ -2,7 +2,7 @@
 
 ghost use Rattle.std.specs.Prelude.{◌≡◌, []};
 
-use crate::limits::{read_program, read_text};
+use crate::limits::{read_front, read_program, read_text};
 use crate::noted::Noted;
 use crate::noting::{Answers, Writes, with_answer, with_write};
 use crate::reader::Reader;
@@ -45,6 +45,12 @@ impl<'a, R: Files + AllocGlobal> Reader for RuntimeFiles<'a, R> {
 
     fn read_program(&mut self, _alloc: Global, name: &str) -> io::Result<Vec<u8>> {
         let answer = read_program(self.rt, name);
+        self.answers = with_answer(&self.answers, name, &answer);
+        answer
+    }
+
+    fn read_front(&mut self, _alloc: Global, name: &str) -> io::Result<Vec<u8>> {
+        let answer = read_front(self.rt, name);
         self.answers = with_answer(&self.answers, name, &answer);
         answer
     }

@@ -1,5 +1,5 @@
 -- Which history a text is (our own).
-use Rattle.std.specs.Prelude.{◌≡◌, ℕ, ◌==◌, ◌+◌, ◌&&◌, ◌⊎◌, nat_lt, codes, if◌then◌else◌, Bool, true, false, List, [], ◌∷◌, length, Option, Some, None}
+use Rattle.std.specs.Prelude.{◌≡◌, ℕ, ◌==◌, ◌+◌, ◌&&◌, ◌||◌, ◌⊎◌, is_some, nat_lt, codes, if◌then◌else◌, Bool, true, false, List, [], ◌∷◌, length, Option, Some, None}
 use Rattle.std.specs.Str.{bytes_eq}
 use Rattle.mx_text.specs.Lines.{lines}
 use Rattle.mx_text.specs.Fields.{fields, ◌>>=◌}
@@ -60,6 +60,15 @@ is_ended (b ∷ c ∷ bs) = is_ended (c ∷ bs)
 abbrev pub says_strict : List (List ℕ) → Bool
 says_strict (word ∷ number ∷ []) = bytes_eq word (codes "rules") && bytes_eq number (codes "2")
 says_strict _ = false
+
+-- the first of these lines says the strict rules, or is a record. An actor is at most 254: no machine has so many
+abbrev pub begin_history : List (List ℕ) → Bool
+begin_history [] = false
+begin_history (l ∷ ls) = says_strict (fields l) || is_some (record_line 255 l)
+
+-- A TEXT BEGINS AS A HISTORY
+abbrev pub begins_history : List ℕ → Bool
+begins_history text = begin_history (lines text)
 
 -- the strict rules if the first line is theirs, else the lenient ones
 abbrev pub rules_of_lines : List (List ℕ) → Rules

@@ -39,7 +39,7 @@ pub use event_kind::{EventKind, event_kind_named};
 pub use history_laws::{history_again, one_history, one_text};
 pub use items::{before_comment, has_stray};
 pub use kernels::{report, save, saved_again, saved_text};
-pub use logs::{lines_above, log};
+pub use logs::{begins_history, lines_above, log};
 pub(crate) use mx_machine::Config;
 pub use mx_text::BootError;
 pub use place::{CodePlace, SymbolName, place_named};

@@ -10,7 +10,7 @@ ghost use Rattle.mx_text.specs.Fields.{fields};
 ghost use Rattle.mx_text.specs.Lines.{lines};
 ghost use Rattle.mx_boot.specs.Script.{after_event_word};
 ghost use Rattle.mx_boot.specs.Reading.{AreLinesRead};
-ghost use Rattle.mx_boot.specs.Log.{recorded_of, record_by, record_line, is_ended, says_strict, rules_of_lines, record_lines, lines_above, IsHistory, TellsNoRecords, TellsHistoryFault};
+ghost use Rattle.mx_boot.specs.Log.{recorded_of, record_by, record_line, is_ended, says_strict, begins_history, rules_of_lines, record_lines, lines_above, IsHistory, TellsNoRecords, TellsHistoryFault};
 
 use crate::history_laws::{history_again, one_history};
 use crate::{EventKind, ReadsLine, actor, event_kind_named, only_count, read_lines};
@@ -134,6 +134,24 @@ fn split_rules(text: &[u8]) -> (Rules, &[u8])
             (Rules::Lenient, text)
         },
         None => (Rules::Lenient, text),
+    }
+}
+
+/// The most actors that a record's actor is one of.
+const MOST_ACTORS: u8 = u8::MAX;
+
+/// Whether a text begins as a history does: its first line is `rules 2`, or a record of some machine.
+pub fn begins_history(text: &[u8]) -> bool
+    ensures { result ≡ begins_history text.now }
+{
+    match next_line(text) {
+        Some((line, _)) => {
+            let reader = RecordReader {
+                actors: MOST_ACTORS,
+            };
+            says_strict(line) || reader.read(line).is_some()
+        }
+        None => false,
     }
 }
 

@@ -65,7 +65,7 @@ pub use pending::push_kept;
 pub use reasons::{FaultReason, fault_reason};
 pub use record::push_record;
 pub use record_lines::{push_change, push_console_line, push_delivery};
-pub use refusals::request_reason;
+pub use refusals::{push_refusal, request_reason};
 pub use result_names::push_result;
 pub use slot_glances::SlotGlance;
 pub use stack::push_stack;

@@ -89,9 +89,9 @@ fn push_trap_reason(
     }
 }
 
-/// Appends why a slot's trap has this result, if it is the result of its trap.
+/// Appends why a slot's trap has this result, as ` (trap mask)`, if the transition acts on its trap; else nothing.
 #[tactic(auto, unfolding(crate::specs::Refusals::refusal_part))]
-pub(crate) fn push_refusal(
+pub fn push_refusal(
     out: &mut Vec<u8>,
     transition: &Transition,
     slot: u32,

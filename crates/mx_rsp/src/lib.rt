@@ -6,8 +6,6 @@ mod fields;
 mod hearing;
 mod moves;
 mod packet;
-#[cfg(test)]
-mod real_packets;
 mod replies;
 mod request;
 mod words;

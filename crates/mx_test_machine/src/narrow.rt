@@ -51,7 +51,7 @@ fn is_printed<R: Threads + Wait + Clock + Sync>(
     };
     let text = row.printed.as_bytes();
     let is_short = room < text.len();
-    let is_answered = match perform(rt, alloc, &mut io, row.request) {
+    let is_answered = match perform(rt, alloc, &mut io, row.request, false) {
         Ok(done) => !is_short && done.status == 0,
         Err(Failure::Output(OutputProblem::NoRoom)) => is_short,
         Err(_) => false,

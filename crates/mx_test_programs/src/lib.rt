@@ -1,4 +1,4 @@
-//! Only tests: worked rows of instructions, the assembler, files and listings.
+//! Only tests: worked rows of instructions, the assembler, files, listings, and packets of gdb.
 #![tactic(auto)]
 
 #[cfg(test)]
@@ -25,6 +25,8 @@ mod lex;
 mod load;
 #[cfg(test)]
 mod operand;
+#[cfg(test)]
+mod packets;
 #[cfg(test)]
 mod printed;
 #[cfg(test)]

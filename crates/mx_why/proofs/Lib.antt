@@ -6,4 +6,3 @@ pub mod Rings
 pub mod Judged
 pub mod PlaceLemmas
 pub mod NoteLemmas
-pub mod FailLemmas

@@ -8,12 +8,12 @@ use Rattle.mx_look.specs.Doings.{is_ready}
 use Rattle.mx_look.specs.Going.{acting, gone_on}
 use Rattle.mx_look.specs.KernelCalls.{request_name, request_text}
 use Rattle.mx_look.specs.Nearest.{nearest_symbol}
-use Rattle.mx_look.specs.Numbers.{margin, result_text}
+use Rattle.mx_look.specs.Numbers.{result_text}
 use Rattle.mx_look.specs.Refusals.{refusal_part, request_reason}
 use Rattle.mx_look.specs.Slots.{has_changed}
 use Rattle.mx_look.specs.Trace.{call_text}
 use Rattle.mx_look.specs.Transition.{slot_in}
-use Rattle.mx_look.specs.Words.{party_text, who_of}
+use Rattle.mx_look.specs.Words.{party_text}
 use Rattle.mx_look.specs.declared.glance.CpuGlance.{CpuGlance}
 use Rattle.mx_look.specs.declared.glance.Glance.{Glance}
 use Rattle.mx_look.specs.declared.slot_glances.SlotGlance.{SlotGlance}
@@ -24,7 +24,7 @@ use Rattle.mx_machine.specs.World.{World}
 use Rattle.mx_print_report.specs.declared.doing.Awaited.TheVariants as awaited
 use Rattle.mx_print_report.specs.declared.doing.Doing.{Doing}
 use Rattle.mx_print_report.specs.declared.doing.Doing.TheVariants.{Sending, Calling, Receiving, Awaiting}
-use Rattle.mx_print_report.specs.Words.{doing_text, name_bytes}
+use Rattle.mx_print_report.specs.Words.{name_bytes}
 use Rattle.mx_proc.specs.EndpointNumbers.{slot_of}
 use Rattle.mx_proc.specs.Errors.{errno_bits}
 use Rattle.mx_proc.specs.declared.errors.Errno.TheVariants.{Locked}
@@ -80,12 +80,6 @@ trap_text x s v (Some h) =
     if h.slot == s then trapped_text x.before h else waited_text x.before v.doing
 
 -- ---- a trap's result
-
--- what a trace has before the result
-unfoldable pub result_front : Transition → SlotGlance → SlotGlance → List ℕ
-result_front x v u =
-    margin x ++ who_of u ++ codes ": " ++ doing_text v.doing ++ codes " -> " ++ doing_text u.doing
-    ++ codes ", result "
 
 -- the result, and why
 abbrev pub told_result : Transition → ℕ → ℕ → List ℕ

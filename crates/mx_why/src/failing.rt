@@ -1,22 +1,21 @@
 //! A call that was refused in a record, in words: the call, its result, and why; and where it was made.
 
-ghost use Rattle.std.specs.Prelude.{◌≡◌, ◌++◌, OnOk, Some, string_bytes, true};
+ghost use Rattle.std.specs.Prelude.{◌≡◌, ◌++◌, OnOk, string_bytes};
 ghost use Rattle.mx_look.specs.Code.{place_text_if};
-ghost use Rattle.mx_look.specs.Going.{acting, gone_on};
+ghost use Rattle.mx_look.specs.Going.{acting};
 ghost use Rattle.mx_look.specs.Nearest.{nearest_symbol};
-ghost use Rattle.mx_look.specs.Slots.{has_changed};
 ghost use Rattle.mx_look.specs.Transition.{slot_in};
 ghost use Rattle.mx_machine.specs.Machine.{world_of};
-ghost use Rattle.mx_why.specs.Failing.{answered_if, answered_text, asked_by, asked_text, besides_text, call_place, failed_text, kernel_failed, kernel_text, made_text, partner_name, place_at, refused_by, refused_text, result_front, self_text, told_result, trap_failed, trap_text, trapped_text, waited_text};
+ghost use Rattle.mx_why.specs.Failing.{answered_if, answered_text, asked_by, asked_text, besides_text, call_place, failed_text, kernel_failed, kernel_text, made_text, partner_name, place_at, refused_by, refused_text, self_text, told_result, trap_failed, trap_text, trapped_text, waited_text};
 
 use mx_insn_words::push_eight_digits;
 use mx_look::{
     CpuGlance, Glance, SlotGlance, Transition, acting, asks_kernel, gone_on, has_changed, is_ready,
-    kernel_call, nearest_symbol, push_call, push_change, push_party, push_place, push_request,
+    kernel_call, nearest_symbol, push_call, push_party, push_place, push_refusal, push_request,
     push_result, request_name, request_reason, slot_in,
 };
 use mx_machine::{Machine, Service};
-use mx_print_report::{Awaited, Doing, push_decimal, push_doing, push_name, push_named};
+use mx_print_report::{Awaited, Doing, push_name};
 use mx_proc::{Errno, Slot, slot_of};
 use std::alloc::AllocError;
 
@@ -127,54 +126,18 @@ fn push_call_of(
     }
 }
 
-/// Appends what stands in the line of a change before the result.
-#[tactic(auto, unfolding(crate::specs::Failing::result_front))]
-fn push_result_front(
-    out: &mut Vec<u8>,
-    transition: &Transition,
-    before: &SlotGlance,
-    after: &SlotGlance,
-) -> Result<(), AllocError>
-    ensures { OnOk result (out.new.items ≡ out.old.items
-        ++ result_front transition.now before.now after.now) }
-{
-    push_decimal(out, transition.number)?;
-    out.extend_from_slice(b"   ")?;
-    push_named(out, &after.name.bytes, after.endpoint)?;
-    out.extend_from_slice(b": ")?;
-    push_doing(out, before.doing)?;
-    out.extend_from_slice(b" -> ")?;
-    push_doing(out, after.doing)?;
-    out.extend_from_slice(b", result ")
-}
-
 /// Appends the result with which a slot's process has gone on, and why, as a trace has them.
 fn push_told_result(
     out: &mut Vec<u8>,
     transition: &Transition,
     slot: u32,
-    before: &SlotGlance,
-    after: &SlotGlance,
     outcome: u32,
 ) -> Result<(), AllocError>
-    requires changed { has_changed transition.now slot ≡ true }
-    requires before { slot_in transition.now.before slot ≡ Some before.now }
-    requires after { slot_in transition.now.after slot ≡ Some after.now }
-    requires outcome { gone_on transition.now slot ≡ Some outcome }
     ensures { OnOk result (out.new.items ≡ out.old.items
         ++ told_result transition.now slot outcome) }
 {
-    // The line of a trace, without what stands before the result, and its end.
-    let mut front = Vec::new(*out.allocator());
-    push_result_front(&mut front, transition, before, after)?;
-    let mut line = Vec::new(*out.allocator());
-    push_change(&mut line, transition, slot)?;
-    let above = front.as_slice();
-    let text = line.as_slice();
-    if text.len() <= above.len() {
-        return Ok(());
-    }
-    out.extend_from_slice(&text[above.len()..text.len() - 1])
+    push_result(out, outcome)?;
+    push_refusal(out, transition, slot, outcome)
 }
 
 /// What is said of the result besides: of ELOCKED that one names oneself.
@@ -206,19 +169,14 @@ fn push_refused(
     transition: &Transition,
     slot: u32,
     before: &SlotGlance,
-    after: &SlotGlance,
     outcome: u32,
 ) -> Result<(), AllocError>
-    requires changed { has_changed transition.now slot ≡ true }
-    requires before { slot_in transition.now.before slot ≡ Some before.now }
-    requires after { slot_in transition.now.after slot ≡ Some after.now }
-    requires outcome { gone_on transition.now slot ≡ Some outcome }
     ensures { OnOk result (out.new.items ≡ out.old.items
         ++ refused_text transition.now slot before.now outcome) }
 {
     push_call_of(out, transition, slot, before)?;
     out.extend_from_slice(b": ")?;
-    push_told_result(out, transition, slot, before, after, outcome)?;
+    push_told_result(out, transition, slot, outcome)?;
     out.extend_from_slice(besides_text(transition, slot, outcome))
 }
 
@@ -229,8 +187,6 @@ fn push_refused_by(
     slot: u32,
     outcome: u32,
 ) -> Result<(), AllocError>
-    requires changed { has_changed transition.now slot ≡ true }
-    requires outcome { gone_on transition.now slot ≡ Some outcome }
     ensures { OnOk result (out.new.items ≡ out.old.items
         ++ refused_by transition.now slot outcome (slot_in transition.now.before slot)
         (slot_in transition.now.after slot)) }
@@ -239,9 +195,7 @@ fn push_refused_by(
         slot_in(&transition.before, slot),
         slot_in(&transition.after, slot),
     ) {
-        (Some(before), Some(after)) => {
-            push_refused(out, transition, slot, before, after, outcome)
-        }
+        (Some(before), Some(_)) => push_refused(out, transition, slot, before, outcome),
         _ => Ok(()),
     }
 }

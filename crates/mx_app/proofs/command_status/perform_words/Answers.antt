@@ -24,6 +24,7 @@ returns-in-Ok-clause-done g c =
         c.in-Ok.ensures.explains,
         c.in-Ok.ensures.silent,
         c.in-Ok.ensures.sums,
+        c.in-Ok.ensures.force,
         c.in-Ok.ensures.apart,
         done.7,
         c.answer.ensures,

@@ -3,7 +3,7 @@ use Rattle.std.specs.Prelude.{option_map}
 use Rattle.mx_app_command.specs.declared.command_line.CommandRequest.TheVariants.{Step}
 use Rattle.mx_app_program.specs.One.{IsPrinted}
 use Rattle.mx_app_program.specs.Shown.{IsListingOf, IsShown}
-use Rattle.mx_app.proofs.Doing.{as_asked, as_known, as_typed, assembled, debugs, draws, explains, lived, looks, pages, replays, runs, saved, shows, steps, swept, swept_pages, traces, turned, whys}
+use Rattle.mx_app.proofs.Doing.{as_asked, as_known, as_typed, assembled, debugs, draws, explains, lived, looks, pages, replays, runs, saved, shows, steps, swept, swept_pages, talked, traces, turned, whys}
 use Rattle.mx_app.proofs.performing.perform_apart.Goals as goal
 
 pub returns-in-One-clause-done : goal.returns-in-One-clause-done
@@ -102,6 +102,11 @@ pub returns-in-SweptPage-clause-done : goal.returns-in-SweptPage-clause-done
 returns-in-SweptPage-clause-done g c =
     as_typed (g.P.SharedProgress.was_shown c.args.io.now.progress) _ _ _ _ _ _ _ _ _ _ _ _ _ _ _ _ _ c.in-SweptPage.is
     (swept_pages _ _ _ _ _ c.in-SweptPage.config.now c.in-SweptPage.log.now c.in-SweptPage.fault.now c.in-SweptPage.from c.in-SweptPage.to c.in-SweptPage.bound _ _ c.swept_page-swept.result c.done_after_sweep-in-SweptPage.result c.swept_page-swept.ensures c.done_after_sweep-in-SweptPage.ensures)
+
+pub returns-in-Gdb-clause-done : goal.returns-in-Gdb-clause-done
+returns-in-Gdb-clause-done g c =
+    as_typed (g.P.SharedProgress.was_shown c.args.io.now.progress) _ _ _ _ _ _ _ _ _ _ _ _ _ _ _ _ _ c.in-Gdb.is
+    (talked _ _ _ _ _ _ _ _ c.in-Gdb.config.now c.in-Gdb.log.now c.in-Gdb.slot _ _ c.gdb.result c.done_after_gdb-in-Gdb.result c.gdb.ensures.talked c.gdb.ensures.fault c.done_after_gdb-in-Gdb.ensures (ap g.F.FileWriter.written c.gdb.ensures.files))
 
 pub returns-in-Look-clause-done : goal.returns-in-Look-clause-done
 returns-in-Look-clause-done g c =

@@ -1,6 +1,6 @@
 //! Packets that gdb 13.1 sent, and replies that it took.
 
-use crate::{
+use mx_rsp::{
     Action, Heard, Point, Reader, Request, Stop, StopReason, ThreadName, Which, Word, packet_of,
     push_part, push_registers, push_stop, push_threads, request_of,
 };
