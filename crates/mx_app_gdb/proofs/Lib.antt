@@ -5,3 +5,15 @@ mod Setting
 mod Conversing
 mod Held
 mod Unchanged
+mod SameBytes
+mod RightAfter
+mod Onward
+mod SearchedOn
+mod Stepped
+mod OnToStep
+mod InRange
+mod HaltedOn
+mod SteppedOn
+mod Grown
+mod Behind
+mod Opening

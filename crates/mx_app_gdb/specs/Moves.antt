@@ -1,14 +1,14 @@
 -- Where moves lead, and why they halt there (our own).
 use Rattle.std.specs.Prelude.{◌≡◌, ◌⊎◌, ℕ, ◌||◌, Bool, true, false, if◌then◌else◌}
-use Rattle.std.specs.Prelude.{Option, Some, None, map, slice_get, unwrap_or}
+use Rattle.std.specs.Prelude.{List, [], ◌∷◌, ◌++◌, Option, Some, None, map, slice_get, unwrap_or}
 use Rattle.mx_debug.specs.Points.{has_breakpoint}
-use Rattle.mx_exec.specs.declared.image.Image.{Image}
 use Rattle.mx_machine.specs.declared.events.Event.{Event}
-use Rattle.mx_machine.specs.World.{World, held_by}
-use Rattle.mx_print_answers.specs.Slots.{image_in}
+use Rattle.mx_machine.specs.declared.history.Record.{Record}
+use Rattle.mx_machine.specs.World.{HeldProcess, World, held_by}
 use Rattle.mx_walk.specs.declared.positions.Position.{Position}
-use Rattle.mx_walk.specs.Positions.{IsBefore, IsPosition, IsUpTo, first, next_event, next_position, position_before}
-use Rattle.mx_walk.specs.Seeking.{IsFirstMarked, IsLastMarked, IsPassed, is_marked}
+use Rattle.mx_walk.specs.Positions.{IsBefore, IsPosition, IsUpTo, events_before, first, next_event, next_position}
+use Rattle.mx_walk.specs.Positions.{position_before, world_at}
+use Rattle.mx_walk.specs.Seeking.{IsFirstMarked, IsLastMarked, IsPassed, NoneMarked, is_marked}
 use Rattle.mx_walk.specs.Walks.{Walk, world_here}
 use Rattle.mx_app_look.specs.declared.watches.Watch.{Watch}
 use Rattle.mx_app_look.specs.Changes.{as_seen, first_change, seen_in}
@@ -19,7 +19,7 @@ use Rattle.mx_app_gdb.specs.declared.halts.Halted.{Halted}
 use Rattle.mx_app_gdb.specs.declared.halts.Halted.TheVariants.{There, AtBreak, AtBegin, AtEnd, Changed}
 use Rattle.mx_app_gdb.specs.declared.halts.Halts.{Halts}
 use Rattle.mx_app_gdb.specs.declared.ranges.Range.{Range}
-use Rattle.mx_app_gdb.specs.Halts.{halted_here, halts_after}
+use Rattle.mx_app_gdb.specs.Halts.{IsUnchanged, halted_here, halts_after}
 use Rattle.mx_app_gdb.specs.Marks.{is_within, moves, stands_within}
 
 -- ---- a position and why one halts at it; none if one goes on
@@ -66,12 +66,28 @@ IsAfterNext k h From (Some x) r =
 abbrev pub IsMadeNext : Walk → Halts → Halt → Type 0
 IsMadeNext k h r = IsAfterNext k h (λ p r. r ≡ (p, None)) (next_made k) r
 
--- a search from here on: up to the first event that is met, or right after one that comes to a breakpoint or is marked,
--- with none that is met on the way
-abbrev pub IsSearchedOn : Walk → Halts → (World → ℕ × Event → World → Bool) → Halt → Type 0
-IsSearchedOn k h marks (q, Some why) = IsHaltFrom k h k.here (q, Some why)
+abbrev pub Marks : Type 0
+Marks = World → ℕ × Event → World → Bool
+
+-- no event from one position to a later one is marked, but perhaps the last
+abbrev pub IsUnmarked : Marks → World → List Record → Position → Position → Type 0
+IsUnmarked f boot records from q =
+    (between : List (ℕ × Event)) × (x : ℕ × Event)
+    × (events_before records q ≡ events_before records from ++ (between ++ x ∷ []))
+    × NoneMarked f (world_at boot records from) between
+
+-- a search from here on halts at the first event that is met, or at the last position, and none that is marked was
+-- before that; or it is right after an event that is marked, or that comes to a breakpoint, with none that is met
+abbrev pub IsSearchedOn : Walk → Halts → Marks → Halt → Type 0
+IsSearchedOn k h marks (q, Some why) =
+    ((p : Position) × IsPosition k.records p × IsUpTo p k.last
+    × IsFirstMarked (is_met h) k.boot k.records k.here p × IsUnmarked marks k.boot k.records k.here p
+    × (halt_by k h (position_before k.records p) p ≡ (q, Some why)))
+    ⊎ (IsPassed (is_met h) k.boot k.records k.here k.last × IsPassed marks k.boot k.records k.here k.last
+    × (q ≡ k.last) × (why ≡ AtEnd h.mover))
 IsSearchedOn k h marks (q, None) =
-    IsBefore k.here q × IsPassed (is_met h) k.boot k.records k.here q × (halted_here (at k q) h ≡ None)
+    IsBefore k.here q × IsPassed (is_met h) k.boot k.records k.here q
+    × IsUnmarked marks k.boot k.records k.here q × (halted_here (at k q) h ≡ None)
 
 -- CONTINUE
 abbrev pub IsGoneOn : Walk → Halts → Halt → Type 0
@@ -94,6 +110,11 @@ in_range s g w (Some x) = stands_within s g (held_by w x.0)
 
 abbrev pub stands_in : Walk → ℕ → Range → Bool
 stands_in k s g = in_range s g (world_here k) (next_made k)
+
+-- and nothing that is watched has changed up to here
+pub record IsAtStep (k : Walk) (h : Halts) (s : ℕ) : Type 0 where
+  pub next : stands k s ≡ true
+  pub unchanged : IsUnchanged k h
 
 abbrev pub is_met_or_moves : Halts → ℕ → World → ℕ × Event → World → Bool
 is_met_or_moves h s w x u = is_met h w x u || moves s w x
@@ -124,12 +145,20 @@ IsCome k h s r = IsComeIf (stands k s) k h s r
 
 -- ---- steps of a slot's process within a range of code
 
+-- the process whose step is next
+abbrev pub held_next : World → Option (ℕ × Event) → Option HeldProcess
+held_next w None = None
+held_next w (Some x) = held_by w x.0
+
+abbrev pub process_next : Walk → Option HeldProcess
+process_next k = held_next (world_here k) (next_made k)
+
 -- why its steps end where its next one comes: at a breakpoint, or out of the range; if they do
-abbrev pub ends_of : Halts → ℕ → Range → Option Image → Option Halted
+abbrev pub ends_of : Halts → ℕ → Range → Option HeldProcess → Option Halted
 ends_of h s g None = Some (There s)
-ends_of h s g (Some m) =
-    if has_breakpoint h.points.breakpoints s m.eip then Some (AtBreak s)
-    else if is_within g m.eip then None else Some (There s)
+ends_of h s g (Some l) =
+    if has_breakpoint h.points.breakpoints s l.out.image.eip then Some (AtBreak s)
+    else if is_within g l.out.image.eip then None else Some (There s)
 
 -- from a position where its step is next: this step, and on to where its next one comes; there they end, or go on; or a
 -- halt comes before
@@ -137,9 +166,9 @@ pub data AreStepped (k : Walk) (h : Halts) (s : ℕ) (g : Range) : Position → 
   halted : (p q : Position) → (why : Halted) → IsComeAfter (at k p) h s (q, Some why)
       → AreStepped k h s g p (q, Some why)
   ended : (p q : Position) → (why : Halted) → IsComeAfter (at k p) h s (q, None)
-      → ends_of h s g (image_in (world_here (at k q)) s) ≡ Some why → AreStepped k h s g p (q, Some why)
+      → ends_of h s g (process_next (at k q)) ≡ Some why → AreStepped k h s g p (q, Some why)
   further : (p q : Position) → (r : Halt) → IsComeAfter (at k p) h s (q, None)
-      → ends_of h s g (image_in (world_here (at k q)) s) ≡ None → AreStepped k h s g q r → AreStepped k h s g p r
+      → ends_of h s g (process_next (at k q)) ≡ None → AreStepped k h s g q r → AreStepped k h s g p r
 
 -- what comes of coming from one position to another, for a halt there or none
 abbrev pub EndsBy : Walk → Halts → ℕ → Range → Position → Option Halted → Halt → Type 0
@@ -148,7 +177,7 @@ EndsBy k h s g q None r = AreStepped k h s g q r
 
 abbrev pub IsOnFrom : Walk → Halts → ℕ → Range → Position → Option Halted → Halt → Type 0
 IsOnFrom k h s g q (Some why) r = r ≡ (q, Some why)
-IsOnFrom k h s g q None r = EndsBy k h s g q (ends_of h s g (image_in (world_here (at k q)) s)) r
+IsOnFrom k h s g q None r = EndsBy k h s g q (ends_of h s g (process_next (at k q))) r
 
 -- steps of a slot's process after one of them that led to a position
 abbrev pub IsSteppedFrom : Walk → Halts → ℕ → Range → Position → Halt → Type 0

@@ -77,8 +77,8 @@ IsHeardAs t (Packet p) o text = IsAnswered t p o text
 abbrev pub IsByteHeard : Talk → ℕ → Option Talk → List ℕ → Type 0
 IsByteHeard t b o text = IsHeardAs (read_to t b) (heard_of t.reader b) o text
 
--- ---- THE TALK, over the bytes that come, each as a line of its own: up to its end, to that of the input, or to so many
--- bytes. Each is answered before the next one is read
+-- ---- THE TALK, over the bytes that come, each as a line of its own: up to its end, to that of the input, or to so
+-- many bytes. Each is answered before the next one is read
 
 abbrev pub IsTalkOf : ℕ → Option Talk → List (Option (List ℕ)) → List ℕ → Type 0
 IsTalkOf n None typed text = (typed ≡ []) × (text ≡ [])

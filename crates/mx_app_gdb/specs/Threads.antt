@@ -14,7 +14,12 @@ is_only None s = true
 -- the processes of so many slots, or one of them alone
 abbrev pub threads_at : ℕ → Option ℕ → Threads
 threads_at n only = record {
-  count = n; reads = unwrap_or only 0; goes = None; names = false; only = only; gone = replicate 32 false;
+  count = n;
+  reads = unwrap_or only 0;
+  goes = None;
+  names = false;
+  only = only;
+  gone = replicate 32 false;
 }
 
 -- gdb has the process of a slot: the only one that it wants, or one that it hasn't left

@@ -24,7 +24,9 @@ pub(crate) fn go_on<P: Progress>(
     ensures halted { IfOk result (λ r. IsGoneOn walker halts.now (r.0.here, Some r.1)) }
     ensures grown { HasGrown (P.shown progress.old) (P.shown progress.new) }
 {
+    let _ = (walker.here(), walker.last());
     let (mut walker, mut halted) = make_next(alloc, walker, halts, progress)?;
+    let _ = walker.here();
     while halted.is_none() {
         let nothing = Several::<Moving>::new(Vec::new(alloc));
         halted = search_on(alloc, &mut walker, halts, nothing, progress)?;

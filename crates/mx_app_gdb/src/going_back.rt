@@ -1,19 +1,20 @@
 //! Going back.
 
-ghost use Rattle.std.specs.Prelude.{◌≡◌, IfOk, MatchOption, Some, false, option_map, true};
+ghost use Rattle.std.specs.Prelude.{◌≡◌, IfOk, Some, map};
 ghost use Rattle.mx_walk.specs.Parts.{HasGrown};
 ghost use Rattle.mx_machine.specs.Machine.{world_of};
 ghost use Rattle.mx_machine.specs.World.{held_by};
-ghost use Rattle.mx_walk.specs.Positions.{next_position};
-ghost use Rattle.mx_app_look.specs.Marks.{leaves_breakpoint};
+ghost use Rattle.mx_walk.specs.Positions.{IsPosition, IsUpTo, next_position};
+ghost use Rattle.mx_walk.specs.Stopping.{leaves_any, stands_at_any};
+ghost use Rattle.mx_app_look.specs.Marks.{code_place};
 ghost use Rattle.mx_app_look.specs.Searches.{next_made};
-ghost use Rattle.mx_app_gdb.specs.Moves.{IsGoneBack, IsSteppedBack, changed_by};
+ghost use Rattle.mx_app_gdb.specs.Moves.{IsGoneBack, IsSteppedBack, changed_by, halted_or};
 
 use crate::halts::{Halted, Halts};
-use crate::marks::Moving;
+use crate::marks::{Moving, is_step};
 use crate::moving::next_made;
-use mx_app_look::{all_bytes, first_change, points_mark, slot_next};
-use mx_machine::{Event, Machine};
+use mx_app_look::{Watch, all_bytes, first_change, points_mark, slot_next};
+use mx_machine::{Machine, Out, at_stop};
 use mx_proc::Slot;
 use mx_walk::{NextEvent, Progress, Walker};
 use mx_word::NoMemory;
@@ -31,37 +32,51 @@ pub(crate) fn step_back<P: Progress>(
     ensures halted { IfOk result (λ r. IsSteppedBack walker halts.now slot (r.0.here, Some r.1)) }
     ensures grown { HasGrown (P.shown progress.old) (P.shown progress.new) }
 {
+    let _ = walker.here();
     let (walker, is_there) = walker.seek_back(alloc, &mut Moving::new(slot), progress)?;
+    let _ = walker.here();
     if !is_there {
         return Ok((walker, Halted::AtBegin(slot)));
     }
-    let halted = match first_change(alloc, walker.machine(), halts.seen.as_slice())? {
-        Some(watch) => Halted::Changed(watch),
-        None => Halted::There(slot),
-    };
+    let changed = first_change(alloc, walker.machine(), halts.seen.as_slice())?;
+    let halted = changed_or(changed, Halted::There(slot));
     Ok((walker, halted))
 }
 
-/// The slot whose step at a breakpoint an event is, if it is one.
-fn break_at(machine: &Machine, halts: &Halts, next: NextEvent) -> Option<Slot>
-    ensures { MatchOption result
-        (leaves_breakpoint halts.now.points (world_of machine.now) (next.actor, next.event)
-        (world_of machine.now) ≡ false)
-        (λ s. (leaves_breakpoint halts.now.points (world_of machine.now) (next.actor, next.event)
-        (world_of machine.now) ≡ true)
-        × (option_map (λ l. l.slot) (held_by (world_of machine.now) next.actor) ≡ Some s)) }
+/// Whether this is a slot's process, its next instruction is at a breakpoint, and it can step.
+fn is_at_break(halts: &Halts, slot: Slot, out: &Out) -> bool
+    ensures { result ≡ stands_at_any (Some (record { slot = slot; out = out.now }))
+        (map code_place halts.now.points.breakpoints) }
 {
-    match next.event {
-        Event::Step => {
-            let slot = machine.slot_on(next.actor)?;
-            let image = machine.image(next.actor)?;
-            if halts.points.breakpoints.has_breakpoint(slot, image.eip) {
-                Some(slot)
-            } else {
-                None
-            }
-        }
-        _ => None,
+    halts.points.breakpoints.has_breakpoint(slot, out.image.eip) && !at_stop(out)
+}
+
+/// Whether a processor has a process that is at a breakpoint and can step.
+fn stands_at_break(machine: &Machine, cpu: u8, halts: &Halts) -> bool
+    ensures { result ≡ stands_at_any (held_by (world_of machine.now) cpu)
+        (map code_place halts.now.points.breakpoints) }
+{
+    match (machine.slot_on(cpu), machine.out(cpu)) {
+        (Some(slot), Some(out)) => is_at_break(halts, slot, out),
+        _ => false,
+    }
+}
+
+/// Whether an event is the step at a breakpoint.
+fn is_break(machine: &Machine, halts: &Halts, next: NextEvent) -> bool
+    ensures { result ≡ leaves_any (map code_place halts.now.points.breakpoints)
+        (world_of machine.now) (next.actor, next.event) (world_of machine.now) }
+{
+    is_step(next.event) && stands_at_break(machine, next.actor, halts)
+}
+
+/// Why one halts: bytes of a watch have changed, if they have.
+fn changed_or(changed: Option<Watch>, halted: Halted) -> Halted
+    ensures { result ≡ halted_or changed halted }
+{
+    match changed {
+        Some(watch) => Halted::Changed(watch),
+        None => halted,
     }
 }
 
@@ -76,6 +91,7 @@ fn change_by<P: Progress>(
 ) -> Result<(Walker, Halted), NoMemory>
     requires made { next_made walker ≡ Some (next.actor, next.event) }
     requires position { next.position ≡ next_position walker.records walker.here }
+    requires placed { IsPosition walker.records next.position × IsUpTo next.position walker.last }
     ensures same { IfOk result (λ r. r.0 ≡ walker) }
     ensures halted { IfOk result (λ r. r.1
         ≡ changed_by walker halts.now walker.here next.position) }
@@ -86,11 +102,8 @@ fn change_by<P: Progress>(
     let walker = walker.go_to(alloc, next.position, progress)?;
     let changed = first_change(alloc, walker.machine(), seen.as_slice())?;
     let walker = walker.go_to(alloc, here, progress)?;
-    let halted = match changed {
-        Some(watch) => Halted::Changed(watch),
-        None => Halted::There(slot_next(&walker).unwrap_or(halts.mover)),
-    };
-    Ok((walker, halted))
+    let slot = slot_next(&walker).unwrap_or(halts.mover);
+    Ok((walker, changed_or(changed, Halted::There(slot))))
 }
 
 /// Goes back to right above the last step at a breakpoint, or the last event that changes watched bytes.
@@ -104,14 +117,21 @@ pub(crate) fn go_back<P: Progress>(
     ensures halted { IfOk result (λ r. IsGoneBack walker halts.now (r.0.here, Some r.1)) }
     ensures grown { HasGrown (P.shown progress.old) (P.shown progress.new) }
 {
+    let _ = walker.here();
     let mut mark = points_mark(alloc, &halts.points)?;
     let (walker, is_there) = walker.seek_back(alloc, &mut mark, progress)?;
-    let next = if is_there { next_made(&walker) } else { None };
-    let Some(next) = next else {
+    let _ = walker.here();
+    if !is_there {
         return Ok((walker, Halted::AtBegin(halts.mover)));
-    };
-    match break_at(walker.machine(), halts, next) {
-        Some(slot) => Ok((walker, Halted::AtBreak(slot))),
-        None => change_by(alloc, walker, halts, next, progress),
+    }
+    match next_made(&walker) {
+        Some(next) => {
+            if is_break(walker.machine(), halts, next) {
+                let slot = slot_next(&walker).unwrap_or(halts.mover);
+                return Ok((walker, Halted::AtBreak(slot)));
+            }
+            change_by(alloc, walker, halts, next, progress)
+        }
+        None => unreachable!(),
     }
 }

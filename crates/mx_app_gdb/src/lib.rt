@@ -3,14 +3,14 @@
 //!
 //! # What gdb sees
 //!
-//! Each slot is a process of one thread, whose number is the slot's and one. Data has the addresses of its segment; code
-//! those from 80000000 on, as a program's two segments both begin at 0. A debugger's own stops are positions: of a slot,
-//! those right before its steps.
+//! Each slot is a process of one thread, whose number is the slot's and one. Data has the addresses of its segment;
+//! code those from 80000000 on, as a program's two segments both begin at 0. A debugger's own stops are positions: of a
+//! slot, those right before its steps.
 //!
 //! # Nothing is written
 //!
-//! A packet that asks for a change is refused, and a move is a way along the history. So what gdb shows is the machine as
-//! it was.
+//! A packet that asks for a change is refused, and a move is a way along the history. So what gdb shows is the machine
+//! as it was.
 #![tactic(auto)]
 
 mod addresses;

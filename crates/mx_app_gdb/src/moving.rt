@@ -6,7 +6,7 @@ ghost use Rattle.mx_walk.specs.Positions.{next_position};
 ghost use Rattle.mx_app_look.specs.Searches.{next_made};
 ghost use Rattle.mx_app_gdb.specs.Halts.{IsUnchanged};
 ghost use Rattle.mx_app_gdb.specs.Moves.{IsMadeNext, IsSearchedOn, stands, stands_in};
-ghost use Rattle.mx_walk.specs.Positions.{IsPosition, IsUpTo};
+ghost use Rattle.mx_walk.specs.Positions.{IsBefore, IsPosition, IsUpTo};
 
 use crate::halts::{Halted, Halts, halted_here};
 use crate::marks::{Faulting, moves, stands_within};
@@ -21,12 +21,14 @@ use std::alloc::Global;
 pub(crate) fn next_made(walker: &Walker) -> Option<NextEvent>
     ensures { MatchOption result (next_made walker.now ≡ None)
         (λ next. (next_made walker.now ≡ Some (next.actor, next.event))
-        × (next.position ≡ next_position walker.now.records walker.now.here)) }
+        × (next.position ≡ next_position walker.now.records walker.now.here)
+        × IsPosition walker.now.records next.position × IsUpTo next.position walker.now.last) }
 {
-    if is_up_to(walker.last(), walker.here()) {
+    let here = walker.here();
+    if is_up_to(walker.last(), here) {
         return None;
     }
-    next_event(walker.records(), walker.here())
+    next_event(walker.records(), here)
 }
 
 /// Whether the next event is a step of a slot's process.
@@ -59,8 +61,11 @@ pub(crate) fn make_next<P: Progress>(
     requires unchanged { IsUnchanged walker halts.now }
     ensures same { IfOk result (λ r. r.0 ≡ record walker { here = r.0.here }) }
     ensures made { IfOk result (λ r. IsMadeNext walker halts.now (r.0.here, r.1)) }
+    ensures on { IfOk result (λ r. r.1 ≡ None → IsBefore walker.here r.0.here) }
+    ensures unchanged { IfOk result (λ r. r.1 ≡ None → IsUnchanged r.0 halts.now) }
     ensures grown { HasGrown (P.shown progress.old) (P.shown progress.new) }
 {
+    let _ = walker.here();
     match next_made(&walker) {
         Some(next) => {
             let walker = walker.go_to(alloc, next.position, progress)?;
@@ -91,11 +96,16 @@ pub(crate) fn search_on<M: Mark + Drop, P: Progress>(
         (walker.new.here, halted)) }
     ensures grown { HasGrown (P.shown progress.old) (P.shown progress.new) }
 {
+    // Where it is, and the last position, are positions.
+    let _ = (walker.here(), walker.last());
     let places = break_places(alloc, &halts.points)?;
     let points = halts_mark(alloc, &halts.points)?;
     let others = Either::new(Faulting::new(halts.counted), mark);
     let mut all = Either::new(points, others);
-    match walker.seek_halt(places.as_slice(), &mut all, progress) {
+    let halt = walker.seek_halt(places.as_slice(), &mut all, progress);
+    // Where it is now is a position, and not past the last.
+    let _ = walker.here();
+    match halt {
         Halt::Before => {
             let slot = slot_next(walker).unwrap_or(halts.mover);
             Ok(Some(Halted::AtBreak(slot)))

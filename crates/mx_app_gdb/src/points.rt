@@ -150,9 +150,7 @@ fn remove_pieces(points: &mut Points, slot: Slot, address: u32, count: u32)
     ensures breakpoints { points.new.breakpoints ≡ points.old.breakpoints }
 {
     for piece in 0..pieces_of(count) {
-        points
-            .watches
-            .remove(piece_at(slot, address, count, piece));
+        points.watches.remove(piece_at(slot, address, count, piece));
     }
 }
 

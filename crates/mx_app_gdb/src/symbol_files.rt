@@ -45,10 +45,7 @@ fn symbol_file(alloc: Global, file: &[u8]) -> Result<Vec<u8>, AllocError>
 }
 
 /// Those of all services.
-pub(crate) fn symbol_files(
-    alloc: Global,
-    lines: &[ServiceLine],
-) -> Result<Vec<Vec<u8>>, AllocError>
+pub(crate) fn symbol_files(alloc: Global, lines: &[ServiceLine]) -> Result<Vec<Vec<u8>>, AllocError>
     ensures { IfOk result (λ files. map (λ f. f.items) files.items ≡ file_names lines.now) }
 {
     let mut files = Vec::new(alloc);

@@ -106,12 +106,17 @@ fn send<W: Write>(
     } = talk;
     let Reply { text, after } = reply;
     let last = write_reply(alloc, last, text, out)?;
-    let acks = acks && after != After::NoAcks;
     match after {
-        After::More | After::NoAcks => Ok(Some(Talk {
+        After::More => Ok(Some(Talk {
             stub,
             reader,
             acks,
+            last,
+        })),
+        After::NoAcks => Ok(Some(Talk {
+            stub,
+            reader,
+            acks: false,
             last,
         })),
         After::Over => Ok(None),

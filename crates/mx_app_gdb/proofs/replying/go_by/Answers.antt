@@ -15,7 +15,7 @@ returns-then-continues-clause-replied g c =
     let r = c.args.resumed in
     let o = read_by s.threads r.first.who in
     let turned : (u : Stub) (text : List ℕ) → IsMovedBy On h s u text → IsResumed s r o u text =
-        resumed_on r s o c.in-Some.slot h (sym c.read_by.ensures ∙ c.in-Some.is) (sym c.continues.ensures ∙ c.if-continues.true) c.in_ok-halts.ensures.halts in
+    resumed_on r s o c.in-Some.slot h (sym c.read_by.ensures ∙ c.in-Some.is) (sym c.continues.ensures ∙ c.if-continues.true) c.in_ok-halts.ensures.halts in
     IfOk-weaker c.move_along.result
     (λ (x : Stub × Reply). SaysMoved (IsMovedBy On h s) x.0 (text_of x.1) x.1.after)
     (λ (x : Stub × Reply). SaysMoved (IsResumed s r o) x.0 (text_of x.1) x.1.after)
@@ -29,8 +29,8 @@ returns-clause-replied g c =
     let o = read_by s.threads r.first.who in
     let way = Step c.in-Some.slot c.range_of.result in
     let turned : (u : Stub) (text : List ℕ) → IsMovedBy way h s u text → IsResumed s r o u text =
-        resumed_by_step r s o c.in-Some.slot h (sym c.read_by.ensures ∙ c.in-Some.is) c.range_of.result (sym c.continues.ensures ∙ c.if-continues.false)
-        c.in_ok-halts-2.ensures.halts c.range_of.ensures in
+    resumed_by_step r s o c.in-Some.slot h (sym c.read_by.ensures ∙ c.in-Some.is) c.range_of.result (sym c.continues.ensures ∙ c.if-continues.false)
+    c.in_ok-halts-2.ensures.halts c.range_of.ensures in
     IfOk-weaker c.move_along-2.result
     (λ (x : Stub × Reply). SaysMoved (IsMovedBy way h s) x.0 (text_of x.1) x.1.after)
     (λ (x : Stub × Reply). SaysMoved (IsResumed s r o) x.0 (text_of x.1) x.1.after)

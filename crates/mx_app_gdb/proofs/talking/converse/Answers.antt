@@ -1,0 +1,70 @@
+use Rattle.std.proofs.Common.{◌≡◌, ◌∙◌, ◌-◌, ◌^◌, ◌++◌, ◌∷◌, [], List, ℕ, None, Option, Some, ap, refl, subst, sym}
+use Rattle.mx_app_start.specs.Asked.{byte_line}
+use Rattle.mx_app_gdb.specs.Talks.{IsByteHeard}
+use Rattle.mx_app_gdb.specs.declared.talking.Talk.{Talk}
+use Rattle.mx_app_gdb.proofs.Conversing.{counted, input_ends, no_bytes, talk_ends, talk_goes_on}
+use Rattle.mx_app_gdb.proofs.Grown.{grown_same, grown_trans}
+use Rattle.mx_app_gdb.proofs.talking.converse.Goals as goal
+
+pub loop-init : goal.loop-init
+loop-init g c = record {
+  talked = no_bytes (2 ^ 64 - 1) c.args.talk (g.L.LineReader.given c.args.lines.now) (g.W.Write.contents c.args.out.now);
+  grown = grown_same _ _ refl;
+}
+
+pub returns-in_default-clause-talked : goal.returns-in_default-clause-talked
+returns-in_default-clause-talked g c =
+    let n = 2 ^ 64 - 1 in
+    let t = c.args.talk in
+    let given = g.L.LineReader.given c.args.lines.now in
+    let came = g.L.LineReader.given c.loop.lines in
+    let before = g.W.Write.contents c.args.out.now in
+    let after = g.W.Write.contents c.loop.out in
+    let so = c.loop.invariant.talked in
+    let next = g.L.LineReader.given c.next_byte.new.lines in
+    input_ends n t c.loop.talk c.loop.counter given came before after so next
+    (c.in_ok-byte.ensures.given ∙ ap (λ (b : Option ℕ). came ++ byte_line b ∷ []) c.in_default.is)
+
+pub returns-in-None-clause-talked : goal.returns-in-None-clause-talked
+returns-in-None-clause-talked g c =
+    let n = 2 ^ 64 - 1 in
+    let t = c.args.talk in
+    let given = g.L.LineReader.given c.args.lines.now in
+    let came = g.L.LineReader.given c.loop.lines in
+    let before = g.W.Write.contents c.args.out.now in
+    let after = g.W.Write.contents c.loop.out in
+    let so = c.loop.invariant.talked in
+    let next = g.L.LineReader.given c.next_byte.new.lines in
+    let h = c.in_ok-next.ensures.heard in
+    talk_ends n t c.loop.talk c.loop.counter given came before after so c.loop-test.true c.in-Some.byte next
+    (c.in_ok-byte.ensures.given ∙ ap (λ (b : Option ℕ). came ++ byte_line b ∷ []) c.in-Some.is) (g.W.Write.contents c.hear.new.out) h.0 h.2
+    (subst (λ (o : Option Talk). IsByteHeard c.loop.talk c.in-Some.byte o h.0) c.in-None.is h.1)
+
+pub loop-preserved : goal.loop-preserved
+loop-preserved g c =
+    let n = 2 ^ 64 - 1 in
+    let t = c.args.talk in
+    let given = g.L.LineReader.given c.args.lines.now in
+    let came = g.L.LineReader.given c.loop.lines in
+    let before = g.W.Write.contents c.args.out.now in
+    let after = g.W.Write.contents c.loop.out in
+    let so = c.loop.invariant.talked in
+    let next = g.L.LineReader.given c.next_byte.new.lines in
+    let h = c.in_ok-next.ensures.heard in
+    record {
+      talked = talk_goes_on n t c.loop.talk c.loop.counter given came before after so c.loop-test.true c.in-Some.byte next
+          (c.in_ok-byte.ensures.given ∙ ap (λ (b : Option ℕ). came ++ byte_line b ∷ []) c.in-Some.is) (g.W.Write.contents c.hear.new.out) h.0 h.2 c.in-Some-2.next
+          (subst (λ (o : Option Talk). IsByteHeard c.loop.talk c.in-Some.byte o h.0) c.in-Some-2.is h.1);
+      grown = grown_trans _ _ _ c.loop.invariant.grown c.in_ok-next.ensures.grown;
+    }
+
+pub returns-clause-talked : goal.returns-clause-talked
+returns-clause-talked g c =
+    let n = 2 ^ 64 - 1 in
+    let t = c.args.talk in
+    let given = g.L.LineReader.given c.args.lines.now in
+    let came = g.L.LineReader.given c.loop.lines in
+    let before = g.W.Write.contents c.args.out.now in
+    let after = g.W.Write.contents c.loop.out in
+    let so = c.loop.invariant.talked in
+    counted n t c.loop.talk c.loop.counter given came before after so c.loop-test.false
