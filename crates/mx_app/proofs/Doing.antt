@@ -5,7 +5,7 @@ use Rattle.std.specs.Io.KnownBytes.{Appends}
 use Rattle.std.proofs.lemmas.List.{append-nil}
 use Rattle.mx_app_command.specs.Files.{writes_over}
 use Rattle.mx_app_command.specs.declared.command_line.CommandRequest.{CommandRequest}
-use Rattle.mx_app_command.specs.declared.command_line.CommandRequest.TheVariants.{Live, Look, Run, Sweep, SweptPage, Turns}
+use Rattle.mx_app_command.specs.declared.command_line.CommandRequest.TheVariants.{Gdb, Live, Look, Run, Sweep, SweptPage, Turns}
 use Rattle.mx_app_command.specs.declared.command_line.RecordRange.{RecordRange}
 use Rattle.mx_app_db.specs.ScriptLine.{ScriptLine}
 use Rattle.mx_app_db.specs.declared.script.DebugLine.{DebugLine}
@@ -76,6 +76,7 @@ untyped : (WasShown : Part → Type 0) (request : CommandRequest) (asks : Bool) 
     → PerformsUntyped request qs ws Prints r → PerformsApart WasShown request asks (record { asked = qs; written = ws; typed = []; heard = []; told = []; shown = [] }) Prints r
 untyped WasShown (Run config log ticks events) asks qs ws Prints r h = absurd h
 untyped WasShown (Look config log) asks qs ws Prints r h = absurd h
+untyped WasShown (Gdb config log slot) asks qs ws Prints r h = absurd h
 untyped WasShown (Turns config log ticks events bound) asks qs ws Prints r h = absurd h
 untyped WasShown (Live config log raw hertz stop) asks qs ws Prints r h = absurd h
 untyped WasShown (Sweep config log fault bound from to jobs strict save) asks qs ws Prints r h = absurd h

@@ -106,7 +106,7 @@ returns-in-SweptPage-clause-done g c =
 pub returns-in-Gdb-clause-done : goal.returns-in-Gdb-clause-done
 returns-in-Gdb-clause-done g c =
     as_typed (g.P.SharedProgress.was_shown c.args.io.now.progress) _ _ _ _ _ _ _ _ _ _ _ _ _ _ _ _ _ c.in-Gdb.is
-    (talked _ _ _ _ _ _ _ _ c.in-Gdb.config.now c.in-Gdb.log.now c.in-Gdb.slot _ _ c.gdb.result c.done_after_gdb-in-Gdb.result c.gdb.ensures.talked c.gdb.ensures.fault c.done_after_gdb-in-Gdb.ensures (ap g.F.FileWriter.written c.gdb.ensures.files))
+    (talked _ _ _ _ _ _ _ _ c.in-Gdb.config.now c.in-Gdb.log.now c.in-Gdb.slot _ _ c.gdb.result c.done_after_gdb.result c.gdb.ensures.talked c.gdb.ensures.fault c.done_after_gdb.ensures (ap g.F.FileWriter.written c.gdb.ensures.files))
 
 pub returns-in-Look-clause-done : goal.returns-in-Look-clause-done
 returns-in-Look-clause-done g c =
