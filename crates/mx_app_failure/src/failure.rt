@@ -1,7 +1,8 @@
 //! Why a command fails: its line on standard error, and its status.
 
-ghost use Rattle.std.specs.Prelude.{◌≡◌, string_bytes};
+ghost use Rattle.std.specs.Prelude.{◌≡◌, string_bytes, take};
 ghost use Rattle.std.specs.IoError.{error_kind};
+ghost use Rattle.std.specs.List.{list_all};
 ghost use Rattle.mx_app_failure.specs.Failure.{IsFaulty, IsMisstated, IsUntyped, IsWanting, access_of, begins_text, failure_if, input_of, is_of_text, looks_of, output_of, output_problem, problem_name, problem_of_bytes, problem_of_reading, problem_of_refusal, status_of, unwritten_of};
 
 use mx_aout::FileError;
@@ -144,12 +145,30 @@ fn is_of_text(byte: u8) -> bool
     byte >= 32 && byte < 127 || byte == b'\t' || byte == b'\n' || byte == b'\r'
 }
 
+/// Whether a text may have all of these bytes.
+fn are_of_text(bytes: &[u8]) -> bool
+    ensures { result ≡ list_all is_of_text bytes.now }
+{
+    bytes.iter().all(|byte| is_of_text(*byte))
+}
+
+/// The first bytes of a file, as many as are looked at.
+#[tactic(auto, using(crate::proofs::Texts::all_taken))]
+fn looked_at(bytes: &[u8]) -> &[u8]
+    ensures { result.now ≡ take 64 bytes.now }
+{
+    if bytes.len() > LOOKED_AT {
+        &bytes[..LOOKED_AT]
+    } else {
+        bytes
+    }
+}
+
 /// Whether the first bytes of a file are those of a text.
 fn begins_text(bytes: &[u8]) -> bool
     ensures { result ≡ begins_text bytes.now }
 {
-    let front = &bytes[..bytes.len().min(LOOKED_AT)];
-    !front.is_empty() && front.iter().all(|byte| is_of_text(*byte))
+    !bytes.is_empty() && are_of_text(looked_at(bytes))
 }
 
 impl Looks {

@@ -270,7 +270,7 @@ pub(crate) fn push_prompt(out: &mut Vec<u8>, asks: bool, walker: &Walker) -> Res
 
 /// The services of the machine, by which a line names slots.
 #[tactic(auto, unfolding(mx_machine::specs::Machine::world_of))]
-fn services_here(walker: &Walker) -> &[Service]
+pub fn services_here(walker: &Walker) -> &[Service]
     ensures { result.now ≡ (world_here walker.now).services }
 {
     walker.machine().kernel().services()

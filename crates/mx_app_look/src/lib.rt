@@ -34,13 +34,13 @@ mod verb;
 mod watches;
 mod world_texts;
 
-pub use answering::answer_line;
+pub use answering::{answer_line, services_here};
 pub use asked_slot::{limit_here, slot_next};
 pub use changes::{Seen, all_bytes, first_change};
 pub use halt_laws::{one_halt, searches_return};
 pub use marks::{break_places, halts_mark, points_mark};
 pub use points::Points;
-pub use request::{Request, request_of};
+pub use request::{Request, ends, request_of};
 pub use session::{SessionWanted, look};
 pub use session_laws::{one_session, why_is_traced};
 pub use sight::Sight;

@@ -129,7 +129,7 @@ fn is_quit(verb: Option<Verb>) -> bool
 
 /// Whether a line ends the session: it is a verb that does, and has nothing after it.
 #[tactic(auto, unfolding(crate::specs::Requests::ends))]
-pub(crate) fn ends(line: &[u8]) -> bool
+pub fn ends(line: &[u8]) -> bool
     ensures { result ≡ ends line.now }
 {
     if !is_text(line) {
