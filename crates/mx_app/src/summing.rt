@@ -226,7 +226,7 @@ fn perform_summed<
 
 /// Does the same, unless the file of sums is spared.
 fn perform_sparing<
-    T: Threads + Wait + Clock + Sync,
+    T: Threads + Wait + Clock + Files + Sync,
     R: Reader + Drop,
     F: FileWriter + Drop,
     W: Write + Drop,
