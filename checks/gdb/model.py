@@ -71,6 +71,11 @@ class Program:
         self.limit = (total + 4095) // 4096 * 4096
 
 
+def is_there(lines):
+    """Whether a search of `mx look` has found what it halts at; without a point it looks for nothing."""
+    return "not met" not in lines and "refused 73 BadRecord: no break, no watch" not in lines
+
+
 class Look:
     """A session of `mx look`, asked a line at a time."""
 
@@ -252,7 +257,7 @@ class Stub:
         changed = [re.match(r"watch (\d+) ([0-9a-f]+):", line) for line in lines]
         changed = [(int(it[1]), int(it[2], 16)) for it in changed if it]
         fault = self.fault_after(here, slots)
-        is_met = "not met" not in lines
+        is_met = is_there(lines)
         if fault and (not is_met or fault[0] <= self.at) and fault[0] <= to:
             self.go(fault[0])
             return self.stop(fault[1], signal=SIGNALS.get(fault[2], 5))
@@ -318,7 +323,8 @@ class Stub:
         mover = self.goes if self.goes is not None else self.reads
         self.set_points(self.seen())
         lines = self.ask("reverse")
-        if "not met" in lines:
+        if not is_there(lines):
+            self.go((0, 0))
             return self.stop(mover, b"replaylog:begin;")
         slot = self.slot_next()
         if slot is not None and (slot, self.registers(slot)[8] - CODE) in self.breaks and slot in self.seen():
