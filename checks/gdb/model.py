@@ -18,7 +18,7 @@ TARGET = (
 FEATURES = b"PacketSize=4000;vContSupported+;QStartNoAckMode+;ReverseStep+;ReverseContinue+;"
 READS = b"qXfer:features:read+;qXfer:exec-file:read+"
 FOR_GDB = b"gdb's own commands do that; of those that move only goto is here\n"
-MOVES = {"back", "break", "clear", "continue", "forward", "points", "quit", "reverse", "step", "stepback", "until", "watch"}
+MOVES = {"back", "break", "clear", "continue", "exit", "forward", "points", "quit", "reverse", "step", "stepback", "until", "watch"}
 VERBS = sorted(MOVES | {"goto", "help", "list", "mem", "messages", "print", "ps", "regs", "stack", "where", "why"})
 SIGNALS = {0: 8, 4: 8, 6: 4, 12: 11, 13: 11}
 REGISTERS = "EAX ECX EDX EBX ESP EBP ESI EDI EIP".split()
@@ -74,6 +74,14 @@ class Program:
 def is_there(lines):
     """Whether a search of `mx look` has found what it halts at; without a point it looks for nothing."""
     return "not met" not in lines and "refused 73 BadRecord: no break, no watch" not in lines
+
+
+def is_text(line):
+    try:
+        line.decode()
+    except UnicodeDecodeError:
+        return False
+    return len(line) <= 4096
 
 
 class Look:
@@ -371,20 +379,19 @@ class Stub:
         return (b"l" if len(text[offset:]) <= count else b"m") + text[offset : offset + count]
 
     def console(self, line):
-        word = line.split()[:1]
-        if word and len(line) <= 4096:
-            try:
-                text = word[0].decode()
-                line.decode()
-            except UnicodeDecodeError:
-                text = ""
-            verbs = [it for it in VERBS if it.startswith(text)] if text else []
+        fields = [it for it in line.split(b" ") if it]
+        if not is_text(line):
+            return b"refused 73 BadRecord: a line is text of at most 4096 bytes\n"
+        if fields:
+            text = fields[0].decode()
+            verbs = [it for it in VERBS if it.startswith(text)]
             verb = text if text in VERBS else verbs[0] if len(verbs) == 1 else None
-            if verb in MOVES and self.is_formed(verb, line.split()[1:]):
+            if verb in MOVES and self.is_formed(verb, fields[1:]):
                 return FOR_GDB
-        if b"\n" in line or b"\0" in line or len(line) > 4096:
-            return None
-        lines = self.look.lines_to_mark(line)
+            if re.search(rb"[\n\0]", fields[0]):
+                return b"refused 73 BadRecord: no command " + fields[0] + b"; help\n"
+        # No field may have these two, which no line of a session has.
+        lines = self.look.lines_to_mark(re.sub(rb"[\n\0]", b"\1", line))
         self.place([it.decode("latin-1").rstrip("\n") for it in lines])
         return b"".join(lines)
 
