@@ -153,7 +153,6 @@ fn are_of_text(bytes: &[u8]) -> bool
 }
 
 /// The first bytes of a file, as many as are looked at.
-#[tactic(auto, using(crate::proofs::Texts::all_taken))]
 fn looked_at(bytes: &[u8]) -> &[u8]
     ensures { result.now ≡ take 64 bytes.now }
 {
