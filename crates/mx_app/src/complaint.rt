@@ -41,6 +41,15 @@ Usage: mx page [OPTIONS] <CONFIG> <LOG>
 For more information, try '--help'.
 ";
 
+/// What is printed of `explore` with a word that names no part.
+const NO_PART: &str =
+    "error: invalid value for '--part <I/N>': wanted two numbers, the first below the second
+
+Usage: mx explore [OPTIONS] --departures <K> <CONFIG>
+
+For more information, try '--help'.
+";
+
 /// Why the program didn't do what its words ask for.
 #[derive(Drop)]
 pub enum Complaint {
@@ -54,6 +63,8 @@ pub enum Complaint {
     NotLive,
     /// They are those of `page` with `--turns` or `--jobs`, and without `--fault`.
     NoFault,
+    /// They are those of `explore` with a word that names no part.
+    NoPart,
     /// What they ask for failed.
     Failed(LineFailure),
     /// It failed: with the line that explains the failure, without its end.
@@ -70,7 +81,7 @@ impl Complaint {
         match self {
             Complaint::Mistaken(_) => 2,
             Complaint::TicksAndEvents | Complaint::LiveWithCourse | Complaint::NotLive => 2,
-            Complaint::NoFault => 2,
+            Complaint::NoFault | Complaint::NoPart => 2,
             Complaint::Failed(failure) => failure.status(),
             Complaint::Explained(failure, _) => failure.status(),
             Complaint::Unexplained(failure) => failure.status(),
@@ -91,6 +102,7 @@ impl fmt::Display for Complaint {
             Complaint::LiveWithCourse => f.write_str(LIVE_COURSE),
             Complaint::NotLive => f.write_str(NOT_LIVE),
             Complaint::NoFault => f.write_str(NO_FAULT),
+            Complaint::NoPart => f.write_str(NO_PART),
             Complaint::Failed(failure) => write!(f, "{failure}\n"),
             Complaint::Explained(failure, line) => write!(f, "{failure}\n{line}\n"),
             Complaint::Unexplained(failure) => {

@@ -1,10 +1,10 @@
 -- The second line of a failure: what it is about, and what was wanted (our own).
-use Rattle.std.specs.Prelude.{◌++◌, ℕ, List, [], codes, Option, Some, None, option_map, string_bytes}
+use Rattle.std.specs.Prelude.{◌++◌, if◌then◌else◌, ℕ, List, [], codes, Option, Some, None, option_map, string_bytes}
 use Rattle.mx_text.specs.declared.error.BootError.{BootError}
 use Rattle.mx_text.specs.declared.error.BootError.TheVariants as lines
-use Rattle.mx_app_command.specs.Files.{FileWord, file_written, files_read, written_kind}
+use Rattle.mx_app_command.specs.Files.{FileWord, file_written, files_read, writes_several, written_kind}
 use Rattle.mx_app_command.specs.declared.command_line.CommandRequest.{CommandRequest}
-use Rattle.mx_app_command.specs.declared.command_line.CommandRequest.TheVariants.{Step, Run, Turns, Sweep, SweptPage, Db}
+use Rattle.mx_app_command.specs.declared.command_line.CommandRequest.TheVariants.{Step, Run, Turns, Sweep, Explore, SweptPage, Db}
 use Rattle.mx_app_failure.specs.declared.failure.About.{About}
 use Rattle.mx_app_failure.specs.declared.failure.About.TheVariants as about
 use Rattle.mx_app_failure.specs.declared.failure.FileFailure.{FileFailure}
@@ -81,6 +81,10 @@ subject_of r NoMemory = memory_told
 abbrev pub swept_wanted : List ℕ
 swept_wanted = codes "in LOG a record and its line feed; in FAULT an event of a script, or kill slot S"
 
+-- the lines of a file of outside events
+abbrev pub outside_wanted : List ℕ
+outside_wanted = codes "an outside event: line L, tick or kill E"
+
 -- the lines of a script, of a debugger's script, and of a history
 abbrev pub record_wanted : CommandRequest → List ℕ
 record_wanted (Step config script save numbered) =
@@ -88,7 +92,8 @@ record_wanted (Step config script save numbered) =
 record_wanted (Db config script) = script_lines
 record_wanted (Run config log ticks events) =
     codes "line L, tick, kill E or wait N; --events wants others 2 or more in CONFIG"
-record_wanted (Turns config log ticks events bound) = codes "an outside event: line L, tick or kill E"
+record_wanted (Turns config log ticks events bound) = outside_wanted
+record_wanted (Explore config departures events bound part strict save) = outside_wanted
 record_wanted (Sweep config log fault bound from to jobs strict save) = swept_wanted
 record_wanted (SweptPage config log fault bound from to jobs) = swept_wanted
 record_wanted r =
@@ -121,9 +126,13 @@ file_wanted r OtherKind = kind_wanted (written_kind r)
 
 -- ---- the word at fault
 
+-- what is wrong with a file that is there; of several files it is the first
+abbrev pub other_said : CommandRequest → List ℕ
+other_said r = if writes_several r then codes "NAME1 is there and is no history" else kind_said (written_kind r)
+
 -- of a file that would be written over it is said first that it is there
 abbrev pub file_label : CommandRequest → FileProblem → List ℕ
-file_label r OtherKind = kind_said (written_kind r) ++ codes "; "
+file_label r OtherKind = other_said r ++ codes "; "
 file_label r p = []
 
 abbrev pub plain_detail : CommandRequest → FileProblem → List ℕ

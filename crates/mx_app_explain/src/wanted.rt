@@ -2,7 +2,7 @@
 
 ghost use Rattle.std.specs.Prelude.{◌≡◌};
 ghost use Rattle.mx_app_explain.specs.Wanted.{kind_said, kind_wanted, problem_wanted, refusal_wanted};
-ghost use Rattle.mx_app_explain.specs.Explaining.{file_wanted, lines_wanted, record_wanted};
+ghost use Rattle.mx_app_explain.specs.Explaining.{file_wanted, lines_wanted, other_said, record_wanted};
 
 use mx_aout::FileError;
 use mx_app_command::{CommandRequest, FileKind};
@@ -69,7 +69,9 @@ fn record_wanted(request: CommandRequest<'_>) -> &'static str
         CommandRequest::Run { .. } => {
             "line L, tick, kill E or wait N; --events wants others 2 or more in CONFIG"
         }
-        CommandRequest::Turns { .. } => "an outside event: line L, tick or kill E",
+        CommandRequest::Turns { .. } | CommandRequest::Explore { .. } => {
+            "an outside event: line L, tick or kill E"
+        }
         CommandRequest::Sweep { .. } | CommandRequest::SweptPage { .. } => {
             "in LOG a record and its line feed; in FAULT an event of a script, or kill slot S"
         }
@@ -107,6 +109,17 @@ pub(crate) fn kind_said(kind: FileKind) -> &'static str
         FileKind::Program => "is there and is no program",
         FileKind::History => "is there and is no history",
         FileKind::Sums => "is there and has no sums",
+    }
+}
+
+/// What is wrong with the file that is there where a request would write; of several files it is the first.
+pub(crate) fn other_said(request: CommandRequest<'_>) -> &'static str
+    ensures { result.now ≡ other_said request.entry }
+{
+    if request.writes_several() {
+        "NAME1 is there and is no history"
+    } else {
+        kind_said(request.written_kind())
     }
 }
 
