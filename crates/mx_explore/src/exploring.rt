@@ -146,7 +146,7 @@ impl Explorer<'_> {
         ensures shown { (ps : List Parts) × (P.shown progress.new ≡ P.shown progress.old ++ ps)
             × ShowsCounts self.old.tally.schedules ps self.new.tally.schedules }
     {
-        let machine = self.boot.machine(alloc, services, &[])?;
+        let machine = self.boot.machine(alloc, services, Vec::new(alloc))?;
         let ran = run_passing(
             alloc,
             machine,
@@ -316,7 +316,7 @@ impl Explored {
             × IsRun (setting terms.entry self.old.boot) o.departures.items ran) }
     {
         let services = mem::replace(&mut self.services, Vec::new(alloc));
-        let machine = self.boot.machine(alloc, services, &[])?;
+        let machine = self.boot.machine(alloc, services, Vec::new(alloc))?;
         let departures = self.tally.outcomes[place].departures.as_slice();
         let ran = run_passing(alloc, machine, terms.outside, terms.bound, departures)?;
         Ok(ran)
