@@ -185,6 +185,16 @@ impl CurrentState {
         self.capacity as usize - (self.records as usize + count_out(self.leases.as_slice()))
     }
 
+    /// The records that are free even if each processor holds a process: so nobody counts these.
+    fn surely_free(&self) -> usize
+        ensures { result ≤ records_left self.now }
+    {
+        let held = self.processors();
+        (self.capacity as usize)
+            .saturating_sub(self.records as usize)
+            .saturating_sub(held)
+    }
+
     /// Fewer records are free than an event needs.
     fn if_full(&self, needed: usize) -> Result<(), Refusal>
         ensures ok { OnOk result ((if_full (records_left self.now) needed ≡ None)
@@ -192,6 +202,9 @@ impl CurrentState {
         ensures err { IfErr result (λ refusal. if_full (records_left self.now) needed
             ≡ Some refusal) }
     {
+        if self.surely_free() >= needed {
+            return Ok(());
+        }
         if self.free() < needed {
             Err(Refusal::LogFull)
         } else {
