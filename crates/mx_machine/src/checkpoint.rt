@@ -54,11 +54,7 @@ fn copy_held(alloc: Global, held: &Place, purpose: CopyFor) -> Result<Place, NoM
 }
 
 /// Copies of what the processors hold.
-fn copy_outs(
-    alloc: Global,
-    outs: &[Place; 8],
-    purpose: CopyFor,
-) -> Result<[Place; 8], NoMemory>
+fn copy_outs(alloc: Global, outs: &[Place; 8], purpose: CopyFor) -> Result<[Place; 8], NoMemory>
     ensures { IfOk result (λ copies. copies ≡ outs.now) }
 {
     let mut copies = no_outs(alloc);

@@ -17,9 +17,7 @@ ghost use Rattle.mx_machine.specs.KernelState.{is_for_all, records_left, refusal
 
 use crate::serving::{come_home, kill, send_out};
 use crate::stored::StoredState;
-use crate::{
-    Answer, Event, Lease, Out, Refusal, Service, Stop, is_worn, raise, respawn, tick,
-};
+use crate::{Answer, Event, Lease, Out, Refusal, Service, Stop, is_worn, raise, respawn, tick};
 use mx_exec::CopyFor;
 use mx_ipc::pick;
 use mx_proc::{Endpoint, Slot, Table, endpoint_from};

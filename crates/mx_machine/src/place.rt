@@ -91,8 +91,8 @@ impl Place {
             × (count ≡ out.count)
             × (kernel.new ≡ with_record kernel.old cpu (recorded.Back out.count))
             × ((l : HeldProcess) → held_by (replay kernel.old) cpu ≡ Some l
-                → replay kernel.new ≡ world_after_event
-                (with_held (replay kernel.old) cpu (Some (record l { out = out }))) cpu events.Back)) }
+            → replay kernel.new ≡ world_after_event
+            (with_held (replay kernel.old) cpu (Some (record l { out = out }))) cpu events.Back)) }
     {
         if !self.is_held {
             return None;
