@@ -17,3 +17,4 @@ mod HaltedOn
 mod SteppedOn
 mod Grown
 mod Behind
+mod Opening

@@ -1,10 +1,17 @@
-use Rattle.std.proofs.Common.{◌≡◌, ◌∙◌, List, ℕ, [], Option, Some, ap, subst, sym}
+use Rattle.std.proofs.Common.{◌∙◌, List, ℕ, [], Some, refl, subst, sym}
+use Rattle.std.proofs.KnownBytes.{Appends-nil}
 use Rattle.std.proofs.lemmas.Result.{IfOk-weaker}
-use Rattle.mx_rsp.specs.declared.hearing.Heard.TheVariants.{Packet, TooLong}
+use Rattle.mx_rsp.specs.declared.hearing.Heard.TheVariants.{Nothing, Packet, TooLong}
 use Rattle.mx_app_gdb.specs.Talks.{IsAnswered}
 use Rattle.mx_app_gdb.specs.declared.talking.Talk.{Talk}
 use Rattle.mx_app_gdb.proofs.Conversing.{heard_as}
 use Rattle.mx_app_gdb.proofs.talking.hear.Goals as goal
+
+pub returns-in-Nothing-clause-heard : goal.returns-in-Nothing-clause-heard
+returns-in-Nothing-clause-heard g c =
+    let t = c.args.talk in
+    let u : Talk = record t { reader = c.hear.new.self } in
+    ([], heard_as t c.args.byte c.hear.new.self Nothing (Some u) [] c.in_ok-hear.ensures.reading (sym c.in-Nothing.is ∙ c.in_ok-hear.ensures.heard) (refl, refl), Appends-nil _)
 
 pub returns-in-TooLong-clause-heard : goal.returns-in-TooLong-clause-heard
 returns-in-TooLong-clause-heard g c =
