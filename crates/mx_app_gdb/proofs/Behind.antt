@@ -66,8 +66,12 @@ module _ (k : Walk) (h : Halts) (j : Walk) (moved : j ≡ at k j.here) where
         let back : why ≡ back_at (at k j.here) h s =
         because ∙ ap (λ (p : Option Watch). halted_or p (There s)) (is ∙ ap (λ (w : World). first_change w (map as_seen ss)) (here ∙ ap (λ (w : Walk). world_here w) moved)
         ∙ ap (λ (xs : List Seen). first_change (world_here (at k j.here)) (map as_seen xs)) seen) in
-        inl (j.here, subst (λ (w : Walk). IsPosition w.records j.here) moved i, subst (λ (u : ℕ). IsLastMarked (moving u) k.boot k.records j.here k.here) same found,
-        ap (λ (x : Halted). let r : Halt = (j.here, Some x) in r) back)
+        inl (
+          j.here,
+          subst (λ (w : Walk). IsPosition w.records j.here) moved i,
+          subst (λ (u : ℕ). IsLastMarked (moving u) k.boot k.records j.here k.here) same found,
+          ap (λ (x : Halted). let r : Halt = (j.here, Some x) in r) back,
+        )
 
     pub step_nowhere : (t : ℕ) → t ≡ s → IsPassed (moving t) k.boot k.records first k.here → j.here ≡ first → IsSteppedBack k h s (j.here, Some (AtBegin s))
     step_nowhere t same passed there =

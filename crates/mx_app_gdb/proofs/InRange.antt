@@ -96,9 +96,13 @@ module _ (k : Walk) (h : Halts) (s : ℕ) (g : Range) where
   within : (o : Option HeldProcess) → stands_within s g o ≡ true → Within o
   within None e = absurd cc
   within (Some l) e =
-      let a = and_left (nat_eq l.slot s && is_within g l.out.image.eip) (not (at_stop l.out)) e in
-      (l, refl, eqb-true l.slot s (and_left (nat_eq l.slot s) (is_within g l.out.image.eip) a), and_right (nat_eq l.slot s) (is_within g l.out.image.eip) a,
-      not_true (at_stop l.out) (and_right (nat_eq l.slot s && is_within g l.out.image.eip) (not (at_stop l.out)) e))
+      let a = and_left (nat_eq l.slot s && is_within g l.out.image.eip) (not (at_stop l.out)) e in (
+        l,
+        refl,
+        eqb-true l.slot s (and_left (nat_eq l.slot s) (is_within g l.out.image.eip) a),
+        and_right (nat_eq l.slot s) (is_within g l.out.image.eip) a,
+        not_true (at_stop l.out) (and_right (nat_eq l.slot s && is_within g l.out.image.eip) (not (at_stop l.out)) e),
+      )
 
   -- an event is no step of the process, or one that begins within the range
   abbrev pub IsReady : World → ℕ × Event → Type 0

@@ -52,6 +52,7 @@ one_place p q a b =
     same_records p q (inl a) (inl b) = absurd (omega (arith, a, b))
     same_records p q (inl a) (inr b) = let e = b.0 in absurd (omega (arith, a, e))
     same_records p q (inr a) b = a.0
+
     same_steps : (p q : Position) → IsUpTo p q → IsUpTo q p → p.steps ≡ q.steps
     same_steps p q (inl a) (inl b) = absurd (omega (arith, a, b))
     same_steps p q (inl a) (inr b) = let e = b.0 in absurd (omega (arith, a, e))

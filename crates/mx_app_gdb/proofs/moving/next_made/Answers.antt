@@ -23,8 +23,7 @@ returns c =
     match_weaker c.next_event.result _ _ _ _ (λ none. made ∙ none) (λ n some.
     let x : ℕ × Event = (n.actor, n.event) in
     let later : next_event k.records p ≡ Some x = ap (λ (xs : List Record). next_event xs p) (sym c.records.ensures) ∙ some.0 in
-    let there : n.position ≡ next_position k.records p = some.1 ∙ ap (λ (xs : List Record). next_position xs p) c.records.ensures in
-    (
+    let there : n.position ≡ next_position k.records p = some.1 ∙ ap (λ (xs : List Record). next_position xs p) c.records.ensures in (
       made ∙ some.0,
       there ∙ ap (λ (q : Position). next_position k.records q) c.here-here.ensures.here,
       subst (λ (q : Position). IsPosition k.records q) (sym there) (is_position_too k.records p x c.here-here.ensures.position later),

@@ -22,5 +22,9 @@ pub returns-in-Packet-clause-heard : goal.returns-in-Packet-clause-heard
 returns-in-Packet-clause-heard g c =
     let t = c.args.talk in
     let u : Talk = record t { reader = c.hear.new.self } in
-    IfOk-weaker c.answer-in-Packet.result _ _ (λ next a. (a.0, heard_as t c.args.byte c.hear.new.self (Packet c.in-Packet.payload) next a.0 c.in_ok-hear.ensures.reading (sym c.in-Packet.is ∙ c.in_ok-hear.ensures.heard)
-    (subst (λ (p : List ℕ). IsAnswered u p next a.0) c.as_slice-in-Packet.ensures a.1), a.2)) c.answer-in-Packet.ensures.answered
+    IfOk-weaker c.answer-in-Packet.result _ _ (λ next a. (
+      a.0,
+      heard_as t c.args.byte c.hear.new.self (Packet c.in-Packet.payload) next a.0 c.in_ok-hear.ensures.reading (sym c.in-Packet.is ∙ c.in_ok-hear.ensures.heard)
+          (subst (λ (p : List ℕ). IsAnswered u p next a.0) c.as_slice-in-Packet.ensures a.1),
+      a.2,
+    )) c.answer-in-Packet.ensures.answered
