@@ -36,9 +36,8 @@ returns-in_ok-converse-in-Ok-clause-talked g c =
     let more = c.in_ok-converse-in-Ok.ensures.grown in
     let begun = c.begin_talk-talk.ensures in
     let count : c.slot_count-count.result ≡ slot_count s.2 =
-        c.slot_count-count.ensures ∙ ap (λ (fs : List (Vec ℕ Global)). min (length fs) 32) c.as_slice.ensures.value
-        ∙ as_many c.in_ok-opened.opened.files.items s.2.lines s.8 in
-    (
+    c.slot_count-count.ensures ∙ ap (λ (fs : List (Vec ℕ Global)). min (length fs) 32) c.as_slice.ensures.value
+    ∙ as_many c.in_ok-opened.opened.files.items s.2.lines s.8 in (
       s.0,
       h.0,
       s.1 ++ more.0,
@@ -70,9 +69,8 @@ pub returns-in-Err-clause-talked : goal.returns-in-Err-clause-talked
 returns-in-Err-clause-talked g c =
     let s = c.in_ok-opened.ensures.opened in
     let count : c.slot_count-count.result ≡ slot_count s.2 =
-        c.slot_count-count.ensures ∙ ap (λ (fs : List (Vec ℕ Global)). min (length fs) 32) c.as_slice.ensures.value
-        ∙ as_many c.in_ok-opened.opened.files.items s.2.lines s.8 in
-    (
+    c.slot_count-count.ensures ∙ ap (λ (fs : List (Vec ℕ Global)). min (length fs) 32) c.as_slice.ensures.value
+    ∙ as_many c.in_ok-opened.opened.files.items s.2.lines s.8 in (
       s.0,
       [],
       s.1,

@@ -52,8 +52,7 @@ returns-clause-opened g c =
     let records = c.in_ok-machine.field-0.lines.items in
     let k = c.in_ok-walker.walker in
     let made = c.in_ok-walker.ensures.made in
-    let boot : k.boot ≡ world_at_boot s.1 s.2 = made.0 ∙ ap (λ (x : BootAndHistory). x.boot) c.in_ok-machine.ensures.kernel ∙ s.5 in
-    (
+    let boot : k.boot ≡ world_at_boot s.1 s.2 = made.0 ∙ ap (λ (x : BootAndHistory). x.boot) c.in_ok-machine.ensures.kernel ∙ s.5 in (
       s.0,
       walk_shown k.records k.last,
       s.1,
