@@ -58,7 +58,8 @@ use Rattle.mx_app.specs.Explained.{ExplainsConfig}
 use Rattle.mx_app.specs.Named.{Assembles, ShowsFile}
 use Rattle.mx_app.specs.Sparing.{SparesRequest}
 use Rattle.mx_app.specs.declared.performing.Done.{Done}
-use Rattle.mx_app.specs.Requests.{Debugs, Draws, Explains, Looks, Pages, Performs, PerformsApart, PerformsUntyped, Replays, SavesSteps, Shows, Steps, Talks, Traces, Whys, done_after_gdb, done_after_live, done_after_replay, done_after_run, done_after_sweep, done_after_turns, done_after_work, over_read}
+use Rattle.mx_why.specs.declared.telling.Told.{Told}
+use Rattle.mx_app.specs.Requests.{Debugs, Draws, Explains, Looks, Pages, Performs, PerformsApart, PerformsUntyped, Replays, SavesSteps, Shows, Steps, Talks, Traces, Whys, done_after_gdb, done_after_live, done_after_replay, done_after_run, done_after_sweep, done_after_turns, done_after_why, done_after_work, over_read}
 
 -- what a request asked for and wrote, and what is done of it
 abbrev pub AsksAndWrites : List Asked → List Asked → List Written → List Written → (List Asked → List Written → Type 0) → Type 0
@@ -279,15 +280,15 @@ module _ (asked now : List Asked) (files : List Written) where
   pages config log range x y (Ok how) r p f e = (p.0, [], p.4, sym (append-nil files), (Ok how, refl, (p.1, p.2, p.3, p.5, p.6), e))
   pages config log range x y (Err why) r p f e = (f.0, [], f.1, sym (append-nil files), (Err why, refl, f.2, e))
 
-  pub whys : (config log : List ℕ) (x y : Option (List ℕ)) (d : Result Replayed Kind) (r : Result Done Kind)
+  pub whys : (config log : List ℕ) (x y : Option (List ℕ)) (strict : Bool) (d : Result Told Kind) (r : Result Done Kind)
       → IfOk d (λ how. (qs : List Asked) × (c : Config) × (vs : List Service) × (records : List Record)
       × (now ≡ asked ++ qs) × IsStart IsSaved config log qs c vs records
-      × IsWhyPrinted (world_at_boot c vs) (take 4294967295 records) c.log how (λ text. Appends x y text))
+      × IsWhyPrinted (world_at_boot c vs) (take 4294967295 records) c how (λ text. Appends x y text))
       → IfErr d (λ f. (qs : List Asked) × (now ≡ asked ++ qs) × IsTold IsSaved TellsSaved config log qs f)
-      → r ≡ done_after_replay d
-      → WritesNone (λ qs ws. (e : Result Replayed Kind) × (ws ≡ []) × Whys config log qs (λ text. Appends x y text) e × (r ≡ done_after_replay e))
-  whys config log x y (Ok how) r p f e = (p.0, [], p.4, sym (append-nil files), (Ok how, refl, (p.1, p.2, p.3, p.5, p.6), e))
-  whys config log x y (Err why) r p f e = (f.0, [], f.1, sym (append-nil files), (Err why, refl, f.2, e))
+      → r ≡ done_after_why strict d
+      → WritesNone (λ qs ws. (e : Result Told Kind) × (ws ≡ []) × Whys config log qs (λ text. Appends x y text) e × (r ≡ done_after_why strict e))
+  whys config log x y strict (Ok how) r p f e = (p.0, [], p.4, sym (append-nil files), (Ok how, refl, (p.1, p.2, p.3, p.5, p.6), e))
+  whys config log x y strict (Err why) r p f e = (f.0, [], f.1, sym (append-nil files), (Err why, refl, f.2, e))
 
 -- ---- whether it writes over what it reads, or over a file that is spared
 

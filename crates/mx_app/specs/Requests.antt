@@ -1,5 +1,5 @@
 -- What is done of requests (our own).
-use Rattle.std.specs.Prelude.{◌≡◌, ◌⊎◌, ℕ, ◌-◌, Bool, true, false, if◌then◌else◌, List, [], ◌∷◌, ◌++◌, Option, Some, None, Result, Ok, Err, nat_lt, option_map, take}
+use Rattle.std.specs.Prelude.{◌≡◌, ◌⊎◌, ◌&&◌, ℕ, ◌-◌, Bool, true, false, if◌then◌else◌, List, [], ◌∷◌, ◌++◌, Option, Some, None, Result, Ok, Err, nat_lt, option_map, take}
 use Rattle.mx_app_command.specs.Files.{writes_over}
 use Rattle.mx_app_command.specs.declared.command_line.CommandRequest.{CommandRequest}
 use Rattle.mx_app_command.specs.declared.command_line.RecordRange.{RecordRange}
@@ -56,6 +56,8 @@ use Rattle.mx_walk.specs.Walks.{Walk}
 use Rattle.mx_app_db.specs.DebugLines.{DebuggedWorld, debug_lines_made}
 use Rattle.mx_app_db.specs.LineTexts.{debug_lines_text}
 use Rattle.mx_why.specs.Telling.{IsWhyPrinted}
+use Rattle.mx_why.specs.declared.telling.Told.{Told}
+use Rattle.mx_why.specs.declared.telling.Told.TheVariants as tolds
 use Rattle.mx_app.specs.Deeds.{Deeds, IsAlone, IsIdle, nothing_done}
 use Rattle.mx_app.specs.Explained.{ExplainsConfig}
 use Rattle.mx_app.specs.Named.{Assembles, ShowsFile}
@@ -114,6 +116,13 @@ done_after_sweep strict (Ok (swept.Nothing why)) =
 done_after_sweep strict (Ok swept.Refused) = Ok (with_status 1)
 done_after_sweep strict (Err f) = Err f
 
+-- it is told what became of a history; the status is 1 if the history is refused, and, if that is strict, if a line has
+-- a mark
+abbrev pub done_after_why : Bool → Result Told Kind → Result Done Kind
+done_after_why strict (Ok (tolds.Whole marked)) = Ok (with_status (if strict && marked then 1 else 0))
+done_after_why strict (Ok tolds.Refused) = Ok (with_status 1)
+done_after_why strict (Err f) = Err f
+
 -- ---- machines: the files are as the start wants them, and the text is printed, after the lines' numbers if that is
 -- asked; or it fails by the first fault
 
@@ -163,10 +172,10 @@ Traces config log range qs Prints (Ok how) =
 Traces config log range qs Prints (Err f) = IsTold IsSaved TellsSaved config log qs f
 
 -- what became of all records
-abbrev pub Whys : List ℕ → List ℕ → List Asked → (List ℕ → Type 0) → Result Replayed Kind → Type 0
+abbrev pub Whys : List ℕ → List ℕ → List Asked → (List ℕ → Type 0) → Result Told Kind → Type 0
 Whys config log qs Prints (Ok how) =
     (c : Config) × (vs : List Service) × (records : List Record) × IsStart IsSaved config log qs c vs records
-    × IsWhyPrinted (world_at_boot c vs) (take 4294967295 records) c.log how Prints
+    × IsWhyPrinted (world_at_boot c vs) (take 4294967295 records) c how Prints
 Whys config log qs Prints (Err f) = IsTold IsSaved TellsSaved config log qs f
 
 -- the records of a trace, as a picture
@@ -255,8 +264,8 @@ PerformsUntyped (Page config log range) qs ws Prints r =
 PerformsUntyped (SweptPage config log fault bound from to jobs) qs ws Prints r = ⊥
 PerformsUntyped (Look config log) qs ws Prints r = ⊥
 PerformsUntyped (Gdb config log slot) qs ws Prints r = ⊥
-PerformsUntyped (Why config log) qs ws Prints r =
-    (d : Result Replayed Kind) × (ws ≡ []) × Whys config.now log.now qs Prints d × (r ≡ done_after_replay d)
+PerformsUntyped (Why config log strict) qs ws Prints r =
+    (d : Result Told Kind) × (ws ≡ []) × Whys config.now log.now qs Prints d × (r ≡ done_after_why strict d)
 PerformsUntyped (Db config script) qs ws Prints r =
     (d : Result (Unit {0}) Kind) × (ws ≡ []) × Debugs config.now script.now qs Prints d × (r ≡ done_after_work d)
 

@@ -2,7 +2,7 @@
 
 ghost use Rattle.std.specs.Prelude.{◌≡◌};
 ghost use Rattle.mx_app.specs.Deeds.{Does};
-ghost use Rattle.mx_app.specs.Requests.{Performs, PerformsApart, done_after_gdb, done_after_live, done_after_replay, done_after_run, done_after_sweep, done_after_turns, done_after_work, run_status, with_status};
+ghost use Rattle.mx_app.specs.Requests.{Performs, PerformsApart, done_after_gdb, done_after_live, done_after_replay, done_after_run, done_after_sweep, done_after_turns, done_after_why, done_after_work, run_status, with_status};
 
 use crate::command_io::CommandIo;
 use crate::ending::DrivenEnding;
@@ -24,7 +24,7 @@ use mx_app_turns::{
 };
 use mx_turns::Ending;
 use mx_walk::Progress;
-use mx_why::why;
+use mx_why::{Told, why};
 use std::alloc::Global;
 use std::io::Write;
 use std::sync::Wait;
@@ -75,6 +75,18 @@ fn done_after_replay(replayed: Result<Replayed, Failure>) -> Result<Done, Failur
     match replayed {
         Ok(Replayed::Whole) => Ok(Done::with_status(0)),
         Ok(Replayed::Refused) => Ok(Done::with_status(1)),
+        Err(failure) => Err(failure),
+    }
+}
+
+/// What is done after it was told what became of a history: the status is 1 if the history is refused, and, if that is
+/// strict, if a line has a mark.
+fn done_after_why(told: Result<Told, Failure>, strict: bool) -> Result<Done, Failure>
+    ensures { result ≡ done_after_why strict told }
+{
+    match told {
+        Ok(Told::Whole(marked)) => Ok(Done::with_status(u8::from(strict && marked))),
+        Ok(Told::Refused) => Ok(Done::with_status(1)),
         Err(failure) => Err(failure),
     }
 }
@@ -341,10 +353,14 @@ fn perform_apart<
             let out = &mut channels.out;
             done_after_replay(page(alloc, reader, records, out))
         }
-        CommandRequest::Why { config, log } => {
+        CommandRequest::Why {
+            config,
+            log,
+            strict,
+        } => {
             let reader = &mut channels.reader;
             let out = &mut channels.out;
-            done_after_replay(why(alloc, reader, config, log, out))
+            done_after_why(why(alloc, reader, config, log, out), strict)
         }
         CommandRequest::SweptPage {
             config,

@@ -15,7 +15,7 @@ use Rattle.clap.specs.Faults.{defaults_fault, entered_fault, level_fault, settle
 use Rattle.clap.specs.Walk.{answers_to, finished, nothing_held, rows_after, settled, stop_after, walk, walk_from}
 use Rattle.clap.specs.declared.builder.value_parser.ValueParser.TheVariants.{Signed}
 use Rattle.clap.proofs.ValueTestLemmas.{accepts-Accepts}
-use Rattle.mx_app_command.specs.Words.{HasNumber, IsAsked, IsGiven, MayHaveNumber, MayHaveRange, as_shape, following_shape, gdb_shape, jobs_after, looking_shape, mx_grammar, number_after, of_one, of_two, one_shape, page_shape, run_shape, step_shape, sweep_shape, turns_shape, required_text, required_number}
+use Rattle.mx_app_command.specs.Words.{HasNumber, IsAsked, IsGiven, MayHaveNumber, MayHaveRange, as_shape, following_shape, gdb_shape, jobs_after, looking_shape, mx_grammar, number_after, of_one, of_two, one_shape, page_shape, run_shape, step_shape, sweep_shape, turns_shape, why_shape, required_text, required_number}
 use Rattle.mx_app_command.proofs.Given.{IsOnly, SetsValue, all_found, has_wanted, no_fault, value_given, value_if_given}
 
 -- the grammar as a parse sees it: with the help flag, and each argument's place
@@ -445,9 +445,20 @@ gdb_fits words fine =
     let slot = number_if_given gdb_whole (codes "slot") (codes "S") 3 only_slot words fine in
     ((λ e. (ap is_some config.1, inr (inr (ap is_some log.1, inr (inr (inr (inr (inr (refl, slot))))))))), (λ e. absurd (true≢false e)))
 
-why_fits : Fits (following_whole (codes "why"))
-why_fits words fine = let given = following_values (codes "why") words fine in
-    ((λ e. (given.0, inr (inr (given.1, inr (inl (inr (inr refl))))))), (λ e. absurd (true≢false e)))
+abbrev why_whole : Shape
+why_whole = whole_of why_shape
+
+only_why_config : IsOnly config_rule why_whole.rules
+only_why_config = ((λ e. refl), ((λ e. never e), ((λ e. never e), ((λ e. never e), ((λ e. never e), ((λ e. never e), ((λ e. never e), tt)))))))
+
+only_why_log : IsOnly log_rule why_whole.rules
+only_why_log = ((λ e. never e), ((λ e. refl), ((λ e. never e), ((λ e. never e), ((λ e. never e), ((λ e. never e), ((λ e. never e), tt)))))))
+
+why_fits : Fits why_whole
+why_fits words fine =
+    let config = value_given config_rule (required_sets (codes "CONFIG") 1) why_whole only_why_config words refl (inl refl) refl fine in
+    let log = value_given log_rule (required_sets (codes "LOG") 2) why_whole only_why_log words refl (inr (inl refl)) refl fine in
+    ((λ e. (ap is_some config.1, inr (inr (ap is_some log.1, inr (inl (inr (inr refl))))))), (λ e. absurd (true≢false e)))
 
 db_fits : Fits (whole_of (of_two (codes "db") (codes "CONFIG") (codes "SCRIPT")))
 db_fits words fine = let given = two_texts_given (codes "db") (codes "CONFIG") (codes "SCRIPT") (refl, refl, refl) (refl, refl, refl) refl refl words fine in

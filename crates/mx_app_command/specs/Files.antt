@@ -61,7 +61,7 @@ files_read (Page config log range) = with_course config.now (codes "LOG") log.no
 files_read (SweptPage config log fault bound from to jobs) = with_fault config.now log.now fault.now
 files_read (Look config log) = with_course config.now (codes "LOG") log.now
 files_read (Gdb config log slot) = with_course config.now (codes "LOG") log.now
-files_read (Why config log) = with_course config.now (codes "LOG") log.now
+files_read (Why config log strict) = with_course config.now (codes "LOG") log.now
 files_read (Db config script) = with_course config.now (codes "SCRIPT") script.now
 
 -- THE FILE THAT IS WRITTEN

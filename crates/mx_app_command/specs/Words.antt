@@ -134,6 +134,12 @@ gdb_shape =
     (required_text (codes "CONFIG") ∷ required_text (codes "LOG") ∷ number_after (codes "slot") (codes "S")
     ∷ sums_rule ∷ [])
 
+-- `why CONFIG LOG --strict --sums SUMS`
+abbrev pub why_shape : Shape
+why_shape =
+    subcommand (codes "why")
+    (required_text (codes "CONFIG") ∷ required_text (codes "LOG") ∷ flag (codes "strict") ∷ sums_rule ∷ [])
+
 -- one of the subcommands is wanted
 abbrev pub top_app : App
 top_app = record {
@@ -186,7 +192,7 @@ mx_grammar = record {
       ∷ page_shape
       ∷ following_shape (codes "look")
       ∷ gdb_shape
-      ∷ following_shape (codes "why")
+      ∷ why_shape
       ∷ of_two (codes "db") (codes "CONFIG") (codes "SCRIPT")
       ∷ [];
 }
@@ -290,8 +296,9 @@ AsksBy (Look config log) name rows =
 AsksBy (Gdb config log slot) name rows =
     (name ≡ codes "gdb") × HasText (codes "CONFIG") rows config.now × HasText (codes "LOG") rows log.now
     × HasNumberIf (codes "S") rows slot
-AsksBy (Why config log) name rows =
+AsksBy (Why config log strict) name rows =
     (name ≡ codes "why") × HasText (codes "CONFIG") rows config.now × HasText (codes "LOG") rows log.now
+    × IsFlag (codes "strict") rows strict
 AsksBy (Db config script) name rows =
     (name ≡ codes "db") × HasText (codes "CONFIG") rows config.now × HasText (codes "SCRIPT") rows script.now
 

@@ -154,10 +154,11 @@ pub enum CommandRequest<'a> {
         /// The only slot that gdb is to have.
         slot: Option<u32>,
     },
-    /// `why CONFIG LOG`.
+    /// `why CONFIG LOG`, with `--strict` or without.
     Why {
         config: &'a str,
         log: &'a str,
+        strict: bool,
     },
     /// `db CONFIG SCRIPT`.
     Db {
@@ -479,7 +480,12 @@ fn reading_request<'a>(
     } else if name == "look" {
         CommandRequest::Look { config, log }
     } else if name == "why" {
-        CommandRequest::Why { config, log }
+        let strict = flag_asked(matches, "strict");
+        CommandRequest::Why {
+            config,
+            log,
+            strict,
+        }
     } else {
         records_request(name, config, log, matches)
     }

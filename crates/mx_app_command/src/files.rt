@@ -137,7 +137,7 @@ impl<'a> CommandRequest<'a> {
             CommandRequest::Page { config, log, .. } => with_course(config, "LOG", log),
             CommandRequest::Look { config, log } => with_course(config, "LOG", log),
             CommandRequest::Gdb { config, log, .. } => with_course(config, "LOG", log),
-            CommandRequest::Why { config, log } => with_course(config, "LOG", log),
+            CommandRequest::Why { config, log, .. } => with_course(config, "LOG", log),
         }
     }
 

@@ -214,6 +214,13 @@ const STRICT: CommandArgument<'static> = CommandArgument {
     form: ArgumentForm::Flag,
 };
 
+/// Whether a mark is an error.
+const STRICT_WHY: CommandArgument<'static> = CommandArgument {
+    name: "strict",
+    help: "Ends with status 1 if a line tells what no right machine does",
+    form: ArgumentForm::Flag,
+};
+
 /// The file that the history with the fault is written to.
 const SAVED_FAULT: CommandArgument<'static> = CommandArgument {
     name: "FILE",
@@ -474,8 +481,8 @@ static HISTORY_COMMANDS: [Subcommand<'static>; 8] = [
     },
     Subcommand {
         name: "why",
-        help: "Says what became of a saved history: who waits for ever, who died, who never ran",
-        arguments: &[CONFIG, LOG, SUMS, EXPLAIN, SILENT],
+        help: "Says what became of a saved history: who waits for ever, who died, what was refused",
+        arguments: &[CONFIG, LOG, STRICT_WHY, SUMS, EXPLAIN, SILENT],
         example: Example::Why,
     },
     Subcommand {

@@ -426,10 +426,12 @@ ends: rest after 4 records
 waits: button receives from HARDWARE since record 4: nobody raises its line 5
 
 A line that begins with never: is of a process that no event but a kill makes go on; one
-with waits: of a process that an interrupt line or an alarm may make go on.
+with waits: of a process that an interrupt line or an alarm may make go on; with busy: of
+one that computes without a call; with CONFIG: of what the configuration alone forbids.
 
 Status: 0 done; 1 a text or a program's file is refused, or an event, whose line is
-named; 2 a mistake in the words; 3 a file can't be read; 4 no memory. Formats:
+named, or, with --strict, a line tells what no right machine does; 2 a mistake in the
+words; 3 a file can't be read; 4 no memory. Formats:
 docs/use/REFERENCE.md.";
 
 /// A picture of a history.

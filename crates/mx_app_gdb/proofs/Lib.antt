@@ -1,6 +1,7 @@
 mod Folders
 mod Lists
 mod Moved
+mod Remaining
 mod Setting
 mod Conversing
 mod Held

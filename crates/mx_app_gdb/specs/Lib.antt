@@ -1,6 +1,7 @@
 pub mod Addresses
 pub mod Console
 pub mod Halts
+pub mod Laws
 pub mod Marks
 pub mod Moves
 pub mod Points

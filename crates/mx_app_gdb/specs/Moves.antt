@@ -181,7 +181,8 @@ IsOnFrom k h s g q None r = EndsBy k h s g q (ends_of h s g (process_next (at k 
 
 -- steps of a slot's process after one of them that led to a position
 abbrev pub IsSteppedFrom : Walk → Halts → ℕ → Range → Position → Halt → Type 0
-IsSteppedFrom k h s g from r = (q : Position) × (o : Option Halted) × IsComeFrom k h s from (q, o) × IsOnFrom k h s g q o r
+IsSteppedFrom k h s g from r =
+    (q : Position) × (o : Option Halted) × IsComeFrom k h s from (q, o) × IsOnFrom k h s g q o r
 
 -- from one position on it is as from another, which it leads to; or it halts there
 abbrev pub LeadsOn : (Position → Halt → Type 0) → Position → Position → Option Halted → Type 0

@@ -20,7 +20,7 @@ use mx_walk::{NextEvent, Progress, Walker};
 use mx_word::NoMemory;
 use std::alloc::Global;
 
-/// Goes back to right above the last step of a slot's process.
+/// Goes back to right before the last step of a slot's process.
 pub(crate) fn step_back<P: Progress>(
     alloc: Global,
     walker: Walker,
@@ -106,7 +106,7 @@ fn change_by<P: Progress>(
     Ok((walker, changed_or(changed, Halted::There(slot))))
 }
 
-/// Goes back to right above the last step at a breakpoint, or the last event that changes watched bytes.
+/// Goes back to right before the last step at a breakpoint, or the last event that changes watched bytes.
 pub(crate) fn go_back<P: Progress>(
     alloc: Global,
     walker: Walker,

@@ -24,6 +24,7 @@ mod marks;
 mod moving;
 mod points;
 mod ranges;
+mod reply_laws;
 mod replying;
 mod stepping;
 mod stops;
@@ -32,4 +33,5 @@ mod symbol_files;
 mod talking;
 mod threads;
 
+pub use reply_laws::history_stays;
 pub use talking::{TalkEnding, TalkWanted, gdb};

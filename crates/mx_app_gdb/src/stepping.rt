@@ -92,7 +92,8 @@ fn leave_range<P: Progress>(
     Ok((walker, halted))
 }
 
-/// Why the steps of a slot's process end where its next one comes, if they do: it is at a breakpoint, or out of the range.
+/// Why the steps of a slot's process end where its next one comes, if they do: it is at a breakpoint, or out of the
+/// range.
 fn why_over(walker: &Walker, halts: &Halts, slot: Slot, range: Range) -> Option<Halted>
     ensures { result ≡ ends_of halts.now slot range (process_next walker.now) }
 {
@@ -114,8 +115,8 @@ fn why_over(walker: &Walker, halts: &Halts, slot: Slot, range: Range) -> Option<
     }
 }
 
-/// Makes the next step, which is one of a slot's process, and those after it within a range. Answers why it halts, if it
-/// doesn't go on within the range once the process is on a processor again.
+/// Makes the next step, which is one of a slot's process, and those after it within a range. Answers why it halts, if
+/// it doesn't go on within the range once the process is on a processor again.
 fn step_within<P: Progress>(
     alloc: Global,
     walker: Walker,

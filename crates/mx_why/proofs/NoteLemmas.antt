@@ -1,5 +1,5 @@
 -- The notes of records and the calls that they refuse, one record more.
-use Rattle.std.proofs.Common.{◌≡◌, ◌∙◌, ◌<◌, ◌≤◌, ℕ, ◌+◌, List, [], ◌∷◌, ◌++◌, length, take, get_or, append_assoc, Some, None, ap, sym, subst, arith}
+use Rattle.std.proofs.Common.{◌≡◌, ◌∙◌, ◌<◌, ◌≤◌, ℕ, Bool, ◌+◌, List, [], ◌∷◌, ◌++◌, length, take, get_or, append_assoc, Some, None, ap, sym, subst, arith}
 use Rattle.std.proofs.lemmas.List.{append-nil, take_more, take_all, length-take-le}
 use Rattle.mx_machine.specs.declared.history.Record.{Record}
 use Rattle.mx_machine.specs.History.{AreAccepted, world_after_events, events_of, events_of_history}
@@ -10,8 +10,6 @@ use Rattle.mx_app_step.specs.Traces.{transition_of}
 use Rattle.mx_app_start.specs.Config.{Config}
 use Rattle.mx_app_start.specs.Service.{Service}
 use Rattle.mx_app_step.specs.Records.{refused_record_line}
-use Rattle.mx_app_step.specs.declared.records.Replayed.{Replayed}
-use Rattle.mx_app_step.specs.declared.records.Replayed.TheVariants.{Whole, Refused}
 use Rattle.mx_app_start.specs.Log.{lines_above}
 use Rattle.mx_machine.specs.declared.events.Refusal.{Refusal}
 use Rattle.mx_machine.specs.Boot.{world_at_boot}
@@ -19,6 +17,9 @@ use Rattle.mx_why.specs.Seeing.{end_of}
 use Rattle.mx_why.specs.Telling.{IsNoted, IsWhyPrinted, lines_text}
 use Rattle.mx_why.specs.declared.failed_calls.FailedCall.{FailedCall}
 use Rattle.mx_why.specs.declared.notes.Note.{Note}
+use Rattle.mx_why.specs.declared.telling.Told.{Told}
+use Rattle.mx_why.specs.declared.telling.Told.TheVariants.{Whole, Refused}
+use Rattle.mx_why.specs.Marks.{is_marked}
 use Rattle.mx_why.specs.FailedCalls.{counted_in, failed_calls, failed_from}
 use Rattle.mx_why.specs.Noting.{notes_from, notes_of, notes_of_records}
 
@@ -85,24 +86,27 @@ all_noted w u records i ns cs over accepted world noted failed =
       failed ∙ ap (λ (rs : List Record). failed_calls w rs) all,
     )
 
-pub why_printed : (Prints : List ℕ → Type 0) (c : Config) (vs : List Service) (records slice : List Record) (w : World) (log : ℕ) (replayed : Replayed)
-    → slice ≡ take 4294967295 records → w ≡ world_at_boot c vs → log ≡ c.log → IsWhyPrinted w slice log replayed Prints
-    → IsWhyPrinted (world_at_boot c vs) (take 4294967295 records) c.log replayed Prints
-why_printed Prints c vs records slice w log replayed same e most h =
-    subst (λ n. IsWhyPrinted (world_at_boot c vs) (take 4294967295 records) n replayed Prints) most
-    (subst (λ (v : World). IsWhyPrinted v (take 4294967295 records) log replayed Prints) e (subst (λ (rs : List Record). IsWhyPrinted w rs log replayed Prints) same h))
+pub why_printed : (Prints : List ℕ → Type 0) (c d : Config) (vs : List Service) (records slice : List Record) (w : World) (how : Told)
+    → slice ≡ take 4294967295 records → w ≡ world_at_boot c vs → d ≡ c → IsWhyPrinted w slice d how Prints
+    → IsWhyPrinted (world_at_boot c vs) (take 4294967295 records) c how Prints
+why_printed Prints c d vs records slice w how same e is h =
+    subst (λ (b : Config). IsWhyPrinted (world_at_boot c vs) (take 4294967295 records) b how Prints) is
+    (subst (λ (v : World). IsWhyPrinted v (take 4294967295 records) d how Prints) e (subst (λ (rs : List Record). IsWhyPrinted w rs d how Prints) same h))
 
-pub lines_printed : (Prints : List ℕ → Type 0) (w u : World) (records : List Record) (ns slice : List Note) (cs calls : List FailedCall) (log count : ℕ)
+pub lines_printed : (Prints : List ℕ → Type 0) (c : Config) (w u : World) (records : List Record) (ns slice : List Note) (cs calls : List FailedCall) (count : ℕ) (marked : Bool)
     → slice ≡ ns → calls ≡ cs → count ≡ length records
-    → IsNoted w u records None ns cs → Prints (lines_text (end_of u) slice calls count log) → IsWhyPrinted w records log Whole Prints
-lines_printed Prints w u records ns slice cs calls log count same alike many (accepted, world, noted, failed) h = (
+    → IsNoted w u records None ns cs → marked ≡ is_marked c (end_of u) slice count → Prints (lines_text c (end_of u) slice calls count)
+    → IsWhyPrinted w records c (Whole marked) Prints
+lines_printed Prints c w u records ns slice cs calls count marked same alike many (accepted, world, noted, failed) mark h = (
   accepted,
-  subst (λ (v : World). Prints (lines_text (end_of v) (notes_of_records w records) (failed_calls w records) (length records) log)) world
-      (subst (λ n. Prints (lines_text (end_of u) (notes_of_records w records) (failed_calls w records) n log)) many
-      (subst (λ (ds : List FailedCall). Prints (lines_text (end_of u) (notes_of_records w records) ds count log)) (alike ∙ failed)
-      (subst (λ (ms : List Note). Prints (lines_text (end_of u) ms calls count log)) (same ∙ noted) h))),
+  mark ∙ ap (λ (ms : List Note). is_marked c (end_of u) ms count) (same ∙ noted) ∙ ap (λ n. is_marked c (end_of u) (notes_of_records w records) n) many
+      ∙ ap (λ (v : World). is_marked c (end_of v) (notes_of_records w records) (length records)) world,
+  subst (λ (v : World). Prints (lines_text c (end_of v) (notes_of_records w records) (failed_calls w records) (length records))) world
+      (subst (λ n. Prints (lines_text c (end_of u) (notes_of_records w records) (failed_calls w records) n)) many
+      (subst (λ (ds : List FailedCall). Prints (lines_text c (end_of u) (notes_of_records w records) ds count)) (alike ∙ failed)
+      (subst (λ (ms : List Note). Prints (lines_text c (end_of u) ms calls count)) (same ∙ noted) h))),
 )
 
-pub refusal_printed : (Prints : List ℕ → Type 0) (w u : World) (records : List Record) (ns : List Note) (cs : List FailedCall) (log n line : ℕ) (r : Refusal) → line ≡ lines_above w.table.rules + n
-    → IsNoted w u records (Some (n, r)) ns cs → Prints (refused_record_line line r) → IsWhyPrinted w records log Refused Prints
-refusal_printed Prints w u records ns cs log n line r is refused h = (n, r, refused, subst (λ k. Prints (refused_record_line k r)) is h)
+pub refusal_printed : (Prints : List ℕ → Type 0) (c : Config) (w u : World) (records : List Record) (ns : List Note) (cs : List FailedCall) (n line : ℕ) (r : Refusal) → line ≡ lines_above w.table.rules + n
+    → IsNoted w u records (Some (n, r)) ns cs → Prints (refused_record_line line r) → IsWhyPrinted w records c Refused Prints
+refusal_printed Prints c w u records ns cs n line r is refused h = (n, r, refused, subst (λ k. Prints (refused_record_line k r)) is h)

@@ -10,5 +10,9 @@ pub mod Failing
 pub mod FailedCalls
 pub mod Lines
 pub mod Endings
+pub mod Busy
 pub mod FailedLines
+pub mod Unfit
+pub mod UnfitLines
+pub mod Marks
 pub mod Telling

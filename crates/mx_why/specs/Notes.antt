@@ -1,16 +1,25 @@
 -- WHAT THE NOTES of a history tell (our own).
-use Rattle.std.specs.Prelude.{ℕ, ◌==◌, ◌&&◌, not, Bool, true, false, List, [], ◌∷◌, filter}
+use Rattle.std.specs.Prelude.{ℕ, ◌==◌, ◌&&◌, Bool, true, false, List, [], ◌∷◌, filter}
 use Rattle.std.specs.List.{list_any}
 use Rattle.mx_why.specs.declared.notes.Deed.{Deed}
-use Rattle.mx_why.specs.declared.notes.Deed.TheVariants.{Taken, Died, Respawned}
+use Rattle.mx_why.specs.declared.notes.Deed.TheVariants.{Taken, Changed, Killed, Faulted, Respawned}
 use Rattle.mx_why.specs.declared.notes.Note.{Note}
 
 abbrev pub is_taken : Deed → Bool
 is_taken Taken = true
 is_taken _ = false
 
+-- it does something else
+abbrev pub is_changed : Deed → Bool
+is_changed Changed = true
+is_changed Killed = true
+is_changed Faulted = true
+is_changed Respawned = true
+is_changed _ = false
+
 abbrev pub is_died : Deed → Bool
-is_died Died = true
+is_died Killed = true
+is_died Faulted = true
 is_died _ = false
 
 abbrev pub is_respawned : Deed → Bool
@@ -19,7 +28,7 @@ is_respawned _ = false
 
 -- the process of a slot does something else
 abbrev pub is_change_of : ℕ → Note → Bool
-is_change_of s n = (n.slot == s) && not (is_taken n.deed)
+is_change_of s n = (n.slot == s) && is_changed n.deed
 
 -- a processor takes it
 abbrev pub is_take_of : ℕ → Note → Bool

@@ -1,6 +1,8 @@
 -- THE NOTES that are taken of a history: what became of its slots, record by record (our own).
-use Rattle.std.specs.Prelude.{ℕ, ◌+◌, ◌==◌, nat_le, if◌then◌else◌, List, [], ◌∷◌, ◌++◌, codes, Option, Some, None}
+use Rattle.std.specs.Prelude.{ℕ, ◌+◌, ◌==◌, nat_le, false, if◌then◌else◌, Bool, List, [], ◌∷◌, ◌++◌, codes, Option, Some, None}
 use Rattle.std.specs.List.{flat_map, range_with_len}
+use Rattle.mx_image.specs.declared.runs.Stop.{Stop}
+use Rattle.mx_image.specs.declared.runs.Stop.TheVariants as stop
 use Rattle.mx_machine.specs.declared.history.Record.{Record}
 use Rattle.mx_machine.specs.declared.history.Recorded.{Recorded}
 use Rattle.mx_machine.specs.declared.history.Recorded.TheVariants.{Take, Back, Kill}
@@ -19,12 +21,12 @@ use Rattle.mx_look.specs.declared.slot_glances.SlotGlance.{SlotGlance}
 use Rattle.mx_look.specs.declared.transition.Transition.{Transition}
 use Rattle.mx_look.specs.Doings.{is_down}
 use Rattle.mx_look.specs.FaultLines.{fault_text}
-use Rattle.mx_look.specs.Going.{acting}
+use Rattle.mx_look.specs.Going.{acting, is_acted}
 use Rattle.mx_look.specs.Slots.{has_changed}
-use Rattle.mx_look.specs.Transition.{about, fault_in, slot_in}
+use Rattle.mx_look.specs.Transition.{about, fault_in, held_before, slot_in}
 use Rattle.mx_app_step.specs.Traces.{transition_of}
 use Rattle.mx_why.specs.declared.notes.Deed.{Deed}
-use Rattle.mx_why.specs.declared.notes.Deed.TheVariants.{Taken, Changed, Died, Respawned}
+use Rattle.mx_why.specs.declared.notes.Deed.TheVariants.{Taken, Changed, Killed, Faulted, Respawned, Called, Spent}
 use Rattle.mx_why.specs.declared.notes.Note.{Note}
 
 -- a note of a record
@@ -88,10 +90,15 @@ died_text x s c = codes "of " ++ cause_text c ++ circumstances x s c
 
 -- ---- the notes
 
+abbrev pub deed_of : DeathCause → Deed
+deed_of cause.Exit = Changed
+deed_of cause.Kill = Killed
+deed_of (cause.Fault v) = Faulted
+
 -- an exit is no death that needs a word
 abbrev pub of_down : Transition → ℕ → DeathCause → Note
 of_down x s cause.Exit = noted x s Changed []
-of_down x s c = noted x s Died (died_text x s c)
+of_down x s c = noted x s (deed_of c) (died_text x s c)
 
 abbrev pub of_change : Transition → ℕ → Doing → Doing → Note
 of_change x s before (Down c) = of_down x s c
@@ -113,11 +120,33 @@ take_by x _ _ = []
 abbrev pub take_note : Transition → List Note
 take_note x = take_by x x.event (about x)
 
+-- all the steps that it may are made
+abbrev pub spent_by : CpuGlance → Stop → Bool
+spent_by h stop.Spent = nat_le h.budget h.count
+spent_by h _ = false
+
+abbrev pub has_spent : CpuGlance → Bool
+has_spent h = spent_by h h.stop
+
+abbrev pub return_of : Transition → CpuGlance → List Note
+return_of x h =
+    if is_acted x h.slot then noted x h.slot Called [] ∷ [] else
+    if has_spent h then noted x h.slot Spent [] ∷ [] else
+    []
+
+abbrev pub return_by : Transition → Recorded → Option CpuGlance → List Note
+return_by x (Back n) (Some h) = return_of x h
+return_by x _ _ = []
+
+-- a slot whose process comes back with a call, or with its budget spent
+unfoldable pub return_note : Transition → List Note
+return_note x = return_by x x.event (held_before x)
+
 unfoldable pub change_notes : Transition → List Note
 change_notes x = flat_map (change_note x) (range_with_len 0 32)
 
 unfoldable pub notes_of : Transition → List Note
-notes_of x = take_note x ++ change_notes x
+notes_of x = take_note x ++ return_note x ++ change_notes x
 
 -- THE NOTES of records, of which the first has this number
 abbrev pub notes_from : World → ℕ → List Record → List Note

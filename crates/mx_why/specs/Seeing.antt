@@ -1,5 +1,5 @@
 -- THE END of a history: what is known of the world there (our own).
-use Rattle.std.specs.Prelude.{ℕ, ◌-◌, if◌then◌else◌, List, map, Option, slice_get}
+use Rattle.std.specs.Prelude.{ℕ, ◌-◌, ◌==◌, if◌then◌else◌, List, length, map, Option, slice_get}
 use Rattle.std.specs.List.{range_with_len}
 use Rattle.std.specs.Option.{option_map}
 use Rattle.mx_machine.specs.Proc.declared.process.Process.{Process}
@@ -26,6 +26,7 @@ seat_of t s v = let p = process_at t s in record {
   sends = p.schedule.terms.masks.sends;
   alarm = p.alarm;
   restarts = restarts_left p v;
+  is_bare = length v.program.text == 0;
 }
 
 -- a slot, if it has a service

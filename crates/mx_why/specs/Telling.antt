@@ -1,10 +1,9 @@
 -- WHAT IS TOLD of a saved history (our own).
-use Rattle.std.specs.Prelude.{◌≡◌, ℕ, ◌+◌, ◌==◌, if◌then◌else◌, true, false, List, [], ◌++◌, length, Option, Some, None}
+use Rattle.std.specs.Prelude.{◌≡◌, ℕ, ◌+◌, ◌==◌, if◌then◌else◌, Bool, true, false, List, [], ◌++◌, length, Option, Some, None}
 use Rattle.mx_app_start.specs.Failure.{PrintsFront}
 use Rattle.mx_app_start.specs.Log.{lines_above}
-use Rattle.mx_app_step.specs.declared.records.Replayed.{Replayed}
-use Rattle.mx_app_step.specs.declared.records.Replayed.TheVariants as replayed
 use Rattle.mx_app_step.specs.Records.{IsRefusedAt, refused_record_line}
+use Rattle.mx_machine.specs.declared.config.Config.{Config}
 use Rattle.mx_machine.specs.declared.events.Refusal.{Refusal}
 use Rattle.mx_machine.specs.declared.history.Record.{Record}
 use Rattle.mx_machine.specs.History.{AreAccepted, world_after_events, events_of_history}
@@ -12,24 +11,30 @@ use Rattle.mx_machine.specs.World.{World}
 use Rattle.mx_why.specs.declared.failed_calls.FailedCall.{FailedCall}
 use Rattle.mx_why.specs.declared.notes.Note.{Note}
 use Rattle.mx_why.specs.declared.seats.End.{End}
+use Rattle.mx_why.specs.declared.telling.Told.{Told}
+use Rattle.mx_why.specs.declared.telling.Told.TheVariants as told
+use Rattle.mx_why.specs.Busy.{busy, busy_lines}
 use Rattle.mx_why.specs.Deaths.{deaths}
 use Rattle.mx_why.specs.Endings.{deaths_text, ending_text}
 use Rattle.mx_why.specs.FailedCalls.{failed_calls}
 use Rattle.mx_why.specs.FailedLines.{failed_lines}
 use Rattle.mx_why.specs.Lines.{idle_text, waits_text}
+use Rattle.mx_why.specs.Marks.{is_marked}
 use Rattle.mx_why.specs.Noting.{notes_of_records}
 use Rattle.mx_why.specs.Seeing.{end_of}
+use Rattle.mx_why.specs.Unfit.{unfit}
+use Rattle.mx_why.specs.UnfitLines.{unfit_lines}
 use Rattle.mx_why.specs.Verdicts.{verdicts}
 
 -- the lines but the first
-unfoldable pub later_lines : End → List Note → List FailedCall → List ℕ
-later_lines e ns cs =
-    waits_text e ns (verdicts e) true ++ waits_text e ns (verdicts e) false ++ deaths_text e ns (deaths ns)
-    ++ failed_lines e cs ++ idle_text e ns
+unfoldable pub later_lines : Config → End → List Note → List FailedCall → List ℕ
+later_lines c e ns cs =
+    waits_text e ns (verdicts e) true ++ waits_text e ns (verdicts e) false ++ busy_lines e (busy e ns)
+    ++ deaths_text e ns (deaths ns) ++ failed_lines e cs ++ idle_text e ns ++ unfit_lines c (unfit c e)
 
--- ALL LINES: of a machine that has done nothing, how it ended alone
-unfoldable pub lines_text : End → List Note → List FailedCall → ℕ → ℕ → List ℕ
-lines_text e ns cs n log = ending_text e n log ++ (if n == 0 then [] else later_lines e ns cs)
+-- ALL LINES of a history of n records: of a machine that has done nothing, how it ended alone
+unfoldable pub lines_text : Config → End → List Note → List FailedCall → ℕ → List ℕ
+lines_text c e ns cs n = ending_text e n c.log ++ (if n == 0 then [] else later_lines c e ns cs)
 
 -- what is known after records: their notes and the calls that they refuse, or which one is refused
 abbrev pub IsNoted :
@@ -39,20 +44,26 @@ IsNoted w u records None ns cs =
     × (ns ≡ notes_of_records w records) × (cs ≡ failed_calls w records)
 IsNoted w u records (Some p) ns cs = IsRefusedAt w records p.0 p.1
 
--- of records, by the world where they lead, by their notes and by what they refuse
-abbrev pub why_text : World → List Record → ℕ → List ℕ
-why_text w records log =
-    lines_text (end_of (world_after_events w (events_of_history records)))
-    (notes_of_records w records) (failed_calls w records) (length records) log
+abbrev pub end_after : World → List Record → End
+end_after w records = end_of (world_after_events w (events_of_history records))
 
--- WHAT IS PRINTED of records: the lines, or which one is refused
-abbrev pub IsWhyPrinted : World → List Record → ℕ → Replayed → (List ℕ → Type 0) → Type 0
-IsWhyPrinted w records log replayed.Whole Prints =
-    AreAccepted w (events_of_history records) × Prints (why_text w records log)
-IsWhyPrinted w records log replayed.Refused Prints =
+-- of records, by the world where they lead, by their notes and by what they refuse
+abbrev pub why_text : World → List Record → Config → List ℕ
+why_text w records c =
+    lines_text c (end_after w records) (notes_of_records w records) (failed_calls w records) (length records)
+
+-- they have a mark
+abbrev pub why_marked : World → List Record → Config → Bool
+why_marked w records c = is_marked c (end_after w records) (notes_of_records w records) (length records)
+
+-- WHAT IS PRINTED of records: the lines, and whether one has a mark; or which record is refused
+abbrev pub IsWhyPrinted : World → List Record → Config → Told → (List ℕ → Type 0) → Type 0
+IsWhyPrinted w records c (told.Whole marked) Prints =
+    AreAccepted w (events_of_history records) × (marked ≡ why_marked w records c) × Prints (why_text w records c)
+IsWhyPrinted w records c told.Refused Prints =
     (n : ℕ) × (r : Refusal) × IsRefusedAt w records n r
     × Prints (refused_record_line (lines_above w.table.rules + n) r)
 
 -- a front of it is printed
-abbrev pub IsWhyBegun : World → List Record → ℕ → (List ℕ → Type 0) → Type 0
-IsWhyBegun w records log Prints = (how : Replayed) × IsWhyPrinted w records log how (PrintsFront Prints)
+abbrev pub IsWhyBegun : World → List Record → Config → (List ℕ → Type 0) → Type 0
+IsWhyBegun w records c Prints = (how : Told) × IsWhyPrinted w records c how (PrintsFront Prints)

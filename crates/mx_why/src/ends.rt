@@ -55,7 +55,7 @@ fn is_unfinished(unfinished: Unfinished, seat: &Seat) -> bool
 }
 
 /// Whether a slot has a service and is one of those.
-fn is_listed(end: &End, unfinished: Unfinished, slot: u32) -> bool
+pub(crate) fn is_listed(end: &End, unfinished: Unfinished, slot: u32) -> bool
     ensures { result ≡ is_listed end.now unfinished slot }
 {
     match end.seat(slot) {
@@ -109,7 +109,7 @@ fn wanted_records(end: &End) -> usize
 
 /// How a history of so many records ended, which could have had at most `log`.
 #[tactic(auto, unfolding(crate::specs::Endings::ending))]
-fn ending_of(end: &End, records: usize, log: u32) -> Ending
+pub(crate) fn ending_of(end: &End, records: usize, log: u32) -> Ending
     ensures { result ≡ ending end.now records log }
 {
     if records == 0 {

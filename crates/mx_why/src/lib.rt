@@ -1,5 +1,5 @@
 //! `mx why`: what became of a saved history. How it ended, who waits for ever and why, who waits for a line or an alarm,
-//! who died, which calls were refused, and who never ran.
+//! who computes without a call, who died, which calls were refused, who never ran, and what CONFIG alone says can't work.
 //!
 //! # From the end, and from notes
 //!
@@ -9,6 +9,7 @@
 //! alike. The lines are made of all these.
 #![tactic(auto)]
 
+mod busy;
 mod deaths;
 mod ends;
 mod failed_calls;
@@ -16,6 +17,7 @@ mod failed_lines;
 mod failing;
 mod hexadecimal;
 mod lines;
+mod marks;
 mod notes;
 mod noting;
 mod place;
@@ -23,13 +25,17 @@ mod reasons;
 mod seats;
 mod seeing;
 mod telling;
+mod unfit;
+mod unfit_lines;
 mod verdicts;
 mod waiting;
 
+pub use busy::{Pace, busy_of};
 pub use deaths::{Death, deaths_of};
 pub use ends::{Ending, Unfinished};
 pub use failed_calls::FailedCall;
 pub use notes::{Deed, Note, NoteText};
 pub use seats::{End, Seat};
-pub use telling::why;
+pub use telling::{Told, why};
+pub use unfit::{Lack, Pair, Unfit};
 pub use verdicts::{Verdict, verdicts_on};

@@ -288,7 +288,7 @@ fn is_said(said: &[Option<Verdict>; 32], is_never: bool, slot: u32) -> bool
 }
 
 /// How many slots below one have a line of a kind.
-fn count_said(said: &[Option<Verdict>; 32], is_never: bool, below: u32) -> usize
+pub(crate) fn count_said(said: &[Option<Verdict>; 32], is_never: bool, below: u32) -> usize
     ensures { result ≡ count_by (is_said said.now is_never) (range_with_len 0 below) }
 {
     (0..below)
@@ -363,7 +363,7 @@ fn is_idle(end: &End, notes: &[Note], slot: u32) -> bool
 }
 
 /// How many slots below one have a process that never ran.
-fn count_idle(end: &End, notes: &[Note], below: u32) -> usize
+pub(crate) fn count_idle(end: &End, notes: &[Note], below: u32) -> usize
     ensures { result ≡ count_by (is_idle end.now notes.now) (range_with_len 0 below) }
 {
     (0..below).filter(|slot| is_idle(end, notes, *slot)).count()

@@ -1,7 +1,7 @@
 //! Notes of what became of the slots in a history, and what they tell.
 
 ghost use Rattle.std.specs.Prelude.{◌≡◌};
-ghost use Rattle.mx_why.specs.Notes.{has_run, is_change_of, is_died, is_respawn_of, is_respawned, is_take_of, is_taken, since};
+ghost use Rattle.mx_why.specs.Notes.{has_run, is_change_of, is_changed, is_died, is_respawn_of, is_respawned, is_take_of, is_taken, since};
 
 use std::marker::Model;
 
@@ -10,12 +10,18 @@ use std::marker::Model;
 pub enum Deed {
     /// A processor takes the slot's process.
     Taken,
-    /// The process does something else, and none of those below.
+    /// The process does something else, and neither dies nor is new.
     Changed,
-    /// It dies, of a fault or a kill.
-    Died,
+    /// It is killed.
+    Killed,
+    /// It dies of a fault.
+    Faulted,
     /// The slot has a new process.
     Respawned,
+    /// The process makes a call: its trap is acted.
+    Called,
+    /// It comes back with its budget spent.
+    Spent,
 }
 
 /// A text of a note.
@@ -66,11 +72,18 @@ fn is_taken(deed: Deed) -> bool
     matches!(deed, Deed::Taken)
 }
 
+/// Whether this is a change of what a process does.
+fn is_changed(deed: Deed) -> bool
+    ensures { result ≡ is_changed deed }
+{
+    matches!(deed, Deed::Changed | Deed::Respawned) || is_died(deed)
+}
+
 /// Whether this is a death.
 pub(crate) fn is_died(deed: Deed) -> bool
     ensures { result ≡ is_died deed }
 {
-    matches!(deed, Deed::Died)
+    matches!(deed, Deed::Killed | Deed::Faulted)
 }
 
 /// Whether a note is that a slot has a new process.
@@ -84,7 +97,7 @@ pub(crate) fn is_respawn_of(slot: u32, note: &Note) -> bool
 fn is_change_of(slot: u32, note: &Note) -> bool
     ensures { result ≡ is_change_of slot note.now }
 {
-    note.slot == slot && !is_taken(note.deed)
+    note.slot == slot && is_changed(note.deed)
 }
 
 /// Whether a note is that a processor takes a slot's process.

@@ -1,12 +1,12 @@
 //! Taking notes of a transition.
 
 ghost use Rattle.std.specs.Prelude.{◌≡◌, ◌++◌, ◌∷◌, [], OnOk};
-ghost use Rattle.mx_why.specs.declared.notes.Deed.TheVariants.{Died};
-ghost use Rattle.mx_why.specs.Noting.{change_note, change_notes, died_text, noted, notes_of, of_change, of_down, take_note};
+ghost use Rattle.mx_why.specs.Noting.{change_note, change_notes, deed_of, died_text, has_spent, noted, notes_of, of_change, of_down, return_note, return_of, take_note};
 
 use crate::notes::{Deed, Note, NoteText};
 use crate::place::push_death;
-use mx_look::{Transition, about, has_changed, is_down, slot_in};
+use mx_image::Stop;
+use mx_look::{CpuGlance, Transition, about, has_changed, held_before, is_acted, is_down, slot_in};
 use mx_machine::Recorded;
 use mx_print_report::Doing;
 use mx_proc::DeathCause;
@@ -48,6 +48,17 @@ fn push_bare(
     push_note(notes, transition, slot, deed, text)
 }
 
+/// What a note of a death is of.
+fn deed_of(cause: DeathCause) -> Deed
+    ensures { result ≡ deed_of cause }
+{
+    match cause {
+        DeathCause::Exit => Deed::Changed,
+        DeathCause::Kill => Deed::Killed,
+        DeathCause::Fault(_) => Deed::Faulted,
+    }
+}
+
 /// Appends the note of a death.
 fn push_died(
     notes: &mut Vec<Note>,
@@ -56,11 +67,11 @@ fn push_died(
     cause: DeathCause,
 ) -> Result<(), AllocError>
     ensures { OnOk result (notes.new.items ≡ notes.old.items
-        ++ noted transition.now slot Died (died_text transition.now slot cause) ∷ []) }
+        ++ noted transition.now slot (deed_of cause) (died_text transition.now slot cause) ∷ []) }
 {
     let mut text = Vec::new(*notes.allocator());
     push_death(&mut text, transition, slot, cause)?;
-    push_note(notes, transition, slot, Deed::Died, text)
+    push_note(notes, transition, slot, deed_of(cause), text)
 }
 
 /// Appends the note of a process that is down.
@@ -128,6 +139,44 @@ fn push_taken(notes: &mut Vec<Note>, transition: &Transition) -> Result<(), Allo
     }
 }
 
+/// Whether a process has made all the steps that it may, without a call or a fault.
+fn has_spent(held: &CpuGlance) -> bool
+    ensures { result ≡ has_spent held.now }
+{
+    matches!(held.stop, Stop::Spent) && held.budget <= held.count
+}
+
+/// Appends the note of how a process comes back, if it makes a call or its budget is spent.
+fn push_return_of(
+    notes: &mut Vec<Note>,
+    transition: &Transition,
+    held: &CpuGlance,
+) -> Result<(), AllocError>
+    ensures { OnOk result (notes.new.items ≡ notes.old.items
+        ++ return_of transition.now held.now) }
+{
+    let slot = u32::from(held.slot);
+    if is_acted(transition, slot) {
+        push_bare(notes, transition, slot, Deed::Called)
+    } else if has_spent(held) {
+        push_bare(notes, transition, slot, Deed::Spent)
+    } else {
+        Ok(())
+    }
+}
+
+/// Appends the note of how a process comes back, if the record is that.
+#[tactic(auto, unfolding(crate::specs::Noting::return_note))]
+fn push_return(notes: &mut Vec<Note>, transition: &Transition) -> Result<(), AllocError>
+    ensures { OnOk result (notes.new.items ≡ notes.old.items
+        ++ return_note transition.now) }
+{
+    match (transition.event, held_before(transition)) {
+        (Recorded::Back(_), Some(held)) => push_return_of(notes, transition, held),
+        _ => Ok(()),
+    }
+}
+
 /// Appends the notes of changes.
 fn push_changes(notes: &mut Vec<Note>, transition: &Transition) -> Result<(), AllocError>
     ensures { OnOk result (notes.new.items ≡ notes.old.items
@@ -146,5 +195,6 @@ pub(crate) fn push_notes(notes: &mut Vec<Note>, transition: &Transition) -> Resu
         ++ notes_of transition.now) }
 {
     push_taken(notes, transition)?;
+    push_return(notes, transition)?;
     push_changes(notes, transition)
 }

@@ -165,7 +165,7 @@ fn push_untaken(
 
 /// Appends the bit of a slot in a mask.
 #[tactic(auto, unfolding(crate::specs::Reasons::bit_text))]
-fn push_bit(out: &mut Vec<u8>, slot: u32) -> Result<(), AllocError>
+pub(crate) fn push_bit(out: &mut Vec<u8>, slot: u32) -> Result<(), AllocError>
     ensures { OnOk result (out.new.items ≡ out.old.items
         ++ bit_text slot) }
 {

@@ -21,6 +21,8 @@ pub struct Seat {
     pub alarm: Option<u64>,
     /// How often it may still be respawned.
     pub restarts: u32,
+    /// Whether its program has no instruction.
+    pub is_bare: bool,
 }
 
 /// What is known of a world at the end of a history.

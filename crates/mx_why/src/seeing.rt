@@ -37,6 +37,7 @@ fn seat_of(table: &Table, slot: Slot, service: &Service) -> Seat
         sends: masks.sends,
         alarm: process.alarm,
         restarts: restarts_left(process, service),
+        is_bare: service.program.text.as_slice().is_empty(),
     }
 }
 

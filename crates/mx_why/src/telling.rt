@@ -15,29 +15,46 @@ ghost use Rattle.mx_machine.specs.Boot.{world_at_boot};
 ghost use Rattle.mx_machine.specs.World.{actors};
 ghost use Rattle.mx_why.specs.Deaths.{deaths};
 ghost use Rattle.mx_why.specs.Endings.{deaths_text};
+ghost use Rattle.mx_why.specs.Busy.{busy, busy_lines};
 ghost use Rattle.mx_why.specs.Lines.{idle_text, waits_text};
+ghost use Rattle.mx_why.specs.Marks.{is_marked};
 ghost use Rattle.mx_why.specs.Seeing.{end_of};
 ghost use Rattle.mx_why.specs.Telling.{IsNoted, IsWhyBegun, IsWhyPrinted, later_lines, lines_text};
+ghost use Rattle.mx_why.specs.Unfit.{unfit};
+ghost use Rattle.mx_why.specs.UnfitLines.{unfit_lines};
 ghost use Rattle.mx_why.specs.Verdicts.{verdicts};
 
+use crate::busy::{busy_of, push_busy};
 use crate::deaths::deaths_of;
 use crate::ends::{push_deaths, push_ending};
 use crate::failed_calls::{FailedCall, count_all};
 use crate::failed_lines::push_failed_lines;
 use crate::lines::{push_idle, push_waits};
+use crate::marks::is_marked;
 use crate::notes::Note;
 use crate::noting::push_notes;
 use crate::seats::End;
 use crate::seeing::end_of;
+use crate::unfit::unfit_by;
+use crate::unfit_lines::push_unfit_lines;
 use crate::verdicts::verdicts_on;
 use mx_app_step::{
-    Failure, History, Reader, Replayed, first_records, look_record, print_refusal, print_text,
+    Failure, History, Reader, first_records, look_record, print_refusal, print_text,
     resting_transition, start,
 };
 use mx_boot::lines_above;
-use mx_machine::{Machine, Record, Refusal};
+use mx_machine::{Config, Machine, Record, Refusal};
 use std::alloc::{AllocError, Global};
 use std::io::Write;
+
+/// What was told of a history.
+#[derive(Clone, Copy, Debug, PartialEq, Eq)]
+pub enum Told {
+    /// Each event of it was accepted; whether a line has a mark, which no right machine has.
+    Whole(bool),
+    /// An event was refused.
+    Refused,
+}
 
 /// Makes records, takes their notes, and counts the calls that they refuse, up to the first that is refused. Answers the number of this
 /// one, the first having the number 1, and why.
@@ -99,85 +116,116 @@ fn push_death_lines(
     push_deaths(out, end, notes, found.as_slice())
 }
 
+/// Appends the lines of those that compute without a call.
+fn push_busy_lines(out: &mut Vec<u8>, end: &End, notes: &[Note]) -> Result<(), AllocError>
+    ensures { OnOk result (out.new.items ≡ out.old.items
+        ++ busy_lines end.now (busy end.now notes.now)) }
+{
+    let found = busy_of(end, notes);
+    push_busy(out, end, &found)
+}
+
+/// Appends the lines of what can't work by the configuration alone.
+fn push_lacking_lines(
+    out: &mut Vec<u8>,
+    alloc: Global,
+    config: &Config,
+    end: &End,
+) -> Result<(), AllocError>
+    ensures { OnOk result (out.new.items ≡ out.old.items
+        ++ unfit_lines config.now (unfit config.now end.now)) }
+{
+    let found = unfit_by(alloc, config, end)?;
+    push_unfit_lines(out, config, found.as_slice())
+}
+
 /// Appends all lines but the first.
 #[tactic(auto, unfolding(crate::specs::Telling::later_lines))]
 fn push_later(
     out: &mut Vec<u8>,
     alloc: Global,
+    config: &Config,
     end: &End,
     notes: &[Note],
     calls: &[FailedCall],
 ) -> Result<(), AllocError>
     ensures { OnOk result (out.new.items ≡ out.old.items
-        ++ later_lines end.now notes.now calls.now) }
+        ++ later_lines config.now end.now notes.now calls.now) }
 {
     push_waiting_lines(out, alloc, end, notes)?;
+    push_busy_lines(out, end, notes)?;
     push_death_lines(out, alloc, end, notes)?;
     push_failed_lines(out, end, calls)?;
-    push_idle(out, end, notes)
+    push_idle(out, end, notes)?;
+    push_lacking_lines(out, alloc, config, end)
 }
 
-/// Appends all lines of a history of so many records, which could have had at most `log`.
+/// Appends all lines of a history of so many records.
 #[tactic(auto, unfolding(crate::specs::Telling::lines_text))]
 fn push_lines(
     out: &mut Vec<u8>,
     alloc: Global,
+    config: &Config,
     end: &End,
     notes: &[Note],
     calls: &[FailedCall],
     records: usize,
-    log: u32,
 ) -> Result<(), AllocError>
     ensures { OnOk result (out.new.items ≡ out.old.items
-        ++ lines_text end.now notes.now calls.now records log) }
+        ++ lines_text config.now end.now notes.now calls.now records) }
 {
-    push_ending(out, end, records, log)?;
+    push_ending(out, end, records, config.log)?;
     if records == 0 {
         return Ok(());
     }
-    push_later(out, alloc, end, notes, calls)
+    push_later(out, alloc, config, end, notes, calls)
 }
 
 /// Prints all lines of a machine that has made so many records, of which these are the notes and the refused calls.
+/// Answers whether one has a mark.
 fn print_lines<W: Write>(
     alloc: Global,
+    config: &Config,
     machine: &Machine,
     notes: &[Note],
     calls: &[FailedCall],
     records: usize,
-    log: u32,
     out: &mut W,
-) -> Result<(), Failure>
+) -> Result<bool, Failure>
     ensures err { IfErr result IsWanting }
     ensures front { IfErr result (λ _. PrintsFront
         (λ front. Appends (W.contents out.old) (W.contents out.new) front)
-        (lines_text (end_of (world_of machine.now)) notes.now calls.now records log)) }
+        (lines_text config.now (end_of (world_of machine.now)) notes.now calls.now records)) }
     ensures bytes { OnOk result (Appends (W.contents out.old) (W.contents out.new)
-        (lines_text (end_of (world_of machine.now)) notes.now calls.now records log)) }
+        (lines_text config.now (end_of (world_of machine.now)) notes.now calls.now records)) }
+    ensures marked { IfOk result (λ marked. marked
+        ≡ is_marked config.now (end_of (world_of machine.now)) notes.now records) }
 {
     let end = end_of(machine);
     let mut text = Vec::new(alloc);
-    push_lines(&mut text, alloc, &end, notes, calls, records, log)?;
-    print_text(text.as_slice(), out)
+    push_lines(&mut text, alloc, config, &end, notes, calls, records)?;
+    let marked = is_marked(alloc, config, &end, notes, records)?;
+    print_text(text.as_slice(), out)?;
+    Ok(marked)
 }
 
 /// Makes records and prints the lines. At an event that is refused it prints the number of the
 /// record's line and the refusal.
 fn print_history<W: Write>(
     alloc: Global,
+    config: &Config,
     machine: &mut Machine,
     records: &[Record],
-    log: u32,
     out: &mut W,
-) -> Result<Replayed, Failure>
+) -> Result<Told, Failure>
     requires few { length records.now < 2 ^ 32 }
     requires actors { All (λ (x : Noted). x.actor < actors (world_of machine.old)) records.now }
     ensures err { IfErr result IsWanting }
     ensures begun { IfErr result (λ _. Appends (W.contents out.old) (W.contents out.new) []
-        ⊎ IsWhyBegun (world_of machine.old) records.now log (λ text.
+        ⊎ IsWhyBegun (world_of machine.old) records.now config.now (λ text.
         Appends (W.contents out.old) (W.contents out.new) text)) }
-    ensures printed { IfOk result (λ replayed.
-        IsWhyPrinted (world_of machine.old) records.now log replayed (λ text.
+    ensures printed { IfOk result (λ told.
+        IsWhyPrinted (world_of machine.old) records.now config.now told (λ text.
         Appends (W.contents out.old) (W.contents out.new) text)) }
 {
     let above = lines_above(machine.rules());
@@ -187,12 +235,12 @@ fn print_history<W: Write>(
         None => {
             let noted = notes.as_slice();
             let counted = calls.as_slice();
-            print_lines(alloc, machine, noted, counted, records.len(), log, out)?;
-            Ok(Replayed::Whole)
+            let marked = print_lines(alloc, config, machine, noted, counted, records.len(), out)?;
+            Ok(Told::Whole(marked))
         }
         Some((number, refusal)) => {
             print_refusal(alloc, above + number, refusal, out)?;
-            Ok(Replayed::Refused)
+            Ok(Told::Refused)
         }
     }
 }
@@ -206,12 +254,12 @@ pub fn why<R: Reader, W: Write>(
     config: &str,
     log: &str,
     out: &mut W,
-) -> Result<Replayed, Failure>
-    ensures printed { IfOk result (λ replayed. (qs : List Asked) × (c : Config)
+) -> Result<Told, Failure>
+    ensures printed { IfOk result (λ told. (qs : List Asked) × (c : Config)
         × (vs : List Service) × (records : List Noted)
         × (R.asked reader.new ≡ R.asked reader.old ++ qs)
         × IsStart IsSaved config.now log.now qs c vs records
-        × IsWhyPrinted (world_at_boot c vs) (take 4294967295 records) c.log replayed (λ text.
+        × IsWhyPrinted (world_at_boot c vs) (take 4294967295 records) c told (λ text.
         Appends (W.contents out.old) (W.contents out.new) text)) }
     ensures fault { IfErr result (λ f. (qs : List Asked)
         × (R.asked reader.new ≡ R.asked reader.old ++ qs)
@@ -219,11 +267,10 @@ pub fn why<R: Reader, W: Write>(
     ensures begun { IfErr result (λ _. PrintsBefore IsSaved config.now log.now
         (R.asked reader.old) (R.asked reader.new)
         (λ text. Appends (W.contents out.old) (W.contents out.new) text)
-        (λ c vs records. IsWhyBegun (world_at_boot c vs) (take 4294967295 records) c.log
+        (λ c vs records. IsWhyBegun (world_at_boot c vs) (take 4294967295 records) c
         (λ text. Appends (W.contents out.old) (W.contents out.new) text))) }
 {
     let mut started = start::<History, R>(alloc, reader, config, log)?;
-    let most = started.config.log;
     let records = first_records(started.lines.as_slice(), u32::MAX);
-    print_history(alloc, &mut started.machine, records, most, out)
+    print_history(alloc, &started.config, &mut started.machine, records, out)
 }

@@ -96,7 +96,7 @@ pub returns-in-Why-clause-done : goal.returns-in-Why-clause-done
 returns-in-Why-clause-done g c =
     as_asked (g.P.SharedProgress.was_shown c.args.io.now.progress) c.args.io.now.asks _ _ _ _ _ _ c.args.request
     (as_known _ _ _ _ _ _ _ _ c.in-Why.is
-    (whys _ _ _ c.in-Why.config.now c.in-Why.log.now _ _ c.why.result c.done_after_replay-in-Why.result c.why.ensures.printed c.why.ensures.fault c.done_after_replay-in-Why.ensures))
+    (whys _ _ _ c.in-Why.config.now c.in-Why.log.now _ _ c.in-Why.strict c.why.result c.done_after_why.result c.why.ensures.printed c.why.ensures.fault c.done_after_why.ensures))
 
 pub returns-in-SweptPage-clause-done : goal.returns-in-SweptPage-clause-done
 returns-in-SweptPage-clause-done g c =

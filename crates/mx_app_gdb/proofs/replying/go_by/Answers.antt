@@ -1,4 +1,4 @@
-use Rattle.std.proofs.Common.{◌∙◌, ℕ, List, Option, sym}
+use Rattle.std.proofs.Common.{◌∙◌, ℕ, List, sym}
 use Rattle.std.proofs.lemmas.Result.{IfOk-weaker}
 use Rattle.mx_app_gdb.specs.declared.replying.Reply.{Reply}
 use Rattle.mx_app_gdb.specs.declared.replying.Way.TheVariants.{On, Step}

@@ -5,8 +5,10 @@ use Rattle.mx_app_start.specs.Failure.{PrintsFront}
 use Rattle.mx_app_start.specs.Log.{lines_above}
 use Rattle.mx_app_start.specs.Machine.{world_of}
 use Rattle.mx_app_step.proofs.FrontLemmas.{err_always}
-use Rattle.mx_app_step.specs.declared.records.Replayed.TheVariants.{Whole, Refused}
 use Rattle.mx_machine.specs.declared.events.Refusal.{Refusal}
+use Rattle.mx_why.specs.declared.telling.Told.TheVariants.{Whole, Refused}
+use Rattle.mx_why.specs.Marks.{is_marked}
+use Rattle.mx_why.specs.Seeing.{end_of}
 use Rattle.mx_why.specs.Telling.{IsNoted}
 use Rattle.mx_why.proofs.NoteLemmas.{lines_printed, refusal_printed}
 use Rattle.mx_why.proofs.telling.print_history.Goals as goal
@@ -14,19 +16,19 @@ use Rattle.mx_why.proofs.telling.print_history.Goals as goal
 pub returns-in_err-note_records-clause-begun : goal.returns-in_err-note_records-clause-begun
 returns-in_err-note_records-clause-begun g c = err_always c.from_residual.result _ (inl (Appends-nil _))
 
-pub returns-in_err-print_lines-in-None-clause-begun : goal.returns-in_err-print_lines-in-None-clause-begun
-returns-in_err-print_lines-in-None-clause-begun g c =
+pub returns-in_err-marked-in-None-clause-begun : goal.returns-in_err-marked-in-None-clause-begun
+returns-in_err-marked-in-None-clause-begun g c =
     let w = world_of c.args.machine.now in
     let u = world_of c.note_records.new.machine in
     let ns = c.note_records.new.notes.items in
     let cs = c.note_records.new.calls.items in
     let front : List ℕ → Type 0 = λ text. PrintsFront (λ t. Appends (g.W.Write.contents c.args.out.now) (g.W.Write.contents c.print_lines.new.out) t) text in
     let noted = subst (λ (o : Option (ℕ × Refusal)). IsNoted w u c.args.records.now o ns cs) c.in-None.is c.in_ok-note_records.ensures.noted in
-    err_always c.from_residual-in_err-print_lines-in-None.result _
+    err_always c.from_residual-in_err-marked-in-None.result _
     (inr (
-      Whole,
-      lines_printed front w u c.args.records.now ns c.as_slice-noted.result.now cs c.as_slice-counted.result.now c.args.log (length c.args.records.now)
-          c.as_slice-noted.ensures.value c.as_slice-counted.ensures.value refl noted c.in_err-print_lines-in-None.ensures.front,
+      Whole (is_marked c.args.config.now (end_of u) c.as_slice-noted.result.now (length c.args.records.now)),
+      lines_printed front c.args.config.now w u c.args.records.now ns c.as_slice-noted.result.now cs c.as_slice-counted.result.now (length c.args.records.now) _
+          c.as_slice-noted.ensures.value c.as_slice-counted.ensures.value refl noted refl c.in_err-marked-in-None.ensures.front,
     ))
 
 pub returns-in-None-clause-printed : goal.returns-in-None-clause-printed
@@ -36,8 +38,8 @@ returns-in-None-clause-printed g c =
     let ns = c.note_records.new.notes.items in
     let cs = c.note_records.new.calls.items in
     let noted = subst (λ (o : Option (ℕ × Refusal)). IsNoted w u c.args.records.now o ns cs) c.in-None.is c.in_ok-note_records.ensures.noted in
-    lines_printed (λ (t : List ℕ). Appends (g.W.Write.contents c.args.out.now) (g.W.Write.contents c.print_lines.new.out) t) w u c.args.records.now ns c.as_slice-noted.result.now cs c.as_slice-counted.result.now c.args.log (length c.args.records.now)
-    c.as_slice-noted.ensures.value c.as_slice-counted.ensures.value refl noted c.in_ok-print_lines-in-None.ensures.bytes
+    lines_printed (λ (t : List ℕ). Appends (g.W.Write.contents c.args.out.now) (g.W.Write.contents c.print_lines.new.out) t) c.args.config.now w u c.args.records.now ns c.as_slice-noted.result.now cs c.as_slice-counted.result.now (length c.args.records.now) _
+    c.as_slice-noted.ensures.value c.as_slice-counted.ensures.value refl noted c.in_ok-marked-in-None.ensures.marked c.in_ok-marked-in-None.ensures.bytes
 
 pub returns-in_err-print_refusal-in-Some-clause-begun : goal.returns-in_err-print_refusal-in-Some-clause-begun
 returns-in_err-print_refusal-in-Some-clause-begun g c =
@@ -50,7 +52,7 @@ returns-in_err-print_refusal-in-Some-clause-begun g c =
     let noted = subst (λ (o : Option (ℕ × Refusal)). IsNoted w u c.args.records.now o ns cs) c.in-Some.is c.in_ok-note_records.ensures.noted in
     let line : c.lines_above-above.result + n ≡ lines_above w.table.rules + n = search rules in
     err_always c.from_residual-in_err-print_refusal-in-Some.result _
-    (inr (Refused, refusal_printed front w u c.args.records.now ns cs c.args.log n (c.lines_above-above.result + n) c.in-Some.refusal line noted c.in_err-print_refusal-in-Some.ensures.front))
+    (inr (Refused, refusal_printed front c.args.config.now w u c.args.records.now ns cs n (c.lines_above-above.result + n) c.in-Some.refusal line noted c.in_err-print_refusal-in-Some.ensures.front))
 
 pub returns-clause-printed : goal.returns-clause-printed
 returns-clause-printed g c =
@@ -61,5 +63,5 @@ returns-clause-printed g c =
     let n = c.in-Some.number in
     let noted = subst (λ (o : Option (ℕ × Refusal)). IsNoted w u c.args.records.now o ns cs) c.in-Some.is c.in_ok-note_records.ensures.noted in
     let line : c.lines_above-above.result + n ≡ lines_above w.table.rules + n = search rules in
-    refusal_printed (λ (t : List ℕ). Appends (g.W.Write.contents c.args.out.now) (g.W.Write.contents c.print_refusal.new.out) t) w u c.args.records.now ns cs c.args.log n (c.lines_above-above.result + n) c.in-Some.refusal
+    refusal_printed (λ (t : List ℕ). Appends (g.W.Write.contents c.args.out.now) (g.W.Write.contents c.print_refusal.new.out) t) c.args.config.now w u c.args.records.now ns cs n (c.lines_above-above.result + n) c.in-Some.refusal
     line noted c.in_ok-print_refusal-in-Some.ensures.bytes

@@ -2,7 +2,6 @@ use Rattle.std.proofs.Common.{List, ℕ, ◌∙◌, ◌<◌, ap, take, inl, inr}
 use Rattle.std.proofs.KnownBytes.{Appends-nil}
 use Rattle.std.proofs.lemmas.Result.{IfErr-weaker, IfOk-weaker, err_from_is_err_and}
 use Rattle.std.specs.Io.KnownBytes.{Appends}
-use Rattle.mx_app_start.specs.Config.{Config}
 use Rattle.mx_app_start.specs.Failure.{IsWanting, PrintsFront}
 use Rattle.mx_app_start.specs.Machine.{world_of}
 use Rattle.mx_machine.specs.World.{actors}
@@ -35,8 +34,8 @@ returns-clause-printed g c =
       c.in_ok-started.started.lines.items,
       s.3,
       s.4,
-      why_printed (λ (text : List ℕ). Appends (g.W.Write.contents c.args.out.now) (g.W.Write.contents c.print_history.new.out) text) s.1 s.2 c.in_ok-started.started.lines.items c.first_records-records.result.now (world_of c.in_ok-started.started.machine) _ replayed
-          (c.first_records-records.ensures.first ∙ ap (λ (rs : List Record). take 4294967295 rs) c.as_slice.ensures.value) s.5 (ap (λ (k : Config). k.log) s.7) b,
+      why_printed (λ (text : List ℕ). Appends (g.W.Write.contents c.args.out.now) (g.W.Write.contents c.print_history.new.out) text) s.1 _ s.2 c.in_ok-started.started.lines.items c.first_records-records.result.now (world_of c.in_ok-started.started.machine) replayed
+          (c.first_records-records.ensures.first ∙ ap (λ (rs : List Record). take 4294967295 rs) c.as_slice.ensures.value) s.5 s.7 b,
     )) c.print_history.ensures.printed
 
 pub returns-clause-fault : goal.returns-clause-fault
@@ -61,6 +60,6 @@ returns-clause-begun g c =
         c.in_ok-started.started.lines.items,
         s.3,
         s.4,
-        (some.0, why_printed front s.1 s.2 c.in_ok-started.started.lines.items c.first_records-records.result.now (world_of c.in_ok-started.started.machine) _ some.0 slice s.5 (ap (λ (k : Config). k.log) s.7) some.1),
+        (some.0, why_printed front s.1 _ s.2 c.in_ok-started.started.lines.items c.first_records-records.result.now (world_of c.in_ok-started.started.machine) some.0 slice s.5 s.7 some.1),
       )
     ]) c.print_history.ensures.begun
