@@ -4,7 +4,7 @@ use Rattle.mx_app.specs.declared.ending.Terminals.{Terminals}
 use Rattle.mx_app.specs.declared.ending.PrintedText.{PrintedText}
 use Rattle.mx_app.specs.declared.ending.PrintedText.TheVariants.{Symbols, Report, Other}
 use Rattle.mx_app.specs.declared.ending.DrivenEnding.{DrivenEnding}
-use Rattle.mx_app.specs.declared.ending.DrivenEnding.TheVariants.{Turns, Run}
+use Rattle.mx_app.specs.declared.ending.DrivenEnding.TheVariants.{Interrupted, Turns, Run}
 use Rattle.mx_app.specs.declared.ending.Note.{Note}
 use Rattle.mx_app.specs.declared.ending.Note.TheVariants.{Nothing, NoSymbols, Ended}
 use Rattle.mx_app_run.specs.declared.run_by_threads.RunEnding.TheVariants as runs
@@ -26,10 +26,12 @@ driven_word (Turns ending) = ending_word ending
 driven_word (Run runs.Rest) = ending_word turns.Rest
 driven_word (Run runs.Full) = ending_word turns.Full
 driven_word (Run runs.Stopped) = codes "stopped"
+driven_word Interrupted = codes "interrupted: LOG has what was done until then"
 
 -- the report of a run that was stopped
 abbrev pub is_stopped : PrintedText → Bool
 is_stopped (Report (Run runs.Stopped)) = true
+is_stopped (Report Interrupted) = true
 is_stopped printed = false
 
 -- what a reader is helped with, by what was printed, and by the last byte that standard output got: that there are no

@@ -1,5 +1,5 @@
 -- What is done of requests (our own).
-use Rattle.std.specs.Prelude.{◌≡◌, ◌⊎◌, ◌&&◌, ℕ, ◌-◌, Bool, true, false, if◌then◌else◌, List, [], ◌∷◌, ◌++◌, Option, Some, None, Result, Ok, Err, nat_lt, option_map, take}
+use Rattle.std.specs.Prelude.{◌≡◌, ◌⊎◌, ◌&&◌, ℕ, ◌-◌, Bool, true, false, if◌then◌else◌, List, [], ◌∷◌, ◌++◌, Option, Some, None, Result, Ok, Err, is_some, nat_lt, option_map, take}
 use Rattle.mx_app_command.specs.Files.{writes_over}
 use Rattle.mx_app_command.specs.declared.command_line.CommandRequest.{CommandRequest}
 use Rattle.mx_app_command.specs.declared.command_line.RecordRange.{RecordRange}
@@ -50,7 +50,8 @@ use Rattle.mx_app_turns.specs.declared.sweeping.Swept.TheVariants as swept
 use Rattle.mx_app_turns.specs.Turned.{MakesTurns}
 use Rattle.mx_app_run.specs.declared.run_by_threads.RunEnding.{RunEnding}
 use Rattle.mx_app_run.specs.declared.run_by_threads.RunEnding.TheVariants as runs
-use Rattle.mx_turns.specs.declared.turns.Ending.{Ending}
+use Rattle.mx_app_turns.specs.declared.turning.TurnsEnd.{TurnsEnd}
+use Rattle.mx_app.specs.declared.ending.DrivenEnding.{DrivenEnding}
 use Rattle.mx_walk.specs.Parts.{walk_shown}
 use Rattle.mx_walk.specs.Walks.{Walk}
 use Rattle.mx_app_db.specs.DebugLines.{DebuggedWorld, debug_lines_made}
@@ -81,9 +82,18 @@ done_after_replay (Ok replayed.Whole) = Ok (with_status 0)
 done_after_replay (Ok replayed.Refused) = Ok (with_status 1)
 done_after_replay (Err f) = Err f
 
--- turns are done, however they ended
-abbrev pub done_after_turns : Result Ending Kind → Result Done Kind
-done_after_turns (Ok ending) = Ok (record { status = 0; ending = Some (driven.Turns ending); untested = None; absent = None })
+-- a run or turns are done, with this status, and ended so
+abbrev pub done_after_driving : ℕ → DrivenEnding → Done
+done_after_driving n ending = record { status = n; ending = Some ending; untested = None; absent = None }
+
+-- what a file has stopped
+abbrev pub interrupted : Done
+interrupted = done_after_driving 130 driven.Interrupted
+
+-- turns are done, however they ended; or they were stopped
+abbrev pub done_after_turns : Result TurnsEnd Kind → Result Done Kind
+done_after_turns (Ok end) =
+    Ok (if end.is_stopped then interrupted else done_after_driving 0 (driven.Turns end.ending))
 done_after_turns (Err f) = Err f
 
 -- the status of a session is 130 if it was stopped
@@ -95,16 +105,13 @@ abbrev pub done_after_live : Result SessionEnding Kind → Result Done Kind
 done_after_live (Ok ending) = Ok (with_status (live_status ending))
 done_after_live (Err f) = Err f
 
--- the status of a run is 5 if it was stopped
-abbrev pub run_status : RunEnding → ℕ
-run_status runs.Rest = 0
-run_status runs.Full = 0
-run_status runs.Stopped = 5
-
-abbrev pub done_after_run : Result RunEnding Kind → Result Done Kind
-done_after_run (Ok ending) =
-    Ok (record { status = run_status ending; ending = Some (driven.Run ending); untested = None; absent = None })
-done_after_run (Err f) = Err f
+-- a run that ended before rest and before a full history was stopped by the file that may stop it; without one its
+-- status is 5
+abbrev pub done_after_run : Bool → Result RunEnding Kind → Result Done Kind
+done_after_run can_stop (Ok runs.Stopped) =
+    Ok (if can_stop then interrupted else done_after_driving 5 (driven.Run runs.Stopped))
+done_after_run can_stop (Ok ending) = Ok (done_after_driving 0 (driven.Run ending))
+done_after_run can_stop (Err f) = Err f
 
 -- a sweep, or a page with one, is done; its status is 1 if the history is refused, and, if it is strict, if an outcome
 -- differs or nothing was tested, which is told in any case
@@ -249,8 +256,8 @@ PerformsUntyped (Step config script None numbered) qs ws Prints r =
 PerformsUntyped (Step config script (Some log) numbered) qs ws Prints r =
     (d : Result (Unit {0}) Kind) × SavesSteps config.now script.now log.now numbered qs ws Prints d
     × (r ≡ done_after_work d)
-PerformsUntyped (Run config log ticks events) qs ws Prints r = ⊥
-PerformsUntyped (Turns config log ticks events bound) qs ws Prints r = ⊥
+PerformsUntyped (Run config log ticks events stop) qs ws Prints r = ⊥
+PerformsUntyped (Turns config log ticks events bound stop) qs ws Prints r = ⊥
 PerformsUntyped (Live config log raw hertz stop) qs ws Prints r = ⊥
 PerformsUntyped (Sweep config log fault bound from to jobs strict save) qs ws Prints r = ⊥
 PerformsUntyped (Replay config log) qs ws Prints r =
@@ -281,13 +288,14 @@ PerformsApart WasShown (Look config log) asks did Prints r =
 PerformsApart WasShown (Gdb config log slot) asks did Prints r =
     IsAlone did × (d : Result TalkEnding Kind) × (did.written ≡ [])
     × Talks config.now log.now slot did.asked did.typed did.shown Prints d × (r ≡ done_after_gdb d)
-PerformsApart WasShown (Run config log ticks events) asks did Prints r =
+PerformsApart WasShown (Run config log ticks events stop) asks did Prints r =
     IsAlone did × (did.typed ≡ []) × (did.shown ≡ []) × (d : Result RunEnding Kind)
-    × Runs WasShown config.now (option_map (λ s. s.now) events) log.now ticks did.asked did.written Prints d
-    × (r ≡ done_after_run d)
-PerformsApart WasShown (Turns config log ticks events bound) asks did Prints r =
-    IsAlone did × (did.typed ≡ []) × (d : Result Ending Kind)
-    × MakesTurns config.now
+    × Runs WasShown (is_some stop) config.now
+    (option_map (λ s. s.now) events) log.now ticks did.asked did.written Prints d
+    × (r ≡ done_after_run (is_some stop) d)
+PerformsApart WasShown (Turns config log ticks events bound stop) asks did Prints r =
+    IsAlone did × (did.typed ≡ []) × (d : Result TurnsEnd Kind)
+    × MakesTurns (is_some stop) config.now
     (option_map (λ s. s.now) events) log.now ticks bound did.asked did.written did.shown Prints d
     × (r ≡ done_after_turns d)
 PerformsApart WasShown (Live config log raw hertz stop) asks did Prints r =

@@ -20,6 +20,7 @@ use mx_app_start::{FileWriter, LineReader, Reader, SharedProgress};
 use mx_walk::Progress;
 use std::alloc::{AllocError, Global};
 use std::io::Write;
+use std::rt::Files;
 use std::sync::Wait;
 use std::thread::Threads;
 use std::time::Clock;
@@ -128,7 +129,7 @@ fn answer(
 /// end with and how turns ended, or what standard error gets, which `shows` it at once if it is a terminal.
 pub fn perform_words<
     'a,
-    T: Threads + Wait + Clock + Sync,
+    T: Threads + Wait + Clock + Files + Sync,
     R: Reader + Drop,
     F: FileWriter + Drop,
     W: Write + Drop,

@@ -15,6 +15,8 @@ use std::{fmt, io};
 pub enum DrivenEnding {
     Turns(Ending),
     Run(RunEnding),
+    /// A file stopped them.
+    Interrupted,
 }
 
 impl DrivenEnding {
@@ -27,6 +29,7 @@ impl DrivenEnding {
             DrivenEnding::Run(RunEnding::Rest) => Ending::Rest.word(),
             DrivenEnding::Run(RunEnding::Full) => Ending::Full.word(),
             DrivenEnding::Run(RunEnding::Stopped) => "stopped",
+            DrivenEnding::Interrupted => "interrupted: LOG has what was done until then",
         }
     }
 }
@@ -48,7 +51,9 @@ impl PrintedText {
         ensures { result ≡ is_stopped self }
     {
         match self {
-            PrintedText::Report(DrivenEnding::Run(RunEnding::Stopped)) => true,
+            PrintedText::Report(
+                DrivenEnding::Run(RunEnding::Stopped) | DrivenEnding::Interrupted,
+            ) => true,
             _ => false,
         }
     }

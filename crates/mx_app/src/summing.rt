@@ -25,6 +25,7 @@ use mx_walk::Progress;
 use std::alloc::Global;
 use std::fmt;
 use std::io::Write;
+use std::rt::Files;
 use std::sync::Wait;
 use std::thread::Threads;
 use std::time::Clock;
@@ -197,7 +198,7 @@ fn write_sums<F: FileWriter>(
 
 /// Does a request of a machine that has sums, and then writes them to a file.
 fn perform_summed<
-    T: Threads + Wait + Clock + Sync,
+    T: Threads + Wait + Clock + Files + Sync,
     R: Reader + Drop,
     F: FileWriter + Drop,
     W: Write + Drop,
@@ -225,7 +226,7 @@ fn perform_summed<
 
 /// Does the same, unless the file of sums is spared.
 fn perform_sparing<
-    T: Threads + Wait + Clock + Sync,
+    T: Threads + Wait + Clock + Files + Sync,
     R: Reader + Drop,
     F: FileWriter + Drop,
     W: Write + Drop,
@@ -251,7 +252,7 @@ fn perform_sparing<
 
 /// Does a request of a machine that has the sums of a file, and of no other.
 fn perform_compared<
-    T: Threads + Wait + Clock + Sync,
+    T: Threads + Wait + Clock + Files + Sync,
     R: Reader + Drop,
     F: FileWriter + Drop,
     W: Write + Drop,
@@ -279,7 +280,7 @@ fn perform_compared<
 /// Does what a request asks for, with a file of sums, which no other word may name. If the request makes a history,
 /// its machine's sums are written to the file once it is done; any other is done only of a machine with its sums.
 fn perform_with_sums<
-    T: Threads + Wait + Clock + Sync,
+    T: Threads + Wait + Clock + Files + Sync,
     R: Reader + Drop,
     F: FileWriter + Drop,
     W: Write + Drop,
@@ -312,7 +313,7 @@ fn perform_with_sums<
 /// Does what a command line asks for. With a file of sums, a request that makes a history has the machine's sums
 /// written to it in the end, and one that reads a history isn't begun for a machine with others.
 pub fn perform_line<
-    T: Threads + Wait + Clock + Sync,
+    T: Threads + Wait + Clock + Files + Sync,
     R: Reader + Drop,
     F: FileWriter + Drop,
     W: Write + Drop,

@@ -258,13 +258,15 @@ AsksBy (Explain config) name rows = (name ≡ codes "explain") × HasText (codes
 AsksBy (Step config script save numbered) name rows =
     (name ≡ codes "step") × HasText (codes "CONFIG") rows config.now × HasText (codes "SCRIPT") rows script.now
     × MayHaveText (codes "LOG") rows (option_map (λ s. s.now) save) × IsFlag (codes "numbered") rows numbered
-AsksBy (Run config log ticks events) name rows =
+AsksBy (Run config log ticks events stop) name rows =
     (name ≡ codes "run") × HasText (codes "CONFIG") rows config.now × HasText (codes "LOG") rows log.now
     × HasNumberOr 0 (codes "T") rows ticks × MayHaveText (codes "EVENTS") rows (option_map (λ s. s.now) events)
-AsksBy (Turns config log ticks events bound) name rows =
+    × MayHaveText (codes "FILE") rows (option_map (λ s. s.now) stop)
+AsksBy (Turns config log ticks events bound stop) name rows =
     (name ≡ codes "turns") × HasText (codes "CONFIG") rows config.now × HasText (codes "LOG") rows log.now
     × HasNumberOr 0 (codes "T") rows ticks × MayHaveText (codes "EVENTS") rows (option_map (λ s. s.now) events)
     × HasNumberOr 4294967295 (codes "N") rows bound × (is_on (codes "live") rows ≡ false)
+    × MayHaveText (codes "FILE") rows (option_map (λ s. s.now) stop)
 AsksBy (Live config log raw hertz stop) name rows =
     (name ≡ codes "turns") × HasText (codes "CONFIG") rows config.now × HasText (codes "LOG") rows log.now
     × (is_on (codes "live") rows ≡ true) × (raw ≡ is_on (codes "raw") rows)

@@ -61,14 +61,16 @@ pub enum CommandRequest<'a> {
         save: Option<&'a str>,
         numbered: bool,
     },
-    /// `run CONFIG LOG`, with `--ticks T` or, for no ticks, without, and with `--events EVENTS` or without.
+    /// `run CONFIG LOG`, with `--ticks T` or, for no ticks, without, and with `--events EVENTS` and `--stop FILE` or without.
     Run {
         config: &'a str,
         log: &'a str,
         ticks: u32,
         events: Option<&'a str>,
+        /// The file that stops it once it is there.
+        stop: Option<&'a str>,
     },
-    /// `turns CONFIG LOG`, with `--ticks T` or `--events EVENTS`, and with `--turns N`, or without.
+    /// `turns CONFIG LOG`, with `--ticks T` or `--events EVENTS`, and with `--turns N` and `--stop FILE`, or without.
     Turns {
         config: &'a str,
         log: &'a str,
@@ -76,6 +78,8 @@ pub enum CommandRequest<'a> {
         events: Option<&'a str>,
         /// The most turns, which a history can't have if none are given.
         bound: u32,
+        /// The file that stops them once it is there.
+        stop: Option<&'a str>,
     },
     /// `turns CONFIG LOG --live`, with `--hertz H`, `--raw` and `--stop FILE` or without.
     Live {
@@ -190,7 +194,7 @@ pub enum Mistake {
     TicksAndEvents,
     /// `turns --live` has `--ticks`, `--events` or `--turns`: what comes is what is typed.
     LiveWithCourse,
-    /// `turns` has `--hertz`, `--raw` or `--stop`, and no `--live`.
+    /// `turns` has `--hertz` or `--raw`, and no `--live`.
     NotLive,
     /// `page` has `--turns` or `--jobs`, and no `--fault`.
     NoFault,
@@ -352,6 +356,7 @@ fn turns_request<'a>(config: &'a str, log: &'a str, matches: &ArgMatches<'a>) ->
         ticks,
         events,
         bound,
+        stop: value_if_asked(matches, "FILE"),
     }
 }
 
@@ -396,6 +401,7 @@ fn run_request<'a>(config: &'a str, log: &'a str, matches: &ArgMatches<'a>) -> C
         log,
         ticks,
         events,
+        stop: value_if_asked(matches, "FILE"),
     }
 }
 
@@ -625,13 +631,11 @@ fn has_course(name: &str, matches: &ArgMatches<'_>) -> bool
         && (is_given(matches, "T") || is_given(matches, "EVENTS") || is_given(matches, "N"))
 }
 
-/// Whether these are the words of `turns` with `--hertz`, `--raw` or `--stop`, and without `--live`.
+/// Whether these are the words of `turns` with `--hertz` or `--raw`, and without `--live`.
 fn lacks_live(name: &str, matches: &ArgMatches<'_>) -> bool
     ensures { result ≡ lacks_live name.now (rows_of (found_of matches.now)) }
 {
-    name == "turns"
-        && !is_on(matches, "live")
-        && (is_given(matches, "H") || is_on(matches, "raw") || is_given(matches, "FILE"))
+    name == "turns" && !is_on(matches, "live") && (is_given(matches, "H") || is_on(matches, "raw"))
 }
 
 /// Whether these are the words of `page` with `--turns` or `--jobs`, and without `--fault`.

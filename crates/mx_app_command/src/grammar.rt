@@ -126,14 +126,14 @@ const TICKS: CommandArgument<'static> = CommandArgument {
 /// What happens from outside while turns are made.
 const EVENTS: CommandArgument<'static> = CommandArgument {
     name: "EVENTS",
-    help: "A file of outside events, one for each turn: line L, tick or kill E; not with --ticks",
+    help: "A file of outside events, one for each turn: line L, tick, kill E or respawn S; not with --ticks",
     form: ArgumentForm::After("events"),
 };
 
 /// What the second other actor does in a run.
 const CALLS: CommandArgument<'static> = CommandArgument {
     name: "EVENTS",
-    help: "A file of what the second other actor does: line L, tick, kill E, or wait N for N records",
+    help: "A file of what the second other actor does: line L, tick, kill E, respawn S, or wait N for N records",
     form: ArgumentForm::After("events"),
 };
 
@@ -158,10 +158,10 @@ const HERTZ: CommandArgument<'static> = CommandArgument {
     form: ArgumentForm::NumberAfter("hertz"),
 };
 
-/// The file that ends a session.
+/// The file that stops a run, turns or a session.
 const STOP: CommandArgument<'static> = CommandArgument {
     name: "FILE",
-    help: "With --live: ends the session, and saves LOG, once the file FILE is there",
+    help: "Stops, and saves LOG up to there, once the file FILE is there",
     form: ArgumentForm::After("stop"),
 };
 
@@ -385,6 +385,7 @@ static MACHINE_COMMANDS: [Subcommand<'static>; 3] = [
             RECORDED,
             TICKS,
             CALLS,
+            STOP,
             WRITTEN_SUMS,
             FORCE,
             EXPLAIN,

@@ -9,7 +9,7 @@ use Rattle.mx_asm.specs.declared.fault.Problem.{Problem}
 use Rattle.mx_asm.specs.declared.fault.Problem.TheVariants as problems
 use Rattle.mx_app_explain.specs.declared.text_advice.Sought.{Sought}
 use Rattle.mx_app_explain.specs.declared.text_advice.Sought.TheVariants as sought
-use Rattle.mx_app_explain.specs.TextWords.{begins_with_digit, is_bad_number, is_capital, is_close, is_equals, is_free_word, is_long_name, is_punctuation_word, is_odd_byte, is_open, is_quote, is_size, words_in}
+use Rattle.mx_app_explain.specs.TextWords.{begins_with_digit, is_bad_number, is_capital, is_close, is_equals, is_free_word, is_long_name, is_operator, is_punctuation_word, is_odd_byte, is_open, is_quote, is_size, is_unpushed, words_in}
 use Rattle.mx_app_explain.specs.Details.{word_detail}
 use Rattle.mx_app_explain.specs.Wanted.{problem_wanted}
 
@@ -38,6 +38,8 @@ is_sought sought.Open w = is_open w
 is_sought sought.Size w = is_size w
 is_sought sought.FreeWord w = is_free_word w
 is_sought sought.Number w = begins_with_digit w
+is_sought sought.Operator w = is_operator w
+is_sought sought.Unpushed w = is_unpushed w
 
 -- the first word that is so, and the words after it
 abbrev pub next_sought : Sought → List (List ℕ) → Option (List ℕ × List (List ℕ))
@@ -135,6 +137,22 @@ abbrev pub own_name : List ℕ → Option (List ℕ)
 own_name w =
     name_or (equal_name w) (name_or (order_name w) (name_or (single_name w) (name_or (stack_name w) (data_name w))))
 
+-- instructions of the 80386 that this machine hasn't
+abbrev pub is_decimal_word : List ℕ → Bool
+is_decimal_word w =
+    list_any (bytes_eq w) (codes "rcl" ∷ codes "rcr" ∷ codes "aaa" ∷ codes "aad" ∷ codes "aam" ∷ codes "aas"
+    ∷ codes "daa" ∷ codes "das" ∷ codes "xlat" ∷ codes "xlatb" ∷ [])
+
+abbrev pub is_other_word : List ℕ → Bool
+is_other_word w =
+    list_any (bytes_eq w) (codes "lock" ∷ codes "enter" ∷ codes "bound" ∷ codes "les" ∷ codes "lds" ∷ codes "lfs"
+    ∷ codes "lgs" ∷ codes "lss" ∷ codes "iret" ∷ codes "iretd" ∷ codes "retf" ∷ codes "ins" ∷ codes "insb"
+    ∷ codes "insw" ∷ codes "insd" ∷ codes "outs" ∷ codes "outsb" ∷ codes "outsw" ∷ codes "outsd" ∷ codes "wait"
+    ∷ codes "arpl" ∷ codes "lar" ∷ codes "lsl" ∷ codes "verr" ∷ codes "verw" ∷ [])
+
+abbrev pub is_of_386 : List ℕ → Bool
+is_of_386 w = is_decimal_word w || is_other_word w
+
 -- ---- advice
 
 -- what is wanted, and the word in whose place
@@ -153,6 +171,8 @@ about wanted p (Some w) = (wanted w, Some w)
 abbrev pub token_wanted : List ℕ → List ℕ
 token_wanted w =
     if slice_index w 0 == 39 then codes "the character's number, as 97 for a" else
+    if (slice_index w 0 == 37) || (slice_index w 0 == 36)
+    then codes "Intel's order: the target first, registers without %, numbers without $" else
     if list_any is_equals w then codes "the number itself in each place, since there are no constants" else
     codes "a word, a number, a text in \" or one of [ ] + - * , :"
 
@@ -168,10 +188,18 @@ number_wanted w =
     if slice_index w (length w - 1) == 104 then codes "hexadecimal after 0x and without h, as 0x21"
     else problem_wanted problems.BadNumber
 
--- a name of another assembler, a word with a capital letter, or another one
+-- a word with a capital letter, an unknown directive, an instruction that this machine hasn't, or another word
+abbrev pub plain_word_wanted : List ℕ → List ℕ
+plain_word_wanted w =
+    if list_any is_capital w then codes "lower case" else
+    if slice_index w 0 == 46
+    then codes ".text .data .bss .data1 .data2 .data4 .ascii .space .sep .entry or .stack" else
+    if is_of_386 w then codes "an instruction of this machine, which hasn't all of the 80386's" else
+    codes "an instruction or a directive"
+
+-- a name of another assembler, or one of these
 abbrev pub word_wanted : List ℕ → List ℕ
-word_wanted w =
-    unwrap_or (own_name w) (if list_any is_capital w then codes "lower case" else codes "an instruction or a directive")
+word_wanted w = unwrap_or (own_name w) (plain_word_wanted w)
 
 abbrev pub number_advice : List (List ℕ) → Advised
 number_advice ws = about number_wanted problems.BadNumber (find_word sought.BadNumber ws)
@@ -210,12 +238,41 @@ address_advice None ws = extra_advice (extra_word false ws) ws
 abbrev pub operand_advice : List (List ℕ) → Advised
 operand_advice ws = address_advice (second_address ws) ws
 
+-- only a register of 32 bits is popped, and 32 bits are pushed
+abbrev pub pop_advice : List (List ℕ) → Advised
+pop_advice ws = (codes "a register of 32 bits", first_of ws)
+
+abbrev pub push_advice : Option (List ℕ) → List (List ℕ) → Advised
+push_advice (Some w) ws = (codes "32 bits: a register, a number, or dword before a bracket", Some w)
+push_advice None ws = operand_advice ws
+
+abbrev pub operator_wanted : List ℕ → List ℕ
+operator_wanted w =
+    if bytes_eq w (codes "ptr") then codes "the size alone before the bracket, without \"ptr\""
+    else codes "the name alone, which is its address, without \"offset\""
+
+-- by the statement's first word
+abbrev pub first_advice : Option (List ℕ) → List (List ℕ) → Advised
+first_advice None ws = operand_advice ws
+first_advice (Some w) ws =
+    if bytes_eq w (codes "pop") then pop_advice ws else
+    if bytes_eq w (codes "push") then push_advice (find_word sought.Unpushed ws) ws else
+    operand_advice ws
+
+abbrev pub operator_advice : Option (List ℕ) → Option (List ℕ) → List (List ℕ) → Advised
+operator_advice (Some w) first ws = (operator_wanted w, None)
+operator_advice None first ws = first_advice first ws
+
+-- an operator of another assembler; or by the first word
+abbrev pub statement_advice : Option (List ℕ) → List (List ℕ) → Advised
+statement_advice first ws = operator_advice (find_word sought.Operator ws) first ws
+
 -- THE ADVICE on a line that has these words, by what is wrong with it
 abbrev pub advised : Problem → List (List ℕ) → Advised
 advised problems.BadByte ws = byte_advice ws
 advised problems.BadNumber ws = number_advice ws
 advised problems.UnknownWord ws = word_advice ws
-advised problems.BadOperands ws = operand_advice (after_first (after_label ws))
+advised problems.BadOperands ws = statement_advice (first_of (after_label ws)) (after_first (after_label ws))
 advised problems.WrongSection ws = (problem_wanted problems.WrongSection, first_of (after_label ws))
 advised problems.LongName ws = (problem_wanted problems.LongName, find_word sought.LongName ws)
 advised problems.Undefined ws = (problem_wanted problems.Undefined, only_free_word (after_first (after_label ws)))

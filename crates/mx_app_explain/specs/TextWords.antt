@@ -101,6 +101,18 @@ reserved_words =
 abbrev pub is_reserved : List ℕ → Bool
 is_reserved w = list_any (bytes_eq w) reserved_words
 
+-- operators of other assemblers
+abbrev pub is_operator : List ℕ → Bool
+is_operator w = bytes_eq w (codes "offset") || bytes_eq w (codes "ptr")
+
+-- a register of 8 or 16 bits: no other reserved word has two letters
+abbrev pub is_narrow_register : List ℕ → Bool
+is_narrow_register w = (length w == 2) && is_reserved w
+
+-- fewer than 32 bits are pushed
+abbrev pub is_unpushed : List ℕ → Bool
+is_unpushed w = bytes_eq w (codes "byte") || (bytes_eq w (codes "word") || is_narrow_register w)
+
 -- a word that is no mark, no number, no text, no register and no size
 abbrev pub is_free_word : List ℕ → Bool
 is_free_word w = begins_name (slice_index w 0) && not (is_reserved w || bytes_eq w (codes "short"))

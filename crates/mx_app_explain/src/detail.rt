@@ -5,11 +5,15 @@ ghost use Rattle.mx_text.specs.Fields.{fields};
 ghost use Rattle.mx_text.specs.Lines.{lines};
 ghost use Rattle.mx_app_explain.specs.ConfigFaults.{fault_in};
 ghost use Rattle.mx_app_explain.specs.ConfigFields.{value_name, words_before};
-ghost use Rattle.mx_app_explain.specs.Details.{after_words, config_detail, detail_told, label_told, field_detail, field_label, wanted_of_field};
+ghost use Rattle.mx_app_explain.specs.Details.{after_words, config_detail, detail_told, label_told, field_detail, field_hint, field_label, wanted_of_field};
+ghost use Rattle.mx_app_explain.specs.Hints.{hint_told};
 
 use crate::config_field::Field;
 use crate::config_line::line_fault;
 use crate::found_word::{FoundWord, found_at};
+use crate::hint::Hint;
+use crate::line_looks::{LineLooks, hint_at};
+use crate::mask_names::mask_hint;
 use mx_boot::before_comment;
 use mx_text::{next_field, next_line};
 use std::{fmt, str};
@@ -44,12 +48,13 @@ impl fmt::Display for Label<'_> {
     }
 }
 
-/// What was wanted, where, and what is there.
+/// What was wanted, where, and what is there; and what is added.
 #[derive(Clone, Copy)]
 pub struct Detail<'a> {
     pub label: Label<'a>,
     pub wanted: &'static str,
     pub found: FoundWord<'a>,
+    pub hint: Hint<'a>,
 }
 
 /// As `quantum: wanted 1 to 65535, stands "0"`.
@@ -64,8 +69,9 @@ impl fmt::Display for Detail<'_> {
             label,
             wanted,
             found,
+            hint,
         } = *self;
-        write!(f, "{label}wanted {wanted}{found}")
+        write!(f, "{label}wanted {wanted}{found}{hint}")
     }
 }
 
@@ -136,25 +142,38 @@ fn field_label(line: &[u8], place: Field) -> Label<'_>
     }
 }
 
-/// What was wanted at a place of a configuration's line.
-fn field_detail(line: &[u8], place: Field) -> Detail<'_>
-    ensures { detail_told result ≡ wanted_of_field (fields line.now) place }
+/// What is added at a place of a line of a configuration's text: at its first word what takes such a line, and at a
+/// mask of names the number that it is.
+fn field_hint<'a>(text: &[u8], line: &'a [u8], place: Field) -> Hint<'a>
+    ensures { hint_told result ≡ field_hint (lines text.now) line.now place }
+{
+    match (place, word_after(line, place.words_before())) {
+        (Field::Item, _) => hint_at(line, LineLooks::Config),
+        (Field::Value(key), Some(word)) => mask_hint(text, key, word),
+        _ => Hint::Nothing,
+    }
+}
+
+/// What was wanted at a place of a line of a configuration's text.
+fn field_detail<'a>(text: &[u8], line: &'a [u8], place: Field) -> Detail<'a>
+    ensures { detail_told result ≡ wanted_of_field (lines text.now) line.now place }
 {
     Detail {
         label: field_label(line, place),
         wanted: place.wanted_text(),
         found: found_at(word_after(line, place.words_before())),
+        hint: field_hint(text, line, place),
     }
 }
 
-/// What was wanted of a configuration's line up to its comment. None if the line has no fault of its own.
-fn line_detail(line: &[u8]) -> Option<Detail<'_>>
+/// What was wanted of a line of a configuration's text up to its comment. None if the line has no fault of its own.
+fn line_detail<'a>(text: &[u8], line: &'a [u8]) -> Option<Detail<'a>>
     ensures { option_map detail_told result
-        ≡ field_detail (fields line.now) (fault_in (fields line.now)) }
+        ≡ field_detail (lines text.now) line.now (fault_in (fields line.now)) }
 {
     match line_fault(line) {
         None => None,
-        Some(place) => Some(field_detail(line, place)),
+        Some(place) => Some(field_detail(text, line, place)),
     }
 }
 
@@ -166,6 +185,6 @@ pub(crate) fn config_detail(text: &[u8], number: usize) -> Option<Detail<'_>>
 {
     match line_below(text, number.saturating_sub(1)) {
         None => None,
-        Some(line) => line_detail(before_comment(line)),
+        Some(line) => line_detail(text, before_comment(line)),
     }
 }

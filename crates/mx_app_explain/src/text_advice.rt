@@ -3,14 +3,15 @@
 ghost use Rattle.std.specs.Prelude.{◌≡◌, None, Some, MatchOption, false, option_map};
 ghost use Rattle.mx_text.specs.Fields.{fields};
 ghost use Rattle.mx_app_explain.specs.Details.{detail_told};
-ghost use Rattle.mx_app_explain.specs.TextAdvice.{advice_told, advised, after_first, after_label, byte_advice, data_name, equal_name, extra_word, find_word, first_of, is_sought, lacks_register, lacks_size, may_end, name_or, next_sought, number_advice, number_wanted, only_free_word, operand_advice, operand_word_advice, order_name, own_name, plain, second_address, single_name, size_advice, stack_name, token_wanted, word_advice, word_wanted};
-ghost use Rattle.mx_app_explain.specs.declared.text_advice.Sought.TheVariants.{FreeWord};
+ghost use Rattle.mx_app_explain.specs.TextAdvice.{advice_told, advised, after_first, after_label, byte_advice, data_name, equal_name, extra_word, find_word, first_of, is_decimal_word, is_of_386, is_other_word, is_sought, lacks_register, lacks_size, may_end, name_or, next_sought, number_advice, number_wanted, only_free_word, operand_advice, operand_word_advice, operator_wanted, order_name, own_name, plain, plain_word_wanted, pop_advice, push_advice, second_address, single_name, size_advice, stack_name, statement_advice, token_wanted, word_advice, word_wanted};
+ghost use Rattle.mx_app_explain.specs.declared.text_advice.Sought.TheVariants.{FreeWord, Unpushed};
 
 use crate::detail::{Detail, Label};
 use crate::found_word::{FoundWord, byte_at, found_at};
+use crate::hint::Hint;
 use crate::text_words::{
     begins_with_digit, has_capital, has_equals, has_quote, is_bad_number, is_close, is_free_word,
-    is_long_name, is_odd, is_open, is_punctuation_word, is_size,
+    is_long_name, is_odd, is_open, is_operator, is_punctuation_word, is_size, is_unpushed,
 };
 use crate::wanted::problem_wanted;
 use mx_asm::Problem;
@@ -37,6 +38,7 @@ impl<'a> Advice<'a> {
             label: Label::Nowhere,
             wanted: self.wanted,
             found,
+            hint: Hint::Nothing,
         }
     }
 }
@@ -59,6 +61,10 @@ enum Sought {
     FreeWord,
     /// What begins as a number.
     Number,
+    /// An operator of other assemblers.
+    Operator,
+    /// What isn't pushed: a size or a register of fewer than 32 bits.
+    Unpushed,
 }
 
 impl Sought {
@@ -75,6 +81,8 @@ impl Sought {
             Sought::Size => is_size(word),
             Sought::FreeWord => is_free_word(word),
             Sought::Number => begins_with_digit(word),
+            Sought::Operator => is_operator(word),
+            Sought::Unpushed => is_unpushed(word),
         }
     }
 }
@@ -300,6 +308,8 @@ fn token_wanted(word: &[u8]) -> &'static str
 {
     if byte_at(word, 0) == b'\'' {
         "the character's number, as 97 for a"
+    } else if byte_at(word, 0) == b'%' || byte_at(word, 0) == b'$' {
+        "Intel's order: the target first, registers without %, numbers without $"
     } else if has_equals(word) {
         "the number itself in each place, since there are no constants"
     } else {
@@ -318,19 +328,80 @@ fn number_wanted(word: &[u8]) -> &'static str
     }
 }
 
+/// Whether a word is a decimal instruction of the 80386, one that turns by the carry, or one of a table, that this
+/// machine hasn't.
+fn is_decimal_word(word: &[u8]) -> bool
+    ensures { result ≡ is_decimal_word word.now }
+{
+    matches!(
+        word,
+        b"rcl" | b"rcr" | b"aaa" | b"aad" | b"aam" | b"aas" | b"daa" | b"das" | b"xlat" | b"xlatb"
+    )
+}
+
+/// Whether a word is another instruction of the 80386 that this machine hasn't.
+fn is_other_word(word: &[u8]) -> bool
+    ensures { result ≡ is_other_word word.now }
+{
+    matches!(
+        word,
+        b"lock"
+            | b"enter"
+            | b"bound"
+            | b"les"
+            | b"lds"
+            | b"lfs"
+            | b"lgs"
+            | b"lss"
+            | b"iret"
+            | b"iretd"
+            | b"retf"
+            | b"ins"
+            | b"insb"
+            | b"insw"
+            | b"insd"
+            | b"outs"
+            | b"outsb"
+            | b"outsw"
+            | b"outsd"
+            | b"wait"
+            | b"arpl"
+            | b"lar"
+            | b"lsl"
+            | b"verr"
+            | b"verw"
+    )
+}
+
+/// Whether a word is an instruction of the 80386 that this machine hasn't.
+fn is_of_386(word: &[u8]) -> bool
+    ensures { result ≡ is_of_386 word.now }
+{
+    is_decimal_word(word) || is_other_word(word)
+}
+
+/// What is wanted in place of a statement's first word that is nobody's name.
+fn plain_word_wanted(word: &[u8]) -> &'static str
+    ensures { result.now ≡ plain_word_wanted word.now }
+{
+    if has_capital(word) {
+        "lower case"
+    } else if byte_at(word, 0) == b'.' {
+        ".text .data .bss .data1 .data2 .data4 .ascii .space .sep .entry or .stack"
+    } else if is_of_386(word) {
+        "an instruction of this machine, which hasn't all of the 80386's"
+    } else {
+        "an instruction or a directive"
+    }
+}
+
 /// What is wanted in place of a statement's first word.
 fn word_wanted(word: &[u8]) -> &'static str
     ensures { result.now ≡ word_wanted word.now }
 {
     match own_name(word) {
         Some(own) => own,
-        None => {
-            if has_capital(word) {
-                "lower case"
-            } else {
-                "an instruction or a directive"
-            }
-        }
+        None => plain_word_wanted(word),
     }
 }
 
@@ -425,6 +496,60 @@ fn size_advice(line: &[u8]) -> Advice<'_>
     }
 }
 
+/// What is wanted in place of an operator of another assembler.
+fn operator_wanted(word: &[u8]) -> &'static str
+    ensures { result.now ≡ operator_wanted word.now }
+{
+    if word == b"ptr".as_slice() {
+        "the size alone before the bracket, without \"ptr\""
+    } else {
+        "the name alone, which is its address, without \"offset\""
+    }
+}
+
+/// Advice on what is popped: only a register of 32 bits is.
+fn pop_advice(line: &[u8]) -> Advice<'_>
+    ensures { (result.wanted.now, option_map (λ w. w.now) result.word)
+        ≡ pop_advice (fields line.now) }
+{
+    Advice {
+        wanted: "a register of 32 bits",
+        word: first_of(line),
+    }
+}
+
+/// Advice on what is pushed: 32 bits are.
+fn push_advice(line: &[u8]) -> Advice<'_>
+    ensures { (result.wanted.now, option_map (λ w. w.now) result.word)
+        ≡ push_advice (find_word Unpushed (fields line.now)) (fields line.now) }
+{
+    match find_word(line, Sought::Unpushed) {
+        Some(word) => Advice {
+            wanted: "32 bits: a register, a number, or dword before a bracket",
+            word: Some(word),
+        },
+        None => operand_advice(line),
+    }
+}
+
+/// Advice on a statement's operands, by its first word too: operators of other assemblers, and what is pushed or popped.
+fn statement_advice<'a>(first: Option<&'a [u8]>, line: &'a [u8]) -> Advice<'a>
+    ensures { (result.wanted.now, option_map (λ w. w.now) result.word)
+        ≡ statement_advice (option_map (λ w. w.now) first.entry) (fields line.now) }
+{
+    if let Some(word) = find_word(line, Sought::Operator) {
+        return Advice {
+            wanted: operator_wanted(word),
+            word: None,
+        };
+    }
+    match first {
+        Some(b"pop") => pop_advice(line),
+        Some(b"push") => push_advice(line),
+        _ => operand_advice(line),
+    }
+}
+
 /// Advice on operands: two addresses; or a word too many; or an address without a size.
 fn operand_advice(line: &[u8]) -> Advice<'_>
     ensures { (result.wanted.now, option_map (λ w. w.now) result.word)
@@ -455,7 +580,10 @@ pub(crate) fn advice_on(line: &[u8], problem: Problem) -> Advice<'_>
         Problem::BadByte => byte_advice(line),
         Problem::BadNumber => number_advice(line),
         Problem::UnknownWord => word_advice(line),
-        Problem::BadOperands => operand_advice(after_first(after_label(line))),
+        Problem::BadOperands => {
+            let statement = after_label(line);
+            statement_advice(first_of(statement), after_first(statement))
+        }
         Problem::WrongSection => Advice {
             wanted: problem_wanted(problem),
             word: first_of(after_label(line)),

@@ -2,7 +2,7 @@
 
 ghost use Rattle.std.specs.Prelude.{◌≡◌, ◌++◌, IfOk, OnOk};
 ghost use Rattle.std.specs.List.{flat_map, list_any};
-ghost use Rattle.mx_app_explain.specs.TextWords.{begins_with_digit, is_bad_number, is_blank, is_capital, is_close, is_equals, is_free_word, is_long_name, is_punctuation, is_punctuation_word, is_number, is_odd_byte, is_open, is_quote, is_reserved, is_size, with_spaces, spaced_byte};
+ghost use Rattle.mx_app_explain.specs.TextWords.{begins_with_digit, is_bad_number, is_blank, is_capital, is_close, is_equals, is_free_word, is_long_name, is_narrow_register, is_operator, is_punctuation, is_punctuation_word, is_number, is_odd_byte, is_open, is_quote, is_reserved, is_size, is_unpushed, with_spaces, spaced_byte};
 
 use crate::found_word::byte_at;
 use mx_boot::before_byte;
@@ -147,6 +147,27 @@ pub(crate) fn is_free_word(word: &[u8]) -> bool
     ensures { result ≡ is_free_word word.now }
 {
     begins_name(byte_at(word, 0)) && !(is_reserved(word) || word == b"short".as_slice())
+}
+
+/// Whether a word is an operator of other assemblers.
+pub(crate) fn is_operator(word: &[u8]) -> bool
+    ensures { result ≡ is_operator word.now }
+{
+    word == b"offset".as_slice() || word == b"ptr".as_slice()
+}
+
+/// Whether a word says that fewer than 32 bits are pushed: a size, or a register.
+pub(crate) fn is_unpushed(word: &[u8]) -> bool
+    ensures { result ≡ is_unpushed word.now }
+{
+    word == b"byte".as_slice() || word == b"word".as_slice() || is_narrow_register(word)
+}
+
+/// Whether a word is a register of 8 or 16 bits.
+fn is_narrow_register(word: &[u8]) -> bool
+    ensures { result ≡ is_narrow_register word.now }
+{
+    word.len() == 2 && is_reserved(word)
 }
 
 pub(crate) fn is_open(word: &[u8]) -> bool

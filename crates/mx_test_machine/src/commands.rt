@@ -13,6 +13,7 @@ use std::fmt::Write as _;
 use std::io;
 use std::io::Write;
 use std::process::Abort;
+use std::rt::Files;
 use std::sync::Wait;
 use std::test::Fail;
 use std::thread::Threads;
@@ -80,7 +81,7 @@ fn memory_io(alloc: Global, refusal: Option<io::ErrorKind>) -> MemoryIo {
 }
 
 /// Performs words, and answers the status and the lines of a failure.
-fn perform<R: Threads + Wait + Clock + Sync>(
+fn perform<R: Threads + Wait + Clock + Files + Sync>(
     rt: &R,
     alloc: Global,
     work: &mut MemoryIo,
@@ -122,7 +123,7 @@ struct Done {
     file: Option<(&'static str, &'static [u8])>,
 }
 
-fn is_done<R: Threads + Wait + Clock + Sync>(rt: &R, alloc: Global, row: &Done) -> bool {
+fn is_done<R: Threads + Wait + Clock + Files + Sync>(rt: &R, alloc: Global, row: &Done) -> bool {
     let mut work = memory_io(alloc, None);
     let (status, answer) = perform(rt, alloc, &mut work, row.words, false);
     status == row.status
@@ -132,7 +133,7 @@ fn is_done<R: Threads + Wait + Clock + Sync>(rt: &R, alloc: Global, row: &Done) 
 }
 
 /// Whether words fail with nothing printed or written if what takes bytes refuses each write in this way.
-fn is_refused<R: Threads + Wait + Clock + Sync>(
+fn is_refused<R: Threads + Wait + Clock + Files + Sync>(
     rt: &R,
     alloc: Global,
     row: &Done,
@@ -207,7 +208,7 @@ struct Turned {
 }
 
 /// Whether the turns or the run that words ask for end so.
-fn is_ended<R: Threads + Wait + Clock + Sync>(rt: &R, alloc: Global, row: &Turned) -> bool {
+fn is_ended<R: Threads + Wait + Clock + Files + Sync>(rt: &R, alloc: Global, row: &Turned) -> bool {
     let mut work = memory_io(alloc, None);
     match perform_words(rt, alloc, row.words, &mut work, false) {
         Ok(done) => done.ending == Some(row.ending),

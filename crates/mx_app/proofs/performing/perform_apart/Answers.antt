@@ -1,4 +1,4 @@
-use Rattle.std.proofs.Common.{◌∙◌, ap, nat_lt, Option, refl}
+use Rattle.std.proofs.Common.{◌∙◌, ap, is_some, nat_lt, Option, refl}
 use Rattle.std.specs.Prelude.{option_map}
 use Rattle.mx_app_command.specs.declared.command_line.CommandRequest.TheVariants.{Step}
 use Rattle.mx_app_program.specs.One.{IsPrinted}
@@ -51,12 +51,12 @@ returns-in-Db-clause-done g c =
 pub returns-in-Run-clause-done : goal.returns-in-Run-clause-done
 returns-in-Run-clause-done g c =
     as_typed (g.P.SharedProgress.was_shown c.args.io.now.progress) _ _ _ _ _ _ _ _ _ _ _ _ _ _ _ _ _ c.in-Run.is
-    (runs (g.P.SharedProgress.was_shown c.args.io.now.progress) _ _ _ _ _ _ c.in-Run.config.now c.in-Run.log.now (option_map (λ s. s.now) c.in-Run.events) c.in-Run.ticks _ _ c.run.result c.done_after_run.result c.run.ensures.done c.run.ensures.shown c.done_after_run.ensures)
+    (runs (g.P.SharedProgress.was_shown c.args.io.now.progress) (is_some c.in-Run.stop) _ _ _ _ _ _ c.in-Run.config.now c.in-Run.log.now (option_map (λ s. s.now) c.in-Run.events) c.in-Run.ticks _ _ c.run-done.result c.done_after_run.result c.run-done.ensures.done c.run-done.ensures.shown c.done_after_run.ensures)
 
 pub returns-in-Turns-clause-done : goal.returns-in-Turns-clause-done
 returns-in-Turns-clause-done g c =
     as_typed (g.P.SharedProgress.was_shown c.args.io.now.progress) _ _ _ _ _ _ _ _ _ _ _ _ _ _ _ _ _ c.in-Turns.is
-    (turned _ _ _ _ _ _ c.in-Turns.config.now c.in-Turns.log.now (option_map (λ s. s.now) c.in-Turns.events) c.in-Turns.ticks c.in-Turns.bound _ _ c.turns.result c.done_after_turns.result c.turns.ensures c.done_after_turns.ensures)
+    (turned (is_some c.new-sign.result.name) (is_some c.in-Turns.stop) _ _ _ _ _ _ c.in-Turns.config.now c.in-Turns.log.now (option_map (λ s. s.now) c.in-Turns.events) c.in-Turns.ticks c.in-Turns.bound _ _ c.turns.result c.done_after_turns.result c.turns.ensures (ap is_some c.new-sign.ensures) c.done_after_turns.ensures)
 
 pub returns-in-Live-clause-done : goal.returns-in-Live-clause-done
 returns-in-Live-clause-done g c =

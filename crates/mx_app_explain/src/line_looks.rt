@@ -1,0 +1,122 @@
+//! What a line looks like that stands in the wrong file, and what takes it.
+
+ghost use Rattle.std.specs.Prelude.{◌≡◌, option_map};
+ghost use Rattle.mx_text.specs.Fields.{fields};
+ghost use Rattle.mx_app_explain.specs.Hints.{hint_told};
+ghost use Rattle.mx_app_explain.specs.LineLooks.{begins_statement, hint_at, is_config_word, is_debug_word, is_event_word, is_record, looks_of_first, looks_of_line, taken_by};
+
+use crate::found_word::byte_at;
+use crate::hint::Hint;
+use mx_boot::{actor, before_comment, event_kind_named};
+use mx_text::next_field;
+
+/// What a line looks like.
+#[derive(Clone, Copy, PartialEq, Eq)]
+pub enum LineLooks {
+    Config,
+    Script,
+    History,
+    Debugger,
+    Source,
+    Unknown,
+}
+
+/// Whether a configuration's line begins with this word.
+fn is_config_word(word: &[u8]) -> bool
+    ensures { result ≡ is_config_word word.now }
+{
+    matches!(word, b"cpus" | b"log" | b"others" | b"rules" | b"service")
+}
+
+/// Whether a line of the debugger begins with this word.
+fn is_debug_word(word: &[u8]) -> bool
+    ensures { result ≡ is_debug_word word.now }
+{
+    matches!(
+        word,
+        b"break" | b"clear" | b"go" | b"regs" | b"mem" | b"messages"
+    )
+}
+
+/// Whether a script's line begins with this word.
+fn is_event_word(word: &[u8]) -> bool
+    ensures { result ≡ is_event_word word.now }
+{
+    event_kind_named(word).is_some()
+}
+
+/// Whether a word begins a line of a text for the assembler: it is a directive, or has a label's colon.
+fn begins_statement(word: &[u8]) -> bool
+    ensures { result ≡ begins_statement word.now }
+{
+    byte_at(word, 0) == b'.' || byte_at(word, word.len().saturating_sub(1)) == b':'
+}
+
+/// Whether a line is a record of a history: an actor, and an event.
+fn is_record(word: &[u8], rest: &[u8]) -> bool
+    ensures { result ≡ is_record word.now (fields rest.now) }
+{
+    match next_field(rest) {
+        Some((second, _)) => actor(word).is_some() && is_event_word(second),
+        None => false,
+    }
+}
+
+/// What a line looks like that begins with a word and goes on like this.
+fn looks_of_first(word: &[u8], rest: &[u8]) -> LineLooks
+    ensures { result ≡ looks_of_first word.now (fields rest.now) }
+{
+    if is_config_word(word) {
+        LineLooks::Config
+    } else if is_event_word(word) {
+        LineLooks::Script
+    } else if is_record(word, rest) {
+        LineLooks::History
+    } else if is_debug_word(word) {
+        LineLooks::Debugger
+    } else if begins_statement(word) {
+        LineLooks::Source
+    } else {
+        LineLooks::Unknown
+    }
+}
+
+/// What a line looks like, up to a comment.
+fn looks_of_line(line: &[u8]) -> LineLooks
+    ensures { result ≡ looks_of_line line.now }
+{
+    match next_field(before_comment(line)) {
+        Some((word, rest)) => looks_of_first(word, rest),
+        None => LineLooks::Unknown,
+    }
+}
+
+impl LineLooks {
+    /// What takes a line that looks so.
+    fn taken_by(self) -> Option<&'static str>
+        ensures { option_map (λ s. s.now) result ≡ taken_by self }
+    {
+        match self {
+            LineLooks::Config => Some("this is a line of a configuration"),
+            LineLooks::Script => Some("this is a line of a script, which mx step takes"),
+            LineLooks::History => Some("this is a line of a history, which mx replay takes"),
+            LineLooks::Debugger => Some("this is a line of mx db"),
+            LineLooks::Source => Some("this is a line of a text for mx as"),
+            LineLooks::Unknown => None,
+        }
+    }
+}
+
+/// What is added if a line isn't of the file that it stands in, whose lines look like this.
+pub(crate) fn hint_at<'a>(line: &[u8], own: LineLooks) -> Hint<'a>
+    ensures { hint_told result ≡ hint_at line.now own }
+{
+    let looks = looks_of_line(line);
+    if looks == own {
+        return Hint::Nothing;
+    }
+    match looks.taken_by() {
+        Some(words) => Hint::Words(words),
+        None => Hint::Nothing,
+    }
+}
