@@ -1,4 +1,4 @@
-use Rattle.std.proofs.Common.{◌≡◌, ◌∙◌, ℕ, Result, false, inr, subst, sym, true}
+use Rattle.std.proofs.Common.{◌≡◌, ◌∙◌, ℕ, Result, false, inr, subst, sym}
 use Rattle.std.specs.Prelude.{OnOk}
 use Rattle.mx_machine.specs.declared.events.Refusal.{Refusal}
 use Rattle.mx_cpus.specs.Courses.{IsTurn, turn_number}
