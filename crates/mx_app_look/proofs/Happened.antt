@@ -1,13 +1,10 @@
 -- The last event in which something happens is a record's own: right before it, all steps of that record are made.
-use Rattle.std.proofs.Common.{◌≡◌, ◌∙◌, ◌<◌, ◌≤◌, ℕ, Bool, true, false, List, [], ◌∷◌, ◌++◌, append_assoc, Result, Ok, Err, IfOk, OnOk, Vec, Global, Option, Some, None, is_some, length, get_or, slice_get, refl, ap, sym, subst, inl, inr, arith}
+use Rattle.std.proofs.Common.{◌≡◌, ◌∙◌, ◌<◌, ◌≤◌, ℕ, Bool, true, false, List, [], ◌∷◌, ◌++◌, append_assoc, Result, Ok, Err, IfOk, OnOk, Vec, Global, Option, Some, length, get_or, slice_get, ap, sym, subst, inl, inr, arith}
 use Rattle.std.proofs.lemmas.Bool.{cases_lt}
-use Rattle.mx_look.specs.Glances.{glance_of}
-use Rattle.mx_look.specs.declared.glance.Glance.{Glance}
 use Rattle.mx_look.specs.Trace.{record_text}
 use Rattle.mx_machine.specs.declared.events.Event.{Event}
 use Rattle.mx_machine.specs.declared.events.Event.TheVariants as events
 use Rattle.mx_machine.specs.declared.history.Record.{Record}
-use Rattle.mx_machine.specs.declared.history.Recorded.{Recorded}
 use Rattle.mx_machine.specs.Move.{world_after_event}
 use Rattle.mx_machine.specs.World.{World}
 use Rattle.mx_walk.specs.declared.positions.Position.{Position}
@@ -20,10 +17,9 @@ use Rattle.mx_walk.proofs.Next.{above_inside_too, above_it, has_event, is_positi
 use Rattle.mx_app_look.specs.declared.happening.Happening.{Happening}
 use Rattle.mx_app_look.specs.declared.sight.Sight.{Sight}
 use Rattle.mx_app_look.specs.Before.{step_before, why_by}
-use Rattle.mx_app_look.specs.Happenings.{happens, happens_by, is_happening, own_record}
+use Rattle.mx_app_look.specs.Happenings.{happens_by, is_happening, own_record}
 use Rattle.mx_app_look.specs.Places.{place_text}
 use Rattle.mx_app_look.specs.Searches.{IsLastHappened, not_met, record_after}
-use Rattle.mx_app_look.specs.Seen.{HasSeenBefore}
 use Rattle.mx_app_look.specs.Seeking.{IsGoneUntilBack, IsGoneUntilBackBy}
 use Rattle.mx_app_look.specs.Shows.{steps_made}
 use Rattle.mx_app_look.specs.Until.{has_slots, no_service, past}
@@ -36,26 +32,6 @@ use Rattle.mx_app_look.proofs.Moving.{read_is}
 no_step : (h : Happening) (w : World) (x : ℕ × Event) → is_marked (is_happening h) w x ≡ true → x.1 ≡ events.Step → ⊥
 no_step h w x is step =
     let no : true ≡ false = sym is ∙ ap (λ (e : Event). happens_by h w x.0 (own_record e) (world_after_event w x.0 x.1)) step in cc
-
--- ---- what a mark has seen
-
--- before the event; the mark looks only before a record's own
-pub seen_before : (w : World) (a : ℕ) (o : Option Recorded) (before : Glance) (actor : ℕ) → (is_some o ≡ true → before ≡ glance_of w) → actor ≡ a → HasSeenBefore w a o before actor
-seen_before w a None before actor f e = tt
-seen_before w a (Some x) before actor f e = (f refl, e)
-
--- and after it
-pub unmet_by : (h : Happening) (w u : World) (x : ℕ × Event) → own_record x.1 ≡ None → false ≡ is_happening h w x u
-unmet_by h w u x none = sym (ap (λ (o : Option Recorded). happens_by h w x.0 o u) none)
-
-pub met_by : (h : Happening) (w u : World) (x : ℕ × Event) (e : Recorded) (before after : Glance) (actor : ℕ) → own_record x.1 ≡ Some e → HasSeenBefore w x.0 (own_record x.1) before actor → after ≡ glance_of u
-    → happens h (record { number = 0; before = before; actor = actor; event = e; after = after }) ≡ is_happening h w x u
-met_by h w u x e before after actor own seen now =
-    let s : HasSeenBefore w x.0 (Some e) before actor = subst (λ (o : Option Recorded). HasSeenBefore w x.0 o before actor) own seen in
-    ap (λ (g : Glance). happens h (record { number = 0; before = g; actor = actor; event = e; after = after })) s.0
-    ∙ ap (λ a. happens h (record { number = 0; before = glance_of w; actor = a; event = e; after = after })) s.1
-    ∙ ap (λ (g : Glance). happens h (record { number = 0; before = glance_of w; actor = x.0; event = e; after = g })) now
-    ∙ ap (λ (o : Option Recorded). happens_by h w x.0 o u) (sym own)
 
 -- ---- the position of what is found
 
