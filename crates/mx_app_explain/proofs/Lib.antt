@@ -3,3 +3,5 @@ mod Printed
 mod Spaced
 mod Reserved
 mod Passing
+mod Masks
+mod Folders
