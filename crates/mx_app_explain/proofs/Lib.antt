@@ -5,3 +5,4 @@ mod Reserved
 mod Passing
 mod Masks
 mod Folders
+mod Slots
