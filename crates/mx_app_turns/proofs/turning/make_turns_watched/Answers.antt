@@ -43,8 +43,8 @@ loop-made-preserved g c =
       shown = shown_so m coming made n inv.stands c.args.log before now then inv.shown 16 shown;
     }
 
-pub returns-else-ending : goal.returns-else-ending
-returns-else-ending g c =
+pub returns-in_default : goal.returns-in_default
+returns-in_default g c =
     let m = c.args.machine.now in
     let coming = outside_events c.args.outside in
     let bound = c.args.bound in

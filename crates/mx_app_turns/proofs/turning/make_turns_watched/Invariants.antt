@@ -6,7 +6,7 @@ use Rattle.mx_turns.specs.Shown.{turns_shown}
 use Rattle.mx_turns.proofs.TurnLemmas.{StandsAfter}
 use Rattle.mx_app_turns.proofs.turning.make_turns_watched.Given as goal
 
-abbrev decreases-loop-made : goal.decreases-loop-made
+abbrev pub decreases-loop-made : goal.decreases-loop-made
 decreases-loop-made g l = l.bound - l.made
 
 -- the machine is after the turns made, each of which was shown, and goes on with those that are left
