@@ -1,7 +1,6 @@
 -- Processes that a line names: by an endpoint or a slot, or by the name of their service (our own).
 use Rattle.std.specs.Prelude.{ℕ, List, Option, Some, None, position}
 use Rattle.std.specs.Str.{bytes_eq}
-use Rattle.mx_app_start.specs.Config.{Config}
 use Rattle.mx_boot.specs.Script.{count_field}
 use Rattle.mx_machine.specs.declared.config.ServiceLine.{ServiceLine}
 use Rattle.mx_machine.specs.declared.events.Event.TheVariants as events

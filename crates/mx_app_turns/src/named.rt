@@ -11,19 +11,29 @@ use mx_machine::{Config, Event, ServiceLine};
 use mx_text::{Name, name_of, one_field};
 use mx_turns::OutsideLine;
 
-/// The place of the line that has this name.
-fn place_of(lines: &[ServiceLine], name: Name) -> Option<usize>
+/// The place of the line that has this name, among these.
+fn place_among(lines: &[ServiceLine], name: Name) -> Option<usize>
     ensures place { result ≡ position (λ (l : Line). bytes_eq l.name.bytes name.bytes) lines.now }
     ensures within { IfSome result (λ i. i < length lines.now) }
 {
     lines.iter().position(|line| line.name == name)
 }
 
+/// The place of the line that has this name.
+fn place_of(config: &Config, name: Name) -> Option<usize>
+    ensures place { result
+        ≡ position (λ (l : Line). bytes_eq l.name.bytes name.bytes) config.now.lines }
+    ensures within { IfSome result (λ i. i < length config.now.lines) }
+{
+    place_among(config.lines.as_slice(), name)
+}
+
 /// The slot of the service of this name.
 pub(crate) fn slot_of_name(config: &Config, word: &[u8]) -> Option<u8>
     ensures { result ≡ slot_of_name config.now.lines word.now }
 {
-    let place = place_of(config.lines.as_slice(), name_of(word)?)?;
+    let name = name_of(word)?;
+    let place = place_of(config, name)?;
     // A configuration has 32 lines of services at most.
     Some(place as u8)
 }

@@ -18,10 +18,12 @@ returns g c = λ vs booted.
     refl refl c.as_slice.ensures.value booted done.4 c.clear.ensures in (
       shown.0,
       shown.1,
-      made,
-      subst (λ (i : ℕ). AreSome (g.S.StopSign.can_stop c.args.sign.now) i end made) c.from-bound.ensures done.1,
-      subst (λ (x : BootAndHistory). IsTurned b.config vs made (coming b.events.items ticks) x end.ending) c.kernel.ensures
-          (turned_at b.config vs made made c.as_slice.result.now b.events.items ticks b.machine n k end.ending refl c.as_slice.ensures.value c.kernel.ensures booted c.requires.kernel
-          done.2 done.3 c.facts.ensures.accepted c.facts.ensures.written (room_of (replay k) c.facts.ensures.sound)),
-      shown.2,
+      (
+        made,
+        subst (λ (i : ℕ). AreSome (g.S.StopSign.can_stop c.args.sign.now) i end made) c.from-bound.ensures done.1,
+        subst (λ (x : BootAndHistory). IsTurned b.config vs made (coming b.events.items ticks) x end.ending) c.kernel.ensures
+            (turned_at b.config vs made made c.as_slice.result.now b.events.items ticks b.machine n k end.ending refl c.as_slice.ensures.value c.kernel.ensures booted c.requires.kernel
+            done.2 done.3 c.facts.ensures.accepted c.facts.ensures.written (room_of (replay k) c.facts.ensures.sound)),
+        shown.2,
+      ),
     )
