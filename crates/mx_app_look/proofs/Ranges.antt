@@ -1,10 +1,11 @@
 -- The bytes of a watch, at once and one by one.
-use Rattle.std.proofs.Common.{◌≡◌, ◌∙◌, ◌<◌, ◌≤◌, ◌+◌, ◌*◌, ◌-◌, ◌^◌, ◌||◌, ◌&&◌, ℕ, zero, suc, Bool, true, false, cond, not, nat_eq, nat_lt, List, [], ◌∷◌, ◌++◌, drop, get_or-drop, get_or-take, length, length-drop, map, min, take, Option, Some, None, slice_get, refl, ap, subst, sym, arith}
+use Rattle.std.proofs.Common.{◌≡◌, ◌∙◌, ◌<◌, ◌≤◌, ◌+◌, ◌*◌, ◌-◌, ◌^◌, ◌||◌, ◌&&◌, ℕ, zero, suc, Bool, true, false, cond, not, nat_eq, nat_lt, List, [], ◌∷◌, ◌++◌, drop, get_or-drop, get_or-take, length, length-drop, map, min, take, Option, Some, None, slice_get, refl, ap, subst, sym, inl, inr, arith}
 use Rattle.std.specs.Bool.{Decides}
-use Rattle.std.specs.Prelude.{bytes_eq, slice_index, slice_index_or}
+use Rattle.std.specs.Prelude.{bytes_eq, slice_index, slice_index_or, unwrap_or}
 use Rattle.std.specs.List.{flat_map, list_any, range_with_len}
 use Rattle.std.specs.Option.{option_or}
 use Rattle.std.proofs.lemmas.Bool.{eq-eqb, ltb-false, ltb-true}
+use Rattle.std.proofs.lemmas.Bool.Decides.{eqb_tells}
 use Rattle.std.proofs.lemmas.List.{take_more}
 use Rattle.std.proofs.lemmas.Slice.Eq.{bytes_eq-Decides}
 use Rattle.mx_exec.specs.declared.image.Image.{Image}
@@ -60,7 +61,7 @@ on_same w s a (c ∷ cs) =
 -- a slot that isn't there has no memory
 nobody_past : (ps : List Process) (s : ℕ) → nat_lt s (length ps) ≡ false → slice_index_or ps s nobody ≡ nobody
 nobody_past [] s e = refl
-nobody_past (p ∷ ps) zero e = let no : true ≡ false = e in absurd cc
+nobody_past (p ∷ ps) zero e = let none = ltb-false 0 (length (p ∷ ps)) e in absurd (omega (arith, none))
 nobody_past (p ∷ ps) (suc s) e = nobody_past ps s e
 
 home_by_test : (w : World) (s a : ℕ) (c : Bool) → nat_lt s (length w.table.slots) ≡ c → slice_get (memory_at w.table s) a ≡ slice_get (memory_of (cond c (Some (process_at w.table s).image) None)) a
@@ -72,7 +73,7 @@ by_first w s a (Some m) = refl
 by_first w s a None = home_by_test w s a (nat_lt s (length w.table.slots)) refl
 
 pub byte_is : (w : World) (s a : ℕ) → byte_in w (place s a) ≡ slice_get (memory_in w s) a
-unfolding byte_in, image_in
+unfolding byte_in image_in
 byte_is w s a =
     ap (λ (o : Option (Option ℕ)). byte_by o (slice_get (memory_at w.table s) a)) (on_same w s a (range_with_len 0 8))
     ∙ by_first w s a (image_on w s (range_with_len 0 8))
@@ -86,6 +87,10 @@ first_some (x ∷ xs) (suc a) c b e =
     let next : suc (a + 1) ≡ suc a + 1 = omega arith in
     first_some xs a c b e ∙ ap (λ n. b ∷ take c (drop n (x ∷ xs))) next
 
+drop_none : (n : ℕ) → drop {A = ℕ} n [] ≡ []
+drop_none zero = refl
+drop_none (suc n) = refl
+
 none_left : (m : List ℕ) (a : ℕ) → slice_get m a ≡ None → drop a m ≡ []
 none_left [] zero e = refl
 none_left [] (suc a) e = refl
@@ -93,14 +98,17 @@ none_left (x ∷ xs) zero e = cc
 none_left (x ∷ xs) (suc a) e = none_left xs a e
 
 none_after : (m : List ℕ) (a : ℕ) → slice_get m a ≡ None → drop (a + 1) m ≡ []
-none_after [] zero e = refl
-none_after [] (suc a) e = refl
+none_after [] a e = drop_none (a + 1)
 none_after (x ∷ xs) zero e = cc
 none_after (x ∷ xs) (suc a) e = let next : suc a + 1 ≡ suc (a + 1) = omega arith in ap (λ n. drop n (x ∷ xs)) next ∙ none_after xs a e
 
-take_none : (c : ℕ) → take c [] ≡ the (List ℕ) []
+take_none : (c : ℕ) → take {A = ℕ} c [] ≡ []
 take_none zero = refl
 take_none (suc c) = refl
+
+-- no memory, no bytes
+pub range_none : (y : Watch) → range_in [] y ≡ []
+range_none y = ap (take (span y)) (drop_none y.address) ∙ take_none (span y)
 
 either_not : (b c : Bool) → not b || not c ≡ not (b && c)
 either_not true c = refl
@@ -151,7 +159,7 @@ module _ (f : BytePlace → Bool) (m k : List ℕ) (s : ℕ) (is : (a : ℕ) →
       again ∙ ap (λ c. differ c (a + 1) m k) none ∙ ap (λ c. differ c a m k) none_yet
 
   pub range_is : (n a : ℕ) → list_any f (from s a n) ≡ differ (left n a) a m k
-  range_is zero a = refl
+  range_is zero a = let none : 0 ≡ left 0 a = omega arith in ap (λ c. differ c a m k) none
   range_is (suc n) a = by_test n a (nat_lt a (2 ^ 32)) refl (range_is n (a + 1))
 
 module _ (f : BytePlace → Bool) (s : ℕ) (is : (a : ℕ) → f (place s a) ≡ false) where
@@ -192,6 +200,15 @@ step_isnt y l o other =
     (λ a. ap (λ c. c && not (same_byte (slice_get l.out.image.memory a) (slice_get o.image.memory a))) other)
     y.count y.address
 
+-- one that leaves memory as it is doesn't
+pub step_quiet : (y : Watch) (l : HeldProcess) (o : Out) → o.image.memory ≡ l.out.image.memory → list_any (λ b. is_changed_by_step b l o) (places_of y) ≡ false
+step_quiet y l o same = elim (eqb_tells l.slot y.slot) [
+  | inl it ↦
+      step_is y l o it.1 ∙ ap (λ m. not (bytes_eq (range_in l.out.image.memory y) (range_in m y))) same
+      ∙ ap not ((bytes_eq-Decides (range_in l.out.image.memory y) (range_in l.out.image.memory y)).1 refl)
+  | inr it ↦ step_isnt y l o it.0
+]
+
 -- the one is the other, if no other processor has the process
 pub step_law : (bs : List BytePlace) (w : World) (a : ℕ) (l : HeldProcess) (o : Out) → IsAlone w a l
     → any_marks (map changes bs) w (a, events.Step) (with_held w a (Some (with_out l o))) ≡ list_any (λ b. is_changed_by_step b l o) bs
@@ -199,6 +216,13 @@ step_law [] w a l o h = refl
 step_law (b ∷ bs) w a l o h =
     ap (λ c. c || any_marks (map changes bs) w (a, events.Step) (with_held w a (Some (with_out l o)))) (changed_by_step b w a l o h)
     ∙ ap (λ c. is_changed_by_step b l o || c) (step_law bs w a l o h)
+
+-- ---- a byte that isn't inside is 0
+
+pub got_or_zero : (xs : List ℕ) (i : ℕ) → unwrap_or (slice_get xs i) 0 ≡ slice_index xs i
+got_or_zero [] i = refl
+got_or_zero (x ∷ xs) zero = refl
+got_or_zero (x ∷ xs) (suc i) = got_or_zero xs i
 
 -- ---- eight bytes at once
 
@@ -260,18 +284,18 @@ module _ (xs ys : List ℕ) (a n : ℕ) (inside : n ≤ length xs - a) (there : 
       sym (get_or-drop a xs i 0) ∙ sym (get_or-take n (drop a xs) i 0 lt) ∙ ap (λ zs. slice_index zs i) (sym e) ∙ get_or-take n ys i 0 lt
 
   others : (take n ys ≡ take n (drop a xs) → ⊥) → false ≡ bytes_eq (take n ys) (take n (drop a xs))
-  others no = by_answer (bytes_eq (take n ys) (take n (drop a xs))) (bytes_eq-Decides (take n ys) (take n (drop a xs)))
+  others isnt = by_answer (bytes_eq (take n ys) (take n (drop a xs))) (bytes_eq-Decides (take n ys) (take n (drop a xs)))
     where
       by_answer : (r : Bool) → Decides r (take n ys ≡ take n (drop a xs)) → false ≡ r
-      by_answer true d = absurd (no (d.0 refl))
+      by_answer true d = absurd (isnt (d.0 refl))
       by_answer false d = refl
 
   pub other_number : (i k : ℕ) → i + k ≤ n → (value_at xs (a + i) k ≡ value_at ys i k → ⊥) → false ≡ bytes_eq (take n ys) (take n (drop a xs))
-  other_number i k le no =
-      others (λ e. no (value_of_same k (a + i) i xs ys (λ j lt. let sum : a + i + j ≡ a + (i + j) = omega arith in ap (slice_index xs) sum ∙ byte_at e (i + j) (omega (arith, le, lt)))))
+  other_number i k le isnt =
+      others (λ e. isnt (value_of_same k (a + i) i xs ys (λ j lt. let sum : a + i + j ≡ a + (i + j) = omega arith in ap (slice_index xs) sum ∙ byte_at e (i + j) (omega (arith, le, lt)))))
 
   pub other_byte : (i : ℕ) → i < n → (slice_index xs (a + i) ≡ slice_index ys i → ⊥) → false ≡ bytes_eq (take n ys) (take n (drop a xs))
-  other_byte i lt no = others (λ e. no (byte_at e i lt))
+  other_byte i lt isnt = others (λ e. isnt (byte_at e i lt))
 
   pub all_same : (i : ℕ) → n ≤ i → i ≤ n → take i ys ≡ take i (drop a xs) → true ≡ bytes_eq (take n ys) (take n (drop a xs))
   all_same i ge le e =

@@ -3,7 +3,7 @@
 //! The bytes are copied where a search begins to look at them, and compared eight at a time after a step that may write.
 //! So a watch of many bytes costs what it costs to read them, and no processor is asked for each of them.
 
-ghost use Rattle.std.specs.Prelude.{◌≡◌, ◌-◌, ◌≤◌, IfOk, [], bytes_eq, drop, length, min, take};
+ghost use Rattle.std.specs.Prelude.{◌≡◌, ◌-◌, ◌≤◌, IfOk, [], bytes_eq, drop, length, min, slice_index, take};
 ghost use Rattle.mx_app_look.specs.Ranges.{range_in, span};
 
 use crate::watches::Watch;
@@ -37,6 +37,13 @@ fn count_in(memory: &Segment, at: u32, most: usize) -> usize
     memory.limit().saturating_sub(at as usize).min(most)
 }
 
+/// The byte at an address; 0 if it isn't inside.
+fn byte_or_zero(memory: &Segment, at: u32) -> u8
+    ensures { result ≡ slice_index memory.now at }
+{
+    memory.get(at).unwrap_or(0)
+}
+
 /// Whether bytes of a memory, from an address on, are the first ones of another.
 fn is_same(memory: &Segment, at: u32, other: &Segment, count: usize) -> bool
     requires inside { count ≤ length memory.now - at }
@@ -54,7 +61,7 @@ fn is_same(memory: &Segment, at: u32, other: &Segment, count: usize) -> bool
     }
     while done < count {
         let next = done as u32;
-        if memory.get(at + next) != other.get(next) {
+        if byte_or_zero(memory, at + next) != byte_or_zero(other, next) {
             return false;
         }
         done += 1;
