@@ -59,14 +59,14 @@ on_same w s a (c ∷ cs) =
     ∙ first_same (image_of_held (held_by w c) s) (image_on w s cs) a
 
 -- a slot that isn't there has no memory
-nobody_past : (ps : List Process) (s : ℕ) → nat_lt s (length ps) ≡ false → slice_index_or ps s nobody ≡ nobody
-nobody_past [] s e = refl
-nobody_past (p ∷ ps) zero e = let none = ltb-false 0 (length (p ∷ ps)) e in absurd (omega (arith, none))
-nobody_past (p ∷ ps) (suc s) e = nobody_past ps s e
+nobody_past : (ps : List Process) (s : ℕ) → length ps ≤ s → slice_index_or ps s nobody ≡ nobody
+nobody_past [] s le = refl
+nobody_past (p ∷ ps) zero le = absurd (omega (arith, le))
+nobody_past (p ∷ ps) (suc s) le = nobody_past ps s (omega (arith, le))
 
 home_by_test : (w : World) (s a : ℕ) (c : Bool) → nat_lt s (length w.table.slots) ≡ c → slice_get (memory_at w.table s) a ≡ slice_get (memory_of (cond c (Some (process_at w.table s).image) None)) a
 home_by_test w s a true e = refl
-home_by_test w s a false e = ap (λ (p : Process). slice_get p.image.memory a) (nobody_past w.table.slots s e)
+home_by_test w s a false e = ap (λ (p : Process). slice_get p.image.memory a) (nobody_past w.table.slots s (ltb-false s (length w.table.slots) e))
 
 by_first : (w : World) (s a : ℕ) (o : Option Image) → byte_by (byte_of a o) (slice_get (memory_at w.table s) a) ≡ slice_get (memory_of (option_or o (image_at_home w s))) a
 by_first w s a (Some m) = refl

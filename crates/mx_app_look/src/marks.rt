@@ -12,7 +12,6 @@ use mx_word::NoMemory;
 use std::alloc::{AllocError, Global};
 
 /// What marks the changes of each watch's bytes.
-#[tactic(auto, using(crate::proofs::Lists::placed_more))]
 fn each_change(alloc: Global, watches: &[Watch]) -> Result<Vec<RangeChange>, NoMemory>
     ensures { IfOk result (λ marks. map (λ m. m.watch) marks.items ≡ watches.now) }
 {
