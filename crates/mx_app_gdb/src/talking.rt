@@ -58,7 +58,8 @@ struct Talk {
 /// Writes a byte about a packet, if packets are acknowledged.
 fn acknowledge<W: Write>(acks: bool, byte: &[u8], out: &mut W) -> Result<(), Failure>
     ensures err { IfErr result IsWanting }
-    ensures bytes { OnOk result (Appends (W.contents out.old) (W.contents out.new) (if_acks acks byte.now)) }
+    ensures bytes { OnOk result (Appends (W.contents out.old) (W.contents out.new)
+        (if_acks acks byte.now)) }
 {
     if acks { print_text(byte, out) } else { Ok(()) }
 }

@@ -17,3 +17,4 @@ mod ShownMore
 mod Making
 mod Since
 mod Happened
+mod Ranges
