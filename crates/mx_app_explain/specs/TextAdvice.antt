@@ -344,13 +344,14 @@ abbrev pub form_advice : Option (List ℕ) → List ℕ → List (List ℕ) → 
 form_advice None first ws = None
 form_advice (Some form) first ws = said_of form (fault_word first ws)
 
--- two operands of which no word is at fault by itself: the first is a number, or they don't go together
-abbrev pub pair_advice : List ℕ → List (List ℕ) → Advised
-pair_advice first ws =
-    if takes_two first
-    then advice_or (said_of (codes "two operands of one size, with a comma between them, and one bracket at most")
+-- two operands of which no word is at fault by itself
+abbrev pub together_advice : List (List ℕ) → Advised
+together_advice ws =
+    advice_or (said_of (codes "two operands of one size, with a comma between them, and one bracket at most")
         (last_word None ws)) (plain problems.BadOperands)
-    else plain problems.BadOperands
+
+abbrev pub pair_advice : List ℕ → List (List ℕ) → Advised
+pair_advice first ws = if takes_two first then together_advice ws else plain problems.BadOperands
 
 -- a name in place of another operand; or a number, which may be too large; or one of these
 abbrev pub operand_word_advice : List ℕ → List (List ℕ) → Advised

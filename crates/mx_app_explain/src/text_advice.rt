@@ -3,7 +3,7 @@
 ghost use Rattle.std.specs.Prelude.{◌≡◌, None, Some, MatchOption, false, option_map};
 ghost use Rattle.mx_text.specs.Fields.{fields};
 ghost use Rattle.mx_app_explain.specs.Details.{detail_told};
-ghost use Rattle.mx_app_explain.specs.TextAdvice.{address_advice, advice_told, advised, after_first, after_label, bad_label, bracket_wanted, byte_advice, data_name, equal_name, escape_in, extra_advice, extra_word, fault_word, find_word, first_of, form_wanted, has_value, is_decimal_word, is_data, is_of_386, is_other_word, is_prefix, is_shift, is_sign, is_sought, is_star, lacks_register, lacks_size, label_advice, labelled_advice, last_word, late_register, may_end, name_or, next_sought, number_advice, number_wanted, only_free_word, operand_advice, operand_word_advice, operator_wanted, order_name, other_form_wanted, own_name, pair_advice, plain, plain_word_wanted, pop_advice, push_advice, quoted_advice, second_address, section_advice, section_wanted, single_name, size_advice, stack_name, statement_advice, statement_form_advice, takes_one, takes_two, text_advice, token_wanted, value_advice, value_mark, word_advice, word_wanted};
+ghost use Rattle.mx_app_explain.specs.TextAdvice.{address_advice, advice_told, advised, after_first, after_label, bad_label, bracket_wanted, byte_advice, data_name, equal_name, escape_in, extra_advice, extra_word, fault_word, find_word, first_of, form_wanted, has_value, is_decimal_word, is_data, is_of_386, is_other_word, is_prefix, is_shift, is_sign, is_sought, is_star, lacks_register, lacks_size, label_advice, labelled_advice, last_word, late_register, may_end, name_or, next_sought, number_advice, number_wanted, only_free_word, operand_advice, operand_word_advice, operator_wanted, order_name, other_form_wanted, own_name, pair_advice, plain, plain_word_wanted, pop_advice, push_advice, quoted_advice, second_address, section_advice, section_wanted, single_name, size_advice, stack_name, statement_advice, statement_form_advice, takes_one, takes_two, text_advice, together_advice, token_wanted, value_advice, value_mark, word_advice, word_wanted};
 ghost use Rattle.mx_app_explain.specs.declared.text_advice.Sought.TheVariants.{FreeWord, Quoted};
 
 use crate::detail::{Detail, Label};
@@ -704,20 +704,29 @@ fn fault_word<'a>(first: &[u8], line: &'a [u8]) -> Option<&'a [u8]>
     }
 }
 
-/// Advice on two operands of which no word is at fault by itself.
-fn pair_advice<'a>(first: &[u8], line: &'a [u8]) -> Advice<'a>
+/// Advice on operands that don't go together.
+fn together_advice(line: &[u8]) -> Advice<'_>
     ensures { (result.wanted.now, option_map (λ w. w.now) result.word)
-        ≡ pair_advice first.now (fields line.now) }
+        ≡ together_advice (fields line.now) }
 {
-    if !takes_two(first) {
-        return plain_advice(Problem::BadOperands);
-    }
     match last_word(line) {
         Some(word) => Advice {
             wanted: "two operands of one size, with a comma between them, and one bracket at most",
             word: Some(word),
         },
         None => plain_advice(Problem::BadOperands),
+    }
+}
+
+/// Advice on operands of which no word is at fault by itself.
+fn pair_advice<'a>(first: &[u8], line: &'a [u8]) -> Advice<'a>
+    ensures { (result.wanted.now, option_map (λ w. w.now) result.word)
+        ≡ pair_advice first.now (fields line.now) }
+{
+    if takes_two(first) {
+        together_advice(line)
+    } else {
+        plain_advice(Problem::BadOperands)
     }
 }
 
