@@ -5,7 +5,7 @@ ghost use Rattle.mx_text.specs.Fields.{fields};
 ghost use Rattle.mx_text.specs.Lines.{lines};
 ghost use Rattle.mx_app_explain.specs.ConfigFaults.{fault_in};
 ghost use Rattle.mx_app_explain.specs.ConfigFields.{value_name, words_before};
-ghost use Rattle.mx_app_explain.specs.Details.{after_words, config_detail, detail_told, label_told, field_detail, field_hint, field_label, has_service, line_detail, service_detail, wanted_of_field};
+ghost use Rattle.mx_app_explain.specs.Details.{after_words, config_detail, detail_told, label_told, field_detail, field_hint, field_label, has_service, service_detail, wanted_of_field};
 ghost use Rattle.mx_app_explain.specs.MaskNames.{is_service};
 ghost use Rattle.mx_boot.specs.Items.{said_in};
 ghost use Rattle.mx_app_explain.specs.Hints.{hint_told};

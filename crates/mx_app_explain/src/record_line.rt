@@ -6,7 +6,7 @@ ghost use Rattle.mx_app_explain.specs.FoundWords.{found_told};
 ghost use Rattle.mx_app_explain.specs.Hints.{hint_told};
 ghost use Rattle.mx_boot.specs.Items.{said_in};
 ghost use Rattle.mx_text.specs.Fields.{fields};
-ghost use Rattle.mx_app_explain.specs.RecordLines.{ends_in_return, found_in, is_call, is_debug_line, names_process, own_looks, record_detail, record_hint, said_of_line, shown_part, takes_numbers, wants_end, wants_others};
+ghost use Rattle.mx_app_explain.specs.RecordLines.{ends_in_return, found_in, is_call, names_process, own_looks, record_detail, record_hint, said_of_line, shown_part, takes_numbers, wants_end, wants_others};
 
 use crate::detail::{Detail, Label, line_below};
 use crate::found_word::{FoundWord, byte_at, found_at};
