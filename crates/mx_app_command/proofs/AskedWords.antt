@@ -208,13 +208,13 @@ number_sets : (long id : Text) (n : ℕ) → SetsValue (with_index n (filled (nu
 number_sets long id n = record { set = refl; least = omega arith; defaults = refl }
 
 only_run_config : IsOnly config_rule run_whole.rules
-only_run_config = ((λ e. refl), ((λ e. never e), ((λ e. never e), ((λ e. never e), ((λ e. never e), ((λ e. never e), ((λ e. never e), ((λ e. never e), ((λ e. never e), tt)))))))))
+only_run_config = ((λ e. refl), ((λ e. never e), ((λ e. never e), ((λ e. never e), ((λ e. never e), ((λ e. never e), ((λ e. never e), ((λ e. never e), ((λ e. never e), ((λ e. never e), tt))))))))))
 
 only_log : IsOnly log_rule run_whole.rules
-only_log = ((λ e. never e), ((λ e. refl), ((λ e. never e), ((λ e. never e), ((λ e. never e), ((λ e. never e), ((λ e. never e), ((λ e. never e), ((λ e. never e), tt)))))))))
+only_log = ((λ e. never e), ((λ e. refl), ((λ e. never e), ((λ e. never e), ((λ e. never e), ((λ e. never e), ((λ e. never e), ((λ e. never e), ((λ e. never e), ((λ e. never e), tt))))))))))
 
 only_ticks : IsOnly ticks_rule run_whole.rules
-only_ticks = ((λ e. never e), ((λ e. never e), ((λ e. refl), ((λ e. never e), ((λ e. never e), ((λ e. never e), ((λ e. never e), ((λ e. never e), ((λ e. never e), tt)))))))))
+only_ticks = ((λ e. never e), ((λ e. never e), ((λ e. refl), ((λ e. never e), ((λ e. never e), ((λ e. never e), ((λ e. never e), ((λ e. never e), ((λ e. never e), ((λ e. never e), tt))))))))))
 
 -- a number after a long name, of which the argument is the only one
 number_if_given : (s : Shape) (long id : Text) (n : ℕ) → IsOnly (with_index n (filled (number_after long id))) s.rules

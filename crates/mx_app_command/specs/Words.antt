@@ -86,12 +86,13 @@ step_shape =
     (required_text (codes "CONFIG") ∷ required_text (codes "SCRIPT") ∷ after_name (codes "save") (codes "LOG")
     ∷ flag (codes "numbered") ∷ sums_rule ∷ force_rule ∷ [])
 
--- `run CONFIG LOG --ticks T --events EVENTS --sums SUMS --force`
+-- `run CONFIG LOG --ticks T --events EVENTS --stop FILE --sums SUMS --force`
 abbrev pub run_shape : Shape
 run_shape =
     subcommand (codes "run")
     (required_text (codes "CONFIG") ∷ required_text (codes "LOG") ∷ number_after (codes "ticks") (codes "T")
-    ∷ after_name (codes "events") (codes "EVENTS") ∷ sums_rule ∷ force_rule ∷ [])
+    ∷ after_name (codes "events") (codes "EVENTS") ∷ after_name (codes "stop") (codes "FILE") ∷ sums_rule
+    ∷ force_rule ∷ [])
 
 -- `turns CONFIG LOG --ticks T --events EVENTS --turns N --live --raw --hertz H --stop FILE --sums SUMS
 -- --force`; which of them exclude each other, `Mistakes` has
