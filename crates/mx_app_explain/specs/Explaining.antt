@@ -162,10 +162,13 @@ place_told name r =
     else folder_if (folder_of (files_read r).first.name)
 
 -- what is added of a file that isn't there
-abbrev pub plain_hint : CommandRequest → About → FileProblem → List ℕ
-plain_hint r (about.Service name) (Unread access.Missing) = place_told (string_bytes name) r
-plain_hint r a (Unread access.Missing) =
+abbrev pub missing_hint : CommandRequest → About → List ℕ
+missing_hint r (about.Service name) = place_told (string_bytes name) r
+missing_hint r a =
     if is_dash (word_read r a) then words_told (codes "standard input has the name /dev/stdin") else []
+
+abbrev pub plain_hint : CommandRequest → About → FileProblem → List ℕ
+plain_hint r a (Unread access.Missing) = missing_hint r a
 plain_hint r a p = []
 
 abbrev pub plain_detail : CommandRequest → About → FileProblem → List ℕ

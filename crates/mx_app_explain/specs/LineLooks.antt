@@ -94,11 +94,14 @@ is_same Unknown Unknown = true
 is_same _ _ = false
 
 -- a configuration and a history may have the line with the rules, and a debugger's script has events too
+abbrev pub looks_too : LineLooks → LineLooks → Bool
+looks_too looks Config = is_same looks Rules
+looks_too looks History = is_same looks Rules
+looks_too looks Debugger = is_same looks Script
+looks_too looks own = false
+
 abbrev pub is_own : LineLooks → LineLooks → Bool
-is_own Rules Config = true
-is_own Rules History = true
-is_own Script Debugger = true
-is_own looks own = is_same looks own
+is_own looks own = is_same looks own || looks_too looks own
 
 abbrev pub words_if : Option (List ℕ) → List ℕ
 words_if None = []

@@ -3,7 +3,7 @@
 ghost use Rattle.std.specs.Prelude.{◌≡◌, IfOk, option_map, string_bytes};
 ghost use Rattle.mx_app_command.specs.Files.{word_of};
 ghost use Rattle.mx_app_explain.specs.Details.{detail_told, label_told};
-ghost use Rattle.mx_app_explain.specs.Explaining.{explained, faulty_words, file_label, file_said, file_subject, folder_of, is_dash, line_detail, output_said, plain_detail, place_told, plain_hint, said_line, subject_told, text_of, word_read};
+ghost use Rattle.mx_app_explain.specs.Explaining.{explained, faulty_words, file_label, file_said, file_subject, folder_of, is_dash, line_detail, missing_hint, output_said, plain_detail, place_told, plain_hint, said_line, subject_told, text_of, word_read};
 ghost use Rattle.mx_app_explain.specs.Hints.{hint_told};
 ghost use Rattle.mx_text.specs.Fields.{fields};
 
@@ -160,21 +160,28 @@ fn place_hint<'a>(request: CommandRequest<'a>, name: &str) -> Hint<'a>
     }
 }
 
-/// What is added of a file of which no line is at fault, if it isn't there.
-fn plain_hint<'a>(request: CommandRequest<'a>, about: &About, problem: FileProblem) -> Hint<'a>
-    ensures { hint_told result ≡ plain_hint request.entry about.now problem }
+/// What is added of a file that isn't there.
+fn missing_hint<'a>(request: CommandRequest<'a>, about: &About) -> Hint<'a>
+    ensures { hint_told result ≡ missing_hint request.entry about.now }
 {
-    match (about, problem) {
-        (About::Service(name), FileProblem::Unread(Access::Missing)) => {
-            place_hint(request, name.as_str())
-        }
-        (_, FileProblem::Unread(Access::Missing)) => {
+    match about {
+        About::Service(name) => place_hint(request, name.as_str()),
+        _ => {
             if is_dash(word_read(request, about)) {
                 Hint::Words("standard input has the name /dev/stdin")
             } else {
                 Hint::Nothing
             }
         }
+    }
+}
+
+/// What is added of a file of which no line is at fault, if it isn't there.
+fn plain_hint<'a>(request: CommandRequest<'a>, about: &About, problem: FileProblem) -> Hint<'a>
+    ensures { hint_told result ≡ plain_hint request.entry about.now problem }
+{
+    match problem {
+        FileProblem::Unread(Access::Missing) => missing_hint(request, about),
         _ => Hint::Nothing,
     }
 }

@@ -3,7 +3,7 @@
 ghost use Rattle.std.specs.Prelude.{◌≡◌, option_map};
 ghost use Rattle.mx_text.specs.Fields.{fields};
 ghost use Rattle.mx_app_explain.specs.Hints.{hint_told};
-ghost use Rattle.mx_app_explain.specs.LineLooks.{begins_statement, hint_at, is_config_word, is_debug_line, is_debug_word, is_event_word, is_own, is_printed_word, is_record, is_session_word, looks_of_first, looks_of_line, taken_by};
+ghost use Rattle.mx_app_explain.specs.LineLooks.{begins_statement, hint_at, is_config_word, is_debug_line, is_debug_word, is_event_word, is_own, is_printed_word, is_record, is_session_word, looks_of_first, looks_of_line, looks_too, taken_by};
 
 use crate::found_word::byte_at;
 use crate::hint::Hint;
@@ -148,15 +148,23 @@ impl LineLooks {
     }
 }
 
+/// Whether a line that looks so may stand among others: a line with the rules in a configuration and in a history, and an
+/// event in a debugger's script.
+fn looks_too(looks: LineLooks, own: LineLooks) -> bool
+    ensures { result ≡ looks_too looks own }
+{
+    match own {
+        LineLooks::Config | LineLooks::History => looks == LineLooks::Rules,
+        LineLooks::Debugger => looks == LineLooks::Script,
+        _ => false,
+    }
+}
+
 /// Whether a line that looks so may stand in a file whose lines look like this.
 fn is_own(looks: LineLooks, own: LineLooks) -> bool
     ensures { result ≡ is_own looks own }
 {
-    match (looks, own) {
-        (LineLooks::Rules, LineLooks::Config | LineLooks::History) => true,
-        (LineLooks::Script, LineLooks::Debugger) => true,
-        _ => looks == own,
-    }
+    looks == own || looks_too(looks, own)
 }
 
 /// What is added if a line isn't of the file that it stands in, whose lines look like this.
