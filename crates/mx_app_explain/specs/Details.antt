@@ -92,7 +92,7 @@ abbrev pub service_detail : List (List ℕ) → Option (List ℕ)
 service_detail ls =
     if has_service ls then None
     else Some (wanted_told [] (codes "at least one line service NAME FILE traps T send S calls C level L best B "
-        ++ codes "quantum Q restarts R") [] [])
+    ++ codes "quantum Q restarts R") [] [])
 
 abbrev pub detail_or : Option (List ℕ) → Option (List ℕ) → Option (List ℕ)
 detail_or None other = other

@@ -92,9 +92,9 @@ abbrev pub bracket_wanted : List (List ℕ) → Option (List ℕ)
 bracket_wanted ws =
     if is_some (find_word sought.Open ws)
     then (if is_some (find_word sought.Close ws) then None
-        else Some (codes "] after the address, whose bracket is open"))
+    else Some (codes "] after the address, whose bracket is open"))
     else (if is_some (find_word sought.Close ws) then Some (codes "[ before the address, which ends with ]")
-        else None)
+    else None)
 
 abbrev pub is_star : List ℕ → Bool
 is_star w = bytes_eq w (codes "*")
@@ -348,7 +348,7 @@ form_advice (Some form) first ws = said_of form (fault_word first ws)
 abbrev pub together_advice : List (List ℕ) → Advised
 together_advice ws =
     advice_or (said_of (codes "two operands of one size, with a comma between them, and one bracket at most")
-        (last_word None ws)) (plain problems.BadOperands)
+    (last_word None ws)) (plain problems.BadOperands)
 
 abbrev pub pair_advice : List ℕ → List (List ℕ) → Advised
 pair_advice first ws = if takes_two first then together_advice ws else plain problems.BadOperands
@@ -357,9 +357,9 @@ pair_advice first ws = if takes_two first then together_advice ws else plain pro
 abbrev pub operand_word_advice : List ℕ → List (List ℕ) → Advised
 operand_word_advice first ws =
     advice_or (said_of (codes "a register, an address in brackets or a number of the operand's size")
-        (find_word sought.FreeWord ws))
+    (find_word sought.FreeWord ws))
     (advice_or (said_of (codes "a number that fits, or another operand that the statement takes")
-        (find_word sought.Number ws)) (pair_advice first ws))
+    (find_word sought.Number ws)) (pair_advice first ws))
 
 -- operands that the statement doesn't take; or one of these
 abbrev pub statement_form_advice : List ℕ → List (List ℕ) → Advised
@@ -379,7 +379,7 @@ abbrev pub value_advice : List ℕ → List (List ℕ) → Advised
 value_advice first ws =
     advice_or (said_of (codes "a value: n, -n, name, name+n or name-n") (value_mark false false ws))
     (advice_or (said_of (codes "registers before a name or a number in a bracket, as [ebx+ecx*4+name]")
-        (late_register false false ws)) (size_advice first ws))
+    (late_register false false ws)) (size_advice first ws))
 
 -- a word too many; or one of these
 abbrev pub extra_advice : List ℕ → List (List ℕ) → Advised
@@ -398,7 +398,7 @@ quoted_advice (Some w) first ws =
 abbrev pub address_advice : List ℕ → List (List ℕ) → Advised
 address_advice first ws =
     advice_or (said_of (codes "a register or a number in place of the second bracket, since no instruction has two")
-        (second_address ws)) (quoted_advice (find_word sought.Quoted ws) first ws)
+    (second_address ws)) (quoted_advice (find_word sought.Quoted ws) first ws)
 
 -- a bracket alone; or one of these
 abbrev pub bracket_advice : Option (List ℕ) → List ℕ → List (List ℕ) → Advised

@@ -58,7 +58,10 @@ fn is_session_word(word: &[u8]) -> bool
 fn is_printed_word(word: &[u8]) -> bool
     ensures { result ≡ is_printed_word word.now }
 {
-    matches!(word, b"taken" | b"stepped" | b"returned" | b"respawned" | b"refused" | b"done")
+    matches!(
+        word,
+        b"taken" | b"stepped" | b"returned" | b"respawned" | b"refused" | b"done"
+    )
 }
 
 /// Whether a script's line begins with this word.

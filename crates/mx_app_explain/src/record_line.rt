@@ -31,9 +31,7 @@ fn own_looks(request: CommandRequest<'_>, about: &About) -> LineLooks
         }
         (CommandRequest::Db { .. }, _) => LineLooks::Debugger,
         (
-            CommandRequest::Step { .. }
-            | CommandRequest::Run { .. }
-            | CommandRequest::Turns { .. },
+            CommandRequest::Step { .. } | CommandRequest::Run { .. } | CommandRequest::Turns { .. },
             _,
         ) => LineLooks::Script,
         _ => LineLooks::History,
