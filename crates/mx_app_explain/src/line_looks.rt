@@ -171,7 +171,7 @@ fn is_own(looks: LineLooks, own: LineLooks) -> bool
 }
 
 /// What is added if a line isn't of the file that it stands in, whose lines look like this.
-pub(crate) fn hint_at<'a>(line: &[u8], own: LineLooks) -> Hint<'a>
+pub(crate) fn hint_at(line: &[u8], own: LineLooks) -> Hint<'_>
     ensures { hint_told result ≡ hint_at line.now own }
 {
     let looks = looks_of_line(line);

@@ -1,11 +1,12 @@
 //! What was wanted of a line of a script, of outside events, of a fault or of a history.
 
-ghost use Rattle.std.specs.Prelude.{◌≡◌, option_map};
+ghost use Rattle.std.specs.Prelude.{◌≡◌, ◌&&◌, option_map};
 ghost use Rattle.mx_app_explain.specs.Details.{detail_told};
 ghost use Rattle.mx_app_explain.specs.FoundWords.{found_told};
 ghost use Rattle.mx_app_explain.specs.Hints.{hint_told};
 ghost use Rattle.mx_boot.specs.Items.{said_in};
 ghost use Rattle.mx_text.specs.Fields.{fields};
+ghost use Rattle.mx_app_explain.specs.LineLooks.{is_debug_line, is_debugger};
 ghost use Rattle.mx_app_explain.specs.RecordLines.{ends_in_return, found_in, is_call, names_process, own_looks, record_detail, record_hint, said_of_line, shown_part, takes_numbers, wants_end, wants_others};
 
 use crate::detail::{Detail, Label, line_below};
@@ -101,6 +102,13 @@ fn names_process(line: &[u8]) -> bool
     }
 }
 
+/// Whether a line of a debugger's script is one of the debugger.
+fn stays_debugger(line: &[u8], own: LineLooks) -> bool
+    ensures { result ≡ (is_debugger own && is_debug_line line.now) }
+{
+    own == LineLooks::Debugger && is_debug_line(line)
+}
+
 /// What is added of a line: that its line feed is missing, that it wants numbers, or what takes such a line.
 fn record_hint<'a>(
     request: CommandRequest<'_>,
@@ -115,7 +123,7 @@ fn record_hint<'a>(
         Hint::Words("the line feed at its end is missing")
     } else if takes_numbers(request) && names_process(line) {
         Hint::Words("E is an endpoint and S a slot, both numbers: EVENTS and FAULT take names")
-    } else if own == LineLooks::Debugger && is_debug_line(line) {
+    } else if stays_debugger(line, own) {
         Hint::Words("S is a slot, and PLACE a symbol or an address: all numbers are decimal")
     } else {
         hint_at(line, own)

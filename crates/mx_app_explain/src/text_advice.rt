@@ -726,7 +726,10 @@ fn pair_advice<'a>(first: &[u8], line: &'a [u8]) -> Advice<'a>
     if takes_two(first) {
         together_advice(line)
     } else {
-        plain_advice(Problem::BadOperands)
+        Advice {
+            wanted: problem_wanted(Problem::BadOperands),
+            word: None,
+        }
     }
 }
 
