@@ -1,8 +1,8 @@
 -- What was wanted, and where (our own words).
-use Rattle.std.specs.Prelude.{ℕ, ◌-◌, ◌==◌, if◌then◌else◌, List, [], ◌++◌, codes, Option, Some, None, slice_get}
+use Rattle.std.specs.Prelude.{ℕ, ◌-◌, ◌==◌, ◌||◌, Bool, false, if◌then◌else◌, List, [], ◌∷◌, ◌++◌, codes, Option, Some, None, slice_get}
 use Rattle.std.specs.Str.{is_utf8}
 use Rattle.std.specs.List.{before_first}
-use Rattle.mx_boot.specs.Items.{is_hash}
+use Rattle.mx_boot.specs.Items.{is_hash, said_in}
 use Rattle.mx_text.specs.Fields.{fields}
 use Rattle.mx_text.specs.Lines.{lines}
 use Rattle.mx_app_explain.specs.ConfigFaults.{fault_in}
@@ -10,7 +10,7 @@ use Rattle.mx_app_explain.specs.ConfigFields.{value_name, wanted_at, words_befor
 use Rattle.mx_app_explain.specs.FoundWords.{field_told, found_at, found_told}
 use Rattle.mx_app_explain.specs.Hints.{hint_told}
 use Rattle.mx_app_explain.specs.LineLooks.{hint_at}
-use Rattle.mx_app_explain.specs.MaskNames.{mask_hint}
+use Rattle.mx_app_explain.specs.MaskNames.{is_service, mask_hint}
 use Rattle.mx_app_explain.specs.declared.config_field.Field.{Field}
 use Rattle.mx_app_explain.specs.declared.config_field.Field.TheVariants.{Item, Value}
 use Rattle.mx_app_explain.specs.declared.config_field.Key.{Key as Kind}
@@ -83,8 +83,28 @@ line_detail ls None = None
 line_detail ls (Some line) =
     let said = before_first is_hash line in field_detail ls said (fault_in (fields said))
 
+-- of a text without a line at fault: it has no service
+abbrev pub has_service : List (List ℕ) → Bool
+has_service [] = false
+has_service (l ∷ ls) = is_service (said_in l) || has_service ls
+
+abbrev pub service_detail : List (List ℕ) → Option (List ℕ)
+service_detail ls =
+    if has_service ls then None
+    else Some (wanted_told [] (codes "at least one line service NAME FILE traps T send S calls C level L best B "
+    ++ codes "quantum Q restarts R") [] [])
+
+abbrev pub detail_or : Option (List ℕ) → Option (List ℕ) → Option (List ℕ)
+detail_or None other = other
+detail_or (Some detail) other = Some detail
+
+-- a line that isn't there has none
+abbrev pub text_detail : List (List ℕ) → Option (List ℕ) → Option (List ℕ)
+text_detail ls None = None
+text_detail ls (Some line) = detail_or (line_detail ls (Some line)) (service_detail ls)
+
 abbrev pub config_detail : List ℕ → ℕ → Option (List ℕ)
-config_detail text number = line_detail (lines text) (slice_get (lines text) (number - 1))
+config_detail text number = text_detail (lines text) (slice_get (lines text) (number - 1))
 
 -- THE DETAIL of a word of a text for the assembler: what is wanted, and the word
 abbrev pub word_detail : List ℕ → Option (List ℕ) → List ℕ

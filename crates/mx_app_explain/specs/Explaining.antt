@@ -1,6 +1,7 @@
 -- The second line of a failure: what it is about, and what was wanted (our own).
-use Rattle.std.specs.Prelude.{◌++◌, ℕ, List, [], codes, length, Option, Some, None, option_map, string_bytes, take}
+use Rattle.std.specs.Prelude.{◌++◌, ◌==◌, ℕ, Bool, false, if◌then◌else◌, List, [], codes, length, Option, Some, None, option_map, slice_index, string_bytes, take}
 use Rattle.std.specs.Path.{rfind_below}
+use Rattle.std.specs.Str.{bytes_eq}
 use Rattle.mx_text.specs.declared.error.BootError.{BootError}
 use Rattle.mx_text.specs.declared.error.BootError.TheVariants as lines
 use Rattle.mx_app_command.specs.Files.{FileWord, file_written, files_read, written_kind}
@@ -20,7 +21,7 @@ use Rattle.mx_app_failure.specs.declared.failure.OutputProblem.TheVariants.{Read
 use Rattle.mx_app_failure.specs.declared.failure.Failure.{Failure as Kind}
 use Rattle.mx_app_failure.specs.declared.failure.Failure.TheVariants.{Of, NotText, Input, Output, NoMemory}
 use Rattle.mx_app_explain.specs.Details.{config_detail, detail_told, wanted_told}
-use Rattle.mx_app_explain.specs.Hints.{folder_told}
+use Rattle.mx_app_explain.specs.Hints.{folder_told, words_told}
 use Rattle.mx_app_explain.specs.RecordLines.{record_detail, record_wanted}
 use Rattle.mx_app_explain.specs.TextAdvice.{advice_told, advised, words_at}
 use Rattle.mx_app_explain.specs.Wanted.{kind_said, kind_wanted, problem_wanted, refusal_wanted}
@@ -83,17 +84,17 @@ subject_of r NoMemory = memory_told
 
 -- ---- what was wanted
 
-abbrev pub lines_wanted : CommandRequest → BootError → List ℕ
-lines_wanted r (lines.BadLine n) =
+abbrev pub lines_wanted : CommandRequest → About → BootError → List ℕ
+lines_wanted r a (lines.BadLine n) =
     codes "an item: cpus 1 to 8, others 1 to 4, log 1 to 1048576, rules 1 or 2, or service NAME FILE traps "
     ++ codes "T send S calls C level L best B quantum Q restarts R, with T, S, C hexadecimal without 0x, L 0 "
     ++ codes "to 14, B 0 to L, Q 1 to 65535, R 0 to 1048575, NAME at most 8 bytes and no register; a line "
     ++ codes "feed alone at the end, no byte order mark; and at least one service"
-lines_wanted r (lines.TwiceNamed n) =
+lines_wanted r a (lines.TwiceNamed n) =
     codes "each item once, and a name of its own for each service"
-lines_wanted r (lines.TooMany n) = codes "at most 32 services"
-lines_wanted r (lines.BadRecord n) = record_wanted r
-lines_wanted r lines.NoMemory = codes "more of it"
+lines_wanted r a (lines.TooMany n) = codes "at most 32 services"
+lines_wanted r a (lines.BadRecord n) = record_wanted r a
+lines_wanted r a lines.NoMemory = codes "more of it"
 
 abbrev pub read_wanted : Access → List ℕ
 read_wanted access.Missing = codes "a file that can be read: it isn't there"
@@ -114,17 +115,17 @@ program_wanted e looks.Elf =
     codes "an a.out file; this is an ELF file: examples/c/Makefile makes a.out files of C"
 program_wanted e looks.Other = refusal_wanted e
 
-abbrev pub file_wanted : CommandRequest → FileProblem → List ℕ
-file_wanted r (Refused e l) = program_wanted e l
-file_wanted r (Faulty f) = problem_wanted f.problem
-file_wanted r (Misstated e) = lines_wanted r e
-file_wanted r (Unread a) = read_wanted a
-file_wanted r NotUtf8 = codes "a text in UTF-8"
-file_wanted r IsProgram = codes "a text in UTF-8; it is a program"
-file_wanted r (Unwritten a) = write_wanted a
-file_wanted r OverRead = codes "another file than the one that is read"
-file_wanted r OverProgram = codes "another file than a service's program"
-file_wanted r OtherKind = kind_wanted (written_kind r)
+abbrev pub file_wanted : CommandRequest → About → FileProblem → List ℕ
+file_wanted r a (Refused e l) = program_wanted e l
+file_wanted r a (Faulty f) = problem_wanted f.problem
+file_wanted r a (Misstated e) = lines_wanted r a e
+file_wanted r a (Unread a) = read_wanted a
+file_wanted r a NotUtf8 = codes "a text in UTF-8, and not in UTF-16 or another encoding"
+file_wanted r a IsProgram = codes "a text in UTF-8; it is a program"
+file_wanted r a (Unwritten a) = write_wanted a
+file_wanted r a OverRead = codes "another file than the one that is read"
+file_wanted r a OverProgram = codes "another file than a service's program"
+file_wanted r a OtherKind = kind_wanted (written_kind r)
 
 -- ---- the word at fault
 
@@ -141,13 +142,37 @@ abbrev pub folder_if : Option (List ℕ) → List ℕ
 folder_if None = []
 folder_if (Some folder) = folder_told folder
 
--- of a service's program that isn't there: where its configuration is
+-- a file's name that is a dash, as that of standard input elsewhere
+abbrev pub is_dash : Option FileWord → Bool
+is_dash None = false
+is_dash (Some w) = bytes_eq w.name (codes "-")
+
+-- the word of the command line that names a file which is read
+abbrev pub word_read : CommandRequest → About → Option FileWord
+word_read r about.Course = (files_read r).course
+word_read r about.Fault = (files_read r).fault
+word_read r about.Written = None
+word_read r (about.Service name) = None
+word_read r a = Some (files_read r).first
+
+-- where a service's program is sought: its configuration's folder is none of this, and a tilde is no home
+abbrev pub place_told : List ℕ → CommandRequest → List ℕ
+place_told name r =
+    if slice_index name 0 == 126 then words_told (codes "~ is no home in CONFIG: write the whole name, from /")
+    else folder_if (folder_of (files_read r).first.name)
+
+-- what is added of a file that isn't there
+abbrev pub missing_hint : CommandRequest → About → List ℕ
+missing_hint r (about.Service name) = place_told (string_bytes name) r
+missing_hint r a =
+    if is_dash (word_read r a) then words_told (codes "standard input has the name /dev/stdin") else []
+
 abbrev pub plain_hint : CommandRequest → About → FileProblem → List ℕ
-plain_hint r (about.Service name) (Unread access.Missing) = folder_if (folder_of (files_read r).first.name)
+plain_hint r a (Unread access.Missing) = missing_hint r a
 plain_hint r a p = []
 
 abbrev pub plain_detail : CommandRequest → About → FileProblem → List ℕ
-plain_detail r a p = wanted_told (file_label r p) (file_wanted r p) [] (plain_hint r a p)
+plain_detail r a p = wanted_told (file_label r p) (file_wanted r a p) [] (plain_hint r a p)
 
 -- the words of the line at fault of a text for the assembler
 abbrev pub faulty_words : FileProblem → Option (List ℕ) → List (List ℕ)

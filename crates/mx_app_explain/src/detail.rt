@@ -5,7 +5,9 @@ ghost use Rattle.mx_text.specs.Fields.{fields};
 ghost use Rattle.mx_text.specs.Lines.{lines};
 ghost use Rattle.mx_app_explain.specs.ConfigFaults.{fault_in};
 ghost use Rattle.mx_app_explain.specs.ConfigFields.{value_name, words_before};
-ghost use Rattle.mx_app_explain.specs.Details.{after_words, config_detail, detail_told, label_told, field_detail, field_hint, field_label, wanted_of_field};
+ghost use Rattle.mx_app_explain.specs.Details.{after_words, config_detail, detail_told, label_told, field_detail, field_hint, field_label, has_service, service_detail, wanted_of_field};
+ghost use Rattle.mx_app_explain.specs.MaskNames.{is_service};
+ghost use Rattle.mx_boot.specs.Items.{said_in};
 ghost use Rattle.mx_app_explain.specs.Hints.{hint_told};
 
 use crate::config_field::Field;
@@ -180,14 +182,56 @@ fn line_detail<'a>(text: &[u8], line: &'a [u8]) -> Option<Detail<'a>>
     }
 }
 
-/// What was wanted of the line of a configuration's text that has this number, counted from 1. None if the line
-/// has no fault of its own.
+/// Whether a line is a service's.
+fn is_service_line(line: &[u8]) -> bool
+    ensures { result ≡ is_service (said_in line.now) }
+{
+    match next_field(before_comment(line)) {
+        Some((word, _)) => word == b"service".as_slice(),
+        None => false,
+    }
+}
+
+/// Whether a configuration's text has a line that is a service's.
+fn has_service(text: &[u8]) -> bool
+    ensures { result ≡ has_service (lines text.now) }
+{
+    let mut rest = text;
+    while let Some((line, below)) = next_line(rest) {
+        if is_service_line(line) {
+            return true;
+        }
+        rest = below;
+    }
+    false
+}
+
+/// What was wanted of a configuration's text of which no line has a fault: a service. None if it has one.
+fn service_detail<'a>(text: &[u8]) -> Option<Detail<'a>>
+    ensures { option_map detail_told result ≡ service_detail (lines text.now) }
+{
+    if has_service(text) {
+        return None;
+    }
+    Some(Detail {
+        label: Label::Nowhere,
+        wanted: "at least one line service NAME FILE traps T send S calls C level L best B quantum Q restarts R",
+        found: FoundWord::Unseen,
+        hint: Hint::Nothing,
+    })
+}
+
+/// What was wanted of the line of a configuration's text that has this number, counted from 1, or of the text. None if
+/// neither has a fault of its own.
 #[tactic(auto, unfolding(crate::specs::ConfigFaults::fault_in))]
 pub(crate) fn config_detail(text: &[u8], number: usize) -> Option<Detail<'_>>
     ensures { option_map detail_told result ≡ config_detail text.now number }
 {
     match line_below(text, number.saturating_sub(1)) {
         None => None,
-        Some(line) => line_detail(text, before_comment(line)),
+        Some(line) => match line_detail(text, before_comment(line)) {
+            Some(detail) => Some(detail),
+            None => service_detail(text),
+        },
     }
 }

@@ -1,20 +1,21 @@
 //! The second line of a failure.
 
 ghost use Rattle.std.specs.Prelude.{◌≡◌, IfOk, option_map, string_bytes};
+ghost use Rattle.mx_app_command.specs.Files.{word_of};
 ghost use Rattle.mx_app_explain.specs.Details.{detail_told, label_told};
-ghost use Rattle.mx_app_explain.specs.Explaining.{explained, faulty_words, file_label, file_said, file_subject, folder_of, line_detail, output_said, plain_detail, plain_hint, said_line, subject_told, text_of};
+ghost use Rattle.mx_app_explain.specs.Explaining.{explained, faulty_words, file_label, file_said, file_subject, folder_of, is_dash, line_detail, missing_hint, output_said, plain_detail, place_told, plain_hint, said_line, subject_told, text_of, word_read};
 ghost use Rattle.mx_app_explain.specs.Hints.{hint_told};
 ghost use Rattle.mx_text.specs.Fields.{fields};
 
 use crate::detail::{Detail, Label, config_detail, line_below};
-use crate::found_word::FoundWord;
+use crate::found_word::{FoundWord, byte_at};
 use crate::hint::Hint;
 use crate::record_line::record_detail;
 use crate::subject::{Subject, file_subject, first_subject};
 use crate::text_advice::advice_on;
 use crate::text_words::with_spaces;
 use crate::wanted::{file_wanted, kind_said};
-use mx_app_command::CommandRequest;
+use mx_app_command::{CommandRequest, NamedWord};
 use mx_app_failure::{About, Access, Failure, FileFailure, FileProblem, OutputProblem};
 use mx_text::BootError;
 use std::alloc::{AllocError, Global};
@@ -123,18 +124,64 @@ fn folder_of(name: &str) -> Option<&str>
     }
 }
 
-/// What is added of a file of which no line is at fault: of a service's program that isn't there, where its
-/// configuration is.
+/// Whether a file's name is a dash, as that of standard input elsewhere.
+fn is_dash(word: Option<NamedWord<'_>>) -> bool
+    ensures { result ≡ is_dash (option_map word_of word.entry) }
+{
+    match word {
+        Some(word) => word.name == "-",
+        None => false,
+    }
+}
+
+/// The word of the command line that names a file which is read.
+fn word_read<'a>(request: CommandRequest<'a>, about: &About) -> Option<NamedWord<'a>>
+    ensures { option_map word_of result ≡ word_read request.entry about.now }
+{
+    let reads = request.reads();
+    match about {
+        About::Program | About::Source | About::Config => Some(reads.first),
+        About::Course => reads.course,
+        About::Fault => reads.fault,
+        About::Written | About::Service(_) => None,
+    }
+}
+
+/// What is added of a service's program that isn't there: that a tilde is no home, or where its configuration is.
+fn place_hint<'a>(request: CommandRequest<'a>, name: &str) -> Hint<'a>
+    ensures { hint_told result ≡ place_told name.now request.entry }
+{
+    if byte_at(name.as_bytes(), 0) == b'~' {
+        return Hint::Words("~ is no home in CONFIG: write the whole name, from /");
+    }
+    match folder_of(request.reads().first.name) {
+        Some(folder) => Hint::Folder(folder),
+        None => Hint::Nothing,
+    }
+}
+
+/// What is added of a file that isn't there.
+fn missing_hint<'a>(request: CommandRequest<'a>, about: &About) -> Hint<'a>
+    ensures { hint_told result ≡ missing_hint request.entry about.now }
+{
+    match about {
+        About::Service(name) => place_hint(request, name.as_str()),
+        _ => {
+            if is_dash(word_read(request, about)) {
+                Hint::Words("standard input has the name /dev/stdin")
+            } else {
+                Hint::Nothing
+            }
+        }
+    }
+}
+
+/// What is added of a file of which no line is at fault, if it isn't there.
 fn plain_hint<'a>(request: CommandRequest<'a>, about: &About, problem: FileProblem) -> Hint<'a>
     ensures { hint_told result ≡ plain_hint request.entry about.now problem }
 {
-    match (about, problem) {
-        (About::Service(_), FileProblem::Unread(Access::Missing)) => {
-            match folder_of(request.reads().first.name) {
-                Some(folder) => Hint::Folder(folder),
-                None => Hint::Nothing,
-            }
-        }
+    match problem {
+        FileProblem::Unread(Access::Missing) => missing_hint(request, about),
         _ => Hint::Nothing,
     }
 }
@@ -145,7 +192,7 @@ fn plain_detail<'a>(request: CommandRequest<'a>, about: &About, problem: FilePro
 {
     Detail {
         label: file_label(request, problem),
-        wanted: file_wanted(request, problem),
+        wanted: file_wanted(request, about, problem),
         found: FoundWord::Unseen,
         hint: plain_hint(request, about, problem),
     }

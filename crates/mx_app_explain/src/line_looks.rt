@@ -3,7 +3,7 @@
 ghost use Rattle.std.specs.Prelude.{◌≡◌, option_map};
 ghost use Rattle.mx_text.specs.Fields.{fields};
 ghost use Rattle.mx_app_explain.specs.Hints.{hint_told};
-ghost use Rattle.mx_app_explain.specs.LineLooks.{begins_statement, hint_at, is_config_word, is_debug_word, is_event_word, is_record, looks_of_first, looks_of_line, taken_by};
+ghost use Rattle.mx_app_explain.specs.LineLooks.{begins_statement, hint_at, is_config_word, is_debug_line, is_debug_word, is_event_word, is_own, is_printed_word, is_record, is_session_word, looks_of_first, looks_of_line, looks_too, taken_by};
 
 use crate::found_word::byte_at;
 use crate::hint::Hint;
@@ -17,6 +17,12 @@ pub enum LineLooks {
     Script,
     History,
     Debugger,
+    /// A line of a session of `mx look`.
+    Session,
+    /// The line with the rules, which a history begins with.
+    Rules,
+    /// What `mx step` prints.
+    Printed,
     Source,
     Unknown,
 }
@@ -25,7 +31,7 @@ pub enum LineLooks {
 fn is_config_word(word: &[u8]) -> bool
     ensures { result ≡ is_config_word word.now }
 {
-    matches!(word, b"cpus" | b"log" | b"others" | b"rules" | b"service")
+    matches!(word, b"cpus" | b"log" | b"others" | b"service")
 }
 
 /// Whether a line of the debugger begins with this word.
@@ -35,6 +41,26 @@ fn is_debug_word(word: &[u8]) -> bool
     matches!(
         word,
         b"break" | b"clear" | b"go" | b"regs" | b"mem" | b"messages"
+    )
+}
+
+/// Whether a line of a session alone begins with this word.
+fn is_session_word(word: &[u8]) -> bool
+    ensures { result ≡ is_session_word word.now }
+{
+    matches!(
+        word,
+        b"ps" | b"print" | b"list" | b"goto" | b"until" | b"watch" | b"stack" | b"points"
+    )
+}
+
+/// Whether a line that `mx step` prints begins with this word.
+fn is_printed_word(word: &[u8]) -> bool
+    ensures { result ≡ is_printed_word word.now }
+{
+    matches!(
+        word,
+        b"taken" | b"stepped" | b"returned" | b"respawned" | b"refused" | b"done"
     )
 }
 
@@ -68,12 +94,18 @@ fn looks_of_first(word: &[u8], rest: &[u8]) -> LineLooks
 {
     if is_config_word(word) {
         LineLooks::Config
+    } else if word == b"rules".as_slice() {
+        LineLooks::Rules
     } else if is_event_word(word) {
         LineLooks::Script
     } else if is_record(word, rest) {
         LineLooks::History
     } else if is_debug_word(word) {
         LineLooks::Debugger
+    } else if is_session_word(word) {
+        LineLooks::Session
+    } else if is_printed_word(word) {
+        LineLooks::Printed
     } else if begins_statement(word) {
         LineLooks::Source
     } else {
@@ -91,6 +123,13 @@ fn looks_of_line(line: &[u8]) -> LineLooks
     }
 }
 
+/// Whether a line is one of the debugger.
+pub(crate) fn is_debug_line(line: &[u8]) -> bool
+    ensures { result ≡ is_debug_line line.now }
+{
+    looks_of_line(line) == LineLooks::Debugger
+}
+
 impl LineLooks {
     /// What takes a line that looks so.
     fn taken_by(self) -> Option<&'static str>
@@ -101,10 +140,34 @@ impl LineLooks {
             LineLooks::Script => Some("this is a line of a script, which mx step takes"),
             LineLooks::History => Some("this is a line of a history, which mx replay takes"),
             LineLooks::Debugger => Some("this is a line of mx db"),
+            LineLooks::Session => Some("this is a line of mx look"),
+            LineLooks::Rules => {
+                Some("a history begins so, which mx replay takes, and a configuration may have it")
+            }
+            LineLooks::Printed => Some("mx step prints this: --save LOG keeps its history"),
             LineLooks::Source => Some("this is a line of a text for mx as"),
             LineLooks::Unknown => None,
         }
     }
+}
+
+/// Whether a line that looks so may stand among others: a line with the rules in a configuration and in a history, and an
+/// event in a debugger's script.
+fn looks_too(looks: LineLooks, own: LineLooks) -> bool
+    ensures { result ≡ looks_too looks own }
+{
+    match own {
+        LineLooks::Config | LineLooks::History => looks == LineLooks::Rules,
+        LineLooks::Debugger => looks == LineLooks::Script,
+        _ => false,
+    }
+}
+
+/// Whether a line that looks so may stand in a file whose lines look like this.
+fn is_own(looks: LineLooks, own: LineLooks) -> bool
+    ensures { result ≡ is_own looks own }
+{
+    looks == own || looks_too(looks, own)
 }
 
 /// What is added if a line isn't of the file that it stands in, whose lines look like this.
@@ -112,7 +175,7 @@ pub(crate) fn hint_at(line: &[u8], own: LineLooks) -> Hint<'_>
     ensures { hint_told result ≡ hint_at line.now own }
 {
     let looks = looks_of_line(line);
-    if looks == own {
+    if is_own(looks, own) {
         return Hint::Nothing;
     }
     match looks.taken_by() {

@@ -1,19 +1,23 @@
 //! What was wanted of a line of a script, of outside events, of a fault or of a history.
 
-ghost use Rattle.std.specs.Prelude.{◌≡◌, option_map};
+ghost use Rattle.std.specs.Prelude.{◌≡◌, ◌&&◌, option_map};
 ghost use Rattle.mx_app_explain.specs.Details.{detail_told};
 ghost use Rattle.mx_app_explain.specs.FoundWords.{found_told};
 ghost use Rattle.mx_app_explain.specs.Hints.{hint_told};
-ghost use Rattle.mx_app_explain.specs.RecordLines.{ends_in_return, found_in, own_looks, record_detail, record_hint, said_of_line, shown_part, wants_end};
+ghost use Rattle.mx_boot.specs.Items.{said_in};
+ghost use Rattle.mx_text.specs.Fields.{fields};
+ghost use Rattle.mx_app_explain.specs.LineLooks.{is_debug_line, is_debugger};
+ghost use Rattle.mx_app_explain.specs.RecordLines.{ends_in_return, found_in, is_call, names_process, own_looks, record_detail, record_hint, said_of_line, shown_part, takes_numbers, wants_end, wants_others};
 
 use crate::detail::{Detail, Label, line_below};
-use crate::found_word::{FoundWord, found_at};
+use crate::found_word::{FoundWord, byte_at, found_at};
 use crate::hint::Hint;
-use crate::line_looks::{LineLooks, hint_at};
+use crate::line_looks::{LineLooks, hint_at, is_debug_line};
 use crate::wanted::record_wanted;
 use mx_app_command::CommandRequest;
 use mx_app_failure::About;
-use mx_text::next_field;
+use mx_boot::before_comment;
+use mx_text::{begins_name, next_field, number_up_to};
 
 /// How long a line may be that is shown whole.
 const SHOWN: usize = 60;
@@ -26,11 +30,9 @@ fn own_looks(request: CommandRequest<'_>, about: &About) -> LineLooks
         (CommandRequest::Sweep { .. } | CommandRequest::SweptPage { .. }, About::Fault) => {
             LineLooks::Script
         }
+        (CommandRequest::Db { .. }, _) => LineLooks::Debugger,
         (
-            CommandRequest::Step { .. }
-            | CommandRequest::Db { .. }
-            | CommandRequest::Run { .. }
-            | CommandRequest::Turns { .. },
+            CommandRequest::Step { .. } | CommandRequest::Run { .. } | CommandRequest::Turns { .. },
             _,
         ) => LineLooks::Script,
         _ => LineLooks::History,
@@ -74,27 +76,96 @@ fn wants_end(text: &[u8], number: usize, own: LineLooks) -> bool
     own == LineLooks::History && !text.ends_with(b"\n") && line_below(text, number).is_none()
 }
 
-/// What is added of a line: that its line feed is missing, or what takes such a line.
-fn record_hint<'a>(text: &[u8], number: usize, line: &'a [u8], own: LineLooks) -> Hint<'a>
-    ensures { hint_told result ≡ record_hint text.now number line.now own }
+/// Whether a command takes no names in events.
+fn takes_numbers(request: CommandRequest<'_>) -> bool
+    ensures { result ≡ takes_numbers request.entry }
+{
+    matches!(
+        request,
+        CommandRequest::Step { .. } | CommandRequest::Db { .. }
+    )
+}
+
+/// Whether a line kills or respawns what it names by a word.
+fn names_process(line: &[u8]) -> bool
+    ensures { result ≡ names_process (fields line.now) }
+{
+    let Some((event, rest)) = next_field(line) else {
+        return false;
+    };
+    match next_field(rest) {
+        Some((name, _)) => {
+            (event == b"kill".as_slice() || event == b"respawn".as_slice())
+                && begins_name(byte_at(name, 0))
+        }
+        None => false,
+    }
+}
+
+/// Whether a line of a debugger's script is one of the debugger.
+fn stays_debugger(line: &[u8], own: LineLooks) -> bool
+    ensures { result ≡ (is_debugger own && is_debug_line line.now) }
+{
+    own == LineLooks::Debugger && is_debug_line(line)
+}
+
+/// What is added of a line: that its line feed is missing, that it wants numbers, or what takes such a line.
+fn record_hint<'a>(
+    request: CommandRequest<'_>,
+    text: &[u8],
+    number: usize,
+    line: &'a [u8],
+    own: LineLooks,
+) -> Hint<'a>
+    ensures { hint_told result ≡ record_hint request.entry text.now number line.now own }
 {
     if wants_end(text, number, own) {
         Hint::Words("the line feed at its end is missing")
+    } else if takes_numbers(request) && names_process(line) {
+        Hint::Words("E is an endpoint and S a slot, both numbers: EVENTS and FAULT take names")
+    } else if stays_debugger(line, own) {
+        Hint::Words("S is a slot, and PLACE a symbol or an address: all numbers are decimal")
     } else {
         hint_at(line, own)
+    }
+}
+
+/// Whether a line is an event or a wait with its number.
+fn is_call(line: &[u8]) -> bool
+    ensures { result ≡ is_call (said_in line.now) }
+{
+    let Some((word, rest)) = next_field(before_comment(line)) else {
+        return false;
+    };
+    let Some((number, rest)) = next_field(rest) else {
+        return word == b"tick".as_slice();
+    };
+    matches!(word, b"line" | b"kill" | b"respawn" | b"wait")
+        && (number_up_to(number, 10, 2_147_483_647).is_some() && next_field(rest).is_none())
+}
+
+/// Whether a line is right but for the machine, which has one outside actor.
+fn wants_others(request: CommandRequest<'_>, line: &[u8]) -> bool
+    ensures { result ≡ wants_others request.entry line.now }
+{
+    match request {
+        CommandRequest::Run { .. } => is_call(line),
+        _ => false,
     }
 }
 
 /// What was wanted of a line.
 fn said_of_line<'a>(
     request: CommandRequest<'_>,
+    about: &About,
     text: &[u8],
     number: usize,
     line: &'a [u8],
-    own: LineLooks,
 ) -> Detail<'a>
-    ensures { detail_told result ≡ said_of_line request.entry text.now number line.now own }
+    ensures { detail_told result
+        ≡ said_of_line request.entry about.now text.now number line.now }
 {
+    let own = own_looks(request, about);
     if ends_in_return(line) {
         return Detail {
             label: Label::Nowhere,
@@ -103,11 +174,19 @@ fn said_of_line<'a>(
             hint: Hint::Nothing,
         };
     }
+    if wants_others(request, line) {
+        return Detail {
+            label: Label::Nowhere,
+            wanted: "others 2 or more in CONFIG, which --events needs",
+            found: FoundWord::Unseen,
+            hint: Hint::Nothing,
+        };
+    }
     Detail {
         label: Label::Nowhere,
-        wanted: record_wanted(request),
+        wanted: record_wanted(request, about),
         found: found_in(line),
-        hint: record_hint(text, number, line, own),
+        hint: record_hint(request, text, number, line, own),
     }
 }
 
@@ -122,5 +201,5 @@ pub(crate) fn record_detail<'a>(
         ≡ record_detail request.entry about.now text.now number }
 {
     let line = line_below(text, number.saturating_sub(1))?;
-    Some(said_of_line(request, text, number, line, own_looks(request, about)))
+    Some(said_of_line(request, about, text, number, line))
 }

@@ -8,7 +8,7 @@ ghost use Rattle.mx_app_explain.specs.RecordLines.{record_wanted};
 use mx_aout::FileError;
 use mx_app_command::{CommandRequest, FileKind};
 use mx_app_db::script_lines;
-use mx_app_failure::{Access, FileProblem, Looks};
+use mx_app_failure::{About, Access, FileProblem, Looks};
 use mx_asm::Problem;
 use mx_text::BootError;
 
@@ -59,25 +59,24 @@ pub(crate) fn problem_wanted(problem: Problem) -> &'static str
 }
 
 /// What is wanted of a line of a script or of a history.
-pub(crate) fn record_wanted(request: CommandRequest<'_>) -> &'static str
-    ensures { result.now ≡ record_wanted request.entry }
+pub(crate) fn record_wanted(request: CommandRequest<'_>, about: &About) -> &'static str
+    ensures { result.now ≡ record_wanted request.entry about.now }
 {
-    match request {
-        CommandRequest::Step { .. } => {
+    match (request, about) {
+        (CommandRequest::Step { .. }, _) => {
             "an event: take C, step C K, back C, line L, tick, kill E or respawn S"
         }
-        CommandRequest::Db { .. } => script_lines(),
-        CommandRequest::Run { .. } => {
+        (CommandRequest::Db { .. }, _) => script_lines(),
+        (CommandRequest::Run { .. }, _) => {
             "line L, tick, kill E, respawn S or wait N, where a service's name may stand for E \
              and S; --events wants others 2 or more in CONFIG"
         }
-        CommandRequest::Turns { .. } => {
+        (CommandRequest::Turns { .. }, _) => {
             "an outside event: line L, tick, kill E or respawn S, where a service's name may \
              stand for E and S"
         }
-        CommandRequest::Sweep { .. } | CommandRequest::SweptPage { .. } => {
-            "in LOG a record and its line feed; in FAULT an event of a script, kill slot S, \
-              kill NAME or respawn NAME"
+        (CommandRequest::Sweep { .. } | CommandRequest::SweptPage { .. }, About::Fault) => {
+            "an event of a script, kill slot S, kill NAME or respawn NAME"
         }
         _ => {
             "a record and its line feed: A take, A back N, A line L, A tick, A kill E or \
@@ -87,8 +86,8 @@ pub(crate) fn record_wanted(request: CommandRequest<'_>) -> &'static str
 }
 
 /// What is wanted of the lines of a text that starts or drives a machine.
-fn lines_wanted(request: CommandRequest<'_>, error: BootError) -> &'static str
-    ensures { result.now ≡ lines_wanted request.entry error }
+fn lines_wanted(request: CommandRequest<'_>, about: &About, error: BootError) -> &'static str
+    ensures { result.now ≡ lines_wanted request.entry about.now error }
 {
     match error {
         BootError::BadLine(_) => {
@@ -100,7 +99,7 @@ fn lines_wanted(request: CommandRequest<'_>, error: BootError) -> &'static str
         }
         BootError::TwiceNamed(_) => "each item once, and a name of its own for each service",
         BootError::TooMany(_) => "at most 32 services",
-        BootError::BadRecord(_) => record_wanted(request),
+        BootError::BadRecord(_) => record_wanted(request, about),
         BootError::NoMemory => MORE,
     }
 }
@@ -166,15 +165,19 @@ fn program_wanted(error: FileError, looks: Looks) -> &'static str
 }
 
 /// What was wanted of a file.
-pub(crate) fn file_wanted(request: CommandRequest<'_>, problem: FileProblem) -> &'static str
-    ensures { result.now ≡ file_wanted request.entry problem }
+pub(crate) fn file_wanted(
+    request: CommandRequest<'_>,
+    about: &About,
+    problem: FileProblem,
+) -> &'static str
+    ensures { result.now ≡ file_wanted request.entry about.now problem }
 {
     match problem {
         FileProblem::Refused(error, looks) => program_wanted(error, looks),
         FileProblem::Faulty(fault) => problem_wanted(fault.problem),
-        FileProblem::Misstated(error) => lines_wanted(request, error),
+        FileProblem::Misstated(error) => lines_wanted(request, about, error),
         FileProblem::Unread(access) => read_wanted(access),
-        FileProblem::NotUtf8 => "a text in UTF-8",
+        FileProblem::NotUtf8 => "a text in UTF-8, and not in UTF-16 or another encoding",
         FileProblem::IsProgram => "a text in UTF-8; it is a program",
         FileProblem::Unwritten(access) => write_wanted(access),
         FileProblem::OverRead => "another file than the one that is read",
