@@ -54,6 +54,10 @@ pub enum CommandRequest<'a> {
     Explain {
         config: &'a str,
     },
+    /// `explain CONFIG --check`.
+    Check {
+        config: &'a str,
+    },
     /// `step CONFIG SCRIPT`, with `--save LOG` and `--numbered` or without.
     Step {
         config: &'a str,
@@ -545,6 +549,18 @@ fn history_request<'a>(name: &str, config: &'a str, matches: &ArgMatches<'a>) ->
     }
 }
 
+/// What the words of `explain` ask for.
+fn explain_request<'a>(config: &'a str, matches: &ArgMatches<'a>) -> CommandRequest<'a>
+    requires { HasText (codes "CONFIG") (rows_of (found_of matches.now)) config.now }
+    ensures { AsksBy result (codes "explain") (rows_of (found_of matches.now)) }
+{
+    if is_on(matches, "check") {
+        CommandRequest::Check { config }
+    } else {
+        CommandRequest::Explain { config }
+    }
+}
+
 /// What the words of a subcommand on a machine ask for.
 fn machine_request<'a>(name: &str, matches: &ArgMatches<'a>) -> CommandRequest<'a>
     requires { IsMachineAsked name.now (rows_of (found_of matches.now)) }
@@ -552,7 +568,7 @@ fn machine_request<'a>(name: &str, matches: &ArgMatches<'a>) -> CommandRequest<'
 {
     let config = value_asked(matches, "CONFIG");
     if name == "explain" {
-        CommandRequest::Explain { config }
+        explain_request(config, matches)
     } else if name == "step" || name == "db" {
         script_request(name, config, matches)
     } else {

@@ -81,6 +81,13 @@ const CONFIG: CommandArgument<'static> = CommandArgument {
     form: ArgumentForm::Text,
 };
 
+/// Whether it is only told what can't work.
+const CHECK: CommandArgument<'static> = CommandArgument {
+    name: "check",
+    help: "Prints only what can't work, by CONFIG and the programs alone: ends with status 1 if there is any",
+    form: ArgumentForm::Flag,
+};
+
 /// What happens to it.
 const SCRIPT: CommandArgument<'static> = CommandArgument {
     name: "SCRIPT",
@@ -359,7 +366,7 @@ static MACHINE_COMMANDS: [Subcommand<'static>; 3] = [
     Subcommand {
         name: "explain",
         help: "Prints what the services of a machine may do, one a line",
-        arguments: &[CONFIG, EXPLAIN, SILENT],
+        arguments: &[CONFIG, CHECK, EXPLAIN, SILENT],
         example: Example::Explain,
     },
     Subcommand {
