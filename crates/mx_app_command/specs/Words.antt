@@ -90,23 +90,23 @@ step_shape =
     (required_text (codes "CONFIG") ∷ required_text (codes "SCRIPT") ∷ after_name (codes "save") (codes "LOG")
     ∷ flag (codes "numbered") ∷ sums_rule ∷ force_rule ∷ [])
 
--- `run CONFIG LOG --ticks T --events EVENTS --stop FILE --sums SUMS --force`
+-- `run CONFIG LOG --ticks T --events EVENTS --stop FILE --strict --sums SUMS --force`
 abbrev pub run_shape : Shape
 run_shape =
     subcommand (codes "run")
     (required_text (codes "CONFIG") ∷ required_text (codes "LOG") ∷ number_after (codes "ticks") (codes "T")
-    ∷ after_name (codes "events") (codes "EVENTS") ∷ after_name (codes "stop") (codes "FILE") ∷ sums_rule
-    ∷ force_rule ∷ [])
+    ∷ after_name (codes "events") (codes "EVENTS") ∷ after_name (codes "stop") (codes "FILE")
+    ∷ flag (codes "strict") ∷ sums_rule ∷ force_rule ∷ [])
 
--- `turns CONFIG LOG --ticks T --events EVENTS --turns N --live --raw --hertz H --stop FILE --sums SUMS
--- --force`; which of them exclude each other, `Mistakes` has
+-- `turns CONFIG LOG --ticks T --events EVENTS --turns N --live --raw --hertz H --stop FILE --strict
+-- --sums SUMS --force`; which of them exclude each other, `Mistakes` has
 abbrev pub turns_shape : Shape
 turns_shape =
     subcommand (codes "turns")
     (required_text (codes "CONFIG") ∷ required_text (codes "LOG") ∷ number_after (codes "ticks") (codes "T")
     ∷ after_name (codes "events") (codes "EVENTS") ∷ number_after (codes "turns") (codes "N")
     ∷ flag (codes "live") ∷ flag (codes "raw") ∷ number_after (codes "hertz") (codes "H")
-    ∷ after_name (codes "stop") (codes "FILE") ∷ sums_rule ∷ force_rule ∷ [])
+    ∷ after_name (codes "stop") (codes "FILE") ∷ flag (codes "strict") ∷ sums_rule ∷ force_rule ∷ [])
 
 -- `sweep CONFIG LOG FAULT --turns N --from A --to B --jobs J --strict --save FILE --sums SUMS --force`
 abbrev pub sweep_shape : Shape
@@ -331,6 +331,11 @@ AsksForSums sums None = ⊥
 abbrev pub AsksForForce : Bool → Option (Text × List Row) → Type 0
 AsksForForce force (Some found) = force ≡ is_on (codes "force") found.1
 AsksForForce force None = ⊥
+
+-- the words ask that a mark is an error, or they don't
+abbrev pub AsksToBeStrict : Bool → Option (Text × List Row) → Type 0
+AsksToBeStrict strict (Some found) = strict ≡ is_on (codes "strict") found.1
+AsksToBeStrict strict None = ⊥
 
 abbrev pub Asks : CommandRequest → Option (Text × List Row) → Type 0
 Asks request (Some found) = AsksBy request found.0 found.1

@@ -2,7 +2,7 @@
 
 ghost use Rattle.std.specs.Prelude.{◌≡◌, ◌&&◌, ◌⊎◌, ℕ, Bool, IfErr, IfOk, MatchResult, None, [], codes, is_none, is_some, map, option_map, true};
 ghost use Rattle.clap.specs.Words.{FailsBy, HasMatchesOf, fault_of, first_of, found_of, kind_of, rows_of, subcommand_of, takes};
-ghost use Rattle.mx_app_command.specs.Words.{Asks, AsksBy, AsksForForce, AsksForSilence, AsksForSums, AsksToExplain, HasNumber, HasNumberIf, HasNumberOr, HasRange, HasText, IsAsked, IsFlag, IsHistoryAsked, IsMachineAsked, IsOtherHistoryAsked, IsProgramAsked, IsRecordsAsked, IsScriptAsked, MayHaveNumber, MayHaveRange, MayHaveStrip, MayHaveSweep, MayHaveText, MayHaveTurns, is_following, is_machine, is_on, mx_grammar};
+ghost use Rattle.mx_app_command.specs.Words.{Asks, AsksBy, AsksForForce, AsksForSilence, AsksForSums, AsksToBeStrict, AsksToExplain, HasNumber, HasNumberIf, HasNumberOr, HasRange, HasText, IsAsked, IsFlag, IsHistoryAsked, IsMachineAsked, IsOtherHistoryAsked, IsProgramAsked, IsRecordsAsked, IsScriptAsked, MayHaveNumber, MayHaveRange, MayHaveStrip, MayHaveSweep, MayHaveText, MayHaveTurns, is_following, is_machine, is_on, mx_grammar};
 ghost use Rattle.mx_app_command.specs.Mistakes.{IsMistake, IsOutOfMemory, has_both, has_course, lacks_fault, lacks_live, mistake_given, mistake_in};
 
 use crate::grammar::grammar;
@@ -187,6 +187,9 @@ pub struct CommandLine<'a> {
     pub sums: Option<&'a str>,
     /// Whether a file is written over whatever it holds.
     pub force: bool,
+    /// Whether the status is 1 if a history that is made has a mark, a line of `why` that no right machine has. A
+    /// sweep and `why` have their own.
+    pub strict: bool,
 }
 
 /// Why the words of a command line ask for nothing.
@@ -692,6 +695,8 @@ pub fn command<'a>(alloc: Global, words: &'a [&'a str]) -> Result<CommandLine<'a
         (subcommand_of mx_grammar (map (λ s. s.now) words.now))) }
     ensures force { IfOk result (λ l. AsksForForce l.force
         (subcommand_of mx_grammar (map (λ s. s.now) words.now))) }
+    ensures strict { IfOk result (λ l. AsksToBeStrict l.strict
+        (subcommand_of mx_grammar (map (λ s. s.now) words.now))) }
     ensures passes { IfErr result (λ m.
         (takes mx_grammar (map (λ s. s.now) words.now)
         && is_none (mistake_given (subcommand_of mx_grammar (map (λ s. s.now) words.now)))) ≡ true
@@ -714,6 +719,7 @@ pub fn command<'a>(alloc: Global, words: &'a [&'a str]) -> Result<CommandLine<'a
                 silent: flag_asked(found, "no-explain"),
                 sums: value_if_asked(found, "SUMS"),
                 force: is_on(found, "force"),
+                strict: is_on(found, "strict"),
             })
         }
         None => unreachable!(),

@@ -221,6 +221,13 @@ const STRICT: CommandArgument<'static> = CommandArgument {
     form: ArgumentForm::Flag,
 };
 
+/// Whether a mark of the history that is made is an error.
+const STRICT_RUN: CommandArgument<'static> = CommandArgument {
+    name: "strict",
+    help: "Ends with status 1 if LOG tells what no right machine does, as mx why says it",
+    form: ArgumentForm::Flag,
+};
+
 /// Whether a mark is an error.
 const STRICT_WHY: CommandArgument<'static> = CommandArgument {
     name: "strict",
@@ -393,6 +400,7 @@ static MACHINE_COMMANDS: [Subcommand<'static>; 3] = [
             TICKS,
             CALLS,
             STOP,
+            STRICT_RUN,
             WRITTEN_SUMS,
             FORCE,
             EXPLAIN,
@@ -417,6 +425,7 @@ static TURN_COMMANDS: [Subcommand<'static>; 2] = [
             RAW,
             HERTZ,
             STOP,
+            STRICT_RUN,
             WRITTEN_SUMS,
             FORCE,
             EXPLAIN,

@@ -92,12 +92,7 @@ fn push_faults(
 }
 
 /// Appends the lines of those that never go on.
-fn push_never(
-    out: &mut Vec<u8>,
-    alloc: Global,
-    end: &End,
-    notes: &[Note],
-) -> Result<(), AllocError>
+fn push_never(out: &mut Vec<u8>, alloc: Global, end: &End, notes: &[Note]) -> Result<(), AllocError>
     ensures { OnOk result (out.new.items ≡ out.old.items
         ++ waits_text end.now notes.now (verdicts end.now) true) }
 {
@@ -234,7 +229,13 @@ fn push_line_after(
         names.entry.log.now) }
 {
     out.extend_from_slice(b"mx: ")?;
-    push_ending_by(out, end, records, config.log, ending_of(end, records, config.log))?;
+    push_ending_by(
+        out,
+        end,
+        records,
+        config.log,
+        ending_of(end, records, config.log),
+    )?;
     push_marks(out, lines, names)?;
     out.extend_from_slice(b"\n")
 }

@@ -21,7 +21,9 @@ fn push_cause(out: &mut Vec<u8>, refusal: Refusal) -> Result<(), AllocError>
     push_decimal(out, u32::from(refusal.code()))?;
     out.extend_from_slice(b" ")?;
     out.extend_from_slice(refusal.name().as_bytes())?;
-    out.extend_from_slice(b". LOG is of another machine, or CONFIG or a program was changed since, or LOG itself\n")
+    out.extend_from_slice(
+        b". LOG is of another machine, or CONFIG or a program was changed since, or LOG itself\n",
+    )
 }
 
 /// Appends the line of a record that is refused, which has this number.
