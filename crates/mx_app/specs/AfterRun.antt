@@ -13,27 +13,20 @@ use Rattle.mx_app_db.specs.Telling.{IsTold}
 use Rattle.mx_machine.specs.declared.history.Record.{Record}
 use Rattle.mx_machine.specs.Boot.{world_at_boot}
 use Rattle.mx_app.specs.declared.ending.DrivenEnding.{DrivenEnding}
-use Rattle.mx_app.specs.declared.ending.DrivenEnding.TheVariants.{Interrupted, Turns, Run}
+use Rattle.mx_app.specs.declared.ending.DrivenEnding.TheVariants.{Interrupted, Run}
 use Rattle.mx_app_run.specs.declared.run_by_threads.RunEnding.TheVariants as runs
-use Rattle.mx_turns.specs.declared.turns.Ending.TheVariants as turns
 use Rattle.mx_why.specs.AfterRun.{IsToldOf}
 use Rattle.mx_why.specs.declared.after_run.HistoryNames.{HistoryNames}
 
--- it ended before it was to end
-abbrev pub is_cut_short : Option DrivenEnding → Bool
-is_cut_short (Some (Run runs.Stopped)) = true
-is_cut_short (Some Interrupted) = true
-is_cut_short ending = false
+-- it was stopped
+abbrev pub is_stopped : Option DrivenEnding → Bool
+is_stopped (Some (Run runs.Stopped)) = true
+is_stopped (Some Interrupted) = true
+is_stopped ending = false
 
--- it ended since the history is full
-abbrev pub is_full : Option DrivenEnding → Bool
-is_full (Some (Run runs.Full)) = true
-is_full (Some (Turns turns.Full)) = true
-is_full ending = false
-
--- it is told if the history has a mark: at a terminal, or if a mark is an error, or if the history is full
+-- it is told if the history has a mark: at a terminal, or if a mark is an error
 abbrev pub wants_marks : Option DrivenEnding → Bool → Bool → Bool
-wants_marks ending shows strict = not (is_cut_short ending) && (shows || (strict || is_full ending))
+wants_marks ending shows strict = not (is_stopped ending) && (shows || strict)
 
 -- THE STATUS after a command: 1 in place of 0, if a mark is an error and there is one
 abbrev pub status_after : ℕ → Bool → Bool → ℕ

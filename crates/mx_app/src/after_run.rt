@@ -2,20 +2,19 @@
 
 ghost use Rattle.std.specs.Prelude.{◌≡◌, ◌++◌, List, option_map};
 ghost use Rattle.mx_app_db.specs.Asked.{Asked};
-ghost use Rattle.mx_app.specs.AfterRun.{TellsAfter, is_cut_short, is_full, made_by, names_of, status_after, wants_marks};
+ghost use Rattle.mx_app.specs.AfterRun.{TellsAfter, is_stopped, made_by, names_of, status_after, wants_marks};
 
 use crate::ending::DrivenEnding;
 use mx_app_command::CommandRequest;
 use mx_app_failure::Failure;
 use mx_app_run::RunEnding;
 use mx_app_start::Reader;
-use mx_turns::Ending;
 use mx_why::{HistoryNames, line_after_run};
 use std::alloc::Global;
 
-/// Whether turns or a run ended before they were to end.
-fn is_cut_short(ending: Option<DrivenEnding>) -> bool
-    ensures { result ≡ is_cut_short ending }
+/// Whether turns or a run were stopped.
+fn is_stopped(ending: Option<DrivenEnding>) -> bool
+    ensures { result ≡ is_stopped ending }
 {
     matches!(
         ending,
@@ -23,22 +22,12 @@ fn is_cut_short(ending: Option<DrivenEnding>) -> bool
     )
 }
 
-/// Whether turns or a run ended since the history is full.
-fn is_full(ending: Option<DrivenEnding>) -> bool
-    ensures { result ≡ is_full ending }
-{
-    matches!(
-        ending,
-        Some(DrivenEnding::Run(RunEnding::Full) | DrivenEnding::Turns(Ending::Full))
-    )
-}
-
-/// Whether it is told if a history has a mark: where standard error shows it to somebody, or if a mark is an error,
-/// or if there was no room in the history; not if the run was cut short.
+/// Whether it is told if a history has a mark: where standard error shows it to somebody, or if a mark is an error;
+/// not if the run was stopped. The history is run again for it, which takes some time if it is long.
 pub fn wants_marks(ending: Option<DrivenEnding>, shows: bool, strict: bool) -> bool
     ensures { result ≡ wants_marks ending shows strict }
 {
-    !is_cut_short(ending) && (shows || strict || is_full(ending))
+    !is_stopped(ending) && (shows || strict)
 }
 
 /// The status to end with: 1 in place of 0, if a mark is an error and there is one.
