@@ -60,11 +60,14 @@ up_to text (Some i) = take i text
 abbrev pub first_line : List ℕ → List ℕ
 first_line text = up_to text (position (λ b. b == 10) text)
 
+-- the words that show all
+unfoldable pub command_text : List ℕ → List ℕ → List ℕ
+command_text config log = codes " more: mx why " ++ config ++ codes " " ++ log
+
 -- how many lines more than one there are, and how to see them
 unfoldable pub more_text : ℕ → List ℕ → List ℕ → List ℕ
 more_text k config log =
-    if nat_le k 1 then [] else
-    codes "; " ++ decimal (k - 1) ++ codes " more: mx why " ++ config ++ codes " " ++ log
+    if nat_le k 1 then [] else codes "; " ++ decimal (k - 1) ++ command_text config log
 
 unfoldable pub told_marks : List ℕ → List ℕ → List ℕ → List ℕ
 told_marks lines config log =

@@ -13,7 +13,7 @@ ghost use Rattle.mx_app_start.specs.Telling.{IsTold};
 ghost use Rattle.mx_machine.specs.declared.history.Record.{Record as Noted};
 ghost use Rattle.mx_machine.specs.Boot.{world_at_boot};
 ghost use Rattle.mx_machine.specs.World.{actors};
-ghost use Rattle.mx_why.specs.AfterRun.{IsToldOf, fault_line, fault_lines, first_line, idle_if_at_rest, is_fault, line_after, line_if_marked, marked_if_any, marked_lines, more_text, told_marks};
+ghost use Rattle.mx_why.specs.AfterRun.{IsToldOf, command_text, fault_line, fault_lines, first_line, idle_if_at_rest, is_fault, line_after, line_if_marked, marked_if_any, marked_lines, more_text, told_marks};
 ghost use Rattle.mx_why.specs.Deaths.{deaths};
 ghost use Rattle.mx_why.specs.Lines.{waits_text};
 ghost use Rattle.mx_why.specs.Seeing.{end_of};
@@ -182,6 +182,18 @@ fn count_lines(text: &[u8]) -> usize
     text.iter().filter(|byte| ends_line(**byte)).count()
 }
 
+/// Appends the words that show all lines.
+#[tactic(auto, unfolding(crate::specs::AfterRun::command_text))]
+fn push_command(out: &mut Vec<u8>, names: HistoryNames<'_>) -> Result<(), AllocError>
+    ensures { OnOk result (out.new.items ≡ out.old.items
+        ++ command_text names.entry.config.now names.entry.log.now) }
+{
+    out.extend_from_slice(b" more: mx why ")?;
+    out.extend_from_slice(names.config.as_bytes())?;
+    out.extend_from_slice(b" ")?;
+    out.extend_from_slice(names.log.as_bytes())
+}
+
 /// Appends how many lines more there are, and how to see them.
 #[tactic(auto, unfolding(crate::specs::AfterRun::more_text))]
 fn push_more(out: &mut Vec<u8>, count: usize, names: HistoryNames<'_>) -> Result<(), AllocError>
@@ -193,10 +205,7 @@ fn push_more(out: &mut Vec<u8>, count: usize, names: HistoryNames<'_>) -> Result
     }
     out.extend_from_slice(b"; ")?;
     push_long(out, (count - 1) as u64)?;
-    out.extend_from_slice(b" more: mx why ")?;
-    out.extend_from_slice(names.config.as_bytes())?;
-    out.extend_from_slice(b" ")?;
-    out.extend_from_slice(names.log.as_bytes())
+    push_command(out, names)
 }
 
 /// Appends the first of some lines, and how many lines more there are.
