@@ -39,4 +39,4 @@ returns g c =
     let is : c.in_ok-found.found.items ≡ unfit_services config c.in_ok-config.services.items =
     c.in_ok-found.ensures ∙ ap (unfit_services config) c.as_slice.ensures.value in
     let text = c.as_slice-3.ensures.value ∙ c.in_ok-text.ensures ∙ ap (check_text config) (c.as_slice-2.ensures.value ∙ is) in
-    (t.0, t.1, (config, c.in_ok-config.services.items, t.2, ap (λ (us : List Unfit). not (length us == 0)) is, subst (λ (s : List ℕ). Appends x y s) text c.in_ok-print_text.ensures.bytes))
+    (t.0, t.1, (config, c.in_ok-config.services.items, t.2, ap (λ (n : ℕ). not (n == 0)) (c.len.ensures ∙ c.in_ok-found.found.ok.0 ∙ ap (λ (us : List Unfit). length us) is), subst (λ (s : List ℕ). Appends x y s) text c.in_ok-print_text.ensures.bytes))

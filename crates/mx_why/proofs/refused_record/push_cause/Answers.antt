@@ -15,5 +15,5 @@ returns c =
     let a2 : List ℕ = a1 ++ (codes " ") in
     let h2 : c.extend_from_slice-2.new.self.items ≡ c.args.out.now.items ++ a2 = joined c.args.out.now.items a1 (codes " ") h1 c.in_ok-extend_from_slice-2.ensures.items in
     let a3 : List ℕ = a2 ++ (name_of_refusal c.args.refusal) in
-    let h3 : c.extend_from_slice-3.new.self.items ≡ c.args.out.now.items ++ a3 = joined_is c.args.out.now.items a2 c.as_bytes.result.now (name_of_refusal c.args.refusal) h2 (c.as_bytes.ensures ∙ c.name.ensures) c.in_ok-extend_from_slice-3.ensures.items in
+    let h3 : c.extend_from_slice-3.new.self.items ≡ c.args.out.now.items ++ a3 = joined_is c.args.out.now.items a2 c.as_bytes.result.now (name_of_refusal c.args.refusal) h2 (c.as_bytes.ensures.value ∙ c.name.ensures) c.in_ok-extend_from_slice-3.ensures.items in
     last_joined c.extend_from_slice-4.result c.args.out.now.items a3 (codes ". LOG is of another machine, or CONFIG or a program was changed since, or LOG itself\n") c.extend_from_slice-3.new.self.items c.extend_from_slice-4.new.self.items h3 (extended c.extend_from_slice-4.result c.extend_from_slice-4.new.self.items (c.extend_from_slice-3.new.self.items ++ (codes ". LOG is of another machine, or CONFIG or a program was changed since, or LOG itself\n")) c.extend_from_slice-3.new.self.items c.extend_from_slice-4.ensures.items)
