@@ -1,9 +1,10 @@
 -- Masks that are written with names: the number that they are (our own; the names are those of the papers' tables of
 -- traps and kernel calls).
-use Rattle.std.specs.Prelude.{ℕ, ◌+◌, ◌-◌, ◌==◌, ◌^◌, ◌&&◌, nat_lt, Bool, false, if◌then◌else◌, List, [], ◌∷◌, codes, length, Option, Some, None}
+use Rattle.std.specs.Prelude.{ℕ, ◌+◌, ◌-◌, ◌^◌, ◌&&◌, nat_lt, Bool, false, if◌then◌else◌, List, [], ◌∷◌, codes, length, Option, Some, None}
+use Rattle.std.specs.List.{slice_split}
 use Rattle.std.specs.Option.{option_map}
 use Rattle.std.specs.Str.{bytes_eq, is_utf8}
-use Rattle.mx_boot.specs.Items.{said_in}
+use Rattle.mx_boot.specs.Items.{is_byte, said_in}
 use Rattle.mx_look.specs.KernelCalls.{request_type}
 use Rattle.mx_text.specs.Fields.{◌>>=◌}
 use Rattle.mx_word.specs.Bits.{has_bit}
@@ -48,13 +49,11 @@ bit_named ls keys.Calls name = call_bit name
 bit_named ls key name = None
 
 -- the names between plus signs
-abbrev pub with_first : ℕ → List (List ℕ) → List (List ℕ)
-with_first b [] = (b ∷ []) ∷ []
-with_first b (w ∷ ws) = (b ∷ w) ∷ ws
+abbrev pub is_plus : ℕ → Bool
+is_plus = is_byte 43
 
 abbrev pub names_in : List ℕ → List (List ℕ)
-names_in [] = [] ∷ []
-names_in (b ∷ bs) = if b == 43 then [] ∷ names_in bs else with_first b (names_in bs)
+names_in word = slice_split is_plus word
 
 abbrev pub with_bit : ℕ → ℕ → ℕ
 with_bit mask bit = if has_bit mask bit then mask else mask + 2 ^ bit

@@ -1,5 +1,6 @@
 -- What was wanted of a line of a script, of outside events, of a fault or of a history (our own words).
-use Rattle.std.specs.Prelude.{ℕ, ◌-◌, ◌==◌, ◌&&◌, not, nat_le, Bool, true, false, if◌then◌else◌, List, [], ◌∷◌, ◌++◌, codes, is_none, length, Option, Some, None, slice_get}
+use Rattle.std.specs.Prelude.{ℕ, ◌-◌, ◌&&◌, not, nat_eq, nat_le, Bool, true, false, if◌then◌else◌, List, [], ◌∷◌, ◌++◌, codes, is_none, length, Option, Some, None, slice_get}
+use Rattle.std.specs.List.{ends_with}
 use Rattle.std.specs.Option.{option_map}
 use Rattle.mx_app_command.specs.declared.command_line.CommandRequest.{CommandRequest}
 use Rattle.mx_app_command.specs.declared.command_line.CommandRequest.TheVariants.{Step, Run, Turns, Sweep, SweptPage, Db}
@@ -47,14 +48,8 @@ own_looks (Sweep config log fault bound from to jobs strict save) Fault = Script
 own_looks (SweptPage config log fault bound from to jobs) Fault = Script
 own_looks r about = History
 
--- whether the last byte is this one
-abbrev pub ends_in : ℕ → List ℕ → Bool
-ends_in b [] = false
-ends_in b (c ∷ []) = c == b
-ends_in b (c ∷ d ∷ bs) = ends_in b (d ∷ bs)
-
 abbrev pub ends_in_return : List ℕ → Bool
-ends_in_return line = ends_in 13 line
+ends_in_return line = ends_with nat_eq line (13 ∷ [])
 
 -- a line of at most 60 bytes is shown whole, and of another one the first word
 abbrev pub first_word : List (List ℕ) → List ℕ
@@ -78,7 +73,7 @@ is_history History = true
 is_history _ = false
 
 abbrev pub wants_end : List ℕ → ℕ → LineLooks → Bool
-wants_end text number own = is_history own && (not (ends_in 10 text) && is_none (slice_get (lines text) number))
+wants_end text number own = is_history own && (not (ends_with nat_eq text (10 ∷ [])) && is_none (slice_get (lines text) number))
 
 abbrev pub record_hint : List ℕ → ℕ → List ℕ → LineLooks → List ℕ
 record_hint text number line own =

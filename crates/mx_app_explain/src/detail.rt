@@ -147,9 +147,12 @@ fn field_label(line: &[u8], place: Field) -> Label<'_>
 fn field_hint<'a>(text: &[u8], line: &'a [u8], place: Field) -> Hint<'a>
     ensures { hint_told result ≡ field_hint (lines text.now) line.now place }
 {
-    match (place, word_after(line, place.words_before())) {
-        (Field::Item, _) => hint_at(line, LineLooks::Config),
-        (Field::Value(key), Some(word)) => mask_hint(text, key, word),
+    match place {
+        Field::Item => hint_at(line, LineLooks::Config),
+        Field::Value(key) => match word_after(line, place.words_before()) {
+            Some(word) => mask_hint(text, key, word),
+            None => Hint::Nothing,
+        },
         _ => Hint::Nothing,
     }
 }

@@ -1,10 +1,10 @@
 //! Masks that are written with names: the number that they are.
 
-ghost use Rattle.std.specs.Prelude.{◌≡◌, ◌&&◌};
+ghost use Rattle.std.specs.Prelude.{◌≡◌, ◌<◌, ◌&&◌, IfSome};
 ghost use Rattle.mx_boot.specs.Items.{said_in};
 ghost use Rattle.mx_text.specs.Lines.{lines};
 ghost use Rattle.mx_app_explain.specs.Hints.{hint_told};
-ghost use Rattle.mx_app_explain.specs.MaskNames.{bit_named, call_bit, has_name, is_service, mask_hint, mask_of_names, service_bit, trap_bit};
+ghost use Rattle.mx_app_explain.specs.MaskNames.{bit_named, call_bit, has_name, is_service, mask_hint, mask_of_names, service_bit, trap_bit, with_bit};
 
 use crate::config_field::Key;
 use crate::hint::Hint;
@@ -15,7 +15,8 @@ use std::str;
 
 /// The bit of the trap that has this name.
 fn trap_bit(name: &[u8]) -> Option<u32>
-    ensures { result ≡ trap_bit name.now }
+    ensures bit { result ≡ trap_bit name.now }
+    ensures low { IfSome result (λ bit. bit < 32) }
 {
     match name {
         b"SEND" => Some(1),
@@ -28,7 +29,8 @@ fn trap_bit(name: &[u8]) -> Option<u32>
 
 /// The bit of the kernel call that has this name.
 fn call_bit(name: &[u8]) -> Option<u32>
-    ensures { result ≡ call_bit name.now }
+    ensures bit { result ≡ call_bit name.now }
+    ensures low { IfSome result (λ bit. bit < 32) }
 {
     Some(request_type(name)? - 0x600)
 }
@@ -53,7 +55,8 @@ fn names_service(line: &[u8], name: &[u8]) -> (bool, bool)
 
 /// The slot of the service of this name, in a configuration's text.
 fn service_bit(text: &[u8], name: &[u8]) -> Option<u32>
-    ensures { result ≡ service_bit (lines text.now) 0 name.now }
+    ensures bit { result ≡ service_bit (lines text.now) 0 name.now }
+    ensures low { IfSome result (λ bit. bit < 32) }
 {
     let mut rest = text;
     let mut slot = 0;
@@ -72,7 +75,8 @@ fn service_bit(text: &[u8], name: &[u8]) -> Option<u32>
 
 /// The bit that a name is in a mask.
 fn bit_named(text: &[u8], key: Key, name: &[u8]) -> Option<u32>
-    ensures { result ≡ bit_named (lines text.now) key name.now }
+    ensures bit { result ≡ bit_named (lines text.now) key name.now }
+    ensures low { IfSome result (λ bit. bit < 32) }
 {
     match key {
         Key::Traps => trap_bit(name),
@@ -80,6 +84,15 @@ fn bit_named(text: &[u8], key: Key, name: &[u8]) -> Option<u32>
         Key::Calls => call_bit(name),
         _ => None,
     }
+}
+
+/// A mask with a bit.
+#[tactic(auto, using(crate::proofs::Masks::bit_set))]
+fn with_bit(mask: u32, bit: u32) -> u32
+    requires { bit < 32 }
+    ensures { result ≡ with_bit mask bit }
+{
+    mask | 1 << bit
 }
 
 /// The mask that names with a plus between them are, 32 names at most.
@@ -90,11 +103,7 @@ fn mask_of_names(text: &[u8], key: Key, word: &[u8]) -> Option<u32>
     let mut rest = word;
     for _ in 0..32 {
         let name = before_byte(rest, b'+');
-        let bit = bit_named(text, key, name)?;
-        if bit >= 32 {
-            return None;
-        }
-        mask |= 1 << bit;
+        mask = with_bit(mask, bit_named(text, key, name)?);
         if name.len() == rest.len() {
             return Some(mask);
         }
@@ -104,6 +113,7 @@ fn mask_of_names(text: &[u8], key: Key, word: &[u8]) -> Option<u32>
 }
 
 /// The number that a mask's word is, if it is made of names.
+#[tactic(auto, using(crate::proofs::Printed::printed, crate::proofs::Printed::unprinted))]
 pub(crate) fn mask_hint<'a>(text: &[u8], key: Key, word: &'a [u8]) -> Hint<'a>
     ensures { hint_told result ≡ mask_hint (lines text.now) key word.now }
 {

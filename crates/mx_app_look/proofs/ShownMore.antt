@@ -84,6 +84,17 @@ then_none k w n p before now after ps one moved a b =
     let few : 0 ≤ p.steps = omega arith in
     b ∙ ap (λ (v : Walk). now ++ shown_to v p) moved ∙ ap (λ (xs : List Part). now ++ xs) (none_shown (gone k (past n)) p (inr (one, few)) one) ∙ append-nil now ∙ a
 
+-- one whose steps are made, and then back
+pub returned_shown : (k w : Walk) (n : ℕ) (x : Record) (here : Position) (before now after : List Part) → k.here ≡ steps_made n x → w ≡ gone k (past n) → here ≡ k.here
+    → now ≡ before ++ record_shown k n x → after ≡ now ++ shown_to w here → after ≡ before ++ return_shown k k.here (past n)
+returned_shown k w n x here before now after there moved at a b =
+    let le : k.here.steps ≤ k.here.steps = omega arith in
+    let one : record_shown k n x ≡ shown_way k k.here (past n) =
+    ap (λ (p : Position). shown_to k p ++ shown_way k p (past n)) (sym there) ∙ ap (λ (ps : List Part). ps ++ shown_way k k.here (past n)) (none_shown k k.here (inr (refl, le)) refl) in
+    let back : shown_to w here ≡ shown_way k (past n) k.here = ap (λ (v : Walk). shown_to v here) moved ∙ ap (λ (p : Position). shown_way k (past n) p) at in
+    both_shown before now after (record_shown k n x) (shown_to w here) a b
+    ∙ ap (λ (ps : List Part). before ++ (ps ++ shown_to w here)) one ∙ ap (λ (ps : List Part). before ++ (shown_way k k.here (past n) ++ ps)) back
+
 pub why_is_shown : (k : Walk) (m : ℕ) (x : Record) → k.here.records ≡ suc m → slice_get k.records m ≡ Some x → why_shown k ≡ record_shown k m x
 why_is_shown k m x e h =
     let less : k.here.records - 1 ≡ m = omega (arith, e) in

@@ -75,7 +75,7 @@ impl<'a> RunPlan<'a> {
         ensures respawner { result.respawner ≡ cpus }
         ensures calls { result.has_calls ≡ not (length outside.entry.calls.now == 0) }
         ensures log { result.log ≡ log }
-        ensures stop { is_some result.stop ≡ is_some stop }
+        ensures stop { is_some result.stop ≡ is_some stop.entry }
     {
         RunPlan {
             respawner: cpus,
@@ -97,9 +97,9 @@ pub(crate) fn is_full_at(log: usize, records: usize) -> bool
 /// and calls: nothing can become ready then. Or the history is full, as at an earlier question of it; the outsider's
 /// wait ends then too.
 fn is_settled(plan: RunPlan<'_>, actor: u8, far: HowFar, is_done: bool, earlier: Earlier) -> bool
-    ensures value { result ≡ is_settled plan.respawner plan.log
+    ensures value { result ≡ is_settled plan.entry.respawner plan.entry.log
         actor far is_done earlier.is_past_all earlier.has_seen_full }
-    ensures may { result ≡ true → may_end plan.log far.records far.at_rest is_done ≡ true }
+    ensures may { result ≡ true → may_end plan.entry.log far.records far.at_rest is_done ≡ true }
 {
     if is_full_at(plan.log, far.records) {
         earlier.has_seen_full && (is_done || actor > plan.respawner)
@@ -137,7 +137,7 @@ pub struct RunGate<'a, R, P: SharedProgress> {
 impl<'a, R, P: SharedProgress> RunGate<'a, R, P> {
     /// The gate of a run, by its clock, by what shows its progress, and by its plan.
     pub fn new(clock: &'a R, progress: &'a P, plan: RunPlan<'a>) -> RunGate<'a, R, P>
-        ensures plan { result.plan ≡ plan }
+        ensures plan { result.plan ≡ plan.entry }
         ensures progress { result.progress.now ≡ progress.now }
     {
         RunGate {

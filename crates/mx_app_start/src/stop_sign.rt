@@ -31,7 +31,7 @@ pub struct StopFile<'a, R> {
 impl<'a, R> StopFile<'a, R> {
     /// The file of this name, as the runtime sees it.
     pub fn new(rt: &'a R, name: Option<&'a str>) -> StopFile<'a, R>
-        ensures { result.name ≡ name }
+        ensures { result.name ≡ name.entry }
     {
         StopFile { rt, name }
     }

@@ -1,5 +1,5 @@
 -- Turns that are made some at a time.
-use Rattle.std.proofs.Common.{◌≡◌, ◌≢◌, ◌∙◌, ◌+◌, ◌-◌, ◌≤◌, ℕ, zero, suc, ◌++◌, Bool, true, false, List, [], ◌∷◌, drop, refl, ap, sym, subst, arith, append_assoc}
+use Rattle.std.proofs.Common.{◌≡◌, ◌≢◌, ◌∙◌, ◌+◌, ◌-◌, ◌≤◌, ℕ, zero, suc, ◌++◌, Bool, true, false, true≢false, List, [], ◌∷◌, drop, refl, ap, sym, subst, arith, append_assoc}
 use Rattle.std.proofs.lemmas.List.{append-nil, drop-drop}
 use Rattle.mx_machine.specs.History.{world_after_events}
 use Rattle.mx_machine.specs.Machine.{MachineState, world_of}
@@ -17,6 +17,8 @@ use Rattle.mx_turns.proofs.OfferLemmas.{Offers}
 use Rattle.mx_turns.proofs.ShownLemmas.{if_made, shown_all, shown_more}
 use Rattle.mx_turns.proofs.TurnLemmas.{IsAfterTurns, StandsAfter}
 use Rattle.mx_walk.specs.declared.progress.Part.{Part}
+use Rattle.mx_app_turns.specs.declared.turning.TurnsEnd.{TurnsEnd}
+use Rattle.mx_app_turns.specs.Turned.{AreSome}
 
 still : (how : Ending) → how ≢ Turns → goes_on how ≡ false
 still Rest h = refl
@@ -126,3 +128,20 @@ module _ (m : MachineState) (coming : List OutsideLine) (made : ℕ) (n : Machin
       let none : (left k).ending ≢ Turns = λ x. ends (is ∙ x) in
       shown_so log before now then shown k h
       ∙ ap (λ (l : List Part). before ++ l) (sym (shown_all log (world_of m) coming (made + k) bound le (λ j above. ap (λ (c : Course). goes_on c.ending) (over j k above none) ∙ still (left k).ending none)))
+
+-- ---- whether they were stopped
+
+-- all that were asked for are made, or there are no others
+pub all_made : (stops : Bool) (n : ℕ) (how : TurnsEnd) → how.is_stopped ≡ false → AreSome stops n how n
+all_made stops n how off = record {
+  most = omega arith;
+  all = λ h. refl;
+  stopped = λ on. absurd (true≢false (sym on ∙ off));
+}
+
+pub stopped_at : (stops : Bool) (n made : ℕ) (how : TurnsEnd) → made ≤ n → how.is_stopped ≡ true → stops ≡ true → AreSome stops n how made
+stopped_at stops n made how few on may = record {
+  most = few;
+  all = λ off. absurd (true≢false (sym on ∙ off));
+  stopped = λ h. may;
+}

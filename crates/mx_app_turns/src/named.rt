@@ -1,6 +1,6 @@
 //! Processes that a line names: by an endpoint or a slot, or by the name of their service.
 
-ghost use Rattle.std.specs.Prelude.{◌≡◌, ◌≤◌, IfSome, length, position};
+ghost use Rattle.std.specs.Prelude.{◌≡◌, ◌<◌, IfSome, length, position};
 ghost use Rattle.std.specs.Str.{bytes_eq};
 ghost use Rattle.mx_machine.specs.declared.config.ServiceLine.{ServiceLine as Line};
 ghost use Rattle.mx_text.specs.Fields.{fields};
@@ -13,7 +13,8 @@ use mx_turns::OutsideLine;
 
 /// The place of the line that has this name.
 fn place_of(lines: &[ServiceLine], name: Name) -> Option<usize>
-    ensures { result ≡ position (λ (l : Line). bytes_eq l.name.bytes name.bytes) lines.now }
+    ensures place { result ≡ position (λ (l : Line). bytes_eq l.name.bytes name.bytes) lines.now }
+    ensures within { IfSome result (λ i. i < length lines.now) }
 {
     lines.iter().position(|line| line.name == name)
 }

@@ -1,9 +1,8 @@
 -- Turns make records: each that isn't the last makes one, or uses up a line or a kill.
-use Rattle.std.proofs.Common.{◌≡◌, ◌≢◌, ◌∙◌, ◌⊎◌, ◌≤◌, ◌<◌, ℕ, zero, suc, ◌+◌, ◌-◌, ◌++◌, ◌||◌, ◌&&◌, ◌==◌, not, nat_lt, Bool, true, false, List, [], ◌∷◌, cond, drop, length, map, Option, Some, None, is_none, slice_get, slice_index_or, inl, inr, refl, ap, sym, subst, arith, true≢false}
-use Rattle.std.specs.List.{flat_map, range_with_len}
+use Rattle.std.proofs.Common.{◌≡◌, ◌≢◌, ◌∙◌, ◌⊎◌, ◌≤◌, ◌<◌, ℕ, zero, suc, ◌+◌, ◌++◌, ◌||◌, ◌&&◌, ◌==◌, not, nat_lt, Bool, true, false, List, [], ◌∷◌, cond, drop, length, map, Option, Some, None, is_none, slice_get, slice_index_or, inl, inr, refl, ap, sym, subst, arith, true≢false}
+use Rattle.std.specs.List.{range_with_len}
 use Rattle.std.proofs.lemmas.Bool.{cases_lt, lt-ltb}
 use Rattle.mx_machine.specs.CallRefusals.{owner_of}
-use Rattle.mx_machine.specs.Proc.Endpoints.{is_alive}
 use Rattle.mx_machine.specs.Proc.declared.process.Process.{Process}
 use Rattle.mx_machine.specs.Proc.Queues.{first_ready}
 use Rattle.mx_machine.specs.Proc.States.{is_down}
@@ -13,19 +12,18 @@ use Rattle.mx_machine.specs.Service.{Service}
 use Rattle.mx_machine.specs.declared.events.Event.{Event}
 use Rattle.mx_machine.specs.declared.events.Event.TheVariants.{Step, Take, Back, Line, Tick, Kill, Respawn}
 use Rattle.mx_machine.specs.declared.events.Refusal.{Refusal}
-use Rattle.mx_machine.specs.declared.events.Refusal.TheVariants.{AtStop, CpuBusy, CpuEmpty, LogFull, NotDown, Worn}
+use Rattle.mx_machine.specs.declared.events.Refusal.TheVariants.{CpuBusy, CpuEmpty, LogFull, NotDown, Worn}
 use Rattle.mx_machine.specs.Held.{held_run}
 use Rattle.mx_machine.specs.History.{world_after_events}
-use Rattle.mx_machine.specs.Move.{back_refusal, event_refusal, if_full, kill_refusal, line_refusal, respawn_refusal, step_refusal, take_refusal, world_after_back, world_after_event, world_after_line, world_after_respawn, world_after_step, world_after_take}
+use Rattle.mx_machine.specs.Move.{back_refusal, event_refusal, if_full, line_refusal, respawn_refusal, take_refusal, world_after_back, world_after_event, world_after_line, world_after_respawn, world_after_step, world_after_take}
 use Rattle.mx_machine.specs.Rest.{at_rest, down_are_worn}
 use Rattle.mx_machine.specs.Steps.{steps_of}
 use Rattle.mx_machine.specs.World.{World, HeldProcess, free_records, held_by, out_count}
 use Rattle.mx_machine.proofs.ReplayLemmas.{after_append}
-use Rattle.mx_turns.specs.declared.turns.Ending.{Ending}
 use Rattle.mx_turns.specs.declared.turns.Ending.TheVariants.{Rest, Turns, Full}
 use Rattle.mx_turns.specs.declared.outside.OutsideLine.{OutsideLine}
 use Rattle.mx_turns.specs.declared.outside.OutsideLine.TheVariants.{Plain}
-use Rattle.mx_turns.specs.Turns.{Course, Offered, is_over, most_steps, next_now, offered, offered_first, outside, refusable, respawns, run_of, runs, takes, then_offered, then_turns, turn, turns, world_after}
+use Rattle.mx_turns.specs.Turns.{Course, Offered, is_over, most_steps, next_now, offered, offered_first, outside, refusable, respawns, run_of, runs, takes, then_offered, turn, turns, world_after}
 use Rattle.mx_turns.proofs.OfferLemmas.{Offers, empty_offered, offered_more, runs_more, steps_offered}
 use Rattle.mx_turns.proofs.MadeLemmas.{back_not_full}
 use Rattle.mx_turns.proofs.RoundLemmas.{refusal_of_back, still_held}

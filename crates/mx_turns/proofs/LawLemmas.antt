@@ -1,11 +1,10 @@
 -- Laws of turns.
-use Rattle.std.proofs.Common.{◌≡◌, ◌≢◌, ◌∙◌, ℕ, zero, suc, ◌+◌, ◌++◌, ◌&&◌, Bool, true, false, List, [], ◌∷◌, cond, drop, slice_get, is_none, refl, ap, sym, arith, append_assoc}
+use Rattle.std.proofs.Common.{◌≡◌, ◌≢◌, ◌∙◌, ℕ, zero, suc, ◌+◌, ◌++◌, Bool, true, false, List, [], cond, drop, slice_get, refl, ap, sym, arith, append_assoc}
 use Rattle.std.proofs.lemmas.List.{drop-drop}
 use Rattle.mx_machine.specs.History.{world_after_events}
 use Rattle.mx_machine.specs.Rest.{at_rest}
 use Rattle.mx_machine.specs.World.{World}
 use Rattle.mx_machine.proofs.ReplayLemmas.{after_append}
-use Rattle.mx_turns.specs.declared.turns.Ending.{Ending}
 use Rattle.mx_turns.specs.declared.turns.Ending.TheVariants.{Rest, Turns, Full}
 use Rattle.mx_turns.specs.declared.outside.OutsideLine.{OutsideLine}
 use Rattle.mx_turns.specs.Turns.{Course, is_over, joined, turn, turns, world_after}

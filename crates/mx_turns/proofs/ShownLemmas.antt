@@ -1,5 +1,5 @@
 -- What is shown of turns in a row.
-use Rattle.std.proofs.Common.{◌≡◌, ◌∙◌, ℕ, zero, suc, ◌+◌, ◌-◌, ◌<◌, ◌≤◌, ◌++◌, ◌&&◌, Bool, true, false, List, [], ◌∷◌, cond, drop, length, map, Option, Some, None, is_none, slice_get, refl, ap, sym, subst, arith, append_assoc}
+use Rattle.std.proofs.Common.{◌≡◌, ◌∙◌, ℕ, zero, suc, ◌+◌, ◌-◌, ◌<◌, ◌≤◌, ◌++◌, ◌&&◌, Bool, true, false, List, [], ◌∷◌, cond, length, map, Option, Some, None, is_none, slice_get, refl, ap, sym, subst, arith, append_assoc}
 use Rattle.std.specs.Prelude.{filter}
 use Rattle.std.specs.List.{range_with_len}
 use Rattle.std.proofs.lemmas.List.{append-nil, map-append}
@@ -16,10 +16,10 @@ use Rattle.mx_machine.specs.Rest.{at_rest}
 use Rattle.mx_machine.specs.World.{World, HeldProcess, held_by}
 use Rattle.mx_machine.proofs.ReplayLemmas.{after_append}
 use Rattle.mx_walk.specs.declared.progress.Part.{Part}
-use Rattle.mx_turns.specs.Made.{HasMade, HasOffered}
+use Rattle.mx_turns.specs.Made.{HasOffered}
 use Rattle.mx_turns.specs.Shown.{goes_on, goes_on_after, part_after, part_of, turns_shown}
 use Rattle.mx_turns.specs.declared.outside.OutsideLine.{OutsideLine}
-use Rattle.mx_turns.specs.Turns.{Course, turn, turns}
+use Rattle.mx_turns.specs.Turns.{turn}
 use Rattle.mx_turns.proofs.GrowthLemmas.{one_more}
 use Rattle.mx_turns.proofs.OfferLemmas.{Offers, range_more}
 use Rattle.mx_turns.proofs.TurnLemmas.{StandsAfter, ended_full, ended_over, going_on}

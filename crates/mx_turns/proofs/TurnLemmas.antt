@@ -8,7 +8,7 @@ use Rattle.mx_machine.specs.CallRefusals.{owner_of}
 use Rattle.mx_machine.specs.declared.events.Event.{Event}
 use Rattle.mx_machine.specs.declared.events.Event.TheVariants.{Step, Take, Back, Line, Tick, Kill, Respawn}
 use Rattle.mx_machine.specs.History.{replay, world_after_events}
-use Rattle.mx_machine.specs.Move.{world_after_back, world_after_event, world_after_line, world_after_respawn, world_after_step, world_after_take, held_at_take, world_with_record, table_after_sending_out}
+use Rattle.mx_machine.specs.Move.{world_after_back, world_after_event, world_after_line, world_after_respawn, world_after_step, world_after_take}
 use Rattle.mx_machine.specs.Rest.{at_rest, down_are_worn}
 use Rattle.mx_machine.specs.World.{World, HeldProcess, actors, held_by}
 use Rattle.mx_machine.specs.Machine.{MachineState, world_of}
@@ -18,7 +18,7 @@ use Rattle.mx_turns.specs.declared.turns.Ending.{Ending}
 use Rattle.mx_turns.specs.declared.turns.Ending.TheVariants.{Rest, Turns, Full}
 use Rattle.mx_turns.specs.Made.{HasMade, HasOffered}
 use Rattle.mx_turns.specs.declared.outside.OutsideLine.{OutsideLine}
-use Rattle.mx_turns.specs.Turns.{Course, Offered, is_over, joined, next_now, offered, outside, respawns, runs, takes, then_offered, then_turns, turn, turns, world_after}
+use Rattle.mx_turns.specs.Turns.{Course, Offered, joined, next_now, offered, outside, respawns, runs, takes, then_offered, then_turns, turn, turns, world_after}
 use Rattle.mx_turns.proofs.OfferLemmas.{Offers}
 use Rattle.mx_turns.proofs.MadeLemmas.{none_made, then_done, then_made}
 

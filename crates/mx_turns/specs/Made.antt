@@ -11,8 +11,7 @@ use Rattle.mx_machine.specs.Machine.{MachineState, kept_along, world_of}
 use Rattle.mx_turns.specs.declared.outside.Outside.{Outside}
 use Rattle.mx_turns.specs.declared.outside.OutsideLine.{OutsideLine}
 use Rattle.mx_turns.specs.declared.outside.OutsideLine.TheVariants.{Plain}
-use Rattle.mx_turns.specs.declared.turns.Ending.{Ending}
-use Rattle.mx_turns.specs.Turns.{Course, Offered}
+use Rattle.mx_turns.specs.Turns.{Offered}
 
 -- From m the machine made these events, each of which was accepted, and became n; its history is longer by their
 -- records.

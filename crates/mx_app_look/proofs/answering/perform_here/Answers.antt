@@ -49,9 +49,6 @@ pub returns-in-Help-clause-shown : goal.returns-in-Help-clause-shown
 returns-in-Help-clause-shown g c = stayed_shown c.show_help.result c.args.sight c.args.request.now (Help) (g.P.Progress.shown c.args.progress.now) c.in-Help.is refl
 
 pub returns-in-Help-clause-grown : goal.returns-in-Help-clause-grown
-returns-in-Help-clause-grown g c = err_always c.say.result _ (grown_none _)
-
-pub returns-in-Help-clause-grown : goal.returns-in-Help-clause-grown
 returns-in-Help-clause-grown g c = err_always c.show_help.result _ (grown_none _)
 
 pub returns-in-Nothing-clause-shown : goal.returns-in-Nothing-clause-shown

@@ -1,13 +1,14 @@
-use Rattle.std.proofs.Common.{◌≡◌, ◌∙◌, ℕ, Result, false, inr, subst, sym, true}
+use Rattle.std.proofs.Common.{◌≡◌, ◌∙◌, ℕ, Result, false, inr, subst, sym}
 use Rattle.std.specs.Prelude.{OnOk}
 use Rattle.mx_machine.specs.declared.events.Refusal.{Refusal}
 use Rattle.mx_cpus.specs.Courses.{IsTurn, turn_number}
 use Rattle.mx_cpus.proofs.LoopLemmas.{IsCounted, one_turn, turn_to}
 use Rattle.mx_cpus.proofs.loops.turn_or_wait.Goals as goal
 
-pub ask_stop-side-requires-clause-goes_on : goal.ask_stop-side-requires-clause-goes_on
-ask_stop-side-requires-clause-goes_on g c =
-    (subst (λ (r : Result (Unit {0}) Refusal). OnOk r (IsCounted c.args.side c.make_turn-seat.result.1)) c.in-Ok.is c.make_turn-seat.ensures.counted).2
+pub ask_stop-side-requires : goal.ask_stop-side-requires
+ask_stop-side-requires g c = record {
+  goes_on = (subst (λ (r : Result (Unit {0}) Refusal). OnOk r (IsCounted c.args.side c.make_turn-seat.result.1)) c.in-Ok.is c.make_turn-seat.ensures.counted).2;
+}
 
 pub returns-in-Ok-clause-more : goal.returns-in-Ok-clause-more
 returns-in-Ok-clause-more g c = λ on n number.

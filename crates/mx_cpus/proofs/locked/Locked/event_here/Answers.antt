@@ -1,4 +1,4 @@
-use Rattle.std.proofs.Common.{◌≡◌, ◌∙◌, ◌<◌, refl, sym, ap, subst}
+use Rattle.std.proofs.Common.{◌≡◌, ◌∙◌, ◌<◌, sym, ap, subst}
 use Rattle.mx_machine.specs.History.{replay}
 use Rattle.mx_machine.specs.World.{actors}
 use Rattle.mx_machine.specs.KernelState.{recorded_as}
@@ -42,12 +42,12 @@ returns-in-Ok-clause-ok g c =
     let known = known_by z k d s is c.note-seat.ensures.known in
     let who = c.actor.ensures ∙ ap (λ (x : SeatView). x.actor) c.note-seat.ensures.seat in
     let now = seat_of_event z k d c.note-seat.new.self c.record.new.self s c.note-seat.result c.record.result c.recorded_as.result (recorded_as c.args.event) is c.note-seat.ensures.seat c.note-seat.ensures.desk c.record.ensures.desk c.record.ensures.seat c.recorded_as.ensures in
-    accepted_by g.M.Naming.boot k c.event.new.self s c.record.result c.actor.result (recorded_as c.args.event) s.held (λ w x. (x ≡ c.in-Ok.answer) × (w ≡ replay k)) c.self.invariant.0 known.0 known.1 who
-    ok.1.recorded now c.facts-in-Ok.ensures.accepted (for_all_answer (replay k) c.actor.result c.args.event c.requires.event ∙ sym ok.0, refl)
+    accepted_by g.M.Naming.boot k c.event.new.self s c.record.result c.actor.result (recorded_as c.args.event) s.held (λ w x. (x ≡ c.in-Ok.answer) × (w ≡ replay c.args.self.now)) c.self.invariant.0 known.0 known.1 who
+    ok.1.recorded now c.facts-in-Ok.ensures.accepted (for_all_answer (replay k) c.actor.result c.args.event c.requires.event ∙ sym ok.0, ap replay c.self.view_is)
 
 pub returns-in-Err-clause-err : goal.returns-in-Err-clause-err
 returns-in-Err-clause-err g c = (
   refused_by g.M.Naming.boot g.M.Naming.table c.self.inside.kernel c.self.inside.desk c.args.seat c.note-seat.result c.actor.result c.args.event c.in-Err.refusal c.self.invariant.0 c.self.invariant.2
       c.note-seat.ensures.known c.note-seat.ensures.seat c.actor.ensures c.facts-2.ensures.accepted c.in-Err.ensures.err.0,
-  sym (world_seen g.M.Naming.boot g.M.Naming.table c.self.inside.kernel c.self.inside.desk c.args.seat c.note-seat.result c.self.invariant.0 c.self.invariant.2 c.note-seat.ensures.seat),
+  sym (world_seen g.M.Naming.boot g.M.Naming.table c.self.inside.kernel c.self.inside.desk c.args.seat c.note-seat.result c.self.invariant.0 c.self.invariant.2 c.note-seat.ensures.seat) ∙ ap replay c.self.view_is,
 )
