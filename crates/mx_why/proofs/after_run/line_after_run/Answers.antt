@@ -1,4 +1,4 @@
-use Rattle.std.proofs.Common.{List, ℕ, ◌∙◌, ◌<◌, ap, take, inl, inr, refl}
+use Rattle.std.proofs.Common.{List, ◌∙◌, ◌<◌, ap, take, inl, inr, refl}
 use Rattle.std.proofs.lemmas.Result.{err_from_is_err_and}
 use Rattle.mx_app_start.specs.Machine.{world_of}
 use Rattle.mx_app_step.proofs.ReplayLemmas.{saved_by_actors}

@@ -1,4 +1,4 @@
-use Rattle.std.proofs.Common.{◌≡◌, ◌++◌, List, ℕ, codes}
+use Rattle.std.proofs.Common.{◌≡◌, ◌++◌, List, ℕ}
 use Rattle.std.specs.Prelude.{true}
 use Rattle.mx_why.specs.AfterRun.{fault_lines, idle_if_at_rest, marked_lines}
 use Rattle.mx_why.specs.Busy.{busy, busy_lines}
