@@ -28,8 +28,7 @@ returns-in_err-line-clause-fault g c =
 
 pub returns-clause-told : goal.returns-clause-told
 returns-clause-told g c =
-    let s = c.in_ok-started.ensures.started in
-    (
+    let s = c.in_ok-started.ensures.started in (
       s.0,
       s.1,
       s.2,
