@@ -52,6 +52,7 @@ use Rattle.mx_app_run.specs.declared.run_by_threads.RunEnding.{RunEnding}
 use Rattle.mx_app_turns.specs.declared.turning.TurnsEnd.{TurnsEnd}
 use Rattle.mx_walk.specs.Parts.{walk_shown}
 use Rattle.mx_walk.specs.Walks.{Walk}
+use Rattle.mx_why.specs.Checking.{ChecksConfig}
 use Rattle.mx_why.specs.Telling.{IsWhyPrinted}
 use Rattle.mx_app.specs.Deeds.{Deeds, IsAlone, nothing_done}
 use Rattle.mx_app.specs.Explained.{ExplainsConfig}
@@ -59,7 +60,7 @@ use Rattle.mx_app.specs.Named.{Assembles, ShowsFile}
 use Rattle.mx_app.specs.Sparing.{SparesRequest}
 use Rattle.mx_app.specs.declared.performing.Done.{Done}
 use Rattle.mx_why.specs.declared.telling.Told.{Told}
-use Rattle.mx_app.specs.Requests.{Debugs, Draws, Explains, Looks, Pages, Performs, PerformsApart, PerformsUntyped, Replays, SavesSteps, Shows, Steps, Talks, Traces, Whys, done_after_gdb, done_after_live, done_after_replay, done_after_run, done_after_sweep, done_after_turns, done_after_why, done_after_work, over_read}
+use Rattle.mx_app.specs.Requests.{Debugs, Draws, Explains, Looks, Pages, Performs, PerformsApart, PerformsUntyped, Replays, SavesSteps, Shows, Steps, Talks, Traces, Whys, done_after_check, done_after_gdb, done_after_live, done_after_replay, done_after_run, done_after_sweep, done_after_turns, done_after_why, done_after_work, over_read}
 
 -- what a request asked for and wrote, and what is done of it
 abbrev pub AsksAndWrites : List Asked → List Asked → List Written → List Written → (List Asked → List Written → Type 0) → Type 0
@@ -226,6 +227,11 @@ module _ (asked now : List Asked) (files : List Written) where
       → (q : Asked) × (now ≡ asked ++ q ∷ []) × ExplainsConfig name q (λ text. Appends x y text) d → r ≡ done_after_work d
       → WritesNone (λ qs ws. Explains name qs ws (λ text. Appends x y text) r)
   explains name x y d r p e = (p.0 ∷ [], [], p.1, sym (append-nil files), (p.0, d, refl, refl, p.2, e))
+
+  pub checks : (config : List ℕ) (x y : Option (List ℕ)) (d : Result Bool Kind) (r : Result Done Kind)
+      → (qs : List Asked) × (now ≡ asked ++ qs) × ChecksConfig config qs (λ text. Appends x y text) d → r ≡ done_after_check d
+      → WritesNone (λ qs ws. (e : Result Bool Kind) × (ws ≡ []) × ChecksConfig config qs (λ text. Appends x y text) e × (r ≡ done_after_check e))
+  checks config x y d r p e = (p.0, [], p.1, sym (append-nil files), (d, refl, p.2, e))
 
   pub steps : (config script : List ℕ) (numbered : Bool) (x y : Option (List ℕ)) (d : Result (Unit {0}) Kind) (r : Result Done Kind)
       → OnOk d ((qs : List Asked) × (c : Config) × (vs : List Service) × (said : List ScriptLine)

@@ -3,7 +3,7 @@ use Rattle.std.specs.Prelude.{◌≡◌, ◌⊎◌, ◌&&◌, ℕ, ◌-◌, Bool
 use Rattle.mx_app_command.specs.Files.{writes_over}
 use Rattle.mx_app_command.specs.declared.command_line.CommandRequest.{CommandRequest}
 use Rattle.mx_app_command.specs.declared.command_line.RecordRange.{RecordRange}
-use Rattle.mx_app_command.specs.declared.command_line.CommandRequest.TheVariants.{One, As, Show, Explain, Step, Run, Turns, Live, Sweep, Replay, Trace, Draw, Page, SweptPage, Look, Gdb, Why, Db}
+use Rattle.mx_app_command.specs.declared.command_line.CommandRequest.TheVariants.{One, As, Show, Explain, Check, Step, Run, Turns, Live, Sweep, Replay, Trace, Draw, Page, SweptPage, Look, Gdb, Why, Db}
 use Rattle.mx_app_db.specs.ScriptLine.{ScriptLine}
 use Rattle.mx_app_db.specs.declared.script.DebugLine.{DebugLine}
 use Rattle.mx_app_failure.specs.declared.failure.Failure.{Failure as Kind}
@@ -56,6 +56,7 @@ use Rattle.mx_walk.specs.Parts.{walk_shown}
 use Rattle.mx_walk.specs.Walks.{Walk}
 use Rattle.mx_app_db.specs.DebugLines.{DebuggedWorld, debug_lines_made}
 use Rattle.mx_app_db.specs.LineTexts.{debug_lines_text}
+use Rattle.mx_why.specs.Checking.{ChecksConfig}
 use Rattle.mx_why.specs.Telling.{IsWhyPrinted}
 use Rattle.mx_why.specs.declared.telling.Told.{Told}
 use Rattle.mx_why.specs.declared.telling.Told.TheVariants as tolds
@@ -129,6 +130,11 @@ abbrev pub done_after_why : Bool → Result Told Kind → Result Done Kind
 done_after_why strict (Ok (tolds.Whole marked)) = Ok (with_status (if strict && marked then 1 else 0))
 done_after_why strict (Ok tolds.Refused) = Ok (with_status 1)
 done_after_why strict (Err f) = Err f
+
+-- it is told what can't work; the status is 1 if there is any
+abbrev pub done_after_check : Result Bool Kind → Result Done Kind
+done_after_check (Ok lacks) = Ok (with_status (if lacks then 1 else 0))
+done_after_check (Err f) = Err f
 
 -- ---- machines: the files are as the start wants them, and the text is printed, after the lines' numbers if that is
 -- asked; or it fails by the first fault
@@ -250,6 +256,8 @@ PerformsUntyped (As text file) qs ws Prints r =
 PerformsUntyped (Show file listing) qs ws Prints r =
     Shows (λ bytes text. IsShown (IsListingOf listing) bytes text) file.now qs ws Prints r
 PerformsUntyped (Explain config) qs ws Prints r = Explains config.now qs ws Prints r
+PerformsUntyped (Check config) qs ws Prints r =
+    (d : Result Bool Kind) × (ws ≡ []) × ChecksConfig config.now qs Prints d × (r ≡ done_after_check d)
 PerformsUntyped (Step config script None numbered) qs ws Prints r =
     (d : Result (Unit {0}) Kind) × (ws ≡ []) × Steps config.now script.now numbered qs Prints d
     × (r ≡ done_after_work d)

@@ -2,7 +2,7 @@
 
 ghost use Rattle.std.specs.Prelude.{◌≡◌};
 ghost use Rattle.mx_app.specs.Deeds.{Does};
-ghost use Rattle.mx_app.specs.Requests.{Performs, PerformsApart, done_after_driving, done_after_gdb, done_after_live, done_after_replay, done_after_run, done_after_sweep, done_after_turns, done_after_why, done_after_work, with_status};
+ghost use Rattle.mx_app.specs.Requests.{Performs, PerformsApart, done_after_check, done_after_driving, done_after_gdb, done_after_live, done_after_replay, done_after_run, done_after_sweep, done_after_turns, done_after_why, done_after_work, with_status};
 
 use crate::command_io::CommandIo;
 use crate::ending::DrivenEnding;
@@ -23,7 +23,7 @@ use mx_app_turns::{
     SweepNames, SweepWanted, Swept, TurnsEnd, TurnsNames, TurnsWanted, Untested, sweep, turns,
 };
 use mx_walk::Progress;
-use mx_why::{Told, why};
+use mx_why::{Told, check, why};
 use std::alloc::Global;
 use std::io::Write;
 use std::rt::Files;
@@ -64,6 +64,16 @@ fn done_after_work(done: Result<(), Failure>) -> Result<Done, Failure>
 {
     match done {
         Ok(()) => Ok(Done::with_status(0)),
+        Err(failure) => Err(failure),
+    }
+}
+
+/// What is done after a check: the status is 1 if something can't work.
+fn done_after_check(done: Result<bool, Failure>) -> Result<Done, Failure>
+    ensures { result ≡ done_after_check done }
+{
+    match done {
+        Ok(lacks) => Ok(Done::with_status(u8::from(lacks))),
         Err(failure) => Err(failure),
     }
 }
@@ -229,6 +239,11 @@ fn perform_apart<
             let reader = &mut channels.reader;
             let out = &mut channels.out;
             done_after_work(explain_named(alloc, reader, config, out))
+        }
+        CommandRequest::Check { config } => {
+            let reader = &mut channels.reader;
+            let out = &mut channels.out;
+            done_after_check(check(alloc, reader, config, out))
         }
         CommandRequest::Step {
             config,

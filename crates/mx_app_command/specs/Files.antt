@@ -6,7 +6,7 @@ use Rattle.mx_app_command.specs.declared.files.FileKind.TheVariants as kinds
 use Rattle.mx_app_command.specs.declared.files.NamedWord.{NamedWord}
 use Rattle.mx_app_command.specs.declared.files.ReadWords.{ReadWords}
 use Rattle.mx_app_command.specs.declared.command_line.CommandRequest.{CommandRequest}
-use Rattle.mx_app_command.specs.declared.command_line.CommandRequest.TheVariants.{One, As, Show, Explain, Step, Run, Turns, Live, Sweep, Replay, Trace, Draw, Page, SweptPage, Look, Gdb, Why, Db}
+use Rattle.mx_app_command.specs.declared.command_line.CommandRequest.TheVariants.{One, As, Show, Explain, Check, Step, Run, Turns, Live, Sweep, Replay, Trace, Draw, Page, SweptPage, Look, Gdb, Why, Db}
 
 -- A word of the command line that names a file: the word as help has it, and the name.
 pub record FileWord : Type 0 where
@@ -49,6 +49,7 @@ files_read (One file steps) = one_file (codes "FILE") file.now
 files_read (As text file) = one_file (codes "TEXT") text.now
 files_read (Show file listing) = one_file (codes "FILE") file.now
 files_read (Explain config) = one_file (codes "CONFIG") config.now
+files_read (Check config) = one_file (codes "CONFIG") config.now
 files_read (Step config script save numbered) = with_course config.now (codes "SCRIPT") script.now
 files_read (Run config log ticks events stop) = with_events config.now (option_map (λ s. s.now) events)
 files_read (Turns config log ticks events bound stop) = with_events config.now (option_map (λ s. s.now) events)

@@ -2,7 +2,7 @@
 
 ghost use Rattle.std.specs.Prelude.{◌≡◌, ◌&&◌, ◌⊎◌, ℕ, Bool, IfErr, IfOk, MatchResult, None, [], codes, is_none, is_some, map, option_map, true};
 ghost use Rattle.clap.specs.Words.{FailsBy, HasMatchesOf, fault_of, first_of, found_of, kind_of, rows_of, subcommand_of, takes};
-ghost use Rattle.mx_app_command.specs.Words.{Asks, AsksBy, AsksForForce, AsksForSilence, AsksForSums, AsksToExplain, HasNumber, HasNumberIf, HasNumberOr, HasRange, HasText, IsAsked, IsFlag, IsHistoryAsked, IsMachineAsked, IsOtherHistoryAsked, IsProgramAsked, IsRecordsAsked, IsScriptAsked, MayHaveNumber, MayHaveRange, MayHaveStrip, MayHaveSweep, MayHaveText, MayHaveTurns, is_following, is_machine, is_on, mx_grammar};
+ghost use Rattle.mx_app_command.specs.Words.{Asks, AsksBy, AsksForForce, AsksForSilence, AsksForSums, AsksToBeStrict, AsksToExplain, HasNumber, HasNumberIf, HasNumberOr, HasRange, HasText, IsAsked, IsFlag, IsHistoryAsked, IsMachineAsked, IsOtherHistoryAsked, IsProgramAsked, IsRecordsAsked, IsScriptAsked, MayHaveNumber, MayHaveRange, MayHaveStrip, MayHaveSweep, MayHaveText, MayHaveTurns, is_following, is_machine, is_on, mx_grammar};
 ghost use Rattle.mx_app_command.specs.Mistakes.{IsMistake, IsOutOfMemory, has_both, has_course, lacks_fault, lacks_live, mistake_given, mistake_in};
 
 use crate::grammar::grammar;
@@ -52,6 +52,10 @@ pub enum CommandRequest<'a> {
     },
     /// `explain CONFIG`.
     Explain {
+        config: &'a str,
+    },
+    /// `explain CONFIG --check`.
+    Check {
         config: &'a str,
     },
     /// `step CONFIG SCRIPT`, with `--save LOG` and `--numbered` or without.
@@ -183,6 +187,9 @@ pub struct CommandLine<'a> {
     pub sums: Option<&'a str>,
     /// Whether a file is written over whatever it holds.
     pub force: bool,
+    /// Whether the status is 1 if a history that is made has a mark, a line of `why` that no right machine has. A
+    /// sweep and `why` have their own.
+    pub strict: bool,
 }
 
 /// Why the words of a command line ask for nothing.
@@ -545,6 +552,18 @@ fn history_request<'a>(name: &str, config: &'a str, matches: &ArgMatches<'a>) ->
     }
 }
 
+/// What the words of `explain` ask for.
+fn explain_request<'a>(config: &'a str, matches: &ArgMatches<'a>) -> CommandRequest<'a>
+    requires { HasText (codes "CONFIG") (rows_of (found_of matches.now)) config.now }
+    ensures { AsksBy result (codes "explain") (rows_of (found_of matches.now)) }
+{
+    if is_on(matches, "check") {
+        CommandRequest::Check { config }
+    } else {
+        CommandRequest::Explain { config }
+    }
+}
+
 /// What the words of a subcommand on a machine ask for.
 fn machine_request<'a>(name: &str, matches: &ArgMatches<'a>) -> CommandRequest<'a>
     requires { IsMachineAsked name.now (rows_of (found_of matches.now)) }
@@ -552,7 +571,7 @@ fn machine_request<'a>(name: &str, matches: &ArgMatches<'a>) -> CommandRequest<'
 {
     let config = value_asked(matches, "CONFIG");
     if name == "explain" {
-        CommandRequest::Explain { config }
+        explain_request(config, matches)
     } else if name == "step" || name == "db" {
         script_request(name, config, matches)
     } else {
@@ -676,6 +695,8 @@ pub fn command<'a>(alloc: Global, words: &'a [&'a str]) -> Result<CommandLine<'a
         (subcommand_of mx_grammar (map (λ s. s.now) words.now))) }
     ensures force { IfOk result (λ l. AsksForForce l.force
         (subcommand_of mx_grammar (map (λ s. s.now) words.now))) }
+    ensures strict { IfOk result (λ l. AsksToBeStrict l.strict
+        (subcommand_of mx_grammar (map (λ s. s.now) words.now))) }
     ensures passes { IfErr result (λ m.
         (takes mx_grammar (map (λ s. s.now) words.now)
         && is_none (mistake_given (subcommand_of mx_grammar (map (λ s. s.now) words.now)))) ≡ true
@@ -698,6 +719,7 @@ pub fn command<'a>(alloc: Global, words: &'a [&'a str]) -> Result<CommandLine<'a
                 silent: flag_asked(found, "no-explain"),
                 sums: value_if_asked(found, "SUMS"),
                 force: is_on(found, "force"),
+                strict: is_on(found, "strict"),
             })
         }
         None => unreachable!(),

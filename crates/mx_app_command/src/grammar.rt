@@ -81,6 +81,13 @@ const CONFIG: CommandArgument<'static> = CommandArgument {
     form: ArgumentForm::Text,
 };
 
+/// Whether it is only told what can't work.
+const CHECK: CommandArgument<'static> = CommandArgument {
+    name: "check",
+    help: "Prints only what can't work, by CONFIG and the programs alone: ends with status 1 if there is any",
+    form: ArgumentForm::Flag,
+};
+
 /// What happens to it.
 const SCRIPT: CommandArgument<'static> = CommandArgument {
     name: "SCRIPT",
@@ -211,6 +218,13 @@ const JOBS: CommandArgument<'static> = CommandArgument {
 const STRICT: CommandArgument<'static> = CommandArgument {
     name: "strict",
     help: "Ends with status 1 if the fault changes the outcome of a position, or tests none",
+    form: ArgumentForm::Flag,
+};
+
+/// Whether a mark of the history that is made is an error.
+const STRICT_RUN: CommandArgument<'static> = CommandArgument {
+    name: "strict",
+    help: "Ends with status 1 if LOG tells what no right machine does, as mx why says it",
     form: ArgumentForm::Flag,
 };
 
@@ -359,7 +373,7 @@ static MACHINE_COMMANDS: [Subcommand<'static>; 3] = [
     Subcommand {
         name: "explain",
         help: "Prints what the services of a machine may do, one a line",
-        arguments: &[CONFIG, EXPLAIN, SILENT],
+        arguments: &[CONFIG, CHECK, EXPLAIN, SILENT],
         example: Example::Explain,
     },
     Subcommand {
@@ -386,6 +400,7 @@ static MACHINE_COMMANDS: [Subcommand<'static>; 3] = [
             TICKS,
             CALLS,
             STOP,
+            STRICT_RUN,
             WRITTEN_SUMS,
             FORCE,
             EXPLAIN,
@@ -410,6 +425,7 @@ static TURN_COMMANDS: [Subcommand<'static>; 2] = [
             RAW,
             HERTZ,
             STOP,
+            STRICT_RUN,
             WRITTEN_SUMS,
             FORCE,
             EXPLAIN,

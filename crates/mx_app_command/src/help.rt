@@ -136,8 +136,13 @@ A line for each service: its slot and name, and what its masks allow. The servic
 programs aren't read. Whoever sends needs the trap SEND, SENDREC or NOTIFY, and
 whoever makes kernel calls needs SENDREC. No mask says from whom one may RECEIVE.
 
-Status: 0 done; 1 CONFIG is refused; 2 a mistake in the words; 3 CONFIG can't be
-read; 4 no memory. Formats: docs/use/REFERENCE.md.";
+With --check it reads the programs too, and prints only what can't work by them and
+CONFIG alone, as mx why has it in lines of CONFIG: bits of masks that mean nothing,
+questions that nobody may answer, a program without an instruction.
+
+Status: 0 done; 1 CONFIG is refused, or, with --check, a program, or something can't
+work; 2 a mistake in the words; 3 a file can't be read; 4 no memory. Formats:
+docs/use/REFERENCE.md.";
 
 /// A configuration, and a script.
 const STEP_EXAMPLE: &str = "In the folder examples/machines/alarm:
@@ -221,9 +226,10 @@ which ends after N records more, or if the machine is at rest. A service's name 
 for E and S. A line may be empty, or end with # and a comment. The run ends after the
 last.
 
-Status: 0 done, also if the history was full; 1 a text or a program's file is refused;
-2 a mistake in the words; 3 a file can't be read or written, or LOG is CONFIG; 4 no
-memory; 5 the run was stopped. Formats: docs/use/REFERENCE.md.";
+Status: 0 done, also if the history was full; 1 a text or a program's file is refused,
+or, with --strict, LOG tells what no right machine does (mx why --help); 2 a mistake in
+the words; 3 a file can't be read or written, or LOG is CONFIG; 4 no memory; 5 the run
+was stopped. Formats: docs/use/REFERENCE.md.";
 
 /// Turns on one thread, and their history.
 const TURNS_EXAMPLE: &str = "In the folder examples/machines/pair:
@@ -249,9 +255,10 @@ events, one a line: line L, tick, kill E or respawn S, where a service's name ma
 for E and S. A line may be empty, or end with # and a comment. It isn't given together
 with --ticks.
 
-Status: 0 done, also if the history was full; 1 a text or a program's file is refused;
-2 a mistake in the words; 3 a file can't be read or written, or LOG is CONFIG; 4 no
-memory. Formats: docs/use/REFERENCE.md.";
+Status: 0 done, also if the history was full; 1 a text or a program's file is refused,
+or, with --strict, LOG tells what no right machine does (mx why --help); 2 a mistake in
+the words; 3 a file can't be read or written, or LOG is CONFIG; 4 no memory. Formats:
+docs/use/REFERENCE.md.";
 
 /// A history with a fault at each position.
 const SWEEP_EXAMPLE: &str = "In the folder examples/machines/pair:
@@ -439,7 +446,7 @@ with waits: of a process that an interrupt line or an alarm may make go on; with
 one that computes without a call; with CONFIG: of what the configuration alone forbids.
 What one record did is shown by the line why of mx look.
 
-Status: 0 done; 1 a text or a program's file is refused, or an event, whose line is
+Status: 0 done; 1 a text or a program's file is refused, or an event, whose record is
 named, or, with --strict, a line tells what no right machine does; 2 a mistake in the
 words; 3 a file can't be read; 4 no memory. Formats:
 docs/use/REFERENCE.md.";

@@ -3,7 +3,7 @@ use Rattle.std.specs.Prelude.{option_map}
 use Rattle.mx_app_command.specs.declared.command_line.CommandRequest.TheVariants.{Step}
 use Rattle.mx_app_program.specs.One.{IsPrinted}
 use Rattle.mx_app_program.specs.Shown.{IsListingOf, IsShown}
-use Rattle.mx_app.proofs.Doing.{as_asked, as_known, as_typed, assembled, debugs, draws, explains, lived, looks, pages, replays, runs, saved, shows, steps, swept, swept_pages, talked, traces, turned, whys}
+use Rattle.mx_app.proofs.Doing.{as_asked, as_known, as_typed, assembled, checks, debugs, draws, explains, lived, looks, pages, replays, runs, saved, shows, steps, swept, swept_pages, talked, traces, turned, whys}
 use Rattle.mx_app.proofs.performing.perform_apart.Goals as goal
 
 pub returns-in-One-clause-done : goal.returns-in-One-clause-done
@@ -29,6 +29,12 @@ returns-in-Explain-clause-done g c =
     as_asked (g.P.SharedProgress.was_shown c.args.io.now.progress) c.args.io.now.asks _ _ _ _ _ _ c.args.request
     (as_known _ _ _ _ _ _ _ _ c.in-Explain.is
     (explains _ _ _ c.in-Explain.config.now _ _ c.explain_named.result c.done_after_work-in-Explain.result c.explain_named.ensures c.done_after_work-in-Explain.ensures))
+
+pub returns-in-Check-clause-done : goal.returns-in-Check-clause-done
+returns-in-Check-clause-done g c =
+    as_asked (g.P.SharedProgress.was_shown c.args.io.now.progress) c.args.io.now.asks _ _ _ _ _ _ c.args.request
+    (as_known _ _ _ _ _ _ _ _ c.in-Check.is
+    (checks _ _ _ c.in-Check.config.now _ _ c.check.result c.done_after_check.result c.check.ensures c.done_after_check.ensures))
 
 pub returns-in-None-clause-done : goal.returns-in-None-clause-done
 returns-in-None-clause-done g c =
