@@ -255,9 +255,9 @@ value_of_same (suc k) a b xs ys h =
     let rest : value_at xs (suc a) k ≡ value_at ys (suc b) k =
     value_of_same k (suc a) (suc b) xs ys
     (λ i lt.
-      let on : suc a + i ≡ a + suc i = omega arith in
-      let on' : b + suc i ≡ suc b + i = omega arith in
-      ap (slice_index xs) on ∙ h (suc i) (omega (arith, lt)) ∙ ap (slice_index ys) on') in
+    let on : suc a + i ≡ a + suc i = omega arith in
+    let on' : b + suc i ≡ suc b + i = omega arith in
+    ap (slice_index xs) on ∙ h (suc i) (omega (arith, lt)) ∙ ap (slice_index ys) on') in
     ap (λ n. n + 256 * value_at xs (suc a) k) first ∙ ap (λ n. slice_index ys b + 256 * n) rest
 
 -- ---- bytes of a memory, from an address on, that are the first ones of another

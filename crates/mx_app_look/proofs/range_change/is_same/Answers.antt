@@ -36,8 +36,8 @@ loop-done-2-preserved c =
     record {
       same = more c.args.memory.now c.args.other.now at c.args.count c.requires.inside c.requires.there done 1 few c.loop-done-2.invariant.same
           (λ j lt.
-            let here : at + done + j ≡ at + done = omega (arith, lt) in
-            let there : done ≡ done + j = omega (arith, lt) in
-            ap (slice_index c.args.memory.now) here ∙ byte ∙ ap (slice_index c.args.other.now) there);
+          let here : at + done + j ≡ at + done = omega (arith, lt) in
+          let there : done ≡ done + j = omega (arith, lt) in
+          ap (slice_index c.args.memory.now) here ∙ byte ∙ ap (slice_index c.args.other.now) there);
       few = few;
     }
