@@ -236,14 +236,40 @@ class Stub:
     def watch_stop(self, watch):
         return self.stop(watch[0], b"watch:%x;" % watch[1])
 
-    def set_points(self, slots, without=None):
+    def pieces(self, watch):
+        slot, at, count = watch
+        return [(slot, at + i, min(16, count - i)) for i in range(0, count, 16)]
+
+    def set_points(self, slots, without, pieces):
         self.look.ask("clear")
         for slot, at in self.breaks:
             if slot in slots and slot != without:
                 self.look.ask(f"break {slot} {at}")
-        for slot, at, count in self.watches:
-            if slot in slots:
-                self.look.ask(f"watch {slot} {at} {count}")
+        for slot, at, count in pieces:
+            self.look.ask(f"watch {slot} {at} {count}")
+
+    def search(self, verb, slots, without=None):
+        """Where a search over the points of some slots halts, and what is said there; None if nothing is met. A session
+        has eight watches of 16 bytes at most, so points are tried in parts, and the nearest halt counts."""
+        here, found = self.at, None
+        pieces = [it for watch in self.watches if watch[0] in slots for it in self.pieces(watch)]
+        for i in range(0, len(pieces) or 1, 8):
+            self.set_points(slots, without, pieces[i : i + 8])
+            lines = self.ask(verb)
+            if "not met" not in lines:
+                nearer = found and (self.at < found[0] if verb == "continue" else self.at > found[0])
+                if found is None or nearer:
+                    found = self.at, lines
+                elif self.at == found[0]:
+                    found = self.at, found[1] + lines
+            self.go(here)
+        return found
+
+    def first_changed(self, lines):
+        """The first watch of whose bytes these lines say that they changed."""
+        said = [re.match(r"watch (\d+) ([0-9a-f]+):", line) for line in lines]
+        changed = {(int(it[1]), int(it[2], 16)) for it in said if it}
+        return next((it for it in self.watches if any(piece[:2] in changed for piece in self.pieces(it))), None)
 
     def slot_next(self):
         """Whose step is next."""
@@ -255,18 +281,17 @@ class Stub:
     def halt_before(self, to, slots, without=None):
         """The stop of the first halt from here on, if it is before a position, or right there and no breakpoint."""
         here = self.at
-        self.set_points(slots, without)
-        lines = self.ask("continue")
-        changed = [re.match(r"watch (\d+) ([0-9a-f]+):", line) for line in lines]
-        changed = [(int(it[1]), int(it[2], 16)) for it in changed if it]
+        found = self.search("continue", slots, without)
         fault = self.fault_after(here, slots)
-        is_met = "not met" not in lines
-        if fault and (not is_met or fault[0] <= self.at) and fault[0] <= to:
+        if fault and (not found or fault[0] <= found[0]) and fault[0] <= to:
             self.go(fault[0])
             return self.stop(fault[1], signal=SIGNALS.get(fault[2], 5))
-        if is_met and changed and self.at <= to:
-            return self.watch_stop(changed[0])
-        if is_met and not changed and self.at < to:
+        watch = self.first_changed(found[1]) if found else None
+        if watch and found[0] <= to:
+            self.go(found[0])
+            return self.watch_stop(watch)
+        if found and not watch and found[0] < to:
+            self.go(found[0])
             return self.stop(self.slot_next())
         self.go(here)
         return None
@@ -324,23 +349,20 @@ class Stub:
 
     def go_back(self):
         mover = self.goes if self.goes is not None else self.reads
-        self.set_points(self.seen())
-        lines = self.ask("reverse")
-        if "not met" in lines:
+        found = self.search("reverse", self.seen())
+        if not found:
+            self.go((0, 0))
             return self.stop(mover, b"replaylog:begin;")
+        self.go(found[0])
         slot = self.slot_next()
         if slot is not None and (slot, self.registers(slot)[8] - CODE) in self.breaks and slot in self.seen():
             return self.stop(slot)
-        for line in lines:
-            found = re.match(r"watch (\d+) ([0-9a-f]+):", line)
-            if found:
-                return self.watch_stop((int(found[1]), int(found[2], 16)))
-        raise SystemExit(f"no halt: {lines}")
+        watch = self.first_changed(found[1])
+        if watch is None:
+            raise SystemExit(f"no halt: {found}")
+        return self.watch_stop(watch)
 
     # ---- points
-
-    def pieces(self, slot, at, count):
-        return [(slot, at + i, min(16, count - i)) for i in range(0, count, 16)]
 
     def insert(self, kind, at, count):
         slot = self.reads
@@ -353,18 +375,20 @@ class Stub:
                     return FAULT
                 self.breaks.append(point)
             return DONE
-        pieces = (count + 15) // 16
-        if not count or at + count > self.programs[slot].limit or len(self.watches) + pieces > 8:
+        watch = (slot, at, count)
+        if not 0 < count <= 4096 or at + count > self.programs[slot].limit:
             return FAULT
-        self.watches += [it for it in self.pieces(slot, at, count) if it not in self.watches]
+        if watch not in self.watches:
+            if len(self.watches) == 8:
+                return FAULT
+            self.watches.append(watch)
         return DONE
 
     def remove(self, kind, at, count):
         if kind in b"01":
             self.breaks = [it for it in self.breaks if it != (self.reads, at - CODE)]
         else:
-            gone = self.pieces(self.reads, at, min(count, 8 * 16))
-            self.watches = [it for it in self.watches if it not in gone]
+            self.watches = [it for it in self.watches if it != (self.reads, at, count)]
         return DONE
 
     # ---- packets

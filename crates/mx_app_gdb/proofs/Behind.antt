@@ -1,6 +1,5 @@
 -- Where a search back comes to, and why one halts there.
 use Rattle.std.proofs.Common.{◌≡◌, ◌∙◌, ◌||◌, ℕ, Bool, true, false, cond, List, [], ◌∷◌, ◌++◌, map, Option, Some, None, refl, ap, sym, subst, inl, inr}
-use Rattle.std.specs.List.{flat_map}
 use Rattle.std.specs.Prelude.{slice_get, unwrap_or}
 use Rattle.mx_machine.specs.declared.events.Event.{Event}
 use Rattle.mx_machine.specs.declared.history.Record.{Record}
@@ -10,23 +9,20 @@ use Rattle.mx_walk.specs.declared.positions.Position.{Position}
 use Rattle.mx_walk.specs.declared.several.Several.{Several}
 use Rattle.mx_walk.specs.declared.stopping.CodePlace.{CodePlace}
 use Rattle.mx_walk.specs.declared.stopping.Leaving.{Leaving}
-use Rattle.mx_walk.specs.declared.watching.BytePlace.{BytePlace}
-use Rattle.mx_walk.specs.declared.watching.ByteChange.{ByteChange}
 use Rattle.mx_walk.specs.Positions.{IsBefore, IsPosition, IsUpTo, first, next_event, next_position, world_at}
 use Rattle.mx_walk.specs.Seeking.{IsLastMarked, IsPassed}
 use Rattle.mx_walk.specs.Several.{any_marks}
 use Rattle.mx_walk.specs.Stopping.{leaves, leaves_any}
 use Rattle.mx_walk.specs.Walks.{Walk, world_here}
-use Rattle.mx_walk.specs.Watching.{is_changed}
 use Rattle.mx_walk.proofs.Next.{above_trans}
 use Rattle.mx_app_look.specs.declared.changes.Seen.{Seen}
 use Rattle.mx_app_look.specs.declared.points.Points.{Points}
 use Rattle.mx_app_look.specs.declared.watches.Watch.{Watch}
 use Rattle.mx_app_look.specs.Changes.{as_seen, first_change, seen_in}
-use Rattle.mx_app_look.specs.Marks.{changes, changes_watched, code_place, is_looked_for, leaving}
+use Rattle.mx_app_look.specs.Marks.{changes_bytes, changes_watched, code_place, is_looked_for, leaving}
 use Rattle.mx_app_look.specs.Searches.{is_break, next_made}
 use Rattle.mx_app_look.specs.Slots.{slot_next}
-use Rattle.mx_app_look.specs.Watches.{places_of}
+use Rattle.mx_app_look.specs.Ranges.{Kept}
 use Rattle.mx_app_gdb.specs.declared.halts.Halted.{Halted}
 use Rattle.mx_app_gdb.specs.declared.halts.Halted.TheVariants.{AtBegin, AtBreak, There}
 use Rattle.mx_app_gdb.specs.declared.halts.Halts.{Halts}
@@ -42,15 +38,15 @@ abbrev by_leaving : Leaving → Marks
 by_leaving m w x u = leaves m.place w x
 
 abbrev pub Both : Type 0
-Both = Either (Several ByteChange) (Several Leaving)
+Both = Either (Several Kept) (Several Leaving)
 
 abbrev pub sought : Both → Marks
 sought m w x u = any_marks (map by_change m.one.marks.items) w x u || any_marks (map by_leaving m.other.marks.items) w x u
 
-pub sought_is : (s : Points) (m : Both) → map (λ (c : ByteChange). c.place) m.one.marks.items ≡ flat_map places_of s.watches → map (λ (c : Leaving). c.place) m.other.marks.items ≡ map code_place s.breakpoints
+pub sought_is : (s : Points) (m : Both) → map (λ (c : Kept). c.watch) m.one.marks.items ≡ s.watches → map (λ (c : Leaving). c.place) m.other.marks.items ≡ map code_place s.breakpoints
     → sought m ≡ is_looked_for s
 sought_is s m bytes breaks =
-    let changed : map by_change m.one.marks.items ≡ map changes (flat_map places_of s.watches) = map_both (λ (c : ByteChange). c.place) changes by_change m.one.marks.items (λ c. refl) ∙ ap (map changes) bytes in
+    let changed : map by_change m.one.marks.items ≡ map changes_bytes s.watches = map_both (λ (c : Kept). c.watch) changes_bytes by_change m.one.marks.items (λ c. refl) ∙ ap (map changes_bytes) bytes in
     let left : map by_leaving m.other.marks.items ≡ map leaving (map code_place s.breakpoints) = map_both (λ (c : Leaving). c.place) leaving by_leaving m.other.marks.items (λ c. refl) ∙ ap (map leaving) breaks in
     ap (λ (fs : List Marks). let i : Marks = λ w x u. any_marks fs w x u || any_marks (map by_leaving m.other.marks.items) w x u in i) changed
     ∙ ap (λ (fs : List Marks). let i : Marks = λ w x u. changes_watched s w x u || any_marks fs w x u in i) left

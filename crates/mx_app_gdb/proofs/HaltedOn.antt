@@ -1,6 +1,5 @@
 -- A search on, as a walker makes it.
 use Rattle.std.proofs.Common.{◌≡◌, ◌∙◌, ◌<◌, ◌+◌, ◌-◌, ◌||◌, ℕ, Bool, true, false, cond, List, [], ◌∷◌, is_some, length, map, Option, Some, None, refl, ap, sym, subst, inl, inr, arith}
-use Rattle.std.specs.List.{flat_map}
 use Rattle.std.specs.Prelude.{MatchOption, slice_get, unwrap_or}
 use Rattle.mx_machine.specs.declared.events.Event.{Event}
 use Rattle.mx_machine.specs.World.{World}
@@ -11,22 +10,19 @@ use Rattle.mx_walk.specs.declared.positions.Position.{Position}
 use Rattle.mx_walk.specs.declared.several.Several.{Several}
 use Rattle.mx_walk.specs.declared.stopping.CodePlace.{CodePlace}
 use Rattle.mx_walk.specs.declared.stopping.Coming.{Coming}
-use Rattle.mx_walk.specs.declared.watching.BytePlace.{BytePlace}
-use Rattle.mx_walk.specs.declared.watching.ByteChange.{ByteChange}
 use Rattle.mx_walk.specs.Halting.{HaltsAt}
 use Rattle.mx_walk.specs.Positions.{IsBefore, IsPosition, IsUpTo, events_before, is_up_to, next_event, next_position}
 use Rattle.mx_walk.specs.Seeking.{IsPassed}
 use Rattle.mx_walk.specs.Several.{any_marks}
 use Rattle.mx_walk.specs.Stopping.{comes_any, leaves_any}
 use Rattle.mx_walk.specs.Walks.{Walk, world_here}
-use Rattle.mx_walk.specs.Watching.{is_changed}
 use Rattle.mx_walk.proofs.Along.{itself, up_trans}
 use Rattle.mx_walk.proofs.Next.{up_to_of}
 use Rattle.mx_walk.proofs.Unleft.{fewer_to}
-use Rattle.mx_app_look.specs.Marks.{changes, changes_watched, code_place}
+use Rattle.mx_app_look.specs.Marks.{changes_bytes, changes_watched, code_place}
 use Rattle.mx_app_look.specs.Searches.{next_made}
 use Rattle.mx_app_look.specs.Slots.{slot_next}
-use Rattle.mx_app_look.specs.Watches.{places_of}
+use Rattle.mx_app_look.specs.Ranges.{Kept}
 use Rattle.mx_app_gdb.specs.declared.halts.Halted.{Halted}
 use Rattle.mx_app_gdb.specs.declared.halts.Halted.TheVariants.{AtBreak, AtEnd}
 use Rattle.mx_app_gdb.specs.declared.halts.Halts.{Halts}
@@ -40,37 +36,37 @@ use Rattle.mx_app_gdb.proofs.SearchedOn.{at_break, at_last, goes_on, halts_here,
 
 -- ---- what a search is told of, as it is built
 
-abbrev pub by_change : ByteChange → Marks
-by_change m w x u = is_changed m.place w u
+abbrev pub by_change : Kept → Marks
+by_change m w x u = changes_bytes m.watch w x u
 
 pub map_both : {X Y Z : Type 0} (f : X → Y) (g : Y → Z) (h : X → Z) (xs : List X) → ((x : X) → h x ≡ g (f x)) → map h xs ≡ map g (map f xs)
 map_both f g h [] same = refl
 map_both f g h (x ∷ xs) same = ap (λ z. z ∷ map h xs) (same x) ∙ ap (λ zs. g (f x) ∷ zs) (map_both f g h xs same)
 
 abbrev pub All : Type 0 → Type 0
-All M = Either (Either (Several ByteChange) Coming) (Either Faulting M)
+All M = Either (Either (Several Kept) Coming) (Either Faulting M)
 
 abbrev pub told_by : {M : Type 0} → (M → Marks) → All M → Marks
 told_by marks m w x u =
     (any_marks (map by_change m.one.one.marks.items) w x u || comes_any m.one.other.places.items w x u) || (faults m.other.one.counted w x u || marks m.other.other w x u)
 
 module _ {M : Type 0} (marks : M → Marks) (k : Walk) (h : Halts) where
-  pub told_is : (m : All M) (mark : M) → map (λ (c : ByteChange). c.place) m.one.one.marks.items ≡ flat_map places_of h.points.watches → m.one.other.places.items ≡ map code_place h.points.breakpoints
+  pub told_is : (m : All M) (mark : M) → map (λ (c : Kept). c.watch) m.one.one.marks.items ≡ h.points.watches → m.one.other.places.items ≡ map code_place h.points.breakpoints
       → m.other.one.counted ≡ h.counted → m.other.other ≡ mark → told_by marks m ≡ told k h (marks mark)
   told_is m mark bytes places counted other =
-      let changed : map by_change m.one.one.marks.items ≡ map changes (flat_map places_of h.points.watches) = map_both (λ (c : ByteChange). c.place) changes by_change m.one.one.marks.items (λ c. refl) ∙ ap (map changes) bytes in
+      let changed : map by_change m.one.one.marks.items ≡ map changes_bytes h.points.watches = map_both (λ (c : Kept). c.watch) changes_bytes by_change m.one.one.marks.items (λ c. refl) ∙ ap (map changes_bytes) bytes in
       ap (λ (fs : List Marks). let i : Marks = λ w x u. (any_marks fs w x u || comes_any m.one.other.places.items w x u) || (faults m.other.one.counted w x u || marks m.other.other w x u) in i) changed
       ∙ ap (λ (ps : List CodePlace). let i : Marks = λ w x u. (changes_watched h.points w x u || comes_any ps w x u) || (faults m.other.one.counted w x u || marks m.other.other w x u) in i) places
       ∙ ap (λ (c : Counted). let i : Marks = λ w x u. (changes_watched h.points w x u || comes_any (map code_place h.points.breakpoints) w x u) || (faults c w x u || marks m.other.other w x u) in i) counted
       ∙ ap (λ (n : M). let i : Marks = λ w x u. (changes_watched h.points w x u || comes_any (map code_place h.points.breakpoints) w x u) || (faults h.counted w x u || marks n w x u) in i) other
 
-  pub told_as : (m : All M) (points : Either (Several ByteChange) Coming) (others : Either Faulting M) (f : Faulting) (mark : M) → m.one ≡ points → m.other ≡ others → others.one ≡ f → others.other ≡ mark
-      → map (λ (c : ByteChange). c.place) points.one.marks.items ≡ flat_map places_of h.points.watches → points.other.places.items ≡ map code_place h.points.breakpoints → f.counted ≡ h.counted
+  pub told_as : (m : All M) (points : Either (Several Kept) Coming) (others : Either Faulting M) (f : Faulting) (mark : M) → m.one ≡ points → m.other ≡ others → others.one ≡ f → others.other ≡ mark
+      → map (λ (c : Kept). c.watch) points.one.marks.items ≡ h.points.watches → points.other.places.items ≡ map code_place h.points.breakpoints → f.counted ≡ h.counted
       → told_by marks m ≡ told k h (marks mark)
   told_as m points others f mark a b c d bytes places counted =
       told_is m mark
-      (ap (λ (e : Either (Several ByteChange) Coming). map (λ (c : ByteChange). c.place) e.one.marks.items) a ∙ bytes)
-      (ap (λ (e : Either (Several ByteChange) Coming). e.other.places.items) a ∙ places)
+      (ap (λ (e : Either (Several Kept) Coming). map (λ (c : Kept). c.watch) e.one.marks.items) a ∙ bytes)
+      (ap (λ (e : Either (Several Kept) Coming). e.other.places.items) a ∙ places)
       (ap (λ (e : Either Faulting M). e.one.counted) b ∙ ap (λ (e : Faulting). e.counted) c ∙ counted)
       (ap (λ (e : Either Faulting M). e.other) b ∙ d)
 

@@ -30,7 +30,7 @@ use Rattle.mx_app_gdb.specs.declared.threads.Counted.{Counted}
 use Rattle.mx_app_gdb.specs.Halts.{IsUnchanged, fault_at, fault_by, fault_held, fault_here, halted_by, halted_here, halts_after}
 use Rattle.mx_app_gdb.specs.Marks.{fault_of, faults, is_at_fault}
 use Rattle.mx_app_gdb.specs.Moves.{at}
-use Rattle.mx_app_gdb.proofs.SameBytes.{SameBytes, none_first, not_changed, same_first, seen_is, unchanged}
+use Rattle.mx_app_gdb.proofs.SameBytes.{SameBytes, changed_of_all, none_first, not_changed, same_first, seen_is, unchanged}
 
 -- ---- faults
 
@@ -143,12 +143,12 @@ module _ (k : Walk) (h : Halts) (still : IsUnchanged k h) where
   still_there p same = record { watched = still.watched; same = found_none (world_here (at k p)) same }
 
   found_changes : (o : Option Watch) (u : World) (x : ℕ × Event) → first_change u (map as_seen h.seen.items) ≡ o → is_some o ≡ changes_watched h.points (world_here k) x u
-  found_changes None u x e = sym (not_changed (watched h) (world_here k) u x (same_bytes u e))
+  found_changes None u x e = sym (changed_of_all h.points.watches (world_here k) x u ∙ not_changed (watched h) (world_here k) u x (same_bytes u e))
   found_changes (Some y) u x e = by_test (changes_watched h.points (world_here k) x u) refl
     where
       by_test : (b : Bool) → changes_watched h.points (world_here k) x u ≡ b → true ≡ b
       by_test true is = refl
-      by_test false is = let no : None ≡ Some y = sym (found_none u (unchanged (watched h) (world_here k) u x is)) ∙ e in absurd cc
+      by_test false is = let no : None ≡ Some y = sym (found_none u (unchanged (watched h) (world_here k) u x (sym (changed_of_all h.points.watches (world_here k) x u) ∙ is))) ∙ e in absurd cc
 
   -- whether a watch has changed
   pub is_change : (u : World) (x : ℕ × Event) → is_some (first_change u (map as_seen h.seen.items)) ≡ changes_watched h.points (world_here k) x u

@@ -11,7 +11,7 @@ use Rattle.mx_walk.specs.declared.watching.BytePlace.{BytePlace}
 use Rattle.mx_walk.specs.Several.{any_marks}
 use Rattle.mx_walk.specs.Watching.{byte_by, byte_in, byte_of_held, byte_on, or_else, same_byte}
 use Rattle.mx_app_look.specs.Changes.{bytes_of, first_change, listed_byte, listed_bytes, seen_in}
-use Rattle.mx_app_look.specs.Marks.{changes}
+use Rattle.mx_app_look.specs.Marks.{changes, changes_bytes}
 use Rattle.mx_app_look.specs.Watches.{place_at, places_of}
 use Rattle.mx_app_look.specs.declared.watches.Watch.{Watch}
 
@@ -162,6 +162,20 @@ seen_is w (s ∷ ss) e = seen_by_test w s ss (pointwise nat_eq s.1 (bytes_of w s
 
 abbrev pub changed : List BytePlace → World → ℕ × Event → World → Bool
 changed bs w x u = any_marks (map changes bs) w x u
+
+-- some of all watches' bytes
+either_more : (a b c : Bool) → (a || b) || c ≡ a || (b || c)
+either_more true b c = refl
+either_more false b c = refl
+
+changed_both : (bs cs : List BytePlace) (w : World) (x : ℕ × Event) (u : World) → changed (bs ++ cs) w x u ≡ changed bs w x u || changed cs w x u
+changed_both [] cs w x u = refl
+changed_both (b ∷ bs) cs w x u = ap (λ c. changes b w x u || c) (changed_both bs cs w x u) ∙ sym (either_more (changes b w x u) (changed bs w x u) (changed cs w x u))
+
+pub changed_of_all : (ws : List Watch) (w : World) (x : ℕ × Event) (u : World) → any_marks (map changes_bytes ws) w x u ≡ changed (flat_map places_of ws) w x u
+changed_of_all [] w x u = refl
+changed_of_all (y ∷ ws) w x u =
+    ap (λ c. changes_bytes y w x u || c) (changed_of_all ws w x u) ∙ sym (changed_both (places_of y) (flat_map places_of ws) w x u)
 
 not_not : (b : Bool) → not b ≡ false → b ≡ true
 not_not true e = refl

@@ -29,7 +29,7 @@ use Rattle.mx_app_gdb.specs.Marks.{faults}
 use Rattle.mx_app_gdb.specs.Moves.{Halt, IsSearchedOn, IsUnmarked, Marks, at, halt_by, is_met, slot_of_next}
 use Rattle.mx_app_gdb.proofs.Onward.{back_from, last_event, last_world, same_rest}
 use Rattle.mx_app_gdb.proofs.RightAfter.{halts_is, none_halts, still_there, watched}
-use Rattle.mx_app_gdb.proofs.SameBytes.{SameBytes, both_false, or_left, or_right, same_itself, same_trans, unchanged}
+use Rattle.mx_app_gdb.proofs.SameBytes.{SameBytes, changed_of_all, both_false, or_left, or_right, same_itself, same_trans, unchanged}
 
 -- ---- a step at a breakpoint leaves a place
 
@@ -107,7 +107,7 @@ module _ (k : Walk) (h : Halts) (marks : Marks) where
   same_along w [] n = same_itself (watched h) w
   same_along w (x ∷ xs) n =
       let v = world_after_event w x.0 x.1 in
-      same_trans (watched h) w v (world_after_events v xs) (unchanged (watched h) w v x (change_law w x v n.0)) (same_along v xs n.1)
+      same_trans (watched h) w v (world_after_events v xs) (unchanged (watched h) w v x (sym (changed_of_all h.points.watches w x v) ∙ change_law w x v n.0)) (same_along v xs n.1)
 
   abbrev from : Position
   from = k.here

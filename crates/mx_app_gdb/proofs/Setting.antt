@@ -1,13 +1,12 @@
 -- Points that are set one after the other.
-use Rattle.std.proofs.Common.{◌≡◌, ◌∙◌, ◌+◌, ◌-◌, ◌<◌, ℕ, Bool, true, false, List, drop, filter, get_or, length, map, Option, Some, None, Result, Ok, Err, sym, ap}
+use Rattle.std.proofs.Common.{◌≡◌, ◌∙◌, ◌+◌, ◌<◌, ℕ, Bool, true, false, List, drop, filter, get_or, length, Option, Some, None, Result, Ok, Err, sym, ap}
 use Rattle.std.specs.Prelude.{OnOk, OnErr, unwrap_or}
 use Rattle.mx_debug.specs.declared.points.Breakpoint.{Breakpoint}
 use Rattle.mx_debug.specs.Points.{with_point}
 use Rattle.mx_app_look.specs.declared.watches.Watch.{Watch}
-use Rattle.mx_app_look.specs.Watches.{with_watch, without_watch}
-use Rattle.mx_app_gdb.specs.Points.{breaks_set, watches_set, without_each}
-use Rattle.mx_app_gdb.proofs.Lists.{kept, left_out, range_next}
-use Rattle.std.specs.List.{range_with_len}
+use Rattle.mx_app_look.specs.Watches.{with_watch}
+use Rattle.mx_app_gdb.specs.Points.{breaks_set, watches_set}
+use Rattle.mx_app_gdb.proofs.Lists.{kept, left_out}
 
 -- what is set after one more, if there is room
 pub set_is : {E X : Type 0} (r : Result (Unit {0}) E) (w : Option (List X)) (new old : List X)
@@ -37,17 +36,3 @@ module _ (f : Watch → Bool) (xs : List Watch) (i : ℕ) (d : Watch) (lt : i < 
 
   pub watch_passed : f (get_or xs i d) ≡ false → watches_set old (filter f (drop (i + 1) xs)) ≡ whole
   watch_passed is = sym (ap (watches_set old) (left_out xs i d lt f is)) ∙ inv
-
--- one piece more of those that are set, or taken away
-module _ (f : ℕ → Watch) (n i : ℕ) (lt : i < n) (old whole : List Watch) where
-  pub piece_more : watches_set old (map f (range_with_len i (n - i))) ≡ whole → (new : List Watch) → new ≡ unwrap_or (with_watch old (f i)) old
-      → watches_set new (map f (range_with_len (i + 1) (n - (i + 1)))) ≡ whole
-  piece_more inv new e =
-      ap (λ ws. watches_set ws (map f (range_with_len (i + 1) (n - (i + 1))))) e
-      ∙ sym (ap (λ is. watches_set old (map f is)) (range_next n i lt)) ∙ inv
-
-  pub piece_less : without_each old (map f (range_with_len i (n - i))) ≡ whole → (new : List Watch) → new ≡ without_watch old (f i)
-      → without_each new (map f (range_with_len (i + 1) (n - (i + 1)))) ≡ whole
-  piece_less inv new e =
-      ap (λ ws. without_each ws (map f (range_with_len (i + 1) (n - (i + 1))))) e
-      ∙ sym (ap (λ is. without_each old (map f is)) (range_next n i lt)) ∙ inv

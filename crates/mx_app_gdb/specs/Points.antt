@@ -1,11 +1,10 @@
 -- Breakpoints and watches, as gdb sets them (our own).
-use Rattle.std.specs.Prelude.{ℕ, ◌+◌, ◌*◌, ◌-◌, ◌/◌, ◌&&◌, nat_le, nat_lt, Bool, true, false}
-use Rattle.std.specs.Prelude.{if◌then◌else◌, List, [], ◌∷◌, filter, length, map, min, unwrap_or, Option, Some, None}
-use Rattle.std.specs.List.{range_with_len}
+use Rattle.std.specs.Prelude.{ℕ, ◌+◌, ◌&&◌, nat_le, nat_lt, Bool, true, false}
+use Rattle.std.specs.Prelude.{if◌then◌else◌, List, [], ◌∷◌, filter, length, unwrap_or, Option, Some, None}
 use Rattle.mx_debug.specs.declared.points.Breakpoint.{Breakpoint}
 use Rattle.mx_debug.specs.Points.{with_point, without_point}
 use Rattle.mx_exec.specs.declared.image.Image.{Image}
-use Rattle.mx_exec.specs.Image.{code_bytes, dword_sum}
+use Rattle.mx_exec.specs.Image.{code_bytes}
 use Rattle.mx_print_answers.specs.Slots.{image_in}
 use Rattle.mx_rsp.specs.declared.request.Point.{Point}
 use Rattle.mx_rsp.specs.declared.request.Point.TheVariants.{Break, Watch}
@@ -51,39 +50,33 @@ break_at k s slot (Some at) =
     if nat_lt at (code_limit_of (image_in (world_here k) slot))
     then with_break s (with_point s.breakpoints slot at) else (false, s)
 
--- ---- watches: each of at most 16 bytes, and eight of them at most
+-- ---- watches: each of at most 4,096 bytes, and eight of them at most
 
-abbrev pub pieces_of : ℕ → ℕ
-pieces_of n = (n + 15) / 16
+-- the bytes are some, not too many, and all inside
+abbrev pub is_inside : Walk → Watched → Bool
+is_inside k x =
+    (nat_lt 0 x.count && nat_le x.count 4096) && nat_le (x.address + x.count) (limit_in (world_here k) x.slot)
 
-abbrev pub piece_at : ℕ → ℕ → ℕ → ℕ → Watched
-piece_at slot a n i = record { slot = slot; address = dword_sum a (i * 16); count = min (n - i * 16) 16 }
+abbrev pub with_watched : Points → Option (List Watched) → Bool × Points
+with_watched s None = (false, s)
+with_watched s (Some xs) = (true, record s { watches = xs })
 
--- the watches that so many bytes take
-abbrev pub pieces : ℕ → ℕ → ℕ → List Watched
-pieces slot a n = map (piece_at slot a n) (range_with_len 0 (pieces_of n))
+abbrev pub watch_at : Walk → Points → Watched → Bool × Points
+watch_at k s x = if is_inside k x then with_watched s (with_watch s.watches x) else (false, s)
 
-abbrev pub without_each : List Watched → List Watched → List Watched
-without_each xs [] = xs
-without_each xs (y ∷ ys) = without_each (without_watch xs y) ys
-
--- the bytes are all inside, and there is room for all of these watches
-abbrev pub has_room : Walk → Points → ℕ → ℕ → ℕ → Bool
-has_room k s slot a n =
-    (nat_lt 0 n && nat_le (a + n) (limit_in (world_here k) slot)) && nat_le (length s.watches + pieces_of n) 8
+abbrev pub watched : ℕ → ℕ → ℕ → Watched
+watched slot a n = record { slot = slot; address = a; count = n }
 
 -- A POINT MORE: whether it is set, and those after it. What can't be set changes nothing
 abbrev pub inserted : Walk → Points → ℕ → Point → ℕ → ℕ → Bool × Points
 inserted k s slot Break a n = break_at k s slot (code_address a)
-inserted k s slot Watch a n =
-    if has_room k s slot a n
-    then (true, record s { watches = watches_set s.watches (pieces slot a n) }) else (false, s)
+inserted k s slot Watch a n = watch_at k s (watched slot a n)
 
 abbrev pub unbreak_at : Points → ℕ → Option ℕ → Points
 unbreak_at s slot None = s
 unbreak_at s slot (Some at) = record s { breakpoints = without_point s.breakpoints slot at }
 
--- A POINT LESS: of more bytes than can be watched, the first ones
+-- A POINT LESS
 abbrev pub removed : Points → ℕ → Point → ℕ → ℕ → Points
 removed s slot Break a n = unbreak_at s slot (code_address a)
-removed s slot Watch a n = record s { watches = without_each s.watches (pieces slot a (min n 128)) }
+removed s slot Watch a n = record s { watches = without_watch s.watches (watched slot a n) }

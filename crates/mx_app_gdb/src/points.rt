@@ -1,11 +1,11 @@
 //! Breakpoints and watches, as gdb sets them.
 
-ghost use Rattle.std.specs.Prelude.{◌≡◌, ◌<◌, ◌*◌, filter};
+ghost use Rattle.std.specs.Prelude.{◌≡◌, filter};
 ghost use Rattle.mx_app_look.specs.declared.watches.Watch.{Watch as Watched};
 ghost use Rattle.mx_debug.specs.declared.points.Breakpoint.{Breakpoint};
 ghost use Rattle.mx_print_answers.specs.Slots.{image_in};
 ghost use Rattle.mx_walk.specs.Walks.{world_here};
-ghost use Rattle.mx_app_gdb.specs.Points.{break_at, breaks_set, code_limit_of, counted_points, has_room, inserted, piece_at, pieces, pieces_of, removed, watches_set, without_each};
+ghost use Rattle.mx_app_gdb.specs.Points.{break_at, breaks_set, code_limit_of, counted_points, inserted, is_inside, removed, watch_at, watches_set};
 ghost use Rattle.mx_app_gdb.specs.Threads.{counts};
 
 use crate::addresses::code_address;
@@ -16,10 +16,8 @@ use mx_proc::Slot;
 use mx_rsp::Point;
 use mx_walk::Walker;
 
-/// How many bytes one watch of a session has at most, and how many watches there may be.
-const PIECE: u32 = 16;
-
-const MOST_PIECES: u32 = 8;
+/// How many bytes a watch of gdb's has at most.
+const MOST_BYTES: u32 = 4096;
 
 /// Sets those breakpoints of some points that count.
 fn set_counted_breaks(some: &mut Points, points: &Points, counted: Counted)
@@ -79,45 +77,20 @@ fn insert_break(walker: &Walker, points: &mut Points, slot: Slot, at: Option<u32
     }
 }
 
-/// How many watches so many bytes take.
-fn pieces_of(count: u32) -> u32
-    ensures { result ≡ pieces_of count }
+/// Whether bytes of a slot's process are some, not too many, and all inside its memory.
+fn is_inside(walker: &Walker, watch: Watch) -> bool
+    ensures { result ≡ is_inside walker.now watch }
 {
-    count / PIECE + u32::from(count % PIECE > 0)
+    0 < watch.count
+        && watch.count <= MOST_BYTES
+        && watch.address as usize + watch.count as usize <= limit_here(walker, watch.slot)
 }
 
-/// One of the watches of so many bytes from an address on.
-fn piece_at(slot: Slot, address: u32, count: u32, piece: u32) -> Watch
-    requires { piece * 16 < count }
-    ensures { result ≡ piece_at slot address count piece }
+/// Watches bytes of a slot's process. Answers whether they are all inside its memory, and there is room.
+fn insert_watch(walker: &Walker, points: &mut Points, watch: Watch) -> bool
+    ensures { watch_at walker.now points.old watch ≡ (result, points.new) }
 {
-    let offset = piece * PIECE;
-    Watch {
-        slot,
-        address: address.wrapping_add(offset),
-        count: (count - offset).min(PIECE),
-    }
-}
-
-/// Whether bytes of a slot's process are all inside its memory, and there is room for their watches.
-fn has_room(walker: &Walker, points: &Points, slot: Slot, address: u32, count: u32) -> bool
-    ensures { result ≡ has_room walker.now points.now slot address count }
-{
-    let set = points.watches.as_slice().len();
-    count > 0
-        && address as usize + count as usize <= limit_here(walker, slot)
-        && set + pieces_of(count) as usize <= MOST_PIECES as usize
-}
-
-/// Watches bytes of a slot's process, piece by piece.
-fn set_pieces(points: &mut Points, slot: Slot, address: u32, count: u32)
-    ensures watches { points.new.watches ≡ watches_set points.old.watches
-        (pieces slot address count) }
-    ensures breakpoints { points.new.breakpoints ≡ points.old.breakpoints }
-{
-    for piece in 0..pieces_of(count) {
-        let _ = points.watches.add(piece_at(slot, address, count, piece));
-    }
+    is_inside(walker, watch) && points.watches.add(watch).is_ok()
 }
 
 /// Sets a point of a slot. Answers whether it is set; if not, nothing changes.
@@ -134,23 +107,13 @@ pub(crate) fn insert(
     match point {
         Point::Break => insert_break(walker, points, slot, code_address(address)),
         Point::Watch => {
-            let fits = has_room(walker, points, slot, address, count);
-            if fits {
-                set_pieces(points, slot, address, count);
-            }
-            fits
+            let watch = Watch {
+                slot,
+                address,
+                count,
+            };
+            insert_watch(walker, points, watch)
         }
-    }
-}
-
-/// Watches bytes of a slot's process no more, piece by piece.
-fn remove_pieces(points: &mut Points, slot: Slot, address: u32, count: u32)
-    ensures watches { points.new.watches ≡ without_each points.old.watches
-        (pieces slot address count) }
-    ensures breakpoints { points.new.breakpoints ≡ points.old.breakpoints }
-{
-    for piece in 0..pieces_of(count) {
-        points.watches.remove(piece_at(slot, address, count, piece));
     }
 }
 
@@ -165,8 +128,11 @@ pub(crate) fn remove(points: &mut Points, slot: Slot, point: Point, address: u32
             }
         }
         Point::Watch => {
-            // Of more bytes than can be watched, only the first ones may be.
-            remove_pieces(points, slot, address, count.min(MOST_PIECES * PIECE));
+            points.watches.remove(Watch {
+                slot,
+                address,
+                count,
+            });
         }
     }
 }

@@ -16,3 +16,4 @@ mod Texts
 mod ShownMore
 mod Making
 mod Since
+mod Ranges

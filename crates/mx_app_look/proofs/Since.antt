@@ -27,7 +27,7 @@ use Rattle.mx_walk.proofs.Passing.{found, found_more, none_passed, passed_more}
 use Rattle.mx_app_look.specs.declared.points.Points.{Points}
 use Rattle.mx_app_look.specs.declared.watches.Watch.{Watch}
 use Rattle.mx_app_look.specs.Changes.{bytes_of, change_line, change_text, changes_since, listed_byte, listed_bytes, seen_in}
-use Rattle.mx_app_look.specs.Marks.{changes, changes_watched, code_place, is_looked_for, leaves_breakpoint, leaving}
+use Rattle.mx_app_look.specs.Marks.{changes, changes_bytes, changes_watched, code_place, is_looked_for, leaves_breakpoint, leaving}
 use Rattle.mx_app_look.specs.Searches.{IsHalt, IsHaltAfter, changes_from, halt_by, is_break, not_met}
 use Rattle.mx_app_look.specs.Watches.{places_of}
 use Rattle.mx_app_look.proofs.Coming.{gone}
@@ -70,6 +70,21 @@ changed bs w x u = any_marks (map changes bs) w x u
 unchanged : (bs : List BytePlace) (w u : World) (x : ℕ × Event) → changed bs w x u ≡ false → SameBytes bs w u
 unchanged [] w u x e = tt
 unchanged (b ∷ bs) w u x e = (same_by (byte_in w b) (byte_in u b) (or_left (changes b w x u) (changed bs w x u) e), unchanged bs w u x (or_right (changes b w x u) (changed bs w x u) e))
+
+-- bytes of two lists of places
+either_more : (a b c : Bool) → (a || b) || c ≡ a || (b || c)
+either_more true b c = refl
+either_more false b c = refl
+
+changed_both : (bs cs : List BytePlace) (w : World) (x : ℕ × Event) (u : World) → changed (bs ++ cs) w x u ≡ changed bs w x u || changed cs w x u
+changed_both [] cs w x u = refl
+changed_both (b ∷ bs) cs w x u = ap (λ c. changes b w x u || c) (changed_both bs cs w x u) ∙ sym (either_more (changes b w x u) (changed bs w x u) (changed cs w x u))
+
+-- some of all watches' bytes
+pub changed_of_all : (ws : List Watch) (w : World) (x : ℕ × Event) (u : World) → any_marks (map changes_bytes ws) w x u ≡ changed (flat_map places_of ws) w x u
+changed_of_all [] w x u = refl
+changed_of_all (y ∷ ws) w x u =
+    ap (λ c. changes_bytes y w x u || c) (changed_of_all ws w x u) ∙ sym (changed_both (places_of y) (flat_map places_of ws) w x u)
 
 same_trans : (bs : List BytePlace) (w v u : World) → SameBytes bs w v → SameBytes bs v u → SameBytes bs w u
 same_trans [] w v u a b = tt
@@ -167,6 +182,14 @@ module _ (k : Walk) (s : Points) (from : Position) where
       let u = world_after_event v x.0 x.1 in
       (or_left (changes_watched s v x u) (comes_any places v x u) h.0, none_changed u xs h.1)
 
+  -- some of all bytes
+  of_all : (v : World) (x : ℕ × Event) (u : World) → changes_watched s v x u ≡ changed bytes v x u
+  of_all v x u = changed_of_all s.watches v x u
+
+  none_of_all : (v : World) (xs : List (ℕ × Event)) → NoneMarked (changes_watched s) v xs → NoneMarked (changed bytes) v xs
+  none_of_all v [] h = tt
+  none_of_all v (x ∷ xs) h = let u = world_after_event v x.0 x.1 in (sym (of_all v x u) ∙ h.0, none_of_all u xs h.1)
+
   none_looked : (v : World) (xs : List (ℕ × Event)) → NoneMarked (changes_watched s) v xs → NoneMarked (leaves_any places) v xs → NoneMarked f v xs
   none_looked v [] h l = tt
   none_looked v (x ∷ xs) h l =
@@ -214,20 +237,20 @@ module _ (k : Walk) (s : Points) (from : Position) where
     x_unleft = leaves_same s v x u ∙ (front (leaves_any places) (w p) between x left).1
 
     same_before : SameBytes bytes (world_here k) v
-    same_before = same_trans bytes (world_here k) (w p) v looked.1 (same_along bytes (w p) between (none_changed (w p) between found.3))
+    same_before = same_trans bytes (world_here k) (w p) v looked.1 (same_along bytes (w p) between (none_of_all (w p) between (none_changed (w p) between found.3)))
 
     there : w q ≡ u
     there = ap (λ (es : List (ℕ × Event)). world_after_events k.boot es) found.2 ∙ after_both k.boot (events_before k.records p) (between ++ x ∷ []) ∙ after_both (w p) between (x ∷ [])
 
     as_before : (y : ℕ × Event) → changes_watched s v x u ≡ changes_watched s (world_here k) y (w q)
-    as_before y = changed_as bytes (world_here k) v u x y same_before ∙ ap (λ (z : World). changes_watched s (world_here k) y z) (sym there)
+    as_before y = of_all v x u ∙ changed_as bytes (world_here k) v u x y same_before ∙ sym (of_all (world_here k) y u) ∙ ap (λ (z : World). changes_watched s (world_here k) y z) (sym there)
 
     -- it changed none of them
     pub looked_on : (y : ℕ × Event) → changes_watched s (world_here k) y (w q) ≡ false → Looked q
     looked_on y isnt =
         let unmarked : is_marked f v x ≡ false = both_false (changes_watched s v x u) (leaves_breakpoint s v x u) (as_before y ∙ isnt) x_unleft in
         let here : IsPassed f k.boot k.records p q = (between ++ x ∷ [], found.2, none_then f (w p) between x none unmarked) in
-        (passed_more f k.boot k.records p q from looked.0 here, unchanged bytes (world_here k) (w q) y isnt)
+        (passed_more f k.boot k.records p q from looked.0 here, unchanged bytes (world_here k) (w q) y (sym (of_all (world_here k) y (w q)) ∙ isnt))
 
     -- it changed one: the search halts after it
     pub halts_changed : (z : ℕ × Event) → IsPosition k.records q → IsUpTo q k.last → changes_watched s (world_here k) z (w q) ≡ true → IsHalt k s from (q, change_text s (world_here k) (w q))
@@ -278,7 +301,7 @@ module _ (k : Walk) (s : Points) (from : Position) where
   pub looked_at : (b : Bool) (q : Position) (y : ℕ × Event) → b ≡ changes_watched s (world_here k) y (w from) → Come b q → changes_watched s (world_here k) y (w q) ≡ false → (b ≡ false) × Looked q
   looked_at b q y is (inl e) isnt =
       let there : changes_watched s (world_here k) y (w from) ≡ false = ap (λ (r : Position). changes_watched s (world_here k) y (w r)) (sym e) ∙ isnt in
-      let here : Looked from = (none_passed f k.boot k.records from, unchanged bytes (world_here k) (w from) y there) in
+      let here : Looked from = (none_passed f k.boot k.records from, unchanged bytes (world_here k) (w from) y (sym (of_all (world_here k) y (w from)) ∙ there)) in
       (is ∙ there, subst (λ (r : Position). Looked r) (sym e) here)
   looked_at b q y is (inr c) isnt = (c.0, looked_on c.1 q c.2 c.3 c.4 y isnt)
 

@@ -4,6 +4,7 @@ pub mod Queries
 pub mod UntilRequests
 pub mod Requests
 pub mod Watches
+pub mod Ranges
 pub mod Points
 pub mod Marks
 pub mod Changes

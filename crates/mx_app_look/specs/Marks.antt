@@ -1,6 +1,5 @@
 -- What a session halts at (our own).
 use Rattle.std.specs.Prelude.{ℕ, ◌||◌, Bool, map}
-use Rattle.std.specs.List.{flat_map}
 use Rattle.mx_debug.specs.declared.points.Breakpoint.{Breakpoint}
 use Rattle.mx_machine.specs.declared.events.Event.{Event}
 use Rattle.mx_machine.specs.World.{World}
@@ -10,6 +9,7 @@ use Rattle.mx_walk.specs.Several.{any_marks}
 use Rattle.mx_walk.specs.Stopping.{leaves}
 use Rattle.mx_walk.specs.Watching.{is_changed}
 use Rattle.mx_app_look.specs.declared.points.Points.{Points}
+use Rattle.mx_app_look.specs.declared.watches.Watch.{Watch}
 use Rattle.mx_app_look.specs.Watches.{places_of}
 
 abbrev pub code_place : Breakpoint → CodePlace
@@ -23,9 +23,13 @@ changes b w x u = is_changed b w u
 abbrev pub leaving : CodePlace → World → ℕ × Event → World → Bool
 leaving p w x u = leaves p w x
 
+-- it changes some of a watch's bytes
+abbrev pub changes_bytes : Watch → World → ℕ × Event → World → Bool
+changes_bytes y w x u = any_marks (map changes (places_of y)) w x u
+
 -- it changes bytes that are watched
 abbrev pub changes_watched : Points → World → ℕ × Event → World → Bool
-changes_watched s w x u = any_marks (map changes (flat_map places_of s.watches)) w x u
+changes_watched s w x u = any_marks (map changes_bytes s.watches) w x u
 
 -- it is the step at a breakpoint
 abbrev pub leaves_breakpoint : Points → World → ℕ × Event → World → Bool

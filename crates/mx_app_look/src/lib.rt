@@ -20,6 +20,7 @@ mod point_request;
 mod points;
 mod position_word;
 mod query;
+mod range_change;
 mod request;
 mod searches;
 mod seeking;

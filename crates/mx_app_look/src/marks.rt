@@ -1,36 +1,26 @@
 //! What a search looks for: the events that change a byte that is watched, and the steps at a breakpoint.
 
-ghost use Rattle.std.specs.Prelude.{◌≡◌, ◌++◌, IfOk, OnOk, map};
-ghost use Rattle.std.specs.List.{flat_map};
+ghost use Rattle.std.specs.Prelude.{◌≡◌, IfOk, map};
 ghost use Rattle.mx_app_look.specs.Marks.{code_place};
-ghost use Rattle.mx_app_look.specs.Watches.{places_of};
 
 use crate::points::Points;
-use crate::watches::{Watch, places_of};
+use crate::range_change::RangeChange;
+use crate::watches::Watch;
 use mx_debug::Breakpoint;
-use mx_walk::{ByteChange, BytePlace, CodePlace, Coming, Either, Leaving, Several};
+use mx_walk::{CodePlace, Coming, Either, Leaving, Several};
+use mx_word::NoMemory;
 use std::alloc::{AllocError, Global};
 
-/// Appends what marks the changes of each of these bytes.
-fn push_changes(marks: &mut Vec<ByteChange>, places: &[BytePlace]) -> Result<(), AllocError>
-    ensures { OnOk result (map (λ m. m.place) marks.new.items
-        ≡ map (λ m. m.place) marks.old.items ++ places.now) }
-{
-    for place in places {
-        marks.push(ByteChange::new(*place))?;
-    }
-    Ok(())
-}
-
-/// What marks the changes of each byte that is watched.
-fn each_change(alloc: Global, watches: &[Watch]) -> Result<Vec<ByteChange>, AllocError>
-    ensures { IfOk result (λ marks. map (λ m. m.place) marks.items
-        ≡ flat_map places_of watches.now) }
+/// What marks the changes of each watch's bytes.
+fn each_change(alloc: Global, watches: &[Watch]) -> Result<Vec<RangeChange>, NoMemory>
+    ensures { IfOk result (λ marks. map (λ m. m.watch) marks.items ≡ watches.now) }
 {
     let mut marks = Vec::new(alloc);
     for watch in watches {
-        let places = places_of(alloc, *watch)?;
-        push_changes(&mut marks, places.as_slice())?;
+        let mark = RangeChange::new(alloc, *watch)?;
+        let Ok(()) = marks.push(mark) else {
+            return Err(NoMemory);
+        };
     }
     Ok(marks)
 }
@@ -50,9 +40,8 @@ fn each_leaving(alloc: Global, points: &[Breakpoint]) -> Result<Vec<Leaving>, Al
 }
 
 /// What marks the changes of the bytes that are watched.
-pub(crate) fn bytes_mark(alloc: Global, points: &Points) -> Result<Several<ByteChange>, AllocError>
-    ensures { IfOk result (λ all. map (λ m. m.place) all.marks.items
-        ≡ flat_map places_of points.now.watches) }
+pub(crate) fn bytes_mark(alloc: Global, points: &Points) -> Result<Several<RangeChange>, NoMemory>
+    ensures { IfOk result (λ all. map (λ m. m.watch) all.marks.items ≡ points.now.watches) }
 {
     Ok(Several::new(each_change(alloc, points.watches.as_slice())?))
 }
@@ -83,9 +72,9 @@ pub fn break_places(alloc: Global, points: &Points) -> Result<Vec<CodePlace>, Al
 pub fn halts_mark(
     alloc: Global,
     points: &Points,
-) -> Result<Either<Several<ByteChange>, Coming>, AllocError>
-    ensures bytes { IfOk result (λ both. map (λ m. m.place) both.one.marks.items
-        ≡ flat_map places_of points.now.watches) }
+) -> Result<Either<Several<RangeChange>, Coming>, NoMemory>
+    ensures bytes { IfOk result (λ both. map (λ m. m.watch) both.one.marks.items
+        ≡ points.now.watches) }
     ensures places { IfOk result (λ both. both.other.places.items
         ≡ map code_place points.now.breakpoints) }
 {
@@ -98,9 +87,9 @@ pub fn halts_mark(
 pub fn points_mark(
     alloc: Global,
     points: &Points,
-) -> Result<Either<Several<ByteChange>, Several<Leaving>>, AllocError>
-    ensures bytes { IfOk result (λ both. map (λ m. m.place) both.one.marks.items
-        ≡ flat_map places_of points.now.watches) }
+) -> Result<Either<Several<RangeChange>, Several<Leaving>>, NoMemory>
+    ensures bytes { IfOk result (λ both. map (λ m. m.watch) both.one.marks.items
+        ≡ points.now.watches) }
     ensures breaks { IfOk result (λ both. map (λ m. m.place) both.other.marks.items
         ≡ map code_place points.now.breakpoints) }
 {

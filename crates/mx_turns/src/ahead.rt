@@ -23,8 +23,22 @@ use std::mem;
 use std::snapshot::Snapshot;
 use std::thread::{Threads, join};
 
-/// How many positions a thread tries at most before the others are waited for.
-const MOST_OF_PIECE: usize = 64;
+/// About how many turns a thread makes before the others are waited for, if no run ends early: a tenth of a second. In
+/// much less a new thread doesn't pay, since another processor takes some milliseconds to find it.
+const TURNS_OF_PIECE: u32 = 100_000;
+
+/// How many positions a thread tries at most before the others are waited for: what they tell is kept until then.
+const MOST_OF_PIECE: usize = 1_024;
+
+/// How many positions a thread tries at most before the others are waited for, if each has so many turns.
+fn most_of_piece(bound: u32) -> usize
+    ensures some { 0 < result }
+    ensures few { result ≤ 1024 }
+{
+    let turns = bound.max(1);
+    let positions = (TURNS_OF_PIECE / turns) as usize;
+    positions.max(1).min(MOST_OF_PIECE)
+}
 
 /// What a position tells: the lines of its trial, and what it tells of the fault.
 #[derive(Drop)]
@@ -292,7 +306,11 @@ impl Ahead {
             position: sweep.range.from,
             told: VecDeque::new(alloc),
             round: jobs,
-            most: if jobs == 1 { 1 } else { MOST_OF_PIECE * jobs },
+            most: if jobs == 1 {
+                1
+            } else {
+                most_of_piece(sweep.bound) * jobs
+            },
         })
     }
 
