@@ -105,6 +105,129 @@ END
     refuse_same "$written" "$sums" SUMS "$explains"
 }
 
+# Ends with status 3 if a file of these words is standard output too: the shell has emptied it, or what is printed would be
+# read again. A device isn't meant.
+refuse_own_output() {
+    for word in "$@"; do
+        case $word in /dev/* | /proc/*) continue ;; esac
+        { [ -f "$word" ] && [ "$word" -ef /dev/stdout ]; } || continue
+        emptied=''
+        [ -s "$word" ] || emptied=', and was emptied by the shell'
+        echo "mx: 80 File" >&2
+        [ -z "$(explains_words "$@")" ] ||
+            echo "mx: $word: is standard output too$emptied: wanted another name after >" >&2
+        exit 3
+    done
+}
+
+# Ends with status 2 if these words are those of `gdb`, and somebody types.
+refuse_typing() {
+    { [ "${1-}" = gdb ] && [ -t 0 ]; } || return 0
+    for word in "$@"; do
+        case $word in -h | --help) return 0 ;; esac
+    done
+    echo "mx: standard input: wanted gdb: in gdb type target remote | mx $*; people take mx look" >&2
+    exit 2
+}
+
+# Whether the help of a command has an option: has_option COMMAND OPTION. show_help COMMAND is of the script that calls it.
+has_option() {
+    show_help "$1" | grep -q -e "^ .*$2\( \|\$\)"
+}
+
+# Says of the first option of these words that the command hasn't, which commands have it, and where the program's name
+# stands in the words of `as`.
+tell_option() {
+    for word in "$@"; do
+        case $word in
+            --) return 0 ;;
+            -o | -o?*)
+                [ "$1" != as ] || echo "mx: as has no -o: the program's file is the last word, as mx as TEXT FILE" >&2
+                return 0 ;;
+            --?*) ;;
+            *) continue ;;
+        esac
+        option=${word%%=*}
+        ! has_option "$1" "$option" || continue
+        have=''
+        for other in one as dis nm explain step run turns sweep replay trace draw page look gdb why db; do
+            ! has_option "$other" "$option" || have="$have $other"
+        done
+        [ -z "$have" ] || echo "mx: $1 has no $option, these have:$have" >&2
+        return 0
+    done
+}
+
+# The value that these words have for an option: value_of OPTION WORDS.
+value_of() {
+    wanted=$1 found='' next=''
+    shift
+    for word in "$@"; do
+        [ -z "$next" ] || found=$word
+        next=''
+        case $word in
+            "$wanted") next=yes ;;
+            "$wanted"=*) found=${word#*=} ;;
+        esac
+    done
+    printf '%s' "$found"
+}
+
+# Says of a `gdb` with a service's name for its slot which slot that is.
+tell_slot() {
+    [ "$1" = gdb ] || return 0
+    name=$(value_of --slot "$@")
+    case $name in '' | *[!0-9A-Za-z_]*) return 0 ;; *[!0-9]*) ;; *) return 0 ;; esac
+    config=''
+    for word in "$@"; do
+        if [ "$word" != gdb ] && [ -z "$config" ] && [ -f "$word" ]; then config=$word; fi
+    done
+    slot=''
+    [ -z "$config" ] || slot=$(awk -v name="$name" '
+        { sub(/#.*/, "") } $1 == "service" { if ($2 == name) { print slot + 0; exit } slot++ }' "$config")
+    echo "mx: --slot: wanted a slot's number${slot:+: $name is slot $slot}" >&2
+}
+
+# Says that no record is shown, if --from of these words is after --to, or after the end of the history.
+tell_range() {
+    case $1 in trace | draw | page) ;; *) return 0 ;; esac
+    from=$(value_of --from "$@") to=$(value_of --to "$@")
+    case $from in '' | *[!0-9]*) return 0 ;; esac
+    case $to in *[!0-9]*) return 0 ;; esac
+    if [ -n "$to" ] && [ "$from" -gt "$to" ] 2>/dev/null; then
+        echo "mx: no record is shown: --from $from is after --to $to" >&2
+        return
+    fi
+    log='' command=$1
+    for word in "$@"; do
+        # Of the words that are files, LOG is the second.
+        if [ "$word" != "$command" ] && [ -f "$word" ]; then log="$log $word"; fi
+    done
+    # shellcheck disable=SC2086
+    set -- $log
+    [ $# -ge 2 ] || return 0
+    records=$(grep -c '^[0-9]' "$2")
+    [ "$from" -le "$records" ] 2>/dev/null || echo "mx: no record is shown: --from $from is after the end: $2 has $records" >&2
+}
+
+# Says that a run is over before it begins, if the file that stops it is there.
+tell_stop() {
+    case $1 in run | turns) ;; *) return 0 ;; esac
+    stopping=$(stop_named "$@")
+    { [ -n "$stopping" ] && [ -e "$stopping" ]; } || return 0
+    echo "mx: --stop $stopping: it is there already, and ends this run as it begins: remove it first" >&2
+}
+
+# Says of these words what the program doesn't, which sees neither the files nor the other commands: if it explains.
+tell_words() {
+    [ -n "$(explains_words "$@")" ] || return 0
+    case $* in *-*) ;; *) return 0 ;; esac
+    tell_option "$@"
+    tell_slot "$@"
+    tell_range "$@"
+    tell_stop "$@"
+}
+
 # Whether these words are those of a session in which somebody types.
 is_live() {
     [ "${1-}" = turns ] || return 1
