@@ -27,8 +27,8 @@ there mask bit is = same_from_bits _ _ (λ i. bit_at_or mask (2 ^ bit) i ∙ by 
     by i (inr other) = omega (arith, bit_at-pow_other bit i other)
 
 new : (mask bit : ℕ) → bit_at mask bit ≢ 1 → bit_or mask (2 ^ bit) ≡ mask + 2 ^ bit
-new mask bit no =
-    let none : bit_at mask bit ≡ 0 = omega (arith, no, bit_at-lt mask bit) in
+new mask bit off =
+    let none : bit_at mask bit ≡ 0 = omega (arith, off, bit_at-lt mask bit) in
     or_disjoint mask (2 ^ bit) (and_pow mask bit ∙ ap (λ b. b * 2 ^ bit) none)
 
 pub bit_set : (mask bit : ℕ) → bit < 32 → bit_or mask (1 * 2 ^ bit % 2 ^ 32) ≡ with_bit mask bit
@@ -49,7 +49,7 @@ whole (x ∷ xs) e = by (is_plus x) refl e (λ h. whole xs h)
     by true is same below = absurd (omega (arith, same))
     by false is same below = slice_split-cons_no is_plus x xs is ∙ ap (onto_first x) (below (omega (arith, same)))
 
-within : (xs : List ℕ) → position_or_len is_plus xs ≤ length xs
+pub within : (xs : List ℕ) → position_or_len is_plus xs ≤ length xs
 within = prefix_len-le-length (λ x. not (is_plus x))
 
 pub name_last : (rest name : List ℕ) → name ≡ before_first is_plus rest → length name ≡ length rest → names_in rest ≡ name ∷ []
