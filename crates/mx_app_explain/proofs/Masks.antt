@@ -29,7 +29,8 @@ there mask bit is = same_from_bits _ _ (λ i. bit_at_or mask (2 ^ bit) i ∙ by 
 new : (mask bit : ℕ) → bit_at mask bit ≢ 1 → bit_or mask (2 ^ bit) ≡ mask + 2 ^ bit
 new mask bit off =
     let none : bit_at mask bit ≡ 0 = omega (arith, off, bit_at-lt mask bit) in
-    or_disjoint mask (2 ^ bit) (and_pow mask bit ∙ ap (λ b. b * 2 ^ bit) none)
+    let nothing : 0 * 2 ^ bit ≡ 0 = omega arith in
+    or_disjoint mask (2 ^ bit) (and_pow mask bit ∙ ap (λ b. b * 2 ^ bit) none ∙ nothing)
 
 pub bit_set : (mask bit : ℕ) → bit < 32 → bit_or mask (1 * 2 ^ bit % 2 ^ 32) ≡ with_bit mask bit
 bit_set mask bit low = ap (bit_or mask) (one_shl bit 32 low) ∙ by (eqb_tells (bit_at mask bit) 1)

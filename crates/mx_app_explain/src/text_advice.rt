@@ -658,7 +658,9 @@ fn form_wanted(first: &[u8]) -> Option<&'static str>
 fn is_data(word: &[u8]) -> bool
     ensures { result ≡ is_data word.now }
 {
-    matches!(word, b".data1" | b".data2" | b".data4")
+    word == b".data1".as_slice()
+        || word == b".data2".as_slice()
+        || word == b".data4".as_slice()
 }
 
 fn is_prefix(word: &[u8]) -> bool
