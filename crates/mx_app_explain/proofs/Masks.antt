@@ -1,5 +1,5 @@
 -- Masks that are written with names: a bit more, and a name more.
-use Rattle.std.proofs.Common.{◌≡◌, ◌≢◌, ◌∙◌, ◌<◌, ◌≤◌, ◌+◌, ◌*◌, ◌%◌, ◌^◌, ◌⊎◌, inl, inr, ℕ, suc, Bool, true, false, List, [], ◌∷◌, Option, Some, None, length, drop, max, refl, ap, sym, arith, length-take, take_all}
+use Rattle.std.proofs.Common.{◌≡◌, ◌≢◌, ◌∙◌, ◌<◌, ◌≤◌, ◌+◌, ◌-◌, ◌*◌, ◌%◌, ◌^◌, ◌⊎◌, inl, inr, ℕ, suc, Bool, true, false, List, [], ◌∷◌, Option, Some, None, length, drop, take, max, refl, ap, sym, arith, length-drop, length-take, take_all}
 use Rattle.std.specs.Prelude.{◌==◌, cond, not, bit_or, if◌then◌else◌, nat_lt, position}
 use Rattle.std.specs.Int.{bit_at}
 use Rattle.std.specs.Option.{option_map}
@@ -50,7 +50,7 @@ whole (x ∷ xs) e = by (is_plus x) refl e (λ h. whole xs h)
     by true is same below = absurd (omega (arith, same))
     by false is same below = slice_split-cons_no is_plus x xs is ∙ ap (onto_first x) (below (omega (arith, same)))
 
-pub within : (xs : List ℕ) → position_or_len is_plus xs ≤ length xs
+within : (xs : List ℕ) → position_or_len is_plus xs ≤ length xs
 within = prefix_len-le-length (λ x. not (is_plus x))
 
 pub name_last : (rest name : List ℕ) → name ≡ before_first is_plus rest → length name ≡ length rest → names_in rest ≡ name ∷ []
@@ -63,6 +63,10 @@ name_more rest name is other =
     let at : length name ≡ position_or_len is_plus rest = omega (arith, ap length is, length-take (position_or_len is_plus rest) rest, within rest) in
     let inside : position_or_len is_plus rest < length rest = omega (arith, at, other, within rest) in
     slice_split_first is_plus rest 0 inside ∙ (λ k. sym is k ∷ names_in (drop (sym at k + 1) rest))
+
+-- a slice up to the end
+pub to_end : (n : ℕ) (xs : List ℕ) → take (length xs - n) (drop n xs) ≡ drop n xs
+to_end n xs = take_all (length xs - n) (drop n xs) (omega (arith, length-drop n xs))
 
 pub some_name : (rest : List ℕ) → 0 < length (names_in rest)
 some_name rest = omega (arith, length-slice_split is_plus rest)

@@ -1,7 +1,7 @@
-use Rattle.std.proofs.Common.{◌≡◌, ◌≢◌, ◌∙◌, ◌+◌, Some, ap, arith, drop, length, sym}
+use Rattle.std.proofs.Common.{◌≡◌, ◌∙◌, ◌+◌, Some, ap, arith, drop, length, sym}
 use Rattle.mx_text.specs.Lines.{lines}
 use Rattle.mx_app_explain.specs.MaskNames.{names_in, with_names}
-use Rattle.mx_app_explain.proofs.Masks.{few, last_one, many, names_less, no_bit, one_more, one_name, some_name, unnamed}
+use Rattle.mx_app_explain.proofs.Masks.{few, last_one, many, names_less, no_bit, one_more, one_name, some_name, to_end, unnamed}
 use Rattle.mx_app_explain.proofs.mask_names.mask_of_names.Goals as goal
 
 pub returns-in_err-bit : goal.returns-in_err-bit
@@ -29,12 +29,17 @@ loop-preserved c =
     let rest = c.loop.rest.now in
     let name = c.before_byte-name.result.now in
     let is = c.before_byte-name.ensures in
-    let other : length name ≢ length rest = λ e. absurd (omega (arith, e, c.if-name-rest.false)) in
+    let other = c.if-name-rest.false in
     let more = one_more ls key c.loop.mask rest name is c.in_ok-bit.bit other (sym c.in_ok-bit.ensures.bit) in
     let less = names_less ls key c.loop.mask rest name is other in
+    let left = to_end (length name + 1) rest in
+    let count : length (names_in c.args.word.now) ≡ c.loop.counter + 1 + length (names_in (drop (length name + 1) rest)) = omega (arith, less, c.loop.invariant.count) in
     record {
-      names = ap (λ m. with_names ls key m (names_in (drop (length name + 1) rest))) c.with_bit-mask.ensures ∙ sym more ∙ c.loop.invariant.names;
-      count = omega (arith, less, c.loop.invariant.count);
+      names = ap (λ r. with_names ls key c.with_bit-mask.result (names_in r)) left
+          ∙ ap (λ m. with_names ls key m (names_in (drop (length name + 1) rest))) c.with_bit-mask.ensures
+          ∙ sym more
+          ∙ c.loop.invariant.names;
+      count = count ∙ ap (λ r. c.loop.counter + 1 + length (names_in r)) (sym left);
     }
 
 pub returns : goal.returns
