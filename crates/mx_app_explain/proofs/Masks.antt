@@ -1,5 +1,5 @@
 -- Masks that are written with names: a bit more, and a name more.
-use Rattle.std.proofs.Common.{◌≡◌, ◌≢◌, ◌∙◌, ◌<◌, ◌≤◌, ◌+◌, ◌-◌, ◌*◌, ◌%◌, ◌^◌, ◌⊎◌, inl, inr, ℕ, suc, Bool, true, false, List, [], ◌∷◌, Option, Some, None, length, drop, take, max, refl, ap, sym, arith, length-drop, length-take, take_all}
+use Rattle.std.proofs.Common.{◌≡◌, ◌≢◌, ◌∙◌, ◌<◌, ◌≤◌, ◌+◌, ◌-◌, ◌*◌, ◌%◌, ◌^◌, ◌⊎◌, inl, inr, ℕ, Bool, true, false, List, [], ◌∷◌, Option, Some, None, length, drop, take, max, refl, ap, sym, arith, length-drop, length-take, take_all}
 use Rattle.std.specs.Prelude.{◌==◌, cond, not, bit_or, if◌then◌else◌, nat_lt, position}
 use Rattle.std.specs.Int.{bit_at}
 use Rattle.std.specs.Option.{option_map}

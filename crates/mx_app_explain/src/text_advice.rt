@@ -473,16 +473,7 @@ fn is_segment_word(word: &[u8]) -> bool
 {
     matches!(
         word,
-        b"les"
-            | b"lds"
-            | b"lfs"
-            | b"lgs"
-            | b"lss"
-            | b"arpl"
-            | b"lar"
-            | b"lsl"
-            | b"verr"
-            | b"verw"
+        b"les" | b"lds" | b"lfs" | b"lgs" | b"lss" | b"arpl" | b"lar" | b"lsl" | b"verr" | b"verw"
     )
 }
 
@@ -658,9 +649,7 @@ fn form_wanted(first: &[u8]) -> Option<&'static str>
 fn is_data(word: &[u8]) -> bool
     ensures { result ≡ is_data word.now }
 {
-    word == b".data1".as_slice()
-        || word == b".data2".as_slice()
-        || word == b".data4".as_slice()
+    word == b".data1".as_slice() || word == b".data2".as_slice() || word == b".data4".as_slice()
 }
 
 fn is_prefix(word: &[u8]) -> bool
