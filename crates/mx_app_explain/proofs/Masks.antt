@@ -1,5 +1,5 @@
 -- Masks that are written with names: a bit more, and a name more.
-use Rattle.std.proofs.Common.{◌≡◌, ◌≢◌, ◌∙◌, ◌<◌, ◌≤◌, ◌+◌, ◌*◌, ◌%◌, ◌^◌, ◌⊎◌, inl, inr, ℕ, suc, Bool, true, false, List, [], ◌∷◌, Option, Some, None, length, drop, max, refl, ap, sym, arith, length-take, take_all}
+use Rattle.std.proofs.Common.{◌≡◌, ◌≢◌, ◌∙◌, ◌<◌, ◌≤◌, ◌+◌, ◌-◌, ◌*◌, ◌%◌, ◌^◌, ◌⊎◌, inl, inr, ℕ, Bool, true, false, List, [], ◌∷◌, Option, Some, None, length, drop, take, max, refl, ap, sym, arith, length-drop, length-take, take_all}
 use Rattle.std.specs.Prelude.{◌==◌, cond, not, bit_or, if◌then◌else◌, nat_lt, position}
 use Rattle.std.specs.Int.{bit_at}
 use Rattle.std.specs.Option.{option_map}
@@ -27,9 +27,10 @@ there mask bit is = same_from_bits _ _ (λ i. bit_at_or mask (2 ^ bit) i ∙ by 
     by i (inr other) = omega (arith, bit_at-pow_other bit i other)
 
 new : (mask bit : ℕ) → bit_at mask bit ≢ 1 → bit_or mask (2 ^ bit) ≡ mask + 2 ^ bit
-new mask bit no =
-    let none : bit_at mask bit ≡ 0 = omega (arith, no, bit_at-lt mask bit) in
-    or_disjoint mask (2 ^ bit) (and_pow mask bit ∙ ap (λ b. b * 2 ^ bit) none)
+new mask bit off =
+    let none : bit_at mask bit ≡ 0 = omega (arith, off, bit_at-lt mask bit) in
+    let nothing : 0 * 2 ^ bit ≡ 0 = omega arith in
+    or_disjoint mask (2 ^ bit) (and_pow mask bit ∙ ap (λ b. b * 2 ^ bit) none ∙ nothing)
 
 pub bit_set : (mask bit : ℕ) → bit < 32 → bit_or mask (1 * 2 ^ bit % 2 ^ 32) ≡ with_bit mask bit
 bit_set mask bit low = ap (bit_or mask) (one_shl bit 32 low) ∙ by (eqb_tells (bit_at mask bit) 1)
@@ -62,6 +63,10 @@ name_more rest name is other =
     let at : length name ≡ position_or_len is_plus rest = omega (arith, ap length is, length-take (position_or_len is_plus rest) rest, within rest) in
     let inside : position_or_len is_plus rest < length rest = omega (arith, at, other, within rest) in
     slice_split_first is_plus rest 0 inside ∙ (λ k. sym is k ∷ names_in (drop (sym at k + 1) rest))
+
+-- a slice up to the end
+pub to_end : (n : ℕ) (xs : List ℕ) → take (length xs - n) (drop n xs) ≡ drop n xs
+to_end n xs = take_all (length xs - n) (drop n xs) (omega (arith, length-drop n xs))
 
 pub some_name : (rest : List ℕ) → 0 < length (names_in rest)
 some_name rest = omega (arith, length-slice_split is_plus rest)

@@ -119,10 +119,10 @@ abbrev pub file_wanted : CommandRequest → About → FileProblem → List ℕ
 file_wanted r a (Refused e l) = program_wanted e l
 file_wanted r a (Faulty f) = problem_wanted f.problem
 file_wanted r a (Misstated e) = lines_wanted r a e
-file_wanted r a (Unread a) = read_wanted a
+file_wanted r a (Unread why) = read_wanted why
 file_wanted r a NotUtf8 = codes "a text in UTF-8, and not in UTF-16 or another encoding"
 file_wanted r a IsProgram = codes "a text in UTF-8; it is a program"
-file_wanted r a (Unwritten a) = write_wanted a
+file_wanted r a (Unwritten why) = write_wanted why
 file_wanted r a OverRead = codes "another file than the one that is read"
 file_wanted r a OverProgram = codes "another file than a service's program"
 file_wanted r a OtherKind = kind_wanted (written_kind r)

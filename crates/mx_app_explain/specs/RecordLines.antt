@@ -1,5 +1,5 @@
 -- What was wanted of a line of a script, of outside events, of a fault or of a history (our own words).
-use Rattle.std.specs.Prelude.{ℕ, ◌-◌, ◌||◌, ◌&&◌, not, nat_eq, nat_le, Bool, true, false, if◌then◌else◌, List, [], ◌∷◌, ◌++◌, codes, is_none, is_some, length, Option, Some, None, slice_get, slice_index}
+use Rattle.std.specs.Prelude.{ℕ, ◌-◌, ◌||◌, ◌&&◌, not, nat_eq, nat_le, Bool, true, false, if◌then◌else◌, List, [], ◌∷◌, ◌++◌, codes, is_none, is_some, length, Option, slice_get, slice_index}
 use Rattle.std.specs.List.{ends_with, list_any}
 use Rattle.std.specs.Option.{option_map}
 use Rattle.std.specs.Str.{bytes_eq}
@@ -105,13 +105,16 @@ abbrev pub is_nil : List (List ℕ) → Bool
 is_nil [] = true
 is_nil (w ∷ ws) = false
 
+-- an event with a number, or a wait
+abbrev pub begins_call : List ℕ → Bool
+begins_call w = list_any (bytes_eq w) (codes "line" ∷ codes "kill" ∷ codes "respawn" ∷ codes "wait" ∷ [])
+
 -- an event or a wait, with its number: such a line of a run is right but for the machine, which has one outside actor
 abbrev pub is_call : List (List ℕ) → Bool
 is_call [] = false
 is_call (word ∷ []) = bytes_eq word (codes "tick")
 is_call (word ∷ number ∷ ws) =
-    list_any (bytes_eq word) (codes "line" ∷ codes "kill" ∷ codes "respawn" ∷ codes "wait" ∷ [])
-    && (is_some (number_up_to 2147483647 10 number) && is_nil ws)
+    begins_call word && (is_some (number_up_to 2147483647 10 number) && is_nil ws)
 
 abbrev pub wants_others : CommandRequest → List ℕ → Bool
 wants_others (Run config log ticks events stop) line = is_call (said_in line)

@@ -196,15 +196,23 @@ is_decimal_word w =
     list_any (bytes_eq w) (codes "rcl" ∷ codes "rcr" ∷ codes "aaa" ∷ codes "aad" ∷ codes "aam" ∷ codes "aas"
     ∷ codes "daa" ∷ codes "das" ∷ codes "xlat" ∷ codes "xlatb" ∷ [])
 
+abbrev pub is_segment_word : List ℕ → Bool
+is_segment_word w =
+    list_any (bytes_eq w) (codes "les" ∷ codes "lds" ∷ codes "lfs" ∷ codes "lgs" ∷ codes "lss" ∷ codes "arpl"
+    ∷ codes "lar" ∷ codes "lsl" ∷ codes "verr" ∷ codes "verw" ∷ [])
+
+abbrev pub is_port_word : List ℕ → Bool
+is_port_word w =
+    list_any (bytes_eq w) (codes "ins" ∷ codes "insb" ∷ codes "insw" ∷ codes "insd" ∷ codes "outs" ∷ codes "outsb"
+    ∷ codes "outsw" ∷ codes "outsd" ∷ [])
+
 abbrev pub is_other_word : List ℕ → Bool
 is_other_word w =
-    list_any (bytes_eq w) (codes "lock" ∷ codes "enter" ∷ codes "bound" ∷ codes "les" ∷ codes "lds" ∷ codes "lfs"
-    ∷ codes "lgs" ∷ codes "lss" ∷ codes "iret" ∷ codes "iretd" ∷ codes "retf" ∷ codes "ins" ∷ codes "insb"
-    ∷ codes "insw" ∷ codes "insd" ∷ codes "outs" ∷ codes "outsb" ∷ codes "outsw" ∷ codes "outsd" ∷ codes "wait"
-    ∷ codes "arpl" ∷ codes "lar" ∷ codes "lsl" ∷ codes "verr" ∷ codes "verw" ∷ [])
+    list_any (bytes_eq w) (codes "lock" ∷ codes "enter" ∷ codes "bound" ∷ codes "iret" ∷ codes "iretd" ∷ codes "retf"
+    ∷ codes "wait" ∷ [])
 
 abbrev pub is_of_386 : List ℕ → Bool
-is_of_386 w = is_decimal_word w || is_other_word w
+is_of_386 w = is_decimal_word w || (is_segment_word w || (is_port_word w || is_other_word w))
 
 -- ---- advice
 

@@ -31,37 +31,48 @@ pub enum LineLooks {
 fn is_config_word(word: &[u8]) -> bool
     ensures { result ≡ is_config_word word.now }
 {
-    matches!(word, b"cpus" | b"log" | b"others" | b"service")
+    word == b"cpus".as_slice()
+        || word == b"log".as_slice()
+        || word == b"others".as_slice()
+        || word == b"service".as_slice()
 }
 
 /// Whether a line of the debugger begins with this word.
 fn is_debug_word(word: &[u8]) -> bool
     ensures { result ≡ is_debug_word word.now }
 {
-    matches!(
-        word,
-        b"break" | b"clear" | b"go" | b"regs" | b"mem" | b"messages"
-    )
+    word == b"break".as_slice()
+        || word == b"clear".as_slice()
+        || word == b"go".as_slice()
+        || word == b"regs".as_slice()
+        || word == b"mem".as_slice()
+        || word == b"messages".as_slice()
 }
 
 /// Whether a line of a session alone begins with this word.
 fn is_session_word(word: &[u8]) -> bool
     ensures { result ≡ is_session_word word.now }
 {
-    matches!(
-        word,
-        b"ps" | b"print" | b"list" | b"goto" | b"until" | b"watch" | b"stack" | b"points"
-    )
+    word == b"ps".as_slice()
+        || word == b"print".as_slice()
+        || word == b"list".as_slice()
+        || word == b"goto".as_slice()
+        || word == b"until".as_slice()
+        || word == b"watch".as_slice()
+        || word == b"stack".as_slice()
+        || word == b"points".as_slice()
 }
 
 /// Whether a line that `mx step` prints begins with this word.
 fn is_printed_word(word: &[u8]) -> bool
     ensures { result ≡ is_printed_word word.now }
 {
-    matches!(
-        word,
-        b"taken" | b"stepped" | b"returned" | b"respawned" | b"refused" | b"done"
-    )
+    word == b"taken".as_slice()
+        || word == b"stepped".as_slice()
+        || word == b"returned".as_slice()
+        || word == b"respawned".as_slice()
+        || word == b"refused".as_slice()
+        || word == b"done".as_slice()
 }
 
 /// Whether a script's line begins with this word.

@@ -18,12 +18,16 @@ fn trap_bit(name: &[u8]) -> Option<u32>
     ensures bit { result ≡ trap_bit name.now }
     ensures low { IfSome result (λ bit. bit < 32) }
 {
-    match name {
-        b"SEND" => Some(1),
-        b"RECEIVE" => Some(2),
-        b"SENDREC" => Some(3),
-        b"NOTIFY" => Some(4),
-        _ => None,
+    if name == b"SEND".as_slice() {
+        Some(1)
+    } else if name == b"RECEIVE".as_slice() {
+        Some(2)
+    } else if name == b"SENDREC".as_slice() {
+        Some(3)
+    } else if name == b"NOTIFY".as_slice() {
+        Some(4)
+    } else {
+        None
     }
 }
 
@@ -101,9 +105,10 @@ fn mask_of_names(text: &[u8], key: Key, word: &[u8]) -> Option<u32>
 {
     let mut mask = 0u32;
     let mut rest = word;
-    for _ in 0..32 {
+    for _ in 0..32_u32 {
         let name = before_byte(rest, b'+');
-        mask = with_bit(mask, bit_named(text, key, name)?);
+        let bit = bit_named(text, key, name)?;
+        mask = with_bit(mask, bit);
         if name.len() == rest.len() {
             return Some(mask);
         }

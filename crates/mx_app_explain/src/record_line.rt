@@ -7,7 +7,7 @@ ghost use Rattle.mx_app_explain.specs.Hints.{hint_told};
 ghost use Rattle.mx_boot.specs.Items.{said_in};
 ghost use Rattle.mx_text.specs.Fields.{fields};
 ghost use Rattle.mx_app_explain.specs.LineLooks.{is_debug_line, is_debugger};
-ghost use Rattle.mx_app_explain.specs.RecordLines.{ends_in_return, found_in, is_call, names_process, own_looks, record_detail, record_hint, said_of_line, shown_part, takes_numbers, wants_end, wants_others};
+ghost use Rattle.mx_app_explain.specs.RecordLines.{begins_call, ends_in_return, found_in, is_call, names_process, own_looks, record_detail, record_hint, said_of_line, shown_part, takes_numbers, wants_end, wants_others};
 
 use crate::detail::{Detail, Label, line_below};
 use crate::found_word::{FoundWord, byte_at, found_at};
@@ -130,6 +130,16 @@ fn record_hint<'a>(
     }
 }
 
+/// Whether a word begins an event with a number, or a wait.
+fn begins_call(word: &[u8]) -> bool
+    ensures { result ≡ begins_call word.now }
+{
+    word == b"line".as_slice()
+        || word == b"kill".as_slice()
+        || word == b"respawn".as_slice()
+        || word == b"wait".as_slice()
+}
+
 /// Whether a line is an event or a wait with its number.
 fn is_call(line: &[u8]) -> bool
     ensures { result ≡ is_call (said_in line.now) }
@@ -140,7 +150,7 @@ fn is_call(line: &[u8]) -> bool
     let Some((number, rest)) = next_field(rest) else {
         return word == b"tick".as_slice();
     };
-    matches!(word, b"line" | b"kill" | b"respawn" | b"wait")
+    begins_call(word)
         && (number_up_to(number, 10, 2_147_483_647).is_some() && next_field(rest).is_none())
 }
 

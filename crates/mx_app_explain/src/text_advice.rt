@@ -3,7 +3,7 @@
 ghost use Rattle.std.specs.Prelude.{◌≡◌, None, Some, MatchOption, false, option_map};
 ghost use Rattle.mx_text.specs.Fields.{fields};
 ghost use Rattle.mx_app_explain.specs.Details.{detail_told};
-ghost use Rattle.mx_app_explain.specs.TextAdvice.{address_advice, advice_told, advised, after_first, after_label, bad_label, bracket_wanted, byte_advice, data_name, equal_name, escape_in, extra_advice, extra_word, fault_word, find_word, first_of, form_wanted, has_value, is_decimal_word, is_data, is_of_386, is_other_word, is_prefix, is_shift, is_sign, is_sought, is_star, lacks_register, lacks_size, label_advice, labelled_advice, last_word, late_register, may_end, name_or, next_sought, number_advice, number_wanted, only_free_word, operand_advice, operand_word_advice, operator_wanted, order_name, other_form_wanted, own_name, pair_advice, plain, plain_word_wanted, pop_advice, push_advice, quoted_advice, second_address, section_advice, section_wanted, single_name, size_advice, stack_name, statement_advice, statement_form_advice, takes_one, takes_two, text_advice, together_advice, token_wanted, value_advice, value_mark, word_advice, word_wanted};
+ghost use Rattle.mx_app_explain.specs.TextAdvice.{address_advice, advice_told, advised, after_first, after_label, bad_label, bracket_wanted, byte_advice, data_name, equal_name, escape_in, extra_advice, extra_word, fault_word, find_word, first_of, form_wanted, has_value, is_decimal_word, is_data, is_of_386, is_other_word, is_port_word, is_prefix, is_segment_word, is_shift, is_sign, is_sought, is_star, lacks_register, lacks_size, label_advice, labelled_advice, last_word, late_register, may_end, name_or, next_sought, number_advice, number_wanted, only_free_word, operand_advice, operand_word_advice, operator_wanted, order_name, other_form_wanted, own_name, pair_advice, plain, plain_word_wanted, pop_advice, push_advice, quoted_advice, second_address, section_advice, section_wanted, single_name, size_advice, stack_name, statement_advice, statement_form_advice, takes_one, takes_two, text_advice, together_advice, token_wanted, value_advice, value_mark, word_advice, word_wanted};
 ghost use Rattle.mx_app_explain.specs.declared.text_advice.Sought.TheVariants.{FreeWord, Quoted};
 
 use crate::detail::{Detail, Label};
@@ -467,37 +467,33 @@ fn is_decimal_word(word: &[u8]) -> bool
     )
 }
 
+/// Whether a word is an instruction of the 80386 about segments that this machine hasn't.
+fn is_segment_word(word: &[u8]) -> bool
+    ensures { result ≡ is_segment_word word.now }
+{
+    matches!(
+        word,
+        b"les" | b"lds" | b"lfs" | b"lgs" | b"lss" | b"arpl" | b"lar" | b"lsl" | b"verr" | b"verw"
+    )
+}
+
+/// Whether a word is an instruction of the 80386 that moves strings through ports, which this machine hasn't.
+fn is_port_word(word: &[u8]) -> bool
+    ensures { result ≡ is_port_word word.now }
+{
+    matches!(
+        word,
+        b"ins" | b"insb" | b"insw" | b"insd" | b"outs" | b"outsb" | b"outsw" | b"outsd"
+    )
+}
+
 /// Whether a word is another instruction of the 80386 that this machine hasn't.
 fn is_other_word(word: &[u8]) -> bool
     ensures { result ≡ is_other_word word.now }
 {
     matches!(
         word,
-        b"lock"
-            | b"enter"
-            | b"bound"
-            | b"les"
-            | b"lds"
-            | b"lfs"
-            | b"lgs"
-            | b"lss"
-            | b"iret"
-            | b"iretd"
-            | b"retf"
-            | b"ins"
-            | b"insb"
-            | b"insw"
-            | b"insd"
-            | b"outs"
-            | b"outsb"
-            | b"outsw"
-            | b"outsd"
-            | b"wait"
-            | b"arpl"
-            | b"lar"
-            | b"lsl"
-            | b"verr"
-            | b"verw"
+        b"lock" | b"enter" | b"bound" | b"iret" | b"iretd" | b"retf" | b"wait"
     )
 }
 
@@ -505,7 +501,7 @@ fn is_other_word(word: &[u8]) -> bool
 fn is_of_386(word: &[u8]) -> bool
     ensures { result ≡ is_of_386 word.now }
 {
-    is_decimal_word(word) || is_other_word(word)
+    is_decimal_word(word) || is_segment_word(word) || is_port_word(word) || is_other_word(word)
 }
 
 /// What is wanted in place of a statement's first word that is nobody's name.
@@ -653,7 +649,7 @@ fn form_wanted(first: &[u8]) -> Option<&'static str>
 fn is_data(word: &[u8]) -> bool
     ensures { result ≡ is_data word.now }
 {
-    matches!(word, b".data1" | b".data2" | b".data4")
+    word == b".data1".as_slice() || word == b".data2".as_slice() || word == b".data4".as_slice()
 }
 
 fn is_prefix(word: &[u8]) -> bool

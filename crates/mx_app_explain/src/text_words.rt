@@ -201,7 +201,7 @@ pub(crate) fn is_free_word(word: &[u8]) -> bool
 fn is_loop(word: &[u8]) -> bool
     ensures { result ≡ is_loop word.now }
 {
-    matches!(word, b"loop" | b"loope" | b"loopne")
+    word == b"loop".as_slice() || word == b"loope".as_slice() || word == b"loopne".as_slice()
 }
 
 /// Whether a word is a conditional jump or a loop.
