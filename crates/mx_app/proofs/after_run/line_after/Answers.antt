@@ -1,4 +1,4 @@
-use Rattle.std.proofs.Common.{◌≡◌, ◌∙◌, ℕ, List, [], ◌++◌, Option, None, Some, ap, refl, subst, sym}
+use Rattle.std.proofs.Common.{◌≡◌, ◌∙◌, ℕ, List, [], ◌++◌, Option, None, Some, Ok, ap, refl, subst, sym}
 use Rattle.std.specs.Prelude.{option_map}
 use Rattle.std.proofs.lemmas.List.{append-nil}
 use Rattle.mx_app_db.specs.Asked.{Asked}
@@ -15,4 +15,4 @@ returns-in-Some g c =
 pub returns-in-None : goal.returns-in-None
 returns-in-None g c =
     let is : None ≡ made_by c.args.request = ap (option_map names_of) (sym c.in-None.is) ∙ c.made_by.ensures in
-    ([], sym (append-nil _), subst (λ (m : Option (List ℕ × List ℕ)). TellsAfter m [] c.result) is (refl, refl))
+    ([], sym (append-nil _), subst (λ (m : Option (List ℕ × List ℕ)). TellsAfter m [] (Ok None)) is (refl, refl))
