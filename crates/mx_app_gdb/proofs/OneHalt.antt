@@ -1,5 +1,5 @@
 -- A move halts at one position and for one reason: checkpoints don't matter, nor where the watched bytes are kept.
-use Rattle.std.proofs.Common.{◌≡◌, ◌∙◌, ◌⊎◌, ℕ, Bool, true, false, List, Option, Some, None, Vec, Global, inl, inr, map, refl, ap, ap₂, sym, subst}
+use Rattle.std.proofs.Common.{◌≡◌, ◌∙◌, ◌⊎◌, ℕ, Bool, true, false, List, Option, Some, None, Vec, Global, inl, inr, map, ap, ap₂, sym, subst}
 use Rattle.std.specs.Prelude.{if◌then◌else◌}
 use Rattle.mx_machine.specs.declared.events.Event.{Event}
 use Rattle.mx_walk.specs.declared.positions.Position.{Position}

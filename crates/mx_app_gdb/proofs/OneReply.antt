@@ -11,8 +11,6 @@ use Rattle.mx_rsp.specs.declared.request.Request.TheVariants as request
 use Rattle.mx_rsp.specs.declared.words.Word.{Word}
 use Rattle.mx_rsp.specs.declared.words.Word.TheVariants as word
 use Rattle.mx_walk.specs.Positions.{IsPosition}
-use Rattle.mx_walk.specs.Walks.{Walk}
-use Rattle.mx_app_look.specs.declared.changes.Seen.{Seen}
 use Rattle.mx_app_look.specs.declared.points.Points.{Points}
 use Rattle.mx_app_look.specs.declared.request.Request.{Request as Line}
 use Rattle.mx_app_look.specs.declared.request.Request.TheVariants as line
@@ -21,7 +19,6 @@ use Rattle.mx_app_look.specs.Changes.{as_seen, seen_in}
 use Rattle.mx_app_look.specs.Places.{place_text}
 use Rattle.mx_app_look.specs.Requests.{request_of as line_of}
 use Rattle.mx_app_look.specs.Sessions.{IsAnsweredBy}
-use Rattle.mx_app_gdb.specs.declared.halts.Halted.{Halted}
 use Rattle.mx_app_gdb.specs.declared.halts.Halts.{Halts}
 use Rattle.mx_app_gdb.specs.declared.replying.After.{After}
 use Rattle.mx_app_gdb.specs.declared.replying.Way.{Way}

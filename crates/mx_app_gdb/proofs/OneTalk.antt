@@ -18,7 +18,7 @@ use Rattle.mx_walk.specs.Positions.{IsPosition}
 use Rattle.mx_walk.specs.Walks.{Walk}
 use Rattle.mx_walk.proofs.Naming.{last_is_unique}
 use Rattle.mx_app_look.specs.declared.sight.Sight.{Sight}
-use Rattle.mx_app_look.specs.Sessions.{IsBegun, sight_at}
+use Rattle.mx_app_look.specs.Sessions.{IsBegun}
 use Rattle.mx_app_step.specs.Config.{Config}
 use Rattle.mx_app_gdb.specs.declared.replying.After.{After}
 use Rattle.mx_app_gdb.specs.declared.replying.After.TheVariants.{More, NoAcks, Over}
@@ -156,8 +156,7 @@ module _ (fs : Files) where
         let others = replied_plain fs u.stub v q answer after same.other also in
         let alike = one_reply (plain fs t.stub) same.ready (plain fs s) (plain fs v) reply answer next after q mine
         (subst (λ (z : Stub). IsReplied z q (plain fs v) answer after) (sym same.stub) others) in
-        let ready = subst (λ (k : Walk). IsPosition k.records k.last) (sym (replied_stays t.stub s q reply next said)) same.ready in
-        (
+        let ready = subst (λ (k : Walk). IsPosition k.records k.last) (sym (replied_stays t.stub s q reply next said)) same.ready in (
           is ∙ ap₂ (λ (c : Bool) (r : Option (List ℕ)). if_acks c (codes "+") ++ reply_text r) same.acks alike.1 ∙ sym too,
           both_left s v reply answer alike.0 (ap names (replied_files t.stub s q reply next said) ∙ same.one) (ap names (replied_files u.stub v q answer after also) ∙ same.other)
               ready alike.1 next o p left (subst (λ (n : After). IsLeft u v answer n p) (sym alike.2) rest),

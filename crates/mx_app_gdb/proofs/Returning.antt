@@ -24,7 +24,7 @@ use Rattle.mx_app_gdb.specs.declared.threads.Counted.{Counted}
 use Rattle.mx_app_gdb.specs.declared.threads.Threads.{Threads}
 use Rattle.mx_app_gdb.specs.Laws.{points_of}
 use Rattle.mx_app_gdb.specs.Marks.{faults}
-use Rattle.mx_app_gdb.specs.Moves.{Halt, IsAfterNext, IsGoneBack, IsGoneOn, IsHaltFrom, at, is_met}
+use Rattle.mx_app_gdb.specs.Moves.{Halt, IsAfterNext, IsGoneBack, IsHaltFrom, at, is_met}
 use Rattle.mx_app_gdb.specs.Points.{counted_points}
 use Rattle.mx_app_gdb.specs.Replied.{AreHalts, IsMoved, world_of_stub}
 use Rattle.mx_app_gdb.proofs.Passed.{passed_isnt_last}

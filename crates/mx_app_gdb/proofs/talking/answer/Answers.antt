@@ -1,4 +1,4 @@
-use Rattle.std.proofs.Common.{◌≡◌, ◌++◌, codes, inr, refl, subst}
+use Rattle.std.proofs.Common.{◌++◌, codes, inr, refl, subst}
 use Rattle.std.proofs.KnownBytes.{Appends-trans}
 use Rattle.std.proofs.lemmas.Result.{IfErr-weaker}
 use Rattle.mx_app_step.proofs.FrontLemmas.{front_after}

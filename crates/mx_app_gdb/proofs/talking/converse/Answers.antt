@@ -1,4 +1,4 @@
-use Rattle.std.proofs.Common.{◌≡◌, ◌∙◌, ◌-◌, ◌^◌, ◌++◌, ◌∷◌, [], List, ℕ, None, Option, Some, ap, refl, subst, sym}
+use Rattle.std.proofs.Common.{◌∙◌, ◌-◌, ◌^◌, ◌++◌, ◌∷◌, [], ℕ, Option, ap, refl, subst}
 use Rattle.std.proofs.lemmas.Result.{err_from_is_err_and}
 use Rattle.mx_app_start.specs.Asked.{byte_line}
 use Rattle.mx_app_gdb.specs.Talks.{IsByteHeard}
@@ -95,4 +95,4 @@ returns-in_err-next-clause-cut g c =
     let so = c.loop.invariant.talked in
     let next = g.L.LineReader.given c.next_byte.new.lines in
     rw (p.1, p.2) (cut_short n t c.loop.talk c.loop.counter given came before after so c.loop-test.true c.in-Some.byte next
-        (c.in_ok-byte.ensures.given ∙ ap (λ (b : Option ℕ). came ++ byte_line b ∷ []) c.in-Some.is) (g.W.Write.contents c.hear.new.out) _ c.in_err-next.ensures.err c.in_err-next.ensures.begun)
+    (c.in_ok-byte.ensures.given ∙ ap (λ (b : Option ℕ). came ++ byte_line b ∷ []) c.in-Some.is) (g.W.Write.contents c.hear.new.out) _ c.in_err-next.ensures.err c.in_err-next.ensures.begun)

@@ -45,5 +45,5 @@ returns-in-Packet-clause-begun g c =
     let x = g.W.Write.contents c.args.out.now in
     let y = g.W.Write.contents c.answer-in-Packet.new.out in
     IfErr-weaker c.answer-in-Packet.result _ _ (λ f a.
-        begun_as t c.args.byte c.hear.new.self (Packet c.in-Packet.payload) (λ (text : List ℕ). Appends x y text) c.in_ok-hear.ensures.reading (sym c.in-Packet.is ∙ c.in_ok-hear.ensures.heard)
-        (subst (λ (p : List ℕ). IsAnswerBegun u p (λ (text : List ℕ). Appends x y text)) c.as_slice-in-Packet.ensures a)) c.answer-in-Packet.ensures.begun
+    begun_as t c.args.byte c.hear.new.self (Packet c.in-Packet.payload) (λ (text : List ℕ). Appends x y text) c.in_ok-hear.ensures.reading (sym c.in-Packet.is ∙ c.in_ok-hear.ensures.heard)
+    (subst (λ (p : List ℕ). IsAnswerBegun u p (λ (text : List ℕ). Appends x y text)) c.as_slice-in-Packet.ensures a)) c.answer-in-Packet.ensures.begun
