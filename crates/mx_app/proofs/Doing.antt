@@ -35,7 +35,7 @@ use Rattle.mx_app_db.specs.Replayed.{Replayed}
 use Rattle.mx_app_db.specs.DebugLines.{DebuggedWorld, debug_lines_made}
 use Rattle.mx_app_db.specs.LineTexts.{debug_lines_text}
 use Rattle.mx_app_draw.specs.Scenes.{IsDrawingPrinted}
-use Rattle.mx_app_gdb.specs.Talks.{IsTalked}
+use Rattle.mx_app_gdb.specs.Talks.{HasTalkFailed, IsTalked}
 use Rattle.mx_app_gdb.specs.declared.talking.TalkEnding.{TalkEnding}
 use Rattle.mx_app_page.specs.Pages.{IsPagePrinted, run_of_files}
 use Rattle.mx_app_page.specs.Strips.{PrintsSweptPage}
@@ -131,7 +131,7 @@ looks {heard} {told} asked now files files_now given given_now shown later confi
 pub talked : {heard : List Heard} {told : List Note} (asked now : List Asked) (files files_now : List Written) (given given_now : List (Option (List ℕ))) (shown later : List Part) (config log : List ℕ) (slot : Option ℕ) (x y : Option (List ℕ)) (d : Result TalkEnding Kind) (r : Result Done Kind)
     → IfOk d (λ ending. (qs : List Asked) × (typed : List (Option (List ℕ))) × (ps : List Part)
     × (now ≡ asked ++ qs) × (given_now ≡ given ++ typed) × (later ≡ shown ++ ps) × IsTalked config log slot qs typed ps (λ text. Appends x y text) ending)
-    → IfErr d (λ f. (qs : List Asked) × (typed : List (Option (List ℕ))) × (ps : List Part) × (now ≡ asked ++ qs) × (given_now ≡ given ++ typed) × (later ≡ shown ++ ps) × HasFailed config log qs ps f)
+    → IfErr d (λ f. (qs : List Asked) × (typed : List (Option (List ℕ))) × (ps : List Part) × (now ≡ asked ++ qs) × (given_now ≡ given ++ typed) × (later ≡ shown ++ ps) × HasTalkFailed config log slot qs typed ps (λ text. Appends x y text) f)
     → r ≡ done_after_gdb d → files_now ≡ files
     → Grows asked now files files_now given given_now heard heard told told shown later (λ did. IsAlone did × (e : Result TalkEnding Kind) × (did.written ≡ []) × Talks config log slot did.asked did.typed did.shown (λ text. Appends x y text) e × (r ≡ done_after_gdb e))
 talked {heard} {told} asked now files files_now given given_now shown later config log slot x y (Ok ending) r p f e same =

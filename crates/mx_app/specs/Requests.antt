@@ -34,7 +34,7 @@ use Rattle.mx_app_db.specs.Traces.{IsTracePrinted}
 use Rattle.mx_app_db.specs.Replayed.{Replayed}
 use Rattle.mx_app_db.specs.Replayed.TheVariants as replayed
 use Rattle.mx_app_draw.specs.Scenes.{IsDrawingPrinted}
-use Rattle.mx_app_gdb.specs.Talks.{IsTalked}
+use Rattle.mx_app_gdb.specs.Talks.{HasTalkFailed, IsTalked}
 use Rattle.mx_app_gdb.specs.declared.talking.TalkEnding.{TalkEnding}
 use Rattle.mx_app_gdb.specs.declared.talking.TalkEnding.TheVariants as talks
 use Rattle.mx_app_page.specs.Pages.{IsPagePrinted, run_of_files}
@@ -219,11 +219,11 @@ Looks config log asks qs typed ps Prints (Ok u) =
 Looks config log asks qs typed ps Prints (Err f) = HasFailed config log qs ps f
 
 -- a talk with gdb over a history: what is written is determined by the bytes that come, up to one that ends it or to the
--- end of the input
+-- end of the input; if it fails, by those that came
 abbrev pub Talks : List ℕ → List ℕ → Option ℕ → List Asked → List (Option (List ℕ)) → List Part → (List ℕ → Type 0)
     → Result TalkEnding Kind → Type 0
 Talks config log slot qs typed ps Prints (Ok ending) = IsTalked config log slot qs typed ps Prints ending
-Talks config log slot qs typed ps Prints (Err f) = HasFailed config log qs ps f
+Talks config log slot qs typed ps Prints (Err f) = HasTalkFailed config log slot qs typed ps Prints f
 
 -- the status is 0, unless it didn't begin
 abbrev pub done_after_gdb : Result TalkEnding Kind → Result Done Kind
