@@ -143,6 +143,9 @@ pub fn perform_words<
     io: &mut CommandIo<R, F, W, L, O, P>,
     shows: bool,
 ) -> Result<Done, Complaint>
+where
+    T::File: Send,
+    T::Dir: Send,
     ensures asks { io.new.asks ≡ io.old.asks }
     ensures done { Does io.old io.new R.asked F.written W.contents L.given O.heard O.told P.shown
         (λ did Prints. IsPerformed (P.was_shown io.old.progress)

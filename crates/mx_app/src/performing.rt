@@ -213,6 +213,9 @@ fn perform_apart<
     io: &mut CommandIo<R, F, W, L, O, P>,
     request: CommandRequest<'_>,
 ) -> Result<Done, Failure>
+where
+    T::File: Send,
+    T::Dir: Send,
     ensures asks { io.new.asks ≡ io.old.asks }
     ensures done { Does io.old io.new R.asked F.written W.contents L.given O.heard O.told P.shown
         (λ did Prints. PerformsApart (P.was_shown io.old.progress)
@@ -450,6 +453,9 @@ pub fn perform<
     request: CommandRequest<'_>,
     force: bool,
 ) -> Result<Done, Failure>
+where
+    T::File: Send,
+    T::Dir: Send,
     ensures asks { io.new.asks ≡ io.old.asks }
     ensures done { Does io.old io.new R.asked F.written W.contents L.given O.heard O.told P.shown
         (λ did Prints. Performs (P.was_shown io.old.progress)

@@ -199,6 +199,8 @@ fn perform_texts<R>(rt: &R, terminals: Terminals, words: &[&str]) -> Result<u8, 
 where
     R: Env + Files + Input + Print + Eprint + AllocGlobal + Threads + Wait + Clock + Sync,
     R::Reader: IsTerminal,
+    R::File: Send,
+    R::Dir: Send,
 {
     let mut work = CommandIo {
         channels: Channels {
@@ -233,6 +235,8 @@ fn perform_arguments<R>(rt: &R, terminals: Terminals) -> Result<u8, Complaint>
 where
     R: Env + Files + Input + Print + Eprint + AllocGlobal + Threads + Wait + Clock + Sync,
     R::Reader: IsTerminal,
+    R::File: Send,
+    R::Dir: Send,
 {
     let arguments = arguments(rt)?;
     let texts = texts_asked(rt.alloc(), arguments.as_slice())?;
@@ -245,6 +249,8 @@ pub fn run_program<R>(rt: &R, terminals: Terminals) -> u8
 where
     R: Env + Files + Input + Print + Eprint + AllocGlobal + Threads + Wait + Clock + Sync,
     R::Reader: IsTerminal,
+    R::File: Send,
+    R::Dir: Send,
 {
     match perform_arguments(rt, terminals) {
         Ok(status) => status,

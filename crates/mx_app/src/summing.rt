@@ -213,6 +213,9 @@ fn perform_summed<
     force: bool,
     name: &str,
 ) -> Result<Done, LineFailure>
+where
+    T::File: Send,
+    T::Dir: Send,
     ensures asks { io.new.asks ≡ io.old.asks }
     ensures done { Does io.old io.new R.asked F.written W.contents L.given O.heard O.told P.shown
         (λ did Prints. PerformsSummed (P.was_shown io.old.progress)
@@ -241,6 +244,9 @@ fn perform_sparing<
     force: bool,
     name: &str,
 ) -> Result<Done, LineFailure>
+where
+    T::File: Send,
+    T::Dir: Send,
     ensures asks { io.new.asks ≡ io.old.asks }
     ensures done { Does io.old io.new R.asked F.written W.contents L.given O.heard O.told P.shown
         (λ did Prints. PerformsSparing (P.was_shown io.old.progress)
@@ -267,6 +273,9 @@ fn perform_compared<
     force: bool,
     name: &str,
 ) -> Result<Done, LineFailure>
+where
+    T::File: Send,
+    T::Dir: Send,
     ensures asks { io.new.asks ≡ io.old.asks }
     ensures done { Does io.old io.new R.asked F.written W.contents L.given O.heard O.told P.shown
         (λ did Prints. PerformsCompared (P.was_shown io.old.progress)
@@ -295,6 +304,9 @@ fn perform_with_sums<
     force: bool,
     name: &str,
 ) -> Result<Done, LineFailure>
+where
+    T::File: Send,
+    T::Dir: Send,
     ensures asks { io.new.asks ≡ io.old.asks }
     ensures done { Does io.old io.new R.asked F.written W.contents L.given O.heard O.told P.shown
         (λ did Prints. PerformsWith (P.was_shown io.old.progress)
@@ -326,6 +338,9 @@ pub fn perform_line<
     io: &mut CommandIo<R, F, W, L, O, P>,
     line: CommandLine<'_>,
 ) -> Result<Done, LineFailure>
+where
+    T::File: Send,
+    T::Dir: Send,
     ensures asks { io.new.asks ≡ io.old.asks }
     ensures done { Does io.old io.new R.asked F.written W.contents L.given O.heard O.told P.shown
         (λ did Prints. PerformsLine (P.was_shown io.old.progress)

@@ -53,7 +53,8 @@ struct RunPlace<'a, T, P> {
 }
 
 /// Runs the loops of a machine's seats by the gate of a run. The seats after that, and whether all calls were made, if
-/// there was memory for all threads.
+/// there was memory for all threads. The gate looks for the file that stops the run from other threads than this one,
+/// so what the runtime has of files may go to another thread.
 fn drive_seats<
     M: Naming + Send + Sync,
     T: Threads + Wait + Clock + Files + Sync,
@@ -65,6 +66,9 @@ fn drive_seats<
     log: u32,
     outside: Outside<'_>,
 ) -> Result<(Vec<ActorSeat>, bool), NoMemory>
+where
+    T::File: Send,
+    T::Dir: Send,
     requires tables { All (λ s. s.table ≡ M.table) seats.items }
     requires empties { All (λ s. s.held ≡ None) seats.items }
     ensures driven { IfOk result (λ v. AreDrivenWith (length M.boot.cpus) outside.entry.ticks
@@ -94,6 +98,9 @@ fn drive_blank<
     log: u32,
     outside: Outside<'_>,
 ) -> Result<(Kernel, bool), NoMemory>
+where
+    T::File: Send,
+    T::Dir: Send,
     requires table { blank.table ≡ M.table }
     requires boot { blank.boot ≡ M.boot }
     requires tables { All (λ s. s.table ≡ M.table) seats.items }
@@ -122,6 +129,9 @@ fn run_machine<T: Threads + Wait + Clock + Files + Sync, P: SharedProgress + Syn
     mut services: Vec<Service>,
     outside: Outside<'_>,
 ) -> Result<(Kernel, bool), NoMemory>
+where
+    T::File: Send,
+    T::Dir: Send,
     requires some { 0 < length services.items }
     requires few { length services.items ≤ 32 }
     ensures { IfOk result (λ r. IsRun (P.was_shown place.now.progress.now) (is_some place.now.stop)
@@ -265,6 +275,9 @@ fn drive_begun<T: Threads + Wait + Clock + Files + Sync, P: SharedProgress + Syn
     begun: Begun,
     ticks: u32,
 ) -> Result<(Kernel, RunEnding, bool), NoMemory>
+where
+    T::File: Send,
+    T::Dir: Send,
     requires some { 0 < length begun.services.items }
     requires few { length begun.services.items ≤ 32 }
     ensures run { IfOk result (λ r. IsRun (P.was_shown place.now.progress.now) (is_some place.now.stop)
@@ -302,6 +315,9 @@ fn run_begun<
     begun: Begun,
     progress: &mut P,
 ) -> Result<RunEnding, Failure>
+where
+    T::File: Send,
+    T::Dir: Send,
     requires some { 0 < length begun.services.items }
     requires few { length begun.services.items ≤ 32 }
     ensures reader { channels.new.reader ≡ channels.old.reader }
@@ -342,6 +358,9 @@ pub fn run<
     wanted: RunWanted<'_>,
     progress: &mut P,
 ) -> Result<RunEnding, Failure>
+where
+    T::File: Send,
+    T::Dir: Send,
     ensures done { (qs : List Asked) × (ws : List Written)
         × (R.asked channels.new.reader ≡ R.asked channels.old.reader ++ qs)
         × (F.written channels.new.files ≡ F.written channels.old.files ++ ws)

@@ -87,7 +87,11 @@ fn perform<R: Threads + Wait + Clock + Files + Sync>(
     work: &mut MemoryIo,
     words: &'static [&'static str],
     shows: bool,
-) -> (u8, String) {
+) -> (u8, String)
+where
+    R::File: Send,
+    R::Dir: Send,
+{
     let mut answer = String::new(alloc);
     match perform_words(rt, alloc, words, work, shows) {
         Ok(done) => (done.status, answer),
@@ -123,7 +127,11 @@ struct Done {
     file: Option<(&'static str, &'static [u8])>,
 }
 
-fn is_done<R: Threads + Wait + Clock + Files + Sync>(rt: &R, alloc: Global, row: &Done) -> bool {
+fn is_done<R: Threads + Wait + Clock + Files + Sync>(rt: &R, alloc: Global, row: &Done) -> bool
+where
+    R::File: Send,
+    R::Dir: Send,
+{
     let mut work = memory_io(alloc, None);
     let (status, answer) = perform(rt, alloc, &mut work, row.words, false);
     status == row.status
@@ -139,7 +147,11 @@ fn is_refused<R: Threads + Wait + Clock + Files + Sync>(
     row: &Done,
     refusal: io::ErrorKind,
     wanted: (u8, &str),
-) -> bool {
+) -> bool
+where
+    R::File: Send,
+    R::Dir: Send,
+{
     let mut work = memory_io(alloc, Some(refusal));
     let (status, answer) = perform(rt, alloc, &mut work, row.words, false);
     (status, answer.as_str()) == wanted
@@ -208,7 +220,11 @@ struct Turned {
 }
 
 /// Whether the turns or the run that words ask for end so.
-fn is_ended<R: Threads + Wait + Clock + Files + Sync>(rt: &R, alloc: Global, row: &Turned) -> bool {
+fn is_ended<R: Threads + Wait + Clock + Files + Sync>(rt: &R, alloc: Global, row: &Turned) -> bool
+where
+    R::File: Send,
+    R::Dir: Send,
+{
     let mut work = memory_io(alloc, None);
     match perform_words(rt, alloc, row.words, &mut work, false) {
         Ok(done) => done.ending == Some(row.ending),

@@ -35,7 +35,11 @@ fn is_printed<R: Threads + Wait + Clock + Files + Sync>(
     alloc: Global,
     row: &Row,
     room: usize,
-) -> bool {
+) -> bool
+where
+    R::File: Send,
+    R::Dir: Send,
+{
     let mut io = CommandIo {
         channels: Channels {
             reader: reader(),
@@ -64,7 +68,11 @@ fn print_in_each_room<R: Threads + Wait + Clock + Files + Sync + Abort>(
     rt: &R,
     alloc: Global,
     row: &Row,
-) {
+)
+where
+    R::File: Send,
+    R::Dir: Send,
+{
     let name = row.name;
     for room in 0..row.printed.len() + 2 {
         assert!(rt; is_printed(rt, alloc, row, room), "{name}, room {room}");
@@ -75,7 +83,11 @@ fn all_printed<R: Threads + Wait + Clock + Files + Sync + Abort>(
     rt: &R,
     alloc: Global,
     rows: &[Row],
-) {
+)
+where
+    R::File: Send,
+    R::Dir: Send,
+{
     for row in rows {
         print_in_each_room(rt, alloc, row);
     }
