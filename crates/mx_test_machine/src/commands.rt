@@ -315,7 +315,7 @@ fn terminals_explained(rt: HostRuntime) {
         let mut work = memory_io(rt.alloc(), None);
         let (status, answer) = perform(&rt, rt.alloc(), &mut work, words, *shows);
         let wanted = if *is_explained {
-            "mx: 80 File\nmx: FILE nothing: wanted a file that can be read\n"
+            "mx: 80 File\nmx: FILE nothing: wanted a file that can be read: it isn't there\n"
         } else {
             "mx: 80 File\n"
         };
