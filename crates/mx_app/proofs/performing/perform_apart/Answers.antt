@@ -3,6 +3,7 @@ use Rattle.std.specs.Prelude.{option_map}
 use Rattle.mx_app_command.specs.declared.command_line.CommandRequest.TheVariants.{Step}
 use Rattle.mx_app_program.specs.One.{IsPrinted}
 use Rattle.mx_app_program.specs.Shown.{IsListingOf, IsShown}
+use Rattle.mx_app.specs.Requests.{done_after_run}
 use Rattle.mx_app.proofs.Doing.{as_asked, as_known, as_typed, assembled, checks, debugs, draws, explains, lived, looks, pages, replays, runs, saved, shows, steps, swept, swept_pages, talked, traces, turned, whys}
 use Rattle.mx_app.proofs.performing.perform_apart.Goals as goal
 
@@ -57,7 +58,7 @@ returns-in-Db-clause-done g c =
 pub returns-in-Run-clause-done : goal.returns-in-Run-clause-done
 returns-in-Run-clause-done g c =
     as_typed (g.P.SharedProgress.was_shown c.args.io.now.progress) _ _ _ _ _ _ _ _ _ _ _ _ _ _ _ _ _ c.in-Run.is
-    (runs (g.P.SharedProgress.was_shown c.args.io.now.progress) (is_some c.in-Run.stop) _ _ _ _ _ _ c.in-Run.config.now c.in-Run.log.now (option_map (λ s. s.now) c.in-Run.events) c.in-Run.ticks _ _ c.run-done.result c.done_after_run.result c.run-done.ensures.done c.run-done.ensures.shown c.done_after_run.ensures)
+    (runs (g.P.SharedProgress.was_shown c.args.io.now.progress) (is_some c.in-Run.stop) _ _ _ _ _ _ c.in-Run.config.now c.in-Run.log.now (option_map (λ s. s.now) c.in-Run.events) c.in-Run.ticks _ _ c.run-done.result c.done_after_run.result c.run-done.ensures.done c.run-done.ensures.shown (c.done_after_run.ensures ∙ ap (λ b. done_after_run b c.run-done.result) c.is_some.ensures))
 
 pub returns-in-Turns-clause-done : goal.returns-in-Turns-clause-done
 returns-in-Turns-clause-done g c =
