@@ -1,7 +1,8 @@
-use Rattle.std.proofs.Common.{◌≡◌, ◌∙◌, ℕ, List, [], ◌++◌, Option, None, Some, ap, refl, subst, sym}
+use Rattle.std.proofs.Common.{◌≡◌, ◌∙◌, ℕ, List, [], ◌++◌, Option, None, Some, Ok, ap, refl, subst, sym}
 use Rattle.std.specs.Prelude.{option_map}
 use Rattle.std.proofs.lemmas.List.{append-nil}
 use Rattle.mx_app_db.specs.Asked.{Asked}
+use Rattle.mx_why.specs.declared.after_run.AfterRun.TheVariants as after
 use Rattle.mx_app.specs.AfterRun.{TellsAfter, made_by, names_of}
 use Rattle.mx_app.proofs.Afterwards.{tells}
 use Rattle.mx_app.proofs.after_run.told_after.Goals as goal
@@ -15,4 +16,4 @@ returns-in-Some g c =
 pub returns-in-None : goal.returns-in-None
 returns-in-None g c =
     let is : None ≡ made_by c.args.request = ap (option_map names_of) (sym c.in-None.is) ∙ c.made_by.ensures in
-    ([], sym (append-nil _), subst (λ (m : Option (List ℕ × List ℕ)). TellsAfter c.args.strict m [] c.result) is (refl, refl))
+    ([], sym (append-nil _), subst (λ (m : Option (List ℕ × List ℕ)). TellsAfter c.args.strict m [] (Ok after.Nothing)) is (refl, refl))
