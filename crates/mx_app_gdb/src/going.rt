@@ -7,7 +7,7 @@ ghost use Rattle.mx_app_gdb.specs.Moves.{IsGoneOn};
 
 use crate::halts::{Halted, Halts};
 use crate::marks::Moving;
-use crate::moving::{make_next, search_on};
+use crate::moving::{make_next, placed, search_on};
 use mx_walk::{Progress, Several, Walker};
 use mx_word::NoMemory;
 use std::alloc::Global;
@@ -24,9 +24,9 @@ pub(crate) fn go_on<P: Progress>(
     ensures halted { IfOk result (λ r. IsGoneOn walker halts.now (r.0.here, Some r.1)) }
     ensures grown { HasGrown (P.shown progress.old) (P.shown progress.new) }
 {
-    let _ = (walker.here(), walker.last());
+    placed(&walker);
     let (mut walker, mut halted) = make_next(alloc, walker, halts, progress)?;
-    let _ = walker.here();
+    placed(&walker);
     while halted.is_none() {
         let nothing = Several::<Moving>::new(Vec::new(alloc));
         halted = search_on(alloc, &mut walker, halts, nothing, progress)?;

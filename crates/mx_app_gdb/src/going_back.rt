@@ -12,7 +12,7 @@ ghost use Rattle.mx_app_gdb.specs.Moves.{IsGoneBack, IsSteppedBack, changed_by, 
 
 use crate::halts::{Halted, Halts};
 use crate::marks::{Moving, is_step};
-use crate::moving::next_made;
+use crate::moving::{next_made, placed};
 use mx_app_look::{Watch, all_bytes, first_change, points_mark, slot_next};
 use mx_machine::{Machine, Out, at_stop};
 use mx_proc::Slot;
@@ -32,9 +32,9 @@ pub(crate) fn step_back<P: Progress>(
     ensures halted { IfOk result (λ r. IsSteppedBack walker halts.now slot (r.0.here, Some r.1)) }
     ensures grown { HasGrown (P.shown progress.old) (P.shown progress.new) }
 {
-    let _ = walker.here();
+    placed(&walker);
     let (walker, is_there) = walker.seek_back(alloc, &mut Moving::new(slot), progress)?;
-    let _ = walker.here();
+    placed(&walker);
     if !is_there {
         return Ok((walker, Halted::AtBegin(slot)));
     }
@@ -117,10 +117,10 @@ pub(crate) fn go_back<P: Progress>(
     ensures halted { IfOk result (λ r. IsGoneBack walker halts.now (r.0.here, Some r.1)) }
     ensures grown { HasGrown (P.shown progress.old) (P.shown progress.new) }
 {
-    let _ = walker.here();
+    placed(&walker);
     let mut mark = points_mark(alloc, &halts.points)?;
     let (walker, is_there) = walker.seek_back(alloc, &mut mark, progress)?;
-    let _ = walker.here();
+    placed(&walker);
     if !is_there {
         return Ok((walker, Halted::AtBegin(halts.mover)));
     }

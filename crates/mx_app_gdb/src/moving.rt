@@ -17,6 +17,15 @@ use mx_walk::{Either, Halt, Mark, NextEvent, Progress, Walker, is_up_to, next_ev
 use mx_word::NoMemory;
 use std::alloc::Global;
 
+/// Law: where a walker is, and the last one that it can come to, are positions of its history, in this order.
+pub(crate) fn placed(walker: &Walker)
+    ensures here { IsPosition walker.now.records walker.now.here }
+    ensures early { IsUpTo walker.now.here walker.now.last }
+    ensures last { IsPosition walker.now.records walker.now.last }
+{
+    let _ = (walker.here(), walker.last());
+}
+
 /// The event after a position, if it can be made.
 pub(crate) fn next_made(walker: &Walker) -> Option<NextEvent>
     ensures { MatchOption result (next_made walker.now ≡ None)
@@ -65,7 +74,7 @@ pub(crate) fn make_next<P: Progress>(
     ensures unchanged { IfOk result (λ r. r.1 ≡ None → IsUnchanged r.0 halts.now) }
     ensures grown { HasGrown (P.shown progress.old) (P.shown progress.new) }
 {
-    let _ = walker.here();
+    placed(&walker);
     match next_made(&walker) {
         Some(next) => {
             let walker = walker.go_to(alloc, next.position, progress)?;
@@ -96,15 +105,13 @@ pub(crate) fn search_on<M: Mark + Drop, P: Progress>(
         (walker.new.here, halted)) }
     ensures grown { HasGrown (P.shown progress.old) (P.shown progress.new) }
 {
-    // Where it is, and the last position, are positions.
-    let _ = (walker.here(), walker.last());
+    placed(walker);
     let places = break_places(alloc, &halts.points)?;
     let points = halts_mark(alloc, &halts.points)?;
     let others = Either::new(Faulting::new(halts.counted), mark);
     let mut all = Either::new(points, others);
     let halt = walker.seek_halt(places.as_slice(), &mut all, progress);
-    // Where it is now is a position, and not past the last.
-    let _ = walker.here();
+    placed(walker);
     match halt {
         Halt::Before => {
             let slot = slot_next(walker).unwrap_or(halts.mover);

@@ -8,7 +8,7 @@ ghost use Rattle.mx_app_gdb.specs.Moves.{AreStepped, IsAtStep, IsCome, IsComeFro
 
 use crate::halts::{Halted, Halts};
 use crate::marks::{ComingOut, Ending};
-use crate::moving::{make_next, next_made, search_on, stands, stands_in};
+use crate::moving::{make_next, next_made, placed, search_on, stands, stands_in};
 use crate::ranges::Range;
 use mx_proc::Slot;
 use mx_walk::{Either, Progress, Walker};
@@ -30,7 +30,7 @@ fn come_to_step<P: Progress>(
     ensures there { IfOk result (λ r. r.1 ≡ None → IsAtStep r.0 halts.now slot) }
     ensures grown { HasGrown (P.shown progress.old) (P.shown progress.new) }
 {
-    let _ = (walker.here(), walker.last());
+    placed(&walker);
     let mut walker = walker;
     let mut halted = None;
     while halted.is_none() && !stands(&walker, slot) {
@@ -54,7 +54,7 @@ fn go_to_step<P: Progress>(
     ensures there { IfOk result (λ r. r.1 ≡ None → IsAtStep r.0 halts.now slot) }
     ensures grown { HasGrown (P.shown progress.old) (P.shown progress.new) }
 {
-    let _ = walker.here();
+    placed(&walker);
     if stands(&walker, slot) {
         return Ok((walker, None));
     }
@@ -82,7 +82,7 @@ fn leave_range<P: Progress>(
     ensures unchanged { IfOk result (λ r. r.1 ≡ None → IsUnchanged r.0 halts.now) }
     ensures grown { HasGrown (P.shown progress.old) (P.shown progress.new) }
 {
-    let _ = (walker.here(), walker.last());
+    placed(&walker);
     let mut walker = walker;
     let mut halted = None;
     while halted.is_none() && stands_in(&walker, slot, range) {
@@ -133,7 +133,7 @@ fn step_within<P: Progress>(
     ensures there { IfOk result (λ r. r.1 ≡ None → IsAtStep r.0 halts.now slot) }
     ensures grown { HasGrown (P.shown progress.old) (P.shown progress.new) }
 {
-    let _ = walker.here();
+    placed(&walker);
     let (walker, halted) = make_next(alloc, walker, halts, progress)?;
     if halted.is_some() {
         return Ok((walker, halted));
@@ -164,14 +164,14 @@ pub(crate) fn step_on<P: Progress>(
     ensures halted { IfOk result (λ r. IsStepped walker halts.now slot range (r.0.here, Some r.1)) }
     ensures grown { HasGrown (P.shown progress.old) (P.shown progress.new) }
 {
-    let _ = walker.last();
+    placed(&walker);
     let (mut walker, mut halted) = go_to_step(alloc, walker, halts, slot, progress)?;
-    let _ = walker.here();
+    placed(&walker);
     while halted.is_none() {
         let (gone, why) = step_within(alloc, walker, halts, slot, range, progress)?;
         walker = gone;
         halted = why;
-        let _ = walker.here();
+        placed(&walker);
     }
     match halted {
         Some(halted) => Ok((walker, halted)),

@@ -30,7 +30,7 @@ returns-then-is_break-clause-halted g c =
     let j = c.in_ok-walker.walker in
     let f = sought c.in_ok-mark.mark in
     let same = sought_is h.points c.in_ok-mark.mark c.in_ok-mark.ensures.bytes c.in_ok-mark.ensures.breaks in
-    let i = subst (λ (p : Position). IsPosition j.records p) c.here-2.ensures.here c.here-2.ensures.position in
+    let i = c.placed-2.ensures.here in
     let found = c.in_ok-walker.ensures.found c.if-not-is_there.false in
     let x : ℕ × Event = (c.in-Some.next.actor, c.in-Some.next.event) in
     back_break k h j c.in_ok-walker.ensures.same f same i found x c.in-Some.ensures.0 (world_of c.machine.result.now) c.machine.ensures.world c.is_break.result c.unwrap_or-slot.result c.is_break.ensures c.if-is_break.true
@@ -43,7 +43,7 @@ returns-clause-halted g c =
     let j = c.in_ok-walker.walker in
     let f = sought c.in_ok-mark.mark in
     let same = sought_is h.points c.in_ok-mark.mark c.in_ok-mark.ensures.bytes c.in_ok-mark.ensures.breaks in
-    let i = subst (λ (p : Position). IsPosition j.records p) c.here-2.ensures.here c.here-2.ensures.position in
+    let i = c.placed-2.ensures.here in
     let found = c.in_ok-walker.ensures.found c.if-not-is_there.false in
     let x : ℕ × Event = (c.in-Some.next.actor, c.in-Some.next.event) in
     both_hold c.change_by.result _ _ _ (λ r stays halted. subst (λ (w : Walk). IsGoneBack k h (w.here, Some r.1)) (sym stays)
@@ -57,8 +57,8 @@ unreachable-requires g c =
     let j = c.in_ok-walker.walker in
     let f = sought c.in_ok-mark.mark in
     let same = sought_is h.points c.in_ok-mark.mark c.in_ok-mark.ensures.bytes c.in_ok-mark.ensures.breaks in
-    let i = subst (λ (p : Position). IsPosition j.records p) c.here-2.ensures.here c.here-2.ensures.position in
+    let i = c.placed-2.ensures.here in
     let found = c.in_ok-walker.ensures.found c.if-not-is_there.false in
-    let start = subst (λ (p : Position). IsPosition k.records p) c.here.ensures.here c.here.ensures.position in
-    let early = subst (λ (p : Position). IsUpTo p k.last) c.here.ensures.here c.here.ensures.early in
+    let start = c.placed.ensures.here in
+    let early = c.placed.ensures.early in
     some_next k h j c.in_ok-walker.ensures.same f same i found start early c.in-None.ensures

@@ -17,6 +17,6 @@ returns-then-not-is_there-clause-halted g c =
 pub returns-clause-halted : goal.returns-clause-halted
 returns-clause-halted g c =
     let j = c.in_ok-walker.walker in
-    let i = subst (λ (p : Position). IsPosition j.records p) c.here-2.ensures.here c.here-2.ensures.position in
+    let i = c.placed-2.ensures.here in
     step_found c.args.walker c.args.halts.now j c.in_ok-walker.ensures.same c.args.slot c.new.result.slot (world_of c.machine.result.now) c.as_slice.result.now c.in_ok-changed.changed c.changed_or-halted.result
     i c.new.ensures (c.in_ok-walker.ensures.found c.if-not-is_there.false) c.machine.ensures.world c.as_slice.ensures.value c.in_ok-changed.ensures c.changed_or-halted.ensures

@@ -14,14 +14,14 @@ returns-in_err-walker-in-Some-clause-grown g c = ([], c.in_err-walker-in-Some.en
 pub returns-in_ok-halted-in-Some-clause-made : goal.returns-in_ok-halted-in-Some-clause-made
 returns-in_ok-halted-in-Some-clause-made g c =
     let k = c.args.walker in
-    let start = subst (λ (p : Position). IsPosition k.records p) c.here.ensures.here c.here.ensures.position in
+    let start = c.placed.ensures.here in
     made_next k c.args.halts.now (c.in-Some.next.actor, c.in-Some.next.event) c.requires.unchanged start c.in-Some.ensures.0 c.in_ok-walker-in-Some.walker c.in-Some.next.position _
     c.in_ok-walker-in-Some.ensures.gone c.in-Some.ensures.1 c.in_ok-halted-in-Some.ensures
 
 pub returns-in_ok-halted-in-Some-clause-on : goal.returns-in_ok-halted-in-Some-clause-on
 returns-in_ok-halted-in-Some-clause-on g c =
     let k = c.args.walker in
-    let start = subst (λ (p : Position). IsPosition k.records p) c.here.ensures.here c.here.ensures.position in
+    let start = c.placed.ensures.here in
     let x : ℕ × Event = (c.in-Some.next.actor, c.in-Some.next.event) in
     let there = ap (λ (w : Walk). w.here) c.in_ok-walker-in-Some.ensures.gone ∙ c.in-Some.ensures.1 in
     λ none. subst (λ (p : Position). IsBefore k.here p) (sym there) (above_its_next k.records k.here x start (made_is k x c.in-Some.ensures.0))

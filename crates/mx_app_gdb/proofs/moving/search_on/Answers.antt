@@ -15,9 +15,9 @@ returns-in-Before-clause-searched g c =
     c.in_ok-points.ensures.bytes c.in_ok-points.ensures.places c.new.ensures in
     let there = c.as_slice.ensures.value ∙ c.in_ok-places.ensures in
     let j = c.seek_halt-halt.new.self in
-    let i = subst (λ (p : Position). IsPosition j.records p) c.here-2.ensures.here c.here-2.ensures.position in
-    let up = subst (λ (p : Position). IsUpTo p j.last) c.here-2.ensures.here c.here-2.ensures.early in
-    let l = subst (λ (p : Position). IsPosition k.records p) c.last.ensures.last c.last.ensures.is.position in
+    let i = c.placed-2.ensures.here in
+    let up = c.placed-2.ensures.early in
+    let l = c.placed.ensures.last in
     halts_before k h (marks c.args.mark) (told_by marks all) c.as_slice.result.now same there j c.in-Before.ensures.same i up l c.in-Before.ensures.unleft c.in-Before.ensures.halted c.unwrap_or-slot.result
     (c.unwrap_or-slot.ensures ∙ ap (λ o. unwrap_or o h.mover) c.slot_next.ensures)
 
@@ -31,10 +31,10 @@ returns-in-After-clause-searched g c =
     c.in_ok-points.ensures.bytes c.in_ok-points.ensures.places c.new.ensures in
     let there = c.as_slice.ensures.value ∙ c.in_ok-places.ensures in
     let j = c.seek_halt-halt.new.self in
-    let i = subst (λ (p : Position). IsPosition j.records p) c.here-2.ensures.here c.here-2.ensures.position in
-    let up = subst (λ (p : Position). IsUpTo p j.last) c.here-2.ensures.here c.here-2.ensures.early in
-    let l = subst (λ (p : Position). IsPosition k.records p) c.last.ensures.last c.last.ensures.is.position in
-    let start = subst (λ (p : Position). IsPosition k.records p) c.here.ensures.here c.here.ensures.position in
+    let i = c.placed-2.ensures.here in
+    let up = c.placed-2.ensures.early in
+    let l = c.placed.ensures.last in
+    let start = c.placed.ensures.here in
     after_event k h (marks c.args.mark) (told_by marks all) c.as_slice.result.now same there j c.in-After.ensures.same i up l c.in-After.ensures.unleft start c.requires.unchanged c.in-After.ensures.halted
     c.in_ok-halted_here-in-After.field-0 c.in_ok-halted_here-in-After.ensures
 
@@ -48,7 +48,7 @@ returns-clause-searched g c =
     c.in_ok-points.ensures.bytes c.in_ok-points.ensures.places c.new.ensures in
     let there = c.as_slice.ensures.value ∙ c.in_ok-places.ensures in
     let j = c.seek_halt-halt.new.self in
-    let i = subst (λ (p : Position). IsPosition j.records p) c.here-2.ensures.here c.here-2.ensures.position in
-    let up = subst (λ (p : Position). IsUpTo p j.last) c.here-2.ensures.here c.here-2.ensures.early in
-    let l = subst (λ (p : Position). IsPosition k.records p) c.last.ensures.last c.last.ensures.is.position in
+    let i = c.placed-2.ensures.here in
+    let up = c.placed-2.ensures.early in
+    let l = c.placed.ensures.last in
     halts_nowhere k h (marks c.args.mark) (told_by marks all) c.as_slice.result.now same there j c.in-Nowhere.ensures.same i up l c.in-Nowhere.ensures.unleft c.in-Nowhere.ensures.halted (c.in-Nowhere.ensures.nowhere refl)

@@ -19,7 +19,7 @@ loop-walker-smaller g c =
     let j = c.loop-walker.walker in
     let i = c.search_on.new.walker in
     let o = c.in_ok-halted.halted in
-    let l = subst (λ (p : Position). IsPosition k.records p) c.last.ensures.last c.last.ensures.is.position in
+    let l = c.placed.ensures.last in
     let none = none_of c.loop-walker.halted c.is_none.result c.is_none.ensures c.loop-walker-test.true in
     let way = subst (λ (n : Option Halted). OnWay k h (LeadsOn (IsComeFrom k h s) k.here) j n) none c.loop-walker.invariant.way in
     let e = c.in_ok-halted.ensures in
@@ -34,7 +34,7 @@ loop-walker-preserved g c =
     let j = c.loop-walker.walker in
     let i = c.search_on.new.walker in
     let o = c.in_ok-halted.halted in
-    let l = subst (λ (p : Position). IsPosition k.records p) c.last.ensures.last c.last.ensures.is.position in
+    let l = c.placed.ensures.last in
     let none = none_of c.loop-walker.halted c.is_none.result c.is_none.ensures c.loop-walker-test.true in
     let way = subst (λ (n : Option Halted). OnWay k h (LeadsOn (IsComeFrom k h s) k.here) j n) none c.loop-walker.invariant.way in
     let e = c.in_ok-halted.ensures in
@@ -52,7 +52,7 @@ returns-clause-come g c =
     let s = c.args.slot in
     let j = c.loop-walker.walker in
     let o = c.loop-walker.halted in
-    let l = subst (λ (p : Position). IsPosition k.records p) c.last.ensures.last c.last.ensures.is.position in
+    let l = c.placed.ensures.last in
     elim c.loop-walker-test.branch [
       | then-loop-walker-test+else-not-stands w ↦
           let none = none_of o c.is_none.result c.is_none.ensures w.loop-walker-test.true in

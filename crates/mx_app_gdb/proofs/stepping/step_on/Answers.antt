@@ -22,10 +22,10 @@ loop-halted-smaller g c =
     let none = none_of c.loop-halted.halted c.is_none.result c.is_none.ensures c.loop-halted-test.true in
     let way = subst (λ (n : Option Halted). OnSteps k h s r j n) none c.loop-halted.invariant.way in
     let there : i ≡ at k i.here = e.same ∙ ap (λ (w : Walk). at w i.here) way.walker in
-    let here = c.here-in-loop-halted.ensures in
-    let position = subst (λ (w : Walk). IsPosition w.records i.here) there (subst (λ (p : Position). IsPosition i.records p) here.here here.position) in
-    let early = subst (λ (w : Walk). IsUpTo i.here w.last) there (subst (λ (p : Position). IsUpTo p i.last) here.here here.early) in
-    let l = subst (λ (p : Position). IsPosition k.records p) c.last.ensures.last c.last.ensures.is.position in
+    let here = c.placed-in-loop-halted.ensures in
+    let position = subst (λ (w : Walk). IsPosition w.records i.here) there here.here in
+    let early = subst (λ (w : Walk). IsUpTo i.here w.last) there here.early in
+    let l = c.placed.ensures.last in
     subst (λ (n : Option Halted). left_of o (events_to k i.here) < left_of n (events_to k j.here)) (sym none)
     (fewer_left k j.here i.here o c.loop-halted.invariant.position position l early e.later)
 
@@ -42,9 +42,9 @@ loop-halted-preserved g c =
     let none = none_of c.loop-halted.halted c.is_none.result c.is_none.ensures c.loop-halted-test.true in
     let way = subst (λ (n : Option Halted). OnSteps k h s r j n) none c.loop-halted.invariant.way in
     let there : i ≡ at k i.here = e.same ∙ ap (λ (w : Walk). at w i.here) way.walker in
-    let here = c.here-in-loop-halted.ensures in
-    let position = subst (λ (w : Walk). IsPosition w.records i.here) there (subst (λ (p : Position). IsPosition i.records p) here.here here.position) in
-    let early = subst (λ (w : Walk). IsUpTo i.here w.last) there (subst (λ (p : Position). IsUpTo p i.last) here.here here.early) in
+    let here = c.placed-in-loop-halted.ensures in
+    let position = subst (λ (w : Walk). IsPosition w.records i.here) there here.here in
+    let early = subst (λ (w : Walk). IsUpTo i.here w.last) there here.early in
     record {
       way = steps_more k h s r j i o way e.same e.stepped e.there;
       position = position;
