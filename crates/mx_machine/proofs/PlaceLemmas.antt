@@ -1,23 +1,66 @@
 -- What a machine's takes and returns do, from what the calls of a place do.
-use Rattle.std.proofs.Common.{◌≡◌, ◌∙◌, ◌<◌, ◌≤◌, ℕ, cond, nat_lt, Bool, true, false, List, length, Option, Some, None, Result, Ok, Err, IfSome, slice_set, get_or, refl, sym, ap, subst, arith}
+use Rattle.std.proofs.Common.{◌≡◌, ◌∙◌, ◌<◌, ◌≤◌, ℕ, cond, nat_lt, Bool, true, false, List, length, Option, Some, None, Result, Ok, Err, IfSome, IfOk, IfErr, slice_set, get_or, refl, sym, ap, subst, arith}
 use Rattle.std.proofs.lemmas.Bool.{ltb-true}
 use Rattle.mx_machine.specs.Proc.Queues.{first_ready}
 use Rattle.mx_machine.specs.Proc.TableState.{endpoint_of}
 use Rattle.mx_machine.specs.declared.events.Answer.{Answer}
-use Rattle.mx_machine.specs.declared.events.Answer.TheVariants.{Returned, Taken}
+use Rattle.mx_machine.specs.declared.events.Answer.TheVariants.{Returned, Taken, Went}
 use Rattle.mx_machine.specs.declared.events.Event.TheVariants.{Back, Take}
 use Rattle.mx_machine.specs.declared.events.Refusal.{Refusal}
-use Rattle.mx_machine.specs.declared.events.Refusal.TheVariants.{CpuBusy, CpuEmpty}
+use Rattle.mx_machine.specs.declared.events.Refusal.TheVariants.{AtStop, CpuBusy, CpuEmpty}
 use Rattle.mx_machine.specs.declared.history.Recorded.TheVariants as recorded
 use Rattle.mx_machine.specs.declared.holding.Out.{Out}
 use Rattle.mx_machine.specs.Agrees.{IsEventAccepted, IsEventRefused}
-use Rattle.mx_machine.specs.Held.{IsBack}
+use Rattle.mx_machine.specs.Held.{IsBack, outcome_of_step, out_after_step}
 use Rattle.mx_machine.specs.History.{BootAndHistory, replay, with_record}
-use Rattle.mx_machine.specs.Machine.{IsMachineState, IsRunOf, MachineState, world_of}
-use Rattle.mx_machine.specs.Move.{event_answer, event_refusal, move, take_refusal, with_held, world_after_event}
+use Rattle.mx_machine.specs.Machine.{IsMachineState, IsRunOf, MachineState, hold_after_step, world_of}
+use Rattle.mx_machine.specs.Move.{at_stop, event_answer, event_refusal, move, take_refusal, with_held, world_after_event}
 use Rattle.mx_machine.specs.World.{World, HeldProcess, free_records, held_by}
 use Rattle.mx_machine.proofs.DoneLemmas.{back-running, lends, lends_none, on, same_set, take-err, take-running}
 use Rattle.mx_machine.proofs.MachineLemmas.{back-accepted, empty-refused, take-accepted, take-refused, taken-answer}
+
+-- ---- a place
+
+-- a place in which something is held
+pub held_is : (b : Bool) (o : Out) (x : Option Out) → cond b (Some o) None ≡ x → b ≡ true → x ≡ Some o
+held_is true o x v t = sym v
+held_is false o x v t = cc
+
+-- a place in which nothing is held
+pub not_held : (b : Bool) (o : Out) (x : Option Out) → cond b (Some o) None ≡ x → b ≡ false → x ≡ None
+not_held true o x v t = cc
+not_held false o x v t = sym v
+
+-- and what it is then, with another in it
+pub held_as : (b : Bool) (o : Out) → b ≡ true → cond b (Some o) None ≡ Some o
+held_as true o t = refl
+held_as false o t = cc
+
+pub empty_as : (b : Bool) (o : Out) → b ≡ false → cond b (Some o) None ≡ None
+empty_as true o t = cc
+empty_as false o t = refl
+
+abbrev IsStopped : Out → Out → Refusal → Type 0
+IsStopped o p e = (e ≡ AtStop) × (at_stop o ≡ true) × (p ≡ o)
+
+abbrev HasGone : Out → Out → Answer → Type 0
+HasGone o p y = (y ≡ Went (outcome_of_step o)) × (at_stop o ≡ false) × (p ≡ out_after_step o)
+
+stepped : (o p : Out) (r : Result Answer Refusal) → IfErr r (IsStopped o p) → IfOk r (HasGone o p) → hold_after_step (Some o) ≡ (r, Some p)
+stepped o p (Err e) stops goes =
+    ap (λ (b : Bool). let q : Result Answer Refusal × Option Out = cond b (Err AtStop, Some o) (Ok (Went (outcome_of_step o)), Some (out_after_step o)) in q) stops.1
+    ∙ ap (λ (x : Refusal). let q : Result Answer Refusal × Option Out = (Err x, Some o) in q) (sym stops.0)
+    ∙ ap (λ (x : Out). let q : Result Answer Refusal × Option Out = (Err e, Some x) in q) (sym stops.2)
+stepped o p (Ok y) stops goes =
+    ap (λ (b : Bool). let q : Result Answer Refusal × Option Out = cond b (Err AtStop, Some o) (Ok (Went (outcome_of_step o)), Some (out_after_step o)) in q) goes.1
+    ∙ ap (λ (x : Answer). let q : Result Answer Refusal × Option Out = (Ok x, Some (out_after_step o)) in q) (sym goes.0)
+    ∙ ap (λ (x : Out). let q : Result Answer Refusal × Option Out = (Ok y, Some x) in q) (sym goes.2)
+
+-- a step of what a place has
+pub stepped_in : (b : Bool) (o p : Out) (x : Option Out) (r : Result Answer Refusal) → cond b (Some o) None ≡ x → b ≡ true → IfErr r (IsStopped o p) → IfOk r (HasGone o p) → hold_after_step x ≡ (r, cond b (Some p) None)
+stepped_in b o p x r v t stops goes =
+    ap hold_after_step (held_is b o x v t) ∙ stepped o p r stops goes
+    ∙ ap (λ (y : Option Out). let q : Result Answer Refusal × Option Out = (r, y) in q) (sym (held_as b p t))
 
 -- ---- takes
 
