@@ -2,7 +2,7 @@
 use Rattle.std.specs.Prelude.{ℕ, ◌-◌, ◌==◌, ◌&&◌, not, nat_le, Bool, true, false, if◌then◌else◌, List, [], ◌∷◌, ◌++◌, codes, is_none, length, Option, Some, None, slice_get}
 use Rattle.std.specs.Option.{option_map}
 use Rattle.mx_app_command.specs.declared.command_line.CommandRequest.{CommandRequest}
-use Rattle.mx_app_command.specs.declared.command_line.CommandRequest.TheVariants.{Step, Run, Turns, Sweep, SweptPage, Db}
+use Rattle.mx_app_command.specs.declared.command_line.CommandRequest.TheVariants.{Step, Run, Turns, Sweep, Explore, SweptPage, Db}
 use Rattle.mx_app_db.specs.Looks.{script_lines}
 use Rattle.mx_app_failure.specs.declared.failure.About.{About}
 use Rattle.mx_app_failure.specs.declared.failure.About.TheVariants.{Fault}
@@ -21,6 +21,11 @@ swept_wanted =
     codes "in LOG a record and its line feed; in FAULT an event of a script, kill slot S, kill NAME or "
     ++ codes "respawn NAME"
 
+-- the lines of a file of outside events
+abbrev pub outside_wanted : List ℕ
+outside_wanted =
+    codes "an outside event: line L, tick, kill E or respawn S, where a service's name may stand for E and S"
+
 -- the lines of the file, by the command
 abbrev pub record_wanted : CommandRequest → List ℕ
 record_wanted (Step config script save numbered) =
@@ -29,8 +34,8 @@ record_wanted (Db config script) = script_lines
 record_wanted (Run config log ticks events stop) =
     codes "line L, tick, kill E, respawn S or wait N, where a service's name may stand for E and S; --events "
     ++ codes "wants others 2 or more in CONFIG"
-record_wanted (Turns config log ticks events bound stop) =
-    codes "an outside event: line L, tick, kill E or respawn S, where a service's name may stand for E and S"
+record_wanted (Turns config log ticks events bound stop) = outside_wanted
+record_wanted (Explore config departures events bound part strict save) = outside_wanted
 record_wanted (Sweep config log fault bound from to jobs strict save) = swept_wanted
 record_wanted (SweptPage config log fault bound from to jobs) = swept_wanted
 record_wanted r =
@@ -43,6 +48,7 @@ own_looks (Step config script save numbered) about = Script
 own_looks (Db config script) about = Script
 own_looks (Run config log ticks events stop) about = Script
 own_looks (Turns config log ticks events bound stop) about = Script
+own_looks (Explore config departures events bound part strict save) about = Script
 own_looks (Sweep config log fault bound from to jobs strict save) Fault = Script
 own_looks (SweptPage config log fault bound from to jobs) Fault = Script
 own_looks r about = History

@@ -30,7 +30,8 @@ fn own_looks(request: CommandRequest<'_>, about: &About) -> LineLooks
             CommandRequest::Step { .. }
             | CommandRequest::Db { .. }
             | CommandRequest::Run { .. }
-            | CommandRequest::Turns { .. },
+            | CommandRequest::Turns { .. }
+            | CommandRequest::Explore { .. },
             _,
         ) => LineLooks::Script,
         _ => LineLooks::History,

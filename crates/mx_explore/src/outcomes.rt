@@ -1,0 +1,229 @@
+//! Outcomes of schedules: which there are, how many schedules lead to each, and the first of them.
+
+ghost use Rattle.std.specs.Prelude.{◌≡◌, ◌++◌, ◌+◌, ◌-◌, ◌^◌, ◌∷◌, [], List, All, IfOk, MatchOption, OnErr, OnOk, Some, ◌<◌, if◌then◌else◌, length, min, slice_get, take, true, false};
+ghost use Rattle.mx_machine.specs.Machine.{world_of};
+ghost use Rattle.mx_machine.specs.History.{replay};
+ghost use Rattle.std.specs.Str.{bytes_eq};
+ghost use Rattle.mx_explore.specs.declared.outcomes.Outcome.{Outcome as Outcomes};
+ghost use Rattle.mx_explore.specs.Outcomes.{Found, IsCounted, IsTally, first_of, is_before, is_less, outcome_text, state_line, state_lines};
+
+use crate::passing::{Departure, Ran};
+use mx_machine::{Kernel, Service};
+use mx_print_report::{Naming, doing_of, push_console, push_count, push_doing, push_name};
+use mx_proc::{Slot, Table};
+use mx_turns::{Ending, push_kept};
+use mx_word::NoMemory;
+use std::alloc::{AllocError, Global};
+use std::cmp::Ordering;
+
+/// What schedules lead to.
+#[derive(Drop)]
+pub struct Outcome {
+    /// The states of all services, how the turns ended, and the console.
+    pub text: Vec<u8>,
+    /// How many schedules lead to it.
+    pub count: u64,
+    /// The departures of the first of them: that with the fewest, then with the fewest records, then the least list.
+    pub departures: Vec<Departure>,
+    /// How many records its history has.
+    pub records: usize,
+}
+
+/// Appends the line of a slot: the name of its service, and what its process does.
+fn push_state(text: &mut Vec<u8>, table: &Table, slot: Slot, name: &[u8]) -> Result<(), AllocError>
+    requires { slot < length table.now.slots }
+    ensures { OnOk result (text.new.items ≡ text.old.items ++ state_line table.now slot name.now) }
+{
+    text.extend_from_slice(b"  ")?;
+    push_name(text, name)?;
+    text.push(b' ')?;
+    let state = table.process(slot).state;
+    push_doing(text, doing_of(Naming::Slots, table, slot, state))?;
+    text.push(b'\n')?;
+    Ok(())
+}
+
+/// Appends a line for each service.
+#[tactic(auto, using(crate::proofs::StateLemmas::state_lines_more))]
+fn push_states(text: &mut Vec<u8>, table: &Table, services: &[Service]) -> Result<(), AllocError>
+    requires { length services.now ≡ length table.now.slots }
+    ensures { OnOk result (text.new.items
+        ≡ text.old.items ++ state_lines table.now 0 services.now) }
+{
+    for slot in 0..table.slot_count() {
+        push_state(text, table, slot, &services[slot as usize].name.bytes)?;
+    }
+    Ok(())
+}
+
+/// The text of an outcome.
+fn outcome_text(alloc: Global, kernel: &Kernel, ending: Ending) -> Result<Vec<u8>, AllocError>
+    ensures { IfOk result (λ text. text.items ≡ outcome_text (replay kernel.now) ending) }
+{
+    kernel.facts();
+    let console = &kernel.table().devices().console;
+    let mut text = Vec::new(alloc);
+    push_states(&mut text, kernel.table(), kernel.services())?;
+    text.extend_from_slice(b"  ")?;
+    text.extend_from_slice(ending.word().as_bytes())?;
+    text.push(b'\n')?;
+    push_count(&mut text, b"  console ", console.count())?;
+    let mut kept = Vec::new(alloc);
+    push_console(&mut kept, console)?;
+    push_kept(&mut text, kept.as_slice())?;
+    Ok(text)
+}
+
+/// The outcome of one schedule.
+pub(crate) fn outcome_of(
+    alloc: Global,
+    ran: &Ran,
+    departures: &[Departure],
+) -> Result<Outcome, NoMemory>
+    ensures found { IfOk result (λ o. first_of o
+        ≡ record {
+          text = outcome_text (world_of ran.now.machine) ran.now.ending;
+          departures = departures.now;
+          records = (world_of ran.now.machine).records;
+        }) }
+    ensures one { IfOk result (λ o. o.count ≡ 1) }
+{
+    let kernel = ran.machine.kernel();
+    Ok(Outcome {
+        text: outcome_text(alloc, kernel, ran.ending)?,
+        count: 1,
+        departures: Vec::from_slice(alloc, departures)?,
+        records: kernel.history().len(),
+    })
+}
+
+/// The order of two departures: by where they are, then by how long they wait.
+fn order_of(one: Departure, other: Departure) -> Ordering {
+    match one.at.cmp(&other.at) {
+        Ordering::Equal => one.turns.cmp(&other.turns),
+        order => order,
+    }
+}
+
+/// Whether a list of departures is less than another that is as long.
+fn is_less(one: &[Departure], other: &[Departure]) -> bool
+    ensures { result ≡ is_less one.now other.now }
+{
+    for at in 0..one.len().min(other.len()) {
+        match order_of(one[at], other[at]) {
+            Ordering::Less => return true,
+            Ordering::Greater => return false,
+            Ordering::Equal => {}
+        }
+    }
+    one.len() < other.len()
+}
+
+impl Outcome {
+    /// Whether its first schedule comes before another's.
+    pub(crate) fn is_before(&self, other: &Outcome) -> bool
+        ensures { result ≡ is_before (first_of self.now) (first_of other.now) }
+    {
+        let (mine, others) = (self.departures.len(), other.departures.len());
+        if mine != others {
+            return mine < others;
+        }
+        if self.records != other.records {
+            return self.records < other.records;
+        }
+        is_less(self.departures.as_slice(), other.departures.as_slice())
+    }
+
+    /// Counts the schedules of an outcome that is the same.
+    fn join(&mut self, other: Outcome)
+        ensures count { self.new.count ≡ min (self.old.count + other.count) (2 ^ 64 - 1) }
+        ensures first { first_of self.new
+            ≡ (if is_before (first_of other) (first_of self.old) then first_of other
+            else first_of self.old) }
+    {
+        let count = self.count.saturating_add(other.count);
+        if other.is_before(self) {
+            *self = other;
+        }
+        self.count = count;
+    }
+}
+
+/// The outcomes of schedules, each once.
+#[derive(Drop)]
+pub struct Tally {
+    pub outcomes: Vec<Outcome>,
+    /// How many schedules are counted.
+    pub schedules: u64,
+}
+
+impl Tally {
+    /// The tally of no schedule.
+    pub(crate) fn new(alloc: Global) -> Tally
+        ensures { IsCounted [] result }
+    {
+        Tally {
+            outcomes: Vec::new(alloc),
+            schedules: 0,
+        }
+    }
+
+    /// Where an outcome with this text is.
+    fn place_of(&self, text: &[u8]) -> Option<usize>
+        ensures { MatchOption result
+            (All (λ (o : Outcomes). bytes_eq o.text.items text.now ≡ false)
+            self.now.outcomes.items)
+            (λ place. (o : Outcomes) × (slice_get self.now.outcomes.items place ≡ Some o)
+            × (bytes_eq o.text.items text.now ≡ true)
+            × All (λ (o : Outcomes). bytes_eq o.text.items text.now ≡ false)
+            (take place self.now.outcomes.items)) }
+    {
+        for (place, outcome) in self.outcomes.iter().enumerate() {
+            if outcome.text.as_slice() == text {
+                return Some(place);
+            }
+        }
+        None
+    }
+
+    /// Counts a schedule.
+    pub(crate) fn count(&mut self, outcome: Outcome) -> Result<(), NoMemory>
+        requires { outcome.count ≡ 1 }
+        ensures counted { OnOk result ((fs : List Found) → IsCounted fs self.old
+            → IsCounted (fs ++ first_of outcome ∷ []) self.new) }
+        ensures more { OnOk result (self.new.schedules
+            ≡ min (self.old.schedules + 1) (2 ^ 64 - 1)) }
+        ensures none { OnErr result (self.new.schedules ≡ self.old.schedules) }
+    {
+        match self.place_of(outcome.text.as_slice()) {
+            Some(place) => self.outcomes[place].join(outcome),
+            None => {
+                let Ok(()) = self.outcomes.push(outcome) else {
+                    return Err(NoMemory);
+                };
+            }
+        }
+        self.schedules = self.schedules.saturating_add(1);
+        Ok(())
+    }
+
+    /// Puts the outcomes in the order of their first schedules.
+    pub(crate) fn sort(&mut self)
+        ensures tally { (fs : List Found) → IsCounted fs self.old → IsTally fs self.new }
+        ensures schedules { self.new.schedules ≡ self.old.schedules }
+    {
+        for end in 1..self.outcomes.len() {
+            self.put_in_place(end);
+        }
+    }
+
+    /// Moves an outcome to its place among those before it, which are in order.
+    fn put_in_place(&mut self, end: usize) {
+        for place in (0..end).rev() {
+            if !self.outcomes[place + 1].is_before(&self.outcomes[place]) {
+                return;
+            }
+            self.outcomes.swap(place, place + 1);
+        }
+    }
+}
