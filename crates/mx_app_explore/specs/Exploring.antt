@@ -13,7 +13,7 @@ use Rattle.mx_app_step.specs.Written.{Written, kept}
 use Rattle.mx_app_turns.specs.Turned.{IsBegun, IsNotBegun}
 use Rattle.mx_boot.specs.ServiceLine.{ServiceLine}
 use Rattle.mx_machine.specs.declared.config.Config.{Config}
-use Rattle.mx_machine.specs.declared.events.Event.{Event}
+use Rattle.mx_turns.specs.declared.outside.OutsideLine.{OutsideLine}
 use Rattle.mx_machine.specs.Boot.{world_at_boot}
 use Rattle.mx_machine.specs.Service.{Service}
 use Rattle.mx_walk.specs.declared.progress.Part.{Part as Parts}
@@ -36,7 +36,7 @@ pub record Asking : Type 0 where
   pub part : Part
   pub save : Option (List ℕ)
 
-abbrev pub asking : Config → List Service → List Event → ℕ → ℕ → ℕ → ℕ → Option (List ℕ) → Asking
+abbrev pub asking : Config → List Service → List OutsideLine → ℕ → ℕ → ℕ → ℕ → Option (List ℕ) → Asking
 asking c vs xs n k before after save = record {
   setting = record { turns = n; boot = world_at_boot c vs; coming = xs };
   most = k;
@@ -105,12 +105,12 @@ IsUntold a ws ps Prints f =
 abbrev pub Explores : List ℕ → Option (List ℕ) → Option (List ℕ) → ℕ → ℕ → ℕ → ℕ → List Asked → List Written
     → List Parts → (List ℕ → Type 0) → Result Found Kind → Type 0
 Explores config events save k n before after qs ws ps Prints (Ok how) =
-    (c : Config) × (vs : List Service) × (xs : List Event) × IsBegun config events qs c vs xs
+    (c : Config) × (vs : List Service) × (xs : List OutsideLine) × IsBegun config events qs c vs xs
     × (saves_program c save ≡ false) × IsTold (asking c vs xs n k before after save) ws ps Prints how
 Explores config events save k n before after qs ws ps Prints (Err f) =
     ((ws ≡ []) × (ps ≡ []) × Prints [] × IsNotBegun config events qs f)
-    ⊎ (((c : Config) × (vs : List Service) × (xs : List Event) × IsBegun config events qs c vs xs
+    ⊎ (((c : Config) × (vs : List Service) × (xs : List OutsideLine) × IsBegun config events qs c vs xs
     × (saves_program c save ≡ true) × (ws ≡ []) × (ps ≡ []) × Prints [] × (f ≡ over_program))
-    ⊎ ((c : Config) × (vs : List Service) × (xs : List Event) × IsBegun config events qs c vs xs
+    ⊎ ((c : Config) × (vs : List Service) × (xs : List OutsideLine) × IsBegun config events qs c vs xs
     × (saves_program c save ≡ false)
     × IsUntold (asking c vs xs n k before after save) ws ps Prints f))

@@ -5,6 +5,7 @@ use Rattle.std.specs.List.{range_with_len}
 use Rattle.std.proofs.lemmas.List.{drop-map, take-append-drop}
 use Rattle.std.proofs.lemmas.List.FromFn.{map-range_with_len_more, take-map-range_with_len}
 use Rattle.mx_machine.specs.declared.events.Event.{Event}
+use Rattle.mx_turns.specs.declared.outside.OutsideLine.{OutsideLine}
 use Rattle.mx_machine.specs.declared.events.Event.TheVariants as events
 use Rattle.mx_machine.specs.History.{BootAndHistory, world_after_events}
 use Rattle.mx_machine.specs.Machine.{MachineState, world_of}
@@ -12,7 +13,7 @@ use Rattle.mx_machine.specs.Proc.Queues.{first_ready}
 use Rattle.mx_machine.specs.Proc.TableState.{process_at}
 use Rattle.mx_machine.specs.World.{World, HeldProcess, held_by}
 use Rattle.mx_turns.specs.Made.{HasOffered}
-use Rattle.mx_turns.specs.Turns.{Offered, offered, run_of}
+use Rattle.mx_turns.specs.Turns.{Offered, next_now, offered, run_of}
 use Rattle.mx_explore.specs.Offers.{can_respawn, is_outside, open_back, open_outside, open_respawn, open_take}
 use Rattle.mx_explore.specs.declared.offers.Offer.{Offer}
 use Rattle.mx_explore.specs.declared.offers.Offer.TheVariants.{Take, Back, Outside, Respawn}
@@ -48,7 +49,7 @@ made_of other begun p t (Some x) h = (x, refl, by (passes p.standing x) h.0 ∙ 
     by false e = refl
 
 -- AN OFFER IS MADE by a machine, as by its passage
-pub made_done : (m n : MachineState) (coming : List Event) (s : Standing) (other : ℕ) (x : Offer) (before full : Bool)
+pub made_done : (m n : MachineState) (coming : List OutsideLine) (s : Standing) (other : ℕ) (x : Offer) (before full : Bool)
     → HasOffered m (offered (world_of m) (events_of other x)) full n
     → made other (passage m coming s before) x ≡ passage n (cond (is_outside x) (drop 1 coming) coming) s (before || full)
 made_done m n coming s other x before full h =
@@ -98,7 +99,7 @@ respawn_open w s x e = some_respawn s (can_respawn (process_at w.table s) (slice
 
 -- ---- one offer of a machine
 
-module _ (m : MachineState) (coming : List Event) (other begun : ℕ) (s t : Standing) where
+module _ (m : MachineState) (coming : List OutsideLine) (other begun : ℕ) (s t : Standing) where
   -- what was open is passed, or nothing was
   pub stays_at : (full : Bool) (p : Place) (o : Option Offer) (is_made : Bool) → o ≡ open_at (passage m coming s full) p
       → IsMet (world_of m) begun o s t is_made → is_made ≡ false
@@ -147,14 +148,14 @@ module _ (m : MachineState) (coming : List Event) (other begun : ℕ) (s t : Sta
       let x = respawn_open (world_of m) c it.0 (sym e ∙ it.1) in
       it.2 ∙ ap (made other (passage m coming t false)) x ∙ made_done m n coming t other (Respawn c) false full done
 
-  pub outside_at : (o : Option Offer) (is_made full : Bool) (n : MachineState) (e : Event) → o ≡ open_outside (slice_get coming 0)
-      → slice_get coming 0 ≡ Some e
+  pub outside_at : (o : Option Offer) (is_made full : Bool) (n : MachineState) (e : Event) → o ≡ open_outside (next_now (world_of m).table (slice_get coming 0))
+      → next_now (world_of m).table (slice_get coming 0) ≡ Some e
       → IsMet (world_of m) begun o s t is_made → is_made ≡ true
       → HasOffered m (offered (world_of m) ((other, e) ∷ [])) full n
       → at_place other begun (passage m coming s false) FromOutside ≡ passage n (drop 1 coming) t full
   outside_at o is_made full n y e next h is done =
       let it = makes_at false FromOutside o is_made e h is in
-      let x = outside_open (slice_get coming 0) it.0 (sym e ∙ it.1) in
+      let x = outside_open (next_now (world_of m).table (slice_get coming 0)) it.0 (sym e ∙ it.1) in
       let same : Some x.0 ≡ Some y = sym x.1 ∙ next in
       let one : x.0 ≡ y = cc in
       it.2 ∙ ap (made other (passage m coming t false)) (x.2 ∙ ap Outside one) ∙ made_done m n coming t other (Outside y) false full done
@@ -185,7 +186,7 @@ pub respawns_need : NeedsRoom NewIn
 respawns_need p n h = ap (λ b. cond b None (open_respawn p.world n)) h
 
 pub outside_needs : (p : Passage) → p.full ≡ true → open_at p FromOutside ≡ None
-outside_needs p h = ap (λ b. cond b None (open_outside (slice_get p.coming 0))) h
+outside_needs p h = ap (λ b. cond b None (open_outside (next_now p.world.table (slice_get p.coming 0)))) h
 
 pub none_after : (other begun : ℕ) (f : ℕ → Place) → NeedsRoom f → (p : Passage) → p.full ≡ true → (ns : List ℕ) → At other begun p (map f ns) ≡ p
 none_after other begun f needs p full [] = refl

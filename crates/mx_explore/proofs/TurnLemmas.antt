@@ -3,7 +3,7 @@ use Rattle.std.proofs.Common.{◌≡◌, ◌∙◌, ℕ, zero, suc, ◌+◌, ◌
 use Rattle.std.specs.Prelude.{slice_get}
 use Rattle.std.specs.List.{range_with_len}
 use Rattle.std.proofs.lemmas.List.{drop-drop}
-use Rattle.mx_machine.specs.declared.events.Event.{Event}
+use Rattle.mx_turns.specs.declared.outside.OutsideLine.{OutsideLine}
 use Rattle.mx_machine.specs.Machine.{MachineState, world_of}
 use Rattle.mx_machine.specs.Rest.{at_rest}
 use Rattle.mx_machine.specs.World.{World}
@@ -81,25 +81,25 @@ next_turns k p q h e full =
     ∙ ap (λ b. cond b (let z : Passage × Ending = (q, Full) in z) (passed_turns k q)) full
 
 -- the first i of `bound` turns are made, and `at` of the events are gone: the rest is to be made from here
-module _ (p : Passage) (bound : ℕ) (all : List Event) (i at : ℕ) (m : MachineState) (s : Standing) where
+module _ (p : Passage) (bound : ℕ) (all : List OutsideLine) (i at : ℕ) (m : MachineState) (s : Standing) where
   abbrev pub here : Passage
   here = passage m (drop at all) s false
 
   abbrev pub IsLeft : Type 0
   IsLeft = passed_turns bound p ≡ passed_turns (bound - i) here
 
-  over_here : (next : Option Event) (b : Bool) → next ≡ slice_get all at → (is_none next && at_rest (world_of m)) ≡ b → is_over here.world here.coming ≡ b
-  over_here next b e h = ap (λ (x : Option Event). is_none x && at_rest (world_of m)) (get_drop all at ∙ sym e) ∙ h
+  over_here : (next : Option OutsideLine) (b : Bool) → next ≡ slice_get all at → (is_none next && at_rest (world_of m)) ≡ b → is_over here.world here.coming ≡ b
+  over_here next b e h = ap (λ (x : Option OutsideLine). is_none x && at_rest (world_of m)) (get_drop all at ∙ sym e) ∙ h
 
-  pub ends_over : IsLeft → (next : Option Event) → next ≡ slice_get all at → (is_none next && at_rest (world_of m)) ≡ true → (here, Rest) ≡ passed_turns bound p
+  pub ends_over : IsLeft → (next : Option OutsideLine) → next ≡ slice_get all at → (is_none next && at_rest (world_of m)) ≡ true → (here, Rest) ≡ passed_turns bound p
   ends_over left next e h = sym (left ∙ over_turns (bound - i) here (over_here next true e h))
 
-  pub ends_last : IsLeft → i ≡ bound → (next : Option Event) (over : Bool) → next ≡ slice_get all at → (is_none next && at_rest (world_of m)) ≡ over → (here, cond over Rest Turns) ≡ passed_turns bound p
+  pub ends_last : IsLeft → i ≡ bound → (next : Option OutsideLine) (over : Bool) → next ≡ slice_get all at → (is_none next && at_rest (world_of m)) ≡ over → (here, cond over Rest Turns) ≡ passed_turns bound p
   ends_last left last next over e h =
       let none : bound - i ≡ 0 = omega (arith, last) in
       sym (left ∙ ap (λ k. passed_turns k here) none ∙ last_turns here over (over_here next over e h))
 
-  module _ (q : Passage) (lt : i < bound) (left : IsLeft) (next : Option Event) (e : next ≡ slice_get all at) (h : (is_none next && at_rest (world_of m)) ≡ false) (turned : q ≡ passed_turn here) where
+  module _ (q : Passage) (lt : i < bound) (left : IsLeft) (next : Option OutsideLine) (e : next ≡ slice_get all at) (h : (is_none next && at_rest (world_of m)) ≡ false) (turned : q ≡ passed_turn here) where
     more : bound - i ≡ suc (bound - (i + 1))
     more = omega (arith, lt)
 
@@ -110,6 +110,6 @@ module _ (p : Passage) (bound : ℕ) (all : List Event) (i at : ℕ) (m : Machin
     goes_on full = left ∙ ap (λ k. passed_turns k here) more ∙ next_turns (bound - (i + 1)) here q (over_here next false e h) turned full
 
 -- the events that are to come, if the next one is gone
-pub coming_on : (all : List Event) (at : ℕ) (gone : Bool) → cond gone (drop 1 (drop at all)) (drop at all) ≡ drop (at + cond gone 1 0) all
+pub coming_on : (all : List OutsideLine) (at : ℕ) (gone : Bool) → cond gone (drop 1 (drop at all)) (drop at all) ≡ drop (at + cond gone 1 0) all
 coming_on all at true = drop-drop 1 at all
 coming_on all at false = ap (λ n. drop n all) (let z : at ≡ at + 0 = omega arith in z)

@@ -1,6 +1,6 @@
 -- Machines that run schedules (our own).
 use Rattle.std.specs.Prelude.{◌≡◌, ◌<◌, ℕ, not, Bool, false, List, length, Option, Some, None}
-use Rattle.mx_machine.specs.declared.events.Event.{Event}
+use Rattle.mx_turns.specs.declared.outside.OutsideLine.{OutsideLine}
 use Rattle.mx_machine.specs.Machine.{MachineState, world_of}
 use Rattle.mx_machine.specs.World.{World, actors}
 use Rattle.mx_explore.specs.declared.offers.Offer.{Offer}
@@ -12,7 +12,7 @@ use Rattle.mx_explore.specs.Passing.{Passage, Setting, Standing, met_in, noted, 
 abbrev pub standing : Schedule → Standing
 standing s = record { ahead = s.ahead.now; waits = s.waits; met = s.met.items; after = s.after; kept = s.is_kept }
 
-abbrev pub passage : MachineState → List Event → Standing → Bool → Passage
+abbrev pub passage : MachineState → List OutsideLine → Standing → Bool → Passage
 passage m coming s full =
     record { kernel = m.kernel; world = world_of m; coming = coming; standing = s; full = full }
 

@@ -3,10 +3,11 @@ use Rattle.std.specs.Prelude.{ℕ, zero, suc, ◌-◌, ◌==◌, ◌≡◌, nat_
 use Rattle.std.specs.List.{range_with_len}
 use Rattle.mx_walk.specs.Kept.{kept_of}
 use Rattle.mx_machine.specs.declared.events.Event.{Event}
+use Rattle.mx_turns.specs.declared.outside.OutsideLine.{OutsideLine}
 use Rattle.mx_machine.specs.declared.events.Event.TheVariants as events
 use Rattle.mx_machine.specs.History.{BootAndHistory}
 use Rattle.mx_machine.specs.World.{World}
-use Rattle.mx_turns.specs.Turns.{is_over, offered, run_of, world_after}
+use Rattle.mx_turns.specs.Turns.{is_over, next_now, offered, run_of, world_after}
 use Rattle.mx_turns.specs.declared.turns.Ending.{Ending}
 use Rattle.mx_turns.specs.declared.turns.Ending.TheVariants.{Rest, Turns, Full}
 use Rattle.mx_explore.specs.Offers.{is_outside, open_back, open_outside, open_respawn, open_take}
@@ -73,7 +74,7 @@ pub record Passage : Type 0 where
   pub kernel : BootAndHistory
   pub world : World
   -- the outside events to come
-  pub coming : List Event
+  pub coming : List OutsideLine
   pub standing : Standing
   -- whether the history was too full for an event
   pub full : Bool
@@ -95,7 +96,7 @@ places cpus slots =
 abbrev pub open_at : Passage → Place → Option Offer
 open_at p (TakeBy c) = if p.full then None else open_take p.world c
 open_at p (BackBy c) = open_back p.world c
-open_at p FromOutside = if p.full then None else open_outside (slice_get p.coming 0)
+open_at p FromOutside = if p.full then None else open_outside (next_now p.world.table (slice_get p.coming 0))
 open_at p (NewIn s) = if p.full then None else open_respawn p.world s
 
 -- THE EVENTS OF AN OFFER, in which `other` makes what no processor does
@@ -152,7 +153,7 @@ passed_turns (suc n) p =
 pub record Setting : Type 0 where
   pub turns : ℕ
   pub boot : World
-  pub coming : List Event
+  pub coming : List OutsideLine
 
 -- a run at its beginning
 abbrev pub from_boot : Setting → List Departure → Passage

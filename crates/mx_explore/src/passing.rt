@@ -4,7 +4,7 @@ ghost use Rattle.std.specs.Prelude.{◌≡◌, ◌<◌, ◌&&◌, [], if◌then�
 ghost use Rattle.mx_machine.specs.Rest.{at_rest};
 ghost use Rattle.std.specs.List.{range_with_len};
 ghost use Rattle.mx_machine.specs.Machine.{world_of};
-ghost use Rattle.mx_machine.specs.declared.events.Event.{Event as Events};
+ghost use Rattle.mx_turns.specs.declared.outside.OutsideLine.{OutsideLine as Lines};
 ghost use Rattle.mx_machine.specs.World.{actors};
 ghost use Rattle.mx_turns.specs.Made.{outside_events};
 ghost use Rattle.mx_explore.specs.Passing.{at_place, begins, goes_on, noted, passed_turn, passed_turns, passes};
@@ -13,7 +13,7 @@ ghost use Rattle.mx_explore.specs.Passages.{IsMet, IsRun, HasRoom, passage, stan
 
 use crate::offers::{Offer, open_back, open_outside, open_respawn, open_take};
 use mx_machine::{Event, Machine};
-use mx_turns::{Ending, Outside, offer, offer_run};
+use mx_turns::{Ending, Outside, OutsideLine, next_now, offer, offer_run};
 use std::alloc::{AllocError, Global};
 
 /// A departure from the order of turns: the open offer with this number isn't made. They are numbered from 0, along the
@@ -159,7 +159,7 @@ fn pass_take(
     begun: usize,
     cpu: u8,
 ) -> Result<bool, AllocError>
-    ensures passed { (coming : List Events) → (other : ℕ) → IfOk result (λ is_full.
+    ensures passed { (coming : List Lines) → (other : ℕ) → IfOk result (λ is_full.
         passage machine.new coming (standing schedule.new) is_full
         ≡ at_place other begun (passage machine.old coming (standing schedule.old) false)
         (TakeBy cpu)) }
@@ -182,7 +182,7 @@ fn pass_takes(
     begun: usize,
     cpus: u8,
 ) -> Result<bool, AllocError>
-    ensures passed { (coming : List Events) → (other : ℕ) → IfOk result (λ is_full.
+    ensures passed { (coming : List Lines) → (other : ℕ) → IfOk result (λ is_full.
         passage machine.new coming (standing schedule.new) is_full
         ≡ fold (at_place other begun) (passage machine.old coming (standing schedule.old) false)
         (map TakeBy (range_with_len 0 cpus))) }
@@ -203,7 +203,7 @@ fn pass_back(
     begun: usize,
     cpu: u8,
 ) -> Result<(), AllocError>
-    ensures passed { (coming : List Events) → (other : ℕ) → (is_full : Bool) → OnOk result (
+    ensures passed { (coming : List Lines) → (other : ℕ) → (is_full : Bool) → OnOk result (
         passage machine.new coming (standing schedule.new) is_full
         ≡ at_place other begun (passage machine.old coming (standing schedule.old) is_full)
         (BackBy cpu)) }
@@ -225,7 +225,7 @@ fn pass_backs(
     begun: usize,
     cpus: u8,
 ) -> Result<(), AllocError>
-    ensures passed { (coming : List Events) → (other : ℕ) → (is_full : Bool) → OnOk result (
+    ensures passed { (coming : List Lines) → (other : ℕ) → (is_full : Bool) → OnOk result (
         passage machine.new coming (standing schedule.new) is_full
         ≡ fold (at_place other begun) (passage machine.old coming (standing schedule.old) is_full)
         (map BackBy (range_with_len 0 cpus))) }
@@ -246,7 +246,7 @@ fn pass_respawn(
     slot: u8,
 ) -> Result<bool, AllocError>
     requires { other < actors (world_of machine.old) }
-    ensures passed { (coming : List Events) → IfOk result (λ is_full.
+    ensures passed { (coming : List Lines) → IfOk result (λ is_full.
         passage machine.new coming (standing schedule.new) is_full
         ≡ at_place other begun (passage machine.old coming (standing schedule.old) false)
         (NewIn slot)) }
@@ -271,7 +271,7 @@ fn pass_respawns(
     slots: u8,
 ) -> Result<bool, AllocError>
     requires { other < actors (world_of machine.old) }
-    ensures passed { (coming : List Events) → IfOk result (λ is_full.
+    ensures passed { (coming : List Lines) → IfOk result (λ is_full.
         passage machine.new coming (standing schedule.new) is_full
         ≡ fold (at_place other begun) (passage machine.old coming (standing schedule.old) false)
         (map NewIn (range_with_len 0 slots))) }
@@ -299,24 +299,25 @@ fn pass_outside(
     schedule: &mut Schedule<'_>,
     begun: usize,
     other: u8,
-    next: Option<Event>,
+    next: Option<OutsideLine>,
 ) -> Result<Turned, AllocError>
     requires { other < actors (world_of machine.old) }
-    ensures passed { (coming : List Events) → next ≡ slice_get coming 0 → IfOk result (λ turned.
+    ensures passed { (coming : List Lines) → next ≡ slice_get coming 0 → IfOk result (λ turned.
         passage machine.new (if turned.is_gone then drop 1 coming else coming)
         (standing schedule.new) turned.is_full
         ≡ at_place other begun (passage machine.old coming (standing schedule.old) false)
         FromOutside) }
     ensures actors { actors (world_of machine.new) ≡ actors (world_of machine.old) }
 {
-    let is_gone = is_made(machine, schedule, begun, open_outside(next))?;
+    let event = next_now(machine, next);
+    let is_gone = is_made(machine, schedule, begun, open_outside(event))?;
     if !is_gone {
         return Ok(Turned {
             is_full: false,
             is_gone,
         });
     }
-    let Some(event) = next else {
+    let Some(event) = event else {
         unreachable!();
     };
     let is_full = offer(machine, other, event);
@@ -327,10 +328,10 @@ fn pass_outside(
 fn pass_turn(
     machine: &mut Machine,
     schedule: &mut Schedule<'_>,
-    next: Option<Event>,
+    next: Option<OutsideLine>,
 ) -> Result<Turned, AllocError>
     requires { length (world_of machine.old).cpus < actors (world_of machine.old) }
-    ensures passed { (coming : List Events) → next ≡ slice_get coming 0 → IfOk result (λ turned.
+    ensures passed { (coming : List Lines) → next ≡ slice_get coming 0 → IfOk result (λ turned.
         passage machine.new (if turned.is_gone then drop 1 coming else coming)
         (standing schedule.new) turned.is_full
         ≡ passed_turn (passage machine.old coming (standing schedule.old) false)) }
@@ -359,7 +360,7 @@ fn pass_turn(
 }
 
 /// Whether nothing is left to do: no outside event is to come, and the machine is at rest.
-fn is_over(machine: &Machine, next: Option<Event>) -> bool
+fn is_over(machine: &Machine, next: Option<OutsideLine>) -> bool
     ensures { result ≡ (is_none next && at_rest (world_of machine.now)) }
 {
     next.is_none() && machine.kernel().at_rest()
@@ -373,7 +374,7 @@ fn pass_turns(
     bound: u32,
 ) -> Result<Ending, AllocError>
     requires { HasRoom machine.old }
-    ensures { IfOk result (λ ending. (coming : List Events) × (is_full : Bool)
+    ensures { IfOk result (λ ending. (coming : List Lines) × (is_full : Bool)
         × ((passage machine.new coming (standing schedule.new) is_full, ending)
         ≡ passed_turns bound
         (passage machine.old (outside_events outside.entry) (standing schedule.old) false))) }

@@ -36,7 +36,7 @@ pub use faulted_run::{Range, Sweep};
 pub use faults::FaultLine;
 pub use joining_laws::{rest_is_still, turn_of_one, turns_join};
 pub use offers::{offer, offer_run};
-pub use outside::{Outside, OutsideLine};
+pub use outside::{Outside, OutsideLine, next_now};
 pub use pairs::Pair;
 pub use trials::{Findings, Trial, push_kept, trial_at};
 pub use turns::{Ending, make_turns};
