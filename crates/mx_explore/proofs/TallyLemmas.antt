@@ -8,7 +8,7 @@ use Rattle.std.proofs.lemmas.List.Elements.{All-append, All-cons, All-contains, 
 use Rattle.std.proofs.lemmas.Slice.Eq.{bytes_eq-Decides}
 use Rattle.mx_explore.specs.declared.outcomes.Outcome.{Outcome}
 use Rattle.mx_explore.specs.Outcomes.{AreOutcomes, Found, IsOutcomeOf, Tallied, count_of, is_before, leading_to, tallied, texts}
-use Rattle.mx_explore.proofs.OrderLemmas.{before_through, not_before}
+use Rattle.mx_explore.proofs.OrderLemmas.{not_before, ranked}
 
 -- an outcome with one schedule more, and the outcomes with it
 abbrev pub joined : Tallied → Found → Tallied
@@ -69,10 +69,7 @@ module _ (fs : List Found) (f : Found) where
   -- none that wasn't before the first is before one that is
   none_before : (o : Tallied) (g : Found) (b : Bool) → is_before f o.first ≡ b → is_before g o.first ≡ false → is_before g (cond b f o.first) ≡ false
   none_before o g false e h = h
-  none_before o g true e h = elim (cases_Bool (is_before g f)) [
-    | inl i ↦ absurd (true≢false (sym (before_through g f o.first i e) ∙ h))
-    | inr n ↦ n
-  ]
+  none_before o g true e h = ranked.chain g o.first f h (ranked.one_way f o.first e)
 
   itself_not : (o : Tallied) (b : Bool) → is_before f o.first ≡ b → is_before f (cond b f o.first) ≡ false
   itself_not o true e = not_before f

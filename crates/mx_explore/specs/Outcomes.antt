@@ -1,8 +1,12 @@
 -- OUTCOMES of schedules: which there are, how many schedules lead to each, and the first of them (our own).
-use Rattle.std.specs.Prelude.{⊤, ℕ, ◌+◌, ◌-◌, ◌^◌, ◌==◌, ◌≡◌, nat_lt, min, ◌&&◌, ◌||◌, Bool, true, false, List, [], ◌∷◌, ◌++◌, All, Contains, codes, filter, length, map}
+use Rattle.std.specs.Prelude.{ℕ, ◌+◌, ◌-◌, ◌^◌, ◌≡◌, min, Bool, false, List, [], ◌∷◌, ◌++◌, All, Contains, codes, filter, length, map}
+use Rattle.std.specs.Cmp.Lexicographic.{slice_cmp}
 use Rattle.std.specs.Fmt.{decimal}
 use Rattle.std.specs.List.{IsDistinct}
+use Rattle.std.specs.List.Sorted.{IsSortedBy}
+use Rattle.std.specs.Ordering.{is_lt, nat_cmp, ordering_then}
 use Rattle.std.specs.Str.{bytes_eq}
+use Rattle.std.specs.declared.cmp.Ordering.{Ordering}
 use Rattle.mx_machine.specs.Proc.TableState.{TableState, process_at}
 use Rattle.mx_machine.specs.Service.{Service}
 use Rattle.mx_machine.specs.World.{World}
@@ -49,22 +53,19 @@ found_by t ds =
     let r = run_of_schedule t ds in
     record { text = outcome_text r.0.world r.1; departures = ds; records = r.0.world.records }
 
--- the less of two lists of departures: at the first place where they differ it departs earlier, or waits less long there
-abbrev pub is_less : List Departure → List Departure → Bool
-is_less ds [] = false
-is_less [] (e ∷ es) = true
-is_less (d ∷ ds) (e ∷ es) =
-    nat_lt d.at e.at
-    || ((d.at == e.at) && (nat_lt d.turns e.turns || ((d.turns == e.turns) && is_less ds es)))
+-- by where they are, then by how long they wait
+abbrev pub departure_cmp : Departure → Departure → Ordering
+departure_cmp d e = ordering_then (nat_cmp d.at e.at) (nat_cmp d.turns e.turns)
 
--- THE FIRST OF TWO SCHEDULES: the one with fewer departures; of those with as many the one with fewer records; then the
--- less list
+-- THE ORDER OF SCHEDULES: those with fewer departures are first; of those with as many, those with fewer records; then
+-- it is that of the first departures in which they differ
+abbrev pub found_cmp : Found → Found → Ordering
+found_cmp f g =
+    ordering_then (nat_cmp (length f.departures) (length g.departures))
+    (ordering_then (nat_cmp f.records g.records) (slice_cmp departure_cmp f.departures g.departures))
+
 abbrev pub is_before : Found → Found → Bool
-is_before f g =
-    let few = length f.departures in let many = length g.departures in
-    nat_lt few many
-    || ((few == many)
-    && (nat_lt f.records g.records || ((f.records == g.records) && is_less f.departures g.departures)))
+is_before f g = is_lt (found_cmp f g)
 
 -- ---- a tally
 
@@ -108,13 +109,7 @@ pub record IsCounted (fs : List Found) (t : Tally) : Type 0 where
   pub schedules : t.schedules ≡ count_of fs
   pub outcomes : AreOutcomes fs (map tallied t.outcomes.items)
 
--- each is before the next
-abbrev pub AreInOrder : List Tallied → Type 0
-AreInOrder [] = ⊤
-AreInOrder (o ∷ []) = ⊤
-AreInOrder (o ∷ p ∷ os) = (is_before o.first p.first ≡ true) × AreInOrder (p ∷ os)
-
 -- THE TALLY OF SCHEDULES: their outcomes, in the order of their first schedules
 pub record IsTally (fs : List Found) (t : Tally) : Type 0 where
   pub counted : IsCounted fs t
-  pub order : AreInOrder (map tallied t.outcomes.items)
+  pub order : IsSortedBy (λ (o p : Tallied). is_before o.first p.first) (map tallied t.outcomes.items)

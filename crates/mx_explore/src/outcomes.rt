@@ -5,7 +5,7 @@ ghost use Rattle.mx_machine.specs.Machine.{world_of};
 ghost use Rattle.mx_machine.specs.History.{replay};
 ghost use Rattle.std.specs.Str.{bytes_eq};
 ghost use Rattle.mx_explore.specs.declared.outcomes.Outcome.{Outcome as Outcomes};
-ghost use Rattle.mx_explore.specs.Outcomes.{Found, IsCounted, IsTally, first_of, is_before, is_less, outcome_text, state_line, state_lines};
+ghost use Rattle.mx_explore.specs.Outcomes.{Found, IsCounted, IsTally, first_of, found_cmp, is_before, outcome_text, state_line, state_lines};
 
 use crate::passing::{Departure, Ran};
 use mx_machine::{Kernel, Service};
@@ -97,41 +97,14 @@ pub(crate) fn outcome_of(
     })
 }
 
-/// The order of two departures: by where they are, then by how long they wait.
-fn order_of(one: Departure, other: Departure) -> Ordering {
-    match one.at.cmp(&other.at) {
-        Ordering::Equal => one.turns.cmp(&other.turns),
-        order => order,
-    }
-}
-
-/// Whether a list of departures is less than another that is as long.
-fn is_less(one: &[Departure], other: &[Departure]) -> bool
-    ensures { result ≡ is_less one.now other.now }
-{
-    for at in 0..one.len().min(other.len()) {
-        match order_of(one[at], other[at]) {
-            Ordering::Less => return true,
-            Ordering::Greater => return false,
-            Ordering::Equal => {}
-        }
-    }
-    one.len() < other.len()
-}
-
 impl Outcome {
-    /// Whether its first schedule comes before another's.
-    pub(crate) fn is_before(&self, other: &Outcome) -> bool
-        ensures { result ≡ is_before (first_of self.now) (first_of other.now) }
+    /// The order of the first schedules: by how many departures, then by how many records, then by the departures.
+    fn order(&self, other: &Outcome) -> Ordering
+        ensures { result ≡ found_cmp (first_of self.now) (first_of other.now) }
     {
-        let (mine, others) = (self.departures.len(), other.departures.len());
-        if mine != others {
-            return mine < others;
-        }
-        if self.records != other.records {
-            return self.records < other.records;
-        }
-        is_less(self.departures.as_slice(), other.departures.as_slice())
+        let (one, two) = (self.departures.as_slice(), other.departures.as_slice());
+        let records = self.records.cmp(&other.records);
+        one.len().cmp(&two.len()).then(records.then(one.cmp(two)))
     }
 
     /// Counts the schedules of an outcome that is the same.
@@ -142,7 +115,7 @@ impl Outcome {
             else first_of self.old) }
     {
         let count = self.count.saturating_add(other.count);
-        if other.is_before(self) {
+        if other.order(self).is_lt() {
             *self = other;
         }
         self.count = count;
@@ -212,18 +185,7 @@ impl Tally {
         ensures tally { (fs : List Found) → IsCounted fs self.old → IsTally fs self.new }
         ensures schedules { self.new.schedules ≡ self.old.schedules }
     {
-        for end in 1..self.outcomes.len() {
-            self.put_in_place(end);
-        }
-    }
-
-    /// Moves an outcome to its place among those before it, which are in order.
-    fn put_in_place(&mut self, end: usize) {
-        for place in (0..end).rev() {
-            if !self.outcomes[place + 1].is_before(&self.outcomes[place]) {
-                return;
-            }
-            self.outcomes.swap(place, place + 1);
-        }
+        self.outcomes
+            .sort_unstable_by(|one, other| one.order(other));
     }
 }

@@ -19,7 +19,7 @@ use std::alloc::{AllocError, Global};
 /// A departure from the order of turns: the open offer with this number isn't made. They are numbered from 0, along the
 /// whole run. If it is that of an outside event, the event waits for so many turns: its later offers in these turns
 /// aren't made either, and each of these turns has a record before it. Any other waits for 1 turn.
-#[derive(Clone, Copy, Debug, PartialEq, Eq)]
+#[derive(Clone, Copy, Debug, PartialEq, Eq, PartialOrd, Ord)]
 pub struct Departure {
     pub at: usize,
     pub turns: u32,
