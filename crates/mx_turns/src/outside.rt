@@ -61,7 +61,7 @@ impl<'a> Outside<'a> {
     /// What is to come after so many turns.
     #[tactic(auto, using(crate::proofs::OutsideLemmas::left_listed, crate::proofs::OutsideLemmas::left_ticks))]
     pub fn after(self, made: u64) -> Outside<'a>
-        ensures { outside_events result.entry ≡ drop made (outside_events self.entry) }
+        ensures { outside_events result ≡ drop made (outside_events self.entry) }
     {
         let listed = self.events.len() as u64;
         if made <= listed {
