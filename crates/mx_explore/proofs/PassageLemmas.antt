@@ -1,5 +1,5 @@
 -- What a machine does of an open offer, and what a passage says of it.
-use Rattle.std.proofs.Common.{◌≡◌, ◌∙◌, ℕ, zero, suc, ◌+◌, ◌-◌, ◌≤◌, ◌++◌, ◌||◌, not, Bool, true, false, List, [], ◌∷◌, map, take, drop, length, cond, Option, Some, None, is_none, refl, ap, sym, subst, arith, true≢false}
+use Rattle.std.proofs.Common.{◌≡◌, ◌∙◌, ℕ, zero, suc, ◌+◌, ◌-◌, ◌<◌, ◌≤◌, ◌++◌, ◌||◌, not, Bool, true, false, List, [], ◌∷◌, map, take, drop, length, cond, Option, Some, None, is_none, refl, ap, sym, subst, arith, true≢false}
 use Rattle.std.specs.Prelude.{fold, option_map, slice_get}
 use Rattle.std.specs.List.{range_with_len}
 use Rattle.std.proofs.lemmas.List.{drop-map, take-append-drop}
@@ -170,7 +170,7 @@ at_append other begun p [] ys = refl
 at_append other begun p (x ∷ xs) ys = at_append other begun (at_place other begun p x) xs ys
 
 -- one place more
-pub one_more : (other begun : ℕ) (p : Passage) (f : ℕ → Place) (n : ℕ) → At other begun p (map f (range_with_len 0 (n + 1))) ≡ at_place other begun (At other begun p (map f (range_with_len 0 n))) (f n)
+one_more : (other begun : ℕ) (p : Passage) (f : ℕ → Place) (n : ℕ) → At other begun p (map f (range_with_len 0 (n + 1))) ≡ at_place other begun (At other begun p (map f (range_with_len 0 n))) (f n)
 one_more other begun p f n =
     let z : 0 + n ≡ n = omega arith in
     ap (At other begun p) (map-range_with_len_more f 0 n n z) ∙ at_append other begun p (map f (range_with_len 0 n)) (f n ∷ [])
@@ -194,7 +194,7 @@ none_after other begun f needs p full (n ∷ ns) =
     ap (λ (o : Option Offer). At other begun (meets_if other begun p o) (map f ns)) (needs p n full) ∙ none_after other begun f needs p full ns
 
 -- so the places after the first k are as none
-pub first_only : (other begun : ℕ) (f : ℕ → Place) → NeedsRoom f → (p q : Passage) (k n : ℕ) → k ≤ n → At other begun p (map f (range_with_len 0 k)) ≡ q → q.full ≡ true
+first_only : (other begun : ℕ) (f : ℕ → Place) → NeedsRoom f → (p q : Passage) (k n : ℕ) → k ≤ n → At other begun p (map f (range_with_len 0 k)) ≡ q → q.full ≡ true
     → At other begun p (map f (range_with_len 0 n)) ≡ q
 first_only other begun f needs p q k n le e full =
     ap (At other begun p) parts ∙ at_append other begun p (map f (range_with_len 0 k)) (map f (drop k (range_with_len 0 n)))
@@ -206,3 +206,19 @@ first_only other begun f needs p q k n le e full =
         sym (take-append-drop k (map f (range_with_len 0 n)))
         ∙ ap (λ l. l ++ drop k (map f (range_with_len 0 n))) (take-map-range_with_len f 0 n k le)
         ∙ ap (λ l. map f (range_with_len 0 k) ++ l) (drop-map f k (range_with_len 0 n))
+
+-- ---- a loop over places
+
+-- one place more is past
+pub next_past : (other begun : ℕ) (f : ℕ → Place) (p q r : Passage) (n : ℕ) → q ≡ At other begun p (map f (range_with_len 0 n)) → r ≡ at_place other begun q (f n)
+    → r ≡ At other begun p (map f (range_with_len 0 (n + 1)))
+next_past other begun f p q r n e g = g ∙ ap (λ (x : Passage). at_place other begun x (f n)) e ∙ sym (one_more other begun p f n)
+
+-- a full history was met there, so all are past
+pub full_past : (other begun : ℕ) (f : ℕ → Place) → NeedsRoom f → (p q r : Passage) (k n : ℕ) → k < n → q ≡ At other begun p (map f (range_with_len 0 k)) → r ≡ at_place other begun q (f k) → r.full ≡ true
+    → r ≡ At other begun p (map f (range_with_len 0 n))
+full_past other begun f needs p q r k n lt e g full = sym (first_only other begun f needs p r (k + 1) n (omega (arith, lt)) (sym (next_past other begun f p q r k e g)) full)
+
+-- all are past, none of which met one
+pub all_past : (other begun : ℕ) (f : ℕ → Place) (p q : Passage) (k n : ℕ) → n ≤ k → k ≤ n → q ≡ At other begun p (map f (range_with_len 0 k)) → q ≡ At other begun p (map f (range_with_len 0 n))
+all_past other begun f p q k n low high e = let same : k ≡ n = omega (low, high) in e ∙ ap (λ i. At other begun p (map f (range_with_len 0 i))) same

@@ -1,13 +1,17 @@
 -- One schedule more in a tally.
-use Rattle.std.proofs.Common.{◌≡◌, ◌∙◌, ◌⊎◌, ◌≤◌, ◌+◌, ◌-◌, ◌^◌, ◌++◌, ℕ, zero, suc, Bool, true, false, List, [], ◌∷◌, map, min, take, length, length-append, set, cond, Option, Some, None, inl, inr, refl, ap, sym, subst, arith, true≢false}
-use Rattle.std.specs.Prelude.{All, Contains, filter, slice_get}
-use Rattle.std.specs.List.{IsDistinct, AllByRecursion}
+use Rattle.std.proofs.Common.{◌≡◌, ◌∙◌, ◌⊎◌, ◌<◌, ◌≤◌, ◌+◌, ◌-◌, ◌^◌, ◌++◌, ℕ, zero, suc, Bool, true, false, List, [], ◌∷◌, get_or, map, min, nat_lt, not, length, length-append, set, cond, Option, Some, None, inl, inr, refl, ap, sym, subst, arith, true≢false}
+use Rattle.std.specs.Prelude.{All, Contains, filter, position}
+use Rattle.std.specs.List.{IsDistinct, AllByRecursion, position_or_len}
+use Rattle.std.specs.List.Sorted.{IsPermutation}
 use Rattle.std.specs.Str.{bytes_eq}
-use Rattle.std.proofs.lemmas.Bool.{cases_Bool}
+use Rattle.std.proofs.lemmas.Bool.{cases_Bool, ltb-false, ltb-true}
 use Rattle.std.proofs.lemmas.List.Elements.{All-append, All-cons, All-contains, All-from_recursion, All-map, All-nil, All-weaker, Contains-append_cases, Contains-append_left, Contains-append_right, filter-append, recursion_from_All}
+use Rattle.std.proofs.lemmas.List.Sorted.{All-permutation, Contains-permutation, IsPermutation-map}
+use Rattle.std.proofs.lemmas.Map.Keys.{IsDistinct-IsPermutation}
 use Rattle.std.proofs.lemmas.Slice.Eq.{bytes_eq-Decides}
+use Rattle.std.specs.Cmp.{both_ways}
 use Rattle.mx_explore.specs.declared.outcomes.Outcome.{Outcome}
-use Rattle.mx_explore.specs.Outcomes.{AreOutcomes, Found, IsOutcomeOf, Tallied, count_of, is_before, leading_to, tallied, texts}
+use Rattle.mx_explore.specs.Outcomes.{AreOutcomes, Found, IsOutcomeOf, Tallied, count_of, first_of, is_before, leading_to, tallied, texts}
 use Rattle.mx_explore.proofs.OrderLemmas.{not_before, ranked}
 
 -- an outcome with one schedule more, and the outcomes with it
@@ -165,7 +169,7 @@ module _ (fs : List Found) (f : Found) where
       ap (λ b. cond b (g ∷ leading_to f.text gs) (leading_to f.text gs)) apart ∙ none_leads gs os h.1 lacks
 
   -- ONE SCHEDULE MORE
-  pub schedule_added : (os : List Tallied) → AreOutcomes fs os → AreOutcomes (fs ++ f ∷ []) (added f os)
+  schedule_added : (os : List Tallied) → AreOutcomes fs os → AreOutcomes (fs ++ f ∷ []) (added f os)
   schedule_added os h =
       let every = recursion_from_All (λ (g : Found). Contains (texts os) g.text) fs h.every in
       record {
@@ -178,24 +182,76 @@ module _ (fs : List Found) (f : Found) where
 
 -- ---- the outcomes of a tally
 
--- the outcome with the schedule's text is joined
-pub set_added : (os : List Outcome) (place : ℕ) (o p : Outcome) (f : Found) → slice_get os place ≡ Some o → bytes_eq o.text.items f.text ≡ true
-    → AllByRecursion (λ (x : Outcome). bytes_eq x.text.items f.text ≡ false) (take place os) → tallied p ≡ joined (tallied o) f
-    → map tallied (set os place p) ≡ added f (map tallied os)
-set_added [] place o p f there is above e = absurd cc
-set_added (x ∷ os) zero o p f there is above e =
-    let same : x ≡ o = cc in
-    let text : bytes_eq x.text.items f.text ≡ true = ap (λ (y : Outcome). bytes_eq y.text.items f.text) same ∙ is in
-    ap (λ (y : Tallied). y ∷ map tallied os) (e ∙ ap (λ (y : Outcome). joined (tallied y) f) (sym same))
-    ∙ ap (λ b. cond b (joined (tallied x) f ∷ map tallied os) (tallied x ∷ added f (map tallied os))) (sym text)
-set_added (x ∷ os) (suc n) o p f there is above e =
-    ap (λ (l : List Tallied). tallied x ∷ l) (set_added os n o p f there is above.1 e)
-    ∙ ap (λ b. cond b (joined (tallied x) f ∷ map tallied os) (tallied x ∷ added f (map tallied os))) (sym above.0)
+-- the place of the outcome with the schedule's text
+abbrev place_in : Found → List Outcome → ℕ
+place_in f os = position_or_len (λ (o : Outcome). bytes_eq o.text.items f.text) os
+
+-- that outcome is joined
+set_added : (os : List Outcome) (o p : Outcome) (f : Found) → place_in f os < length os → o ≡ get_or os (place_in f os) o → tallied p ≡ joined (tallied o) f
+    → map tallied (set os (place_in f os) p) ≡ added f (map tallied os)
+set_added [] o p f lt is e = absurd (let none : 0 < 0 = lt in omega none)
+set_added (x ∷ os) o p f lt is e = by (bytes_eq x.text.items f.text) lt is
+  where
+    by : (b : Bool) → (let n = cond (not b) (1 + place_in f os) 0 in
+        n < length (x ∷ os) → o ≡ get_or (x ∷ os) n o → map tallied (set (x ∷ os) n p) ≡ cond b (joined (tallied x) f ∷ map tallied os) (tallied x ∷ added f (map tallied os)))
+    by true lt is = ap (λ (y : Tallied). y ∷ map tallied os) (e ∙ ap (λ (y : Outcome). joined (tallied y) f) is)
+    by false lt is = ap (λ (l : List Tallied). tallied x ∷ l) (set_added os o p f (omega (arith, lt)) is e)
 
 -- or it is a new one
-pub push_added : (os : List Outcome) (o : Outcome) (f : Found) → AllByRecursion (λ (x : Outcome). bytes_eq x.text.items f.text ≡ false) os
-    → tallied o ≡ record { count = 1; first = f } → map tallied (os ++ o ∷ []) ≡ added f (map tallied os)
-push_added [] o f none e = ap (λ (y : Tallied). y ∷ []) e
-push_added (x ∷ os) o f none e =
-    ap (λ (l : List Tallied). tallied x ∷ l) (push_added os o f none.1 e)
-    ∙ ap (λ b. cond b (joined (tallied x) f ∷ map tallied os) (tallied x ∷ added f (map tallied os))) (sym none.0)
+push_added : (os : List Outcome) (o : Outcome) (f : Found) → length os ≤ place_in f os → tallied o ≡ record { count = 1; first = f } → map tallied (os ++ o ∷ []) ≡ added f (map tallied os)
+push_added [] o f le e = ap (λ (y : Tallied). y ∷ []) e
+push_added (x ∷ os) o f le e = by (bytes_eq x.text.items f.text) le
+  where
+    by : (b : Bool) → length (x ∷ os) ≤ cond (not b) (1 + place_in f os) 0
+        → tallied x ∷ map tallied (os ++ o ∷ []) ≡ cond b (joined (tallied x) f ∷ map tallied os) (tallied x ∷ added f (map tallied os))
+    by true le = absurd (let none : suc (length os) ≤ 0 = le in omega none)
+    by false le = ap (λ (l : List Tallied). tallied x ∷ l) (push_added os o f (omega (arith, le)) e)
+
+some_place : (n len k : ℕ) (b : Bool) → nat_lt n len ≡ b → cond b (let z : Option ℕ = Some n in z) None ≡ Some k → (n ≡ k) × (n < len)
+some_place n len k true e h = (cc, ltb-true n len e)
+some_place n len k false e h = absurd cc
+
+no_place : (n len : ℕ) (b : Bool) → nat_lt n len ≡ b → cond b (let z : Option ℕ = Some n in z) None ≡ None → len ≤ n
+no_place n len true e h = absurd cc
+no_place n len false e h = ltb-false n len e
+
+-- an outcome of one schedule
+one_tallied : (x : Outcome) → x.count ≡ 1 → tallied x ≡ record { count = 1; first = first_of x }
+one_tallied x one = ap (λ n. let z : Tallied = record { count = n; first = first_of x } in z) one
+
+-- ONE SCHEDULE MORE, of an outcome that is there
+pub joins : (fs : List Found) (os : List Outcome) (o p x : Outcome) (place : ℕ) → position (λ (y : Outcome). bytes_eq y.text.items x.text.items) os ≡ Some place → o ≡ get_or os place o → x.count ≡ 1
+    → p.count ≡ min (o.count + x.count) (2 ^ 64 - 1) → first_of p ≡ cond (is_before (first_of x) (first_of o)) (first_of x) (first_of o)
+    → AreOutcomes fs (map tallied os) → AreOutcomes (fs ++ first_of x ∷ []) (map tallied (set os place p))
+joins fs os o p x place at is one count first are =
+    let found = some_place (place_in (first_of x) os) (length os) place (nat_lt (place_in (first_of x) os) (length os)) refl at in
+    let both : tallied p ≡ joined (tallied o) (first_of x) =
+    ap (λ n. let z : Tallied = record { count = n; first = first_of p } in z) (count ∙ ap (λ n. min (o.count + n) (2 ^ 64 - 1)) one)
+    ∙ ap (λ (f : Found). let z : Tallied = record { count = min (o.count + 1) (2 ^ 64 - 1); first = f } in z) first in
+    subst (AreOutcomes (fs ++ first_of x ∷ []))
+    (sym (ap (λ n. map tallied (set os n p)) (sym found.0) ∙ set_added os o p (first_of x) found.1 (is ∙ ap (λ n. get_or os n o) (sym found.0)) both))
+    (schedule_added fs (first_of x) (map tallied os) are)
+
+-- or of a new one
+pub begins : (fs : List Found) (os : List Outcome) (x : Outcome) → position (λ (y : Outcome). bytes_eq y.text.items x.text.items) os ≡ None → x.count ≡ 1
+    → AreOutcomes fs (map tallied os) → AreOutcomes (fs ++ first_of x ∷ []) (map tallied (os ++ x ∷ []))
+begins fs os x at one are =
+    let none = no_place (place_in (first_of x) os) (length os) (nat_lt (place_in (first_of x) os) (length os)) refl at in
+    subst (AreOutcomes (fs ++ first_of x ∷ [])) (sym (push_added os x (first_of x) none (one_tallied x one))) (schedule_added fs (first_of x) (map tallied os) are)
+
+-- ---- another order
+
+flips : (s t : List ℕ) → bytes_eq s t ≡ bytes_eq t s
+flips s t = both_ways (bytes_eq s t) (bytes_eq t s) (λ h. flipped s t h) (λ h. flipped t s h)
+  where
+    flipped : (s t : List ℕ) → bytes_eq s t ≡ true → bytes_eq t s ≡ true
+    flipped s t h = (bytes_eq-Decides t s).1 (sym (same_text s t h))
+
+pub reordered : (fs : List Found) (os ps : List Tallied) → IsPermutation os ps → AreOutcomes fs os → AreOutcomes fs ps
+reordered fs os ps h are =
+    let same : IsPermutation (texts os) (texts ps) = IsPermutation-map (λ (o : Tallied). o.first.text) os ps h in
+    record {
+      outcomes = All-permutation (IsOutcomeOf fs) os ps h are.outcomes;
+      every = All-weaker (λ (f : Found). Contains (texts os) f.text) (λ (f : Found). Contains (texts ps) f.text) (λ f there. Contains-permutation (texts os) (texts ps) f.text same there) fs are.every;
+      once = IsDistinct-IsPermutation bytes_eq flips (texts os) (texts ps) same are.once;
+    }

@@ -53,6 +53,17 @@ pub turn_whole : (other begun : ℕ) (p q r u v : Passage) (cpus slots : ℕ) �
     → v ≡ At other begun u (news_of slots) → At other begun p (places cpus slots) ≡ v
 turn_whole other begun p q r u v cpus slots e f g h = in_parts other begun p q r u cpus slots e f g ∙ sym h
 
+-- by how many processors, slots and records there are
+pub turned_by : (p v : Passage) (cpus slots begun : ℕ) → cpus ≡ length p.world.cpus → slots ≡ length p.world.services → begun ≡ p.world.records → At cpus begun p (places cpus slots) ≡ v → v ≡ passed_turn p
+turned_by p v cpus slots begun c s b e =
+    sym e ∙ ap (λ n. At n begun p (places n slots)) c ∙ ap (λ n. At (length p.world.cpus) begun p (places (length p.world.cpus) n)) s
+    ∙ ap (λ n. At (length p.world.cpus) n p (places (length p.world.cpus) (length p.world.services))) b
+
+-- some events are to come, the first of which is this one
+pub some_coming : (next : Option OutsideLine) → (coming : List OutsideLine) × (next ≡ slice_get coming 0)
+some_coming None = ([], refl)
+some_coming (Some x) = (x ∷ [], refl)
+
 -- ---- turns
 
 pub get_drop : {X : Type 0} (xs : List X) (n : ℕ) → slice_get (drop n xs) 0 ≡ slice_get xs n

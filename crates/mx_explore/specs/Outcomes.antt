@@ -112,4 +112,4 @@ pub record IsCounted (fs : List Found) (t : Tally) : Type 0 where
 -- THE TALLY OF SCHEDULES: their outcomes, in the order of their first schedules
 pub record IsTally (fs : List Found) (t : Tally) : Type 0 where
   pub counted : IsCounted fs t
-  pub order : IsSortedBy (λ (o p : Tallied). is_before o.first p.first) (map tallied t.outcomes.items)
+  pub order : IsSortedBy (λ (o p : Outcome). is_before (first_of o) (first_of p)) t.outcomes.items

@@ -243,16 +243,16 @@ impl Explorer<'_> {
             × ShowsCounts self.old.tally.schedules ps self.new.tally.schedules }
     {
         let mut services = services;
-        for turns in 1..=self.terms.bound {
-            let departure = Departure { at, turns };
-            let Ok(()) = self.departures.push(departure) else {
+        for waited in 0..self.terms.bound {
+            let turns = waited + 1;
+            let Ok(()) = self.departures.push(Departure { at, turns }) else {
                 return Err(NoMemory);
             };
             let (back, can_wait) = self.explore(alloc, progress, services, left)?;
             services = back;
             self.departures.pop();
             if !can_wait || !met.offer.is_outside() {
-                break;
+                return Ok(services);
             }
             self.known = self.known.saturating_add(1);
         }

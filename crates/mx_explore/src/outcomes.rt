@@ -1,11 +1,11 @@
 //! Outcomes of schedules: which there are, how many schedules lead to each, and the first of them.
 
-ghost use Rattle.std.specs.Prelude.{◌≡◌, ◌++◌, ◌+◌, ◌-◌, ◌^◌, ◌∷◌, [], List, All, IfOk, MatchOption, OnErr, OnOk, Some, ◌<◌, if◌then◌else◌, length, min, slice_get, take, true, false};
+ghost use Rattle.std.specs.Prelude.{◌≡◌, ◌<◌, ◌++◌, ◌+◌, ◌-◌, ◌^◌, ◌∷◌, [], List, IfOk, IfSome, OnErr, OnOk, if◌then◌else◌, length, map, min, position};
 ghost use Rattle.mx_machine.specs.Machine.{world_of};
 ghost use Rattle.mx_machine.specs.History.{replay};
 ghost use Rattle.std.specs.Str.{bytes_eq};
 ghost use Rattle.mx_explore.specs.declared.outcomes.Outcome.{Outcome as Outcomes};
-ghost use Rattle.mx_explore.specs.Outcomes.{Found, IsCounted, IsTally, first_of, found_cmp, is_before, outcome_text, state_line, state_lines};
+ghost use Rattle.mx_explore.specs.Outcomes.{AreOutcomes, Found, IsCounted, IsTally, first_of, found_cmp, is_before, outcome_text, state_line, state_lines, tallied};
 
 use crate::passing::{Departure, Ran};
 use mx_machine::{Kernel, Service};
@@ -143,20 +143,31 @@ impl Tally {
 
     /// Where an outcome with this text is.
     fn place_of(&self, text: &[u8]) -> Option<usize>
-        ensures { MatchOption result
-            (All (λ (o : Outcomes). bytes_eq o.text.items text.now ≡ false)
-            self.now.outcomes.items)
-            (λ place. (o : Outcomes) × (slice_get self.now.outcomes.items place ≡ Some o)
-            × (bytes_eq o.text.items text.now ≡ true)
-            × All (λ (o : Outcomes). bytes_eq o.text.items text.now ≡ false)
-            (take place self.now.outcomes.items)) }
+        ensures place { result ≡ position (λ (o : Outcomes). bytes_eq o.text.items text.now)
+            self.now.outcomes.items }
+        ensures within { IfSome result (λ place. place < length self.now.outcomes.items) }
     {
-        for (place, outcome) in self.outcomes.iter().enumerate() {
-            if outcome.text.as_slice() == text {
-                return Some(place);
-            }
-        }
-        None
+        self.outcomes
+            .iter()
+            .position(|outcome| outcome.text.as_slice() == text)
+    }
+
+    /// Counts a schedule among the outcomes.
+    fn add(&mut self, outcome: Outcome) -> Result<(), NoMemory>
+        requires { outcome.count ≡ 1 }
+        ensures added { OnOk result ((fs : List Found)
+            → AreOutcomes fs (map tallied self.old.outcomes.items)
+            → AreOutcomes (fs ++ first_of outcome ∷ []) (map tallied self.new.outcomes.items)) }
+        ensures schedules { self.new.schedules ≡ self.old.schedules }
+    {
+        let Some(place) = self.place_of(outcome.text.as_slice()) else {
+            let Ok(()) = self.outcomes.push(outcome) else {
+                return Err(NoMemory);
+            };
+            return Ok(());
+        };
+        self.outcomes[place].join(outcome);
+        Ok(())
     }
 
     /// Counts a schedule.
@@ -168,14 +179,7 @@ impl Tally {
             ≡ min (self.old.schedules + 1) (2 ^ 64 - 1)) }
         ensures none { OnErr result (self.new.schedules ≡ self.old.schedules) }
     {
-        match self.place_of(outcome.text.as_slice()) {
-            Some(place) => self.outcomes[place].join(outcome),
-            None => {
-                let Ok(()) = self.outcomes.push(outcome) else {
-                    return Err(NoMemory);
-                };
-            }
-        }
+        self.add(outcome)?;
         self.schedules = self.schedules.saturating_add(1);
         Ok(())
     }

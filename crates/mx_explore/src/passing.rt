@@ -335,7 +335,7 @@ fn pass_turn(
         passage machine.new (if turned.is_gone then drop 1 coming else coming)
         (standing schedule.new) turned.is_full
         ≡ passed_turn (passage machine.old coming (standing schedule.old) false)) }
-    ensures room { HasRoom machine.old → HasRoom machine.new }
+    ensures room { OnOk result (HasRoom machine.old → HasRoom machine.new) }
 {
     let cpus = cpus_of(machine);
     let slots = slots_of(machine);
@@ -389,9 +389,7 @@ fn pass_turns(
         if turned.is_full {
             return Ok(Ending::Full);
         }
-        if turned.is_gone {
-            place += 1;
-        }
+        place += u64::from(turned.is_gone);
     }
     if is_over(machine, outside.get(place)) {
         Ok(Ending::Rest)
