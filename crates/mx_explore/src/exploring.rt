@@ -1,9 +1,10 @@
 //! The tree of schedules.
 
-ghost use Rattle.std.specs.Prelude.{◌≡◌, ◌==◌, ◌<◌, ◌+◌, ◌%◌, ◌++◌, ℕ, List, IfOk, OnOk, Some, length, slice_get};
+ghost use Rattle.std.specs.Prelude.{◌≡◌, ◌&&◌, ◌==◌, ◌<◌, ◌+◌, ◌%◌, ◌++◌, ℕ, List, IfOk, OnOk, Some, length, slice_get};
 ghost use Rattle.mx_walk.specs.declared.progress.Part.{Part as Parts};
 ghost use Rattle.mx_explore.specs.Exploring.{HasCounted, IsAtBoot, IsDone, IsSame, ShowsCounts, end_now, part_of, setting};
 ghost use Rattle.mx_explore.specs.declared.outcomes.Outcome.{Outcome as Outcomes};
+ghost use Rattle.mx_explore.specs.Offers.{is_outside};
 ghost use Rattle.mx_explore.specs.Passages.{IsRun};
 ghost use Rattle.mx_explore.specs.Schedules.{is_in_part};
 ghost use Rattle.mx_explore.specs.Tree.{below, can_wait, departed, departing, itself, waits_on};
@@ -70,15 +71,22 @@ struct Tried {
 }
 
 /// Whether the first offer of the outside among these is in a turn that has a record already.
-fn waits_on(met: &[Met]) -> bool
-    ensures { result ≡ waits_on met.now }
+fn waits_on(offers: &[Met]) -> bool
+    ensures { result ≡ waits_on offers.now }
 {
-    for met in met {
+    for met in offers {
         if met.offer.is_outside() {
             return met.is_begun;
         }
     }
     false
+}
+
+/// Whether a departure at an offer that was met goes on for a turn more, if it can.
+fn goes_on(met: Met, can_wait: bool) -> bool
+    ensures { result ≡ (can_wait && is_outside met.offer) }
+{
+    can_wait && met.offer.is_outside()
 }
 
 impl Explorer<'_> {
@@ -117,15 +125,14 @@ impl Explorer<'_> {
         ensures shown { (ps : List Parts) × (P.shown progress.new ≡ P.shown progress.old ++ ps)
             × ShowsCounts self.old.tally.schedules ps self.new.tally.schedules }
     {
-        if self.is_in_part() {
-            let outcome = outcome_of(alloc, ran, self.departures.as_slice())?;
-            self.tally.count(outcome)?;
-            let done = self.tally.schedules as usize;
-            progress.show(Part {
-                done,
-                all: self.known.max(done),
-            });
+        if !self.is_in_part() {
+            return Ok(());
         }
+        let outcome = outcome_of(alloc, ran, self.departures.as_slice())?;
+        self.tally.count(outcome)?;
+        let done = self.tally.schedules as usize;
+        let all = self.known.max(done);
+        progress.show(Part { done, all });
         Ok(())
     }
 
@@ -251,7 +258,7 @@ impl Explorer<'_> {
             let (back, can_wait) = self.explore(alloc, progress, services, left)?;
             services = back;
             self.departures.pop();
-            if !can_wait || !met.offer.is_outside() {
+            if !goes_on(met, can_wait) {
                 return Ok(services);
             }
             self.known = self.known.saturating_add(1);
