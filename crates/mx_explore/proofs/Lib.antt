@@ -11,3 +11,4 @@ mod BoundLemmas
 mod TreeLemmas
 mod CountLemmas
 mod StateLemmas
+mod MeetLemmas

@@ -160,6 +160,10 @@ module _ (m : MachineState) (coming : List OutsideLine) (other begun : ℕ) (s t
       let one : x.0 ≡ y = cc in
       it.2 ∙ ap (made other (passage m coming t false)) (x.2 ∙ ap Outside one) ∙ made_done m n coming t other (Outside y) false full done
 
+-- nothing is made if nothing is to come
+pub none_comes : (w : World) (begun : ℕ) (next : Option Event) (o : Option Offer) (s t : Standing) (is_made : Bool) → o ≡ open_outside next → next ≡ None → IsMet w begun o s t is_made → is_made ≡ true → ⊥
+none_comes w begun next o s t is_made e none h is = absurd (true≢false (sym is ∙ (subst (λ (x : Option Offer). IsMet w begun x s t is_made) (e ∙ ap open_outside none) h).0))
+
 -- ---- places in a row
 
 abbrev pub At : ℕ → ℕ → Passage → List Place → Passage

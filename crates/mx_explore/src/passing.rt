@@ -189,7 +189,8 @@ fn pass_takes(
     ensures actors { actors (world_of machine.new) ≡ actors (world_of machine.old) }
 {
     for cpu in 0..cpus {
-        if pass_take(machine, schedule, begun, cpu)? {
+        let is_full = pass_take(machine, schedule, begun, cpu)?;
+        if is_full {
             return Ok(true);
         }
     }
@@ -278,7 +279,8 @@ fn pass_respawns(
     ensures actors { actors (world_of machine.new) ≡ actors (world_of machine.old) }
 {
     for slot in 0..slots {
-        if pass_respawn(machine, schedule, begun, other, slot)? {
+        let is_full = pass_respawn(machine, schedule, begun, other, slot)?;
+        if is_full {
             return Ok(true);
         }
     }
@@ -309,15 +311,15 @@ fn pass_outside(
         FromOutside) }
     ensures actors { actors (world_of machine.new) ≡ actors (world_of machine.old) }
 {
-    let event = next_now(machine, next);
-    let is_gone = is_made(machine, schedule, begun, open_outside(event))?;
+    let due = next_now(machine, next);
+    let is_gone = is_made(machine, schedule, begun, open_outside(due))?;
     if !is_gone {
         return Ok(Turned {
             is_full: false,
             is_gone,
         });
     }
-    let Some(event) = event else {
+    let Some(event) = due else {
         unreachable!();
     };
     let is_full = offer(machine, other, event);
@@ -352,9 +354,9 @@ fn pass_turn(
     if turned.is_full {
         return Ok(turned);
     }
-    let is_full = pass_respawns(machine, schedule, begun, cpus, slots)?;
+    let is_filled = pass_respawns(machine, schedule, begun, cpus, slots)?;
     Ok(Turned {
-        is_full,
+        is_full: is_filled,
         is_gone: turned.is_gone,
     })
 }
