@@ -30,12 +30,12 @@ module _ (K : Standing → Type 0) (lasts : (s : Standing) (m : Met) → K s →
 
   pub turns_last : (k : ℕ) (p : Passage) → K p.standing → K (passed_turns k p).0.standing
   turns_last zero p h = h
-  turns_last (suc k) p h = by (is_over p.world p.coming) (passed_turn p).full
+  turns_last (suc k) p h = by (is_over p.world p.coming) (passed_turn p).full (turns_last k (passed_turn p) (turn_lasts p h))
     where
-      by : (over full : Bool) → K (cond over (let z : Passage × Ending = (p, Rest) in z) (let q = passed_turn p in cond full (let z : Passage × Ending = (q, Full) in z) (passed_turns k q))).0.standing
-      by true full = h
-      by false true = turn_lasts p h
-      by false false = turns_last k (passed_turn p) (turn_lasts p h)
+      by : (over full : Bool) → K (passed_turns k (passed_turn p)).0.standing → K (cond over (let z : Passage × Ending = (p, Rest) in z) (let q = passed_turn p in cond full (let z : Passage × Ending = (q, Full) in z) (passed_turns k q))).0.standing
+      by true full rest = h
+      by false true rest = turn_lasts p h
+      by false false rest = rest
 
 -- ---- two runs
 
@@ -97,14 +97,17 @@ module _ (T A : Standing → Standing → Type 0)
 
   pub goes_turns : (k : ℕ) (p : Passage) (t : Standing) → T p.standing t → Goes (passed_turns k p).0 (passed_turns k (stood p t)).0
   goes_turns zero p t h = inl (refl, h)
-  goes_turns (suc k) p t h = by (is_over p.world p.coming)
+  goes_turns (suc k) p t h = by (goes_turns k) (is_over p.world p.coming)
     where
+      Later : Type 0
+      Later = (u : Passage) (s : Standing) → T u.standing s → Goes (passed_turns k u).0 (passed_turns k (stood u s)).0
+
       ends : Passage → Bool → Passage × Ending
       ends u b = cond b (u, Full) (passed_turns k u)
 
-      same : (u : Passage) (s : Standing) → T u.standing s → (b : Bool) → Goes (ends u b).0 (ends (stood u s) b).0
-      same u s g true = inl (refl, g)
-      same u s g false = goes_turns k u s g
+      same : Later → (u : Passage) (s : Standing) → T u.standing s → (b : Bool) → Goes (ends u b).0 (ends (stood u s) b).0
+      same later u s g true = inl (refl, g)
+      same later u s g false = later u s g
 
       apart : (u v : Passage) → A u.standing v.standing → (a b : Bool) → Goes (ends u a).0 (ends v b).0
       apart u v g true true = inr g
@@ -112,10 +115,10 @@ module _ (T A : Standing → Standing → Type 0)
       apart u v g false true = inr (rest_parted k 0 u v g)
       apart u v g false false = inr (rest_parted k k u v g)
 
-      turned : (u v : Passage) → Goes u v → Goes (ends u u.full).0 (ends v v.full).0
-      turned u v (inl g) = subst (λ (x : Passage). Goes (ends u u.full).0 (ends x x.full).0) (sym g.0) (same u v.standing g.1 u.full)
-      turned u v (inr g) = apart u v g u.full v.full
+      turned : Later → (u v : Passage) → Goes u v → Goes (ends u u.full).0 (ends v v.full).0
+      turned later u v (inl g) = subst (λ (x : Passage). Goes (ends u u.full).0 (ends x x.full).0) (sym g.0) (same later u v.standing g.1 u.full)
+      turned later u v (inr g) = apart u v g u.full v.full
 
-      by : (over : Bool) → Goes (cond over (let z : Passage × Ending = (p, Rest) in z) (ends (passed_turn p) (passed_turn p).full)).0 (cond over (let z : Passage × Ending = (stood p t, Rest) in z) (ends (passed_turn (stood p t)) (passed_turn (stood p t)).full)).0
-      by true = inl (refl, h)
-      by false = turned (passed_turn p) (passed_turn (stood p t)) (goes_turn p t h)
+      by : Later → (over : Bool) → Goes (cond over (let z : Passage × Ending = (p, Rest) in z) (ends (passed_turn p) (passed_turn p).full)).0 (cond over (let z : Passage × Ending = (stood p t, Rest) in z) (ends (passed_turn (stood p t)) (passed_turn (stood p t)).full)).0
+      by later true = inl (refl, h)
+      by later false = turned later (passed_turn p) (passed_turn (stood p t)) (goes_turn p t h)

@@ -83,7 +83,7 @@ one_met other begun p None = omega arith
 one_met other begun p (Some x) = by (is_outside x) (outs_met other begun p x)
   where
     by : (b : Bool) → outs (meets other begun p x).standing.met ≡ outs p.standing.met + one_if b → outs (meets other begun p x).standing.met ≤ outs p.standing.met + 1
-    by true e = omega e
+    by true e = omega (arith, e)
     by false e = omega (arith, e)
 
 -- a turn meets at most one
@@ -132,7 +132,7 @@ last_begins d s m [] e b =
     inr (
       ap (drop 1) e,
       elim (or_cases _ _ (both_true _ _ is).1) [
-        | inl one ↦ inl (let n = eqb-true d.turns 1 one in omega n)
+        | inl one ↦ inl (let n = eqb-true d.turns 1 one in omega (arith, n))
         | inr several ↦
             (let both = both_true _ _ several in
             let out : one_if (is_outside m.offer) ≡ 1 = ap one_if both.1 in
@@ -193,7 +193,7 @@ few_turns t ds d h =
     elim (turns_last (Lasting d) (lasting d) t.turns (from_boot t (departed_by ds d)) (inl (ds, refl))) [
       | inl ahead ↦ absurd (no_end ahead.0 d (sym ahead.1 ∙ h.begun))
       | inr begun ↦ elim begun.1 [
-        | inl one ↦ omega (one, some)
+        | inl one ↦ omega (arith, one, some)
         | inr most ↦ (let none = h.ended in omega (arith, most, outside, none))
       ]
     ]

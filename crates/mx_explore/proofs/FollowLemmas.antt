@@ -103,11 +103,11 @@ not_yet_by : (d : Departure) (s : Standing) (m : Met) (g b : Bool) → parts d s
 not_yet_by d s m true b h not n there is early a w =
     let within = slice_get_within (s.met ++ m ∷ []) d.at n there in
     let low : length (s.met ++ m ∷ []) ≤ d.at = early in
-    omega (within, low)
+    omega (arith, within, low)
 not_yet_by d s m false true h not n there is early a w =
     let within = slice_get_within (s.met ++ m ∷ []) d.at n there in
     let low : length (s.met ++ m ∷ []) ≤ d.at = early in
-    omega (within, low)
+    omega (arith, within, low)
 not_yet_by d s m false false h not n there is early a w = elim (get_more s.met m d.at n there) [
   | inl before ↦ not n before is early a w
   | inr last ↦
@@ -200,7 +200,7 @@ left_begins d s m h b =
       waits = here.1;
       there = ap (slice_get (s.met ++ m ∷ [])) here.2 ∙ get_last s.met m;
       is = ap (λ n. is_at n m.offer d) here.2 ∙ here.3;
-      early = (let at = here.2 in omega (b, at));
+      early = (let at = here.2 in omega (arith, b, at));
       kept = refl;
     })
 

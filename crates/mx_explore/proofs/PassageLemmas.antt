@@ -225,4 +225,4 @@ full_past other begun f needs p q r k n lt e g full = sym (first_only other begu
 
 -- all are past, none of which met one
 pub all_past : (other begun : ℕ) (f : ℕ → Place) (p q : Passage) (k n : ℕ) → n ≤ k → k ≤ n → q ≡ At other begun p (map f (range_with_len 0 k)) → q ≡ At other begun p (map f (range_with_len 0 n))
-all_past other begun f p q k n low high e = let same : k ≡ n = omega (low, high) in e ∙ ap (λ i. At other begun p (map f (range_with_len 0 i))) same
+all_past other begun f p q k n low high e = let same : k ≡ n = omega (arith, low, high) in e ∙ ap (λ i. At other begun p (map f (range_with_len 0 i))) same

@@ -38,15 +38,15 @@ at_boot other begun p (x ∷ xs) = at_boot other begun (at_place other begun p x
 
 turns_boot : (k : ℕ) (p : Passage) → (passed_turns k p).0.kernel.boot ≡ p.kernel.boot
 turns_boot zero p = refl
-turns_boot (suc k) p = by (is_over p.world p.coming) (passed_turn p).full
+turns_boot (suc k) p = by (is_over p.world p.coming) (passed_turn p).full (turns_boot k (passed_turn p))
   where
     turned : (passed_turn p).kernel.boot ≡ p.kernel.boot
     turned = at_boot (length p.world.cpus) p.world.records p (places (length p.world.cpus) (length p.world.services))
 
-    by : (over full : Bool) → (cond over (let z : Passage × Ending = (p, Rest) in z) (let q = passed_turn p in cond full (let z : Passage × Ending = (q, Full) in z) (passed_turns k q))).0.kernel.boot ≡ p.kernel.boot
-    by true full = refl
-    by false true = turned
-    by false false = turns_boot k (passed_turn p) ∙ turned
+    by : (over full : Bool) → (passed_turns k (passed_turn p)).0.kernel.boot ≡ (passed_turn p).kernel.boot → (cond over (let z : Passage × Ending = (p, Rest) in z) (let q = passed_turn p in cond full (let z : Passage × Ending = (q, Full) in z) (passed_turns k q))).0.kernel.boot ≡ p.kernel.boot
+    by true full rest = refl
+    by false true rest = turned
+    by false false rest = rest ∙ turned
 
 -- a run's kernel was booted so
 pub run_boot : (t : Setting) (ds : List Departure) → (run_of_schedule t ds).0.kernel.boot ≡ t.boot

@@ -56,7 +56,7 @@ pub shorter_wait : (t : Setting) (ds : List Departure) (d : Departure) → 0 < d
 shorter_wait t ds d lt h = elim (longer_waiting t ds d lt) [
   | inl on ↦ elim on [
     | inl before ↦ absurd (no_end before.0.ahead (longer_wait d) (sym (ap (λ (s : Standing). s.ahead) before.3) ∙ h.begun))
-    | inr waits ↦ (let more : (end_of t (departed_by ds d)).waits + 1 ≡ 0 = sym (ap (λ (s : Standing). s.waits) waits.1) ∙ h.ended in absurd (omega more))
+    | inr waits ↦ (let more : (end_of t (departed_by ds d)).waits + 1 ≡ 0 = sym (ap (λ (s : Standing). s.waits) waits.1) ∙ h.ended in absurd (omega (arith, more)))
   ]
   | inr apart ↦ elim apart [
     | inl g ↦

@@ -189,7 +189,7 @@ place_in f os = position_or_len (λ (o : Outcome). bytes_eq o.text.items f.text)
 -- that outcome is joined
 set_added : (os : List Outcome) (o p : Outcome) (f : Found) → place_in f os < length os → o ≡ get_or os (place_in f os) o → tallied p ≡ joined (tallied o) f
     → map tallied (set os (place_in f os) p) ≡ added f (map tallied os)
-set_added [] o p f lt is e = absurd (let none : 0 < 0 = lt in omega none)
+set_added [] o p f lt is e = absurd (let none : 0 < 0 = lt in omega (arith, none))
 set_added (x ∷ os) o p f lt is e = by (bytes_eq x.text.items f.text) lt is
   where
     by : (b : Bool) → (let n = cond (not b) (1 + place_in f os) 0 in
@@ -204,7 +204,7 @@ push_added (x ∷ os) o f le e = by (bytes_eq x.text.items f.text) le
   where
     by : (b : Bool) → length (x ∷ os) ≤ cond (not b) (1 + place_in f os) 0
         → tallied x ∷ map tallied (os ++ o ∷ []) ≡ cond b (joined (tallied x) f ∷ map tallied os) (tallied x ∷ added f (map tallied os))
-    by true le = absurd (let none : suc (length os) ≤ 0 = le in omega none)
+    by true le = absurd (let none : suc (length os) ≤ 0 = le in omega (arith, none))
     by false le = ap (λ (l : List Tallied). tallied x ∷ l) (push_added os o f (omega (arith, le)) e)
 
 some_place : (n len k : ℕ) (b : Bool) → nat_lt n len ≡ b → cond b (let z : Option ℕ = Some n in z) None ≡ Some k → (n ≡ k) × (n < len)

@@ -51,13 +51,13 @@ has_later y xs x h = Contains-append_right (y ∷ []) xs x h
 
 one_at : {X : Type 0} (y x : X) (k : ℕ) → k < length (y ∷ []) → slice_index_or (y ∷ []) k x ≡ x → x ≡ y
 one_at y x zero low e = sym e
-one_at y x (suc k) low e = absurd (let few : suc k < 1 = low in omega few)
+one_at y x (suc k) low e = absurd (let few : suc k < 1 = low in omega (arith, few))
 
 only_one : {X : Type 0} (y x : X) → Contains (y ∷ []) x → x ≡ y
 only_one y x h = one_at y x h.0 h.1 h.2
 
 has_filter : {X : Type 0} (p : X → Bool) (xs : List X) (x : X) → p x ≡ true → Contains xs x → Contains (filter p xs) x
-has_filter p [] x is h = absurd (let none : h.0 < 0 = h.1 in omega none)
+has_filter p [] x is h = absurd (let none : h.0 < 0 = h.1 in omega (arith, none))
 has_filter p (y ∷ ys) x is h = by (p y) refl (Contains-append_cases (y ∷ []) ys x h)
   where
     by : (b : Bool) → p y ≡ b → Contains (y ∷ []) x ⊎ Contains ys x → Contains (cond b (y ∷ filter p ys) (filter p ys)) x
@@ -67,17 +67,17 @@ has_filter p (y ∷ ys) x is h = by (p y) refl (Contains-append_cases (y ∷ [])
     by false e (inr c) = has_filter p ys x is c
 
 has_flat : {X Y : Type 0} (f : X → List Y) (xs : List X) (x : X) (y : Y) → Contains xs x → Contains (f x) y → Contains (flat_map f xs) y
-has_flat f [] x y h g = absurd (let none : h.0 < 0 = h.1 in omega none)
+has_flat f [] x y h g = absurd (let none : h.0 < 0 = h.1 in omega (arith, none))
 has_flat f (z ∷ zs) x y h g = elim (Contains-append_cases (z ∷ []) zs x h) [
   | inl c ↦ Contains-append_left (f z) (flat_map f zs) y (subst (λ w. Contains (f w) y) (only_one z x c) g)
   | inr c ↦ Contains-append_right (f z) (flat_map f zs) y (has_flat f zs x y c g)
 ]
 
 has_range : (a n k : ℕ) → a ≤ k → k < a + n → Contains (range_with_len a n) k
-has_range a zero k low high = absurd (omega (low, high))
+has_range a zero k low high = absurd (omega (arith, low, high))
 has_range a (suc n) k low high = elim (cases_lt a k) [
   | inl lt ↦ has_later a (range_with_len (a + 1) n) k (has_range (a + 1) n k (omega (arith, lt)) (omega (arith, high)))
-  | inr ge ↦ (let same : k ≡ a = omega (low, ge) in subst (λ i. Contains (range_with_len a (suc n)) i) (sym same) (has_first a (range_with_len (a + 1) n)))
+  | inr ge ↦ (let same : k ≡ a = omega (arith, low, ge) in subst (λ i. Contains (range_with_len a (suc n)) i) (sym same) (has_first a (range_with_len (a + 1) n)))
 ]
 
 range_within : (a n : ℕ) → AllByRecursion (λ k. (a ≤ k) × (k < a + n)) (range_with_len a n)
@@ -86,7 +86,7 @@ range_within a (suc n) =
     ((omega arith, omega arith), rec_weaker (λ k. (a + 1 ≤ k) × (k < a + 1 + n)) (λ k. (a ≤ k) × (k < a + suc n)) (λ k h. (let low = h.0 in omega (arith, low), let high = h.1 in omega (arith, high))) (range_with_len (a + 1) n) (range_within (a + 1) n))
 
 get_within : {X : Type 0} (xs : List X) (k : ℕ) → k < length xs → (x : X) × (slice_get xs k ≡ Some x)
-get_within [] k h = absurd (omega h)
+get_within [] k h = absurd (omega (arith, h))
 get_within (x ∷ xs) zero h = (x, refl)
 get_within (x ∷ xs) (suc k) h = get_within xs k (omega (arith, h))
 
@@ -110,17 +110,17 @@ front_is_schedule t (g ∷ gs) ds h = (shorter t ds g (front_is_schedule t gs (d
 
 some_turn : (n : ℕ) (x : Offer) (d : Departure) → is_at n x d ≡ true → 0 < d.turns
 some_turn n x d h = elim (cases_Bool (d.turns == 1)) [
-  | inl one ↦ (let e = eqb-true d.turns 1 one in omega e)
+  | inl one ↦ (let e = eqb-true d.turns 1 one in omega (arith, e))
   | inr more ↦
       (let rest : (nat_lt 1 d.turns && is_outside x) ≡ true = ap (λ b. b || (nat_lt 1 d.turns && is_outside x)) (sym more) ∙ (both_true _ _ h).1 in
       let lt = ltb-true 1 d.turns (both_true _ _ rest).0 in
-      omega lt)
+      omega (arith, lt))
 ]
 
 of_outside : (n : ℕ) (x : Offer) (at k : ℕ) → 0 < k → is_at n x (record { at = at; turns = k + 1 }) ≡ true → is_outside x ≡ true
 of_outside n x at k lt h =
     let more = (both_true _ _ h).1 in
-    let one : (k + 1 == 1) ≡ false = ne_eqb (k + 1) 1 (λ e. omega (lt, e)) in
+    let one : (k + 1 == 1) ≡ false = ne_eqb (k + 1) 1 (λ e. omega (arith, lt, e)) in
     (both_true _ _ (ap (λ b. b || (nat_lt 1 (k + 1) && is_outside x)) (sym one) ∙ more)).1
 
 module _ (p : Part) (t : Setting) where
@@ -189,7 +189,7 @@ module _ (p : Part) (t : Setting) where
       (λ at g.
       let low = g.0.0 in
       let high = g.0.1 in
-      let it = get_within s.met at (omega (low, high)) in
+      let it = get_within s.met at (omega (arith, low, high)) in
       departing_below k ds at it.0 (all_below k) it.1 t.turns 1 (omega arith) (one_more t ds at it.0 h it.1 low))
       (asked_places p ds s) within))
 
@@ -198,10 +198,10 @@ module _ (p : Part) (t : Setting) where
   -- a wait that a schedule has is found by going on from a shorter one
   departing_has : (f : List Departure → Lists) (ds : List Departure) (at n : ℕ) (es : List Departure) → IsSchedule t (departed ds at n) → Contains (f (departed ds at n)) es
       → (fuel j : ℕ) → 0 < j → j ≤ n → n < j + fuel → Contains (departing f t ds at j fuel) es
-  departing_has f ds at n es h has zero j lt le high = absurd (omega (le, high))
+  departing_has f ds at n es h has zero j lt le high = absurd (omega (arith, le, high))
   departing_has f ds at n es h has (suc fuel) j lt le high = elim (cases_lt j n) [
     | inr ge ↦
-        (let same : n ≡ j = omega (le, ge) in
+        (let same : n ≡ j = omega (arith, le, ge) in
         Contains-append_left (f (departed ds at j)) (rest j) es (subst (λ i. Contains (f (departed ds at i)) es) same has))
     | inl less ↦
         (let next = down n (j + 1) (omega arith) (omega (arith, less)) h in
@@ -220,9 +220,9 @@ module _ (p : Part) (t : Setting) where
 
       -- a schedule's last departure may last fewer turns
       down : (n i : ℕ) → 0 < i → i ≤ n → IsSchedule t (departed ds at n) → IsSchedule t (departed ds at i)
-      down zero i some few s = absurd (omega (some, few))
+      down zero i some few s = absurd (omega (arith, some, few))
       down (suc n) i some few s = elim (cases_lt i (suc n)) [
-        | inr ge ↦ (let same : suc n ≡ i = omega (few, ge) in subst (λ k. IsSchedule t (departed ds at k)) same s)
+        | inr ge ↦ (let same : suc n ≡ i = omega (arith, few, ge) in subst (λ k. IsSchedule t (departed ds at k)) same s)
         | inl less ↦
             (let one : suc n ≡ n + 1 = omega arith in
             let d : Departure = record { at = at; turns = n } in
@@ -257,7 +257,7 @@ module _ (p : Part) (t : Setting) where
       let it = shorter t ds g now in
       let low = it.1 in
       let high = slice_get_within s.met g.at it.2.0 it.2.1 in
-      let next : Contains (next_places s) g.at = has_range s.after (length s.met - s.after) g.at low (omega (low, high)) in
+      let next : Contains (next_places s) g.at = has_range s.after (length s.met - s.after) g.at low (omega (arith, low, high)) in
       let inside : is_in_part p (departed ds g.at 1) ≡ true = sym (same_part p ds g.at g.turns gs) ∙ ap (is_in_part p) (fronts ds g gs) ∙ part in
       let asked : Contains (asked_places p ds s) g.at = has_filter (λ at. is_in_part p (departed ds at 1)) (next_places s) g.at inside next in
       let deep : Contains (below p t k (ds ++ g ∷ [])) ((ds ++ g ∷ []) ++ gs) = every_below k (ds ++ g ∷ []) gs longer (omega (arith, few)) (ap (is_in_part p) (fronts ds g gs) ∙ part) in
@@ -287,14 +287,14 @@ same_fronts (d ∷ ds) xs ys =
 
 other_turns : (at n m : ℕ) (gs hs : List Departure) → n < m → is_same (record { at = at; turns = n } ∷ gs) (record { at = at; turns = m } ∷ hs) ≡ false
 other_turns at n m gs hs lt =
-    ap (λ x. (at == at) && (x && is_same gs hs)) (ne_eqb n m (λ e. omega (lt, e))) ∙ and_no (at == at)
+    ap (λ x. (at == at) && (x && is_same gs hs)) (ne_eqb n m (λ e. omega (arith, lt, e))) ∙ and_no (at == at)
   where
     and_no : (a : Bool) → (a && false) ≡ false
     and_no true = refl
     and_no false = refl
 
 other_place : (at bt n m : ℕ) (gs hs : List Departure) → at < bt → is_same (record { at = at; turns = n } ∷ gs) (record { at = bt; turns = m } ∷ hs) ≡ false
-other_place at bt n m gs hs lt = ap (λ x. x && ((n == m) && is_same gs hs)) (ne_eqb at bt (λ e. omega (lt, e)))
+other_place at bt n m gs hs lt = ap (λ x. x && ((n == m) && is_same gs hs)) (ne_eqb at bt (λ e. omega (arith, lt, e)))
 
 -- it begins so, departs next at this offer for these turns, and goes on
 abbrev Departs : List Departure → ℕ → ℕ → List Departure → Type 0

@@ -52,7 +52,7 @@ first_more (x ∷ ms) m h = by (is_outside x.offer) h
 
 drop_more : {X : Type 0} (k : ℕ) (xs : List X) (y : X) → k ≤ length xs → drop k (xs ++ y ∷ []) ≡ drop k xs ++ y ∷ []
 drop_more zero xs y h = refl
-drop_more (suc k) [] y h = absurd (omega h)
+drop_more (suc k) [] y h = absurd (omega (arith, h))
 drop_more (suc k) (x ∷ xs) y h = drop_more k xs y (omega (arith, h))
 
 drop_all : {X : Type 0} (xs : List X) → drop (length xs) xs ≡ []
@@ -71,7 +71,7 @@ not_begun e t [] x a h = absurd cc
 not_begun e t (d ∷ ds) x a h =
     let same : d ≡ e = cc in
     let past : d.at < length t.met = subst (λ (y : Departure). y.at < length t.met) (sym same) h in
-    by (t.waits == 0) (ne_eqb d.at (length t.met) (λ i. omega (past, i)))
+    by (t.waits == 0) (ne_eqb d.at (length t.met) (λ i. omega (arith, past, i)))
   where
     by : (a : Bool) → (d.at == length t.met) ≡ false → (a && ((d.at == length t.met) && ((d.turns == 1) || (nat_lt 1 d.turns && is_outside x)))) ≡ false
     by true i = ap (λ b. b && ((d.turns == 1) || (nat_lt 1 d.turns && is_outside x))) i
@@ -165,7 +165,7 @@ wait_second d s t m (inr h) = inr (record { there = h.there; stuck = stuck_lasts
 -- where the longer one begins
 longer_at : (d : Departure) (n : ℕ) (x : Offer) → 0 < d.turns → is_at n x (longer_wait d) ≡ ((d.at == n) && is_outside x)
 longer_at d n x lt =
-    ap (λ b. (d.at == n) && (b || (nat_lt 1 (d.turns + 1) && is_outside x))) (ne_eqb (d.turns + 1) 1 (λ e. omega (lt, e)))
+    ap (λ b. (d.at == n) && (b || (nat_lt 1 (d.turns + 1) && is_outside x))) (ne_eqb (d.turns + 1) 1 (λ e. omega (arith, lt, e)))
     ∙ ap (λ b. (d.at == n) && (b && is_outside x)) (lt-ltb 1 (d.turns + 1) (omega (arith, lt)))
 
 outside_at : (d : Departure) (n : ℕ) (x : Offer) → 0 < d.turns → is_outside x ≡ true → is_at n x d ≡ ((d.at == n) && is_outside x)
@@ -345,7 +345,7 @@ module _ (d : Departure) (s : Standing) (m : Met) (h : Waits d s) where
       let none = ltb-false 0 s.waits w in
       let over : IsOver d m (record s { met = met }) (noted_if true false t m) = record {
         ahead = h.ahead;
-        waits = omega none;
+        waits = omega (arith, none);
         first = ap first_outside dropped ∙ first_more (drop s.after s.met) m h.none ∙ ap (λ b. cond b (Some m) None) o;
         bounded = fits;
         there = there_still;

@@ -8,7 +8,7 @@ pub returns-then-is_full-clause-passed : goal.returns-then-is_full-clause-passed
 returns-then-is_full-clause-passed c coming next =
     let m = c.args.machine.now in
     let p = passage m coming (standing c.args.schedule.now) false in
-    let q = passage c.pass_takes-is_full.new.machine coming (standing c.pass_takes-is_full.new.schedule) c.in_ok-is_full.is_full in
+    let q = passage c.pass_takes.new.machine coming (standing c.pass_takes.new.schedule) c.in_ok-is_full.is_full in
     let r = passage c.pass_backs.new.machine coming (standing c.pass_backs.new.schedule) c.in_ok-is_full.is_full in
     let takes = c.in_ok-is_full.ensures.passed coming c.cpus_of-cpus.result in
     let backs = c.in_ok-pass_backs.ensures.passed coming c.cpus_of-cpus.result c.in_ok-is_full.is_full in
@@ -19,12 +19,12 @@ pub returns-then-turned-is_full-clause-passed : goal.returns-then-turned-is_full
 returns-then-turned-is_full-clause-passed c coming next =
     let m = c.args.machine.now in
     let p = passage m coming (standing c.args.schedule.now) false in
-    let q = passage c.pass_takes-is_full.new.machine coming (standing c.pass_takes-is_full.new.schedule) false in
+    let q = passage c.pass_takes.new.machine coming (standing c.pass_takes.new.schedule) false in
     let r = passage c.pass_backs.new.machine coming (standing c.pass_backs.new.schedule) false in
-    let takes = ap (passage c.pass_takes-is_full.new.machine coming (standing c.pass_takes-is_full.new.schedule)) (sym c.if-is_full.false) ∙ c.in_ok-is_full.ensures.passed coming c.cpus_of-cpus.result in
+    let takes = ap (passage c.pass_takes.new.machine coming (standing c.pass_takes.new.schedule)) (sym c.if-is_full.false) ∙ c.in_ok-is_full.ensures.passed coming c.cpus_of-cpus.result in
     let backs = c.in_ok-pass_backs.ensures.passed coming c.cpus_of-cpus.result false in
     let left = cond c.in_ok-turned.turned.is_gone (drop 1 coming) coming in
-    let u = passage c.pass_outside-turned.new.machine left (standing c.pass_outside-turned.new.schedule) c.in_ok-turned.turned.is_full in
+    let u = passage c.pass_outside.new.machine left (standing c.pass_outside.new.schedule) c.in_ok-turned.turned.is_full in
     let out = c.in_ok-turned.ensures.passed coming next in
     turned_by p u c.cpus_of-cpus.result c.slots_of-slots.result c.records_of-begun.result c.cpus_of-cpus.ensures c.slots_of-slots.ensures c.records_of-begun.ensures
     (turn_outside c.cpus_of-cpus.result c.records_of-begun.result p q r u c.cpus_of-cpus.result c.slots_of-slots.result takes backs out c.if-turned-is_full.true)
@@ -33,15 +33,15 @@ pub returns-clause-passed : goal.returns-clause-passed
 returns-clause-passed c coming next =
     let m = c.args.machine.now in
     let p = passage m coming (standing c.args.schedule.now) false in
-    let q = passage c.pass_takes-is_full.new.machine coming (standing c.pass_takes-is_full.new.schedule) false in
+    let q = passage c.pass_takes.new.machine coming (standing c.pass_takes.new.schedule) false in
     let r = passage c.pass_backs.new.machine coming (standing c.pass_backs.new.schedule) false in
-    let takes = ap (passage c.pass_takes-is_full.new.machine coming (standing c.pass_takes-is_full.new.schedule)) (sym c.if-is_full.false) ∙ c.in_ok-is_full.ensures.passed coming c.cpus_of-cpus.result in
+    let takes = ap (passage c.pass_takes.new.machine coming (standing c.pass_takes.new.schedule)) (sym c.if-is_full.false) ∙ c.in_ok-is_full.ensures.passed coming c.cpus_of-cpus.result in
     let backs = c.in_ok-pass_backs.ensures.passed coming c.cpus_of-cpus.result false in
     let left = cond c.in_ok-turned.turned.is_gone (drop 1 coming) coming in
-    let u = passage c.pass_outside-turned.new.machine left (standing c.pass_outside-turned.new.schedule) c.in_ok-turned.turned.is_full in
+    let u = passage c.pass_outside.new.machine left (standing c.pass_outside.new.schedule) c.in_ok-turned.turned.is_full in
     let out = c.in_ok-turned.ensures.passed coming next in
-    let v = passage c.pass_respawns-is_filled.new.machine left (standing c.pass_respawns-is_filled.new.schedule) c.in_ok-is_filled.is_filled in
-    let w = passage c.pass_outside-turned.new.machine left (standing c.pass_outside-turned.new.schedule) false in
-    let outside = ap (passage c.pass_outside-turned.new.machine left (standing c.pass_outside-turned.new.schedule)) (sym c.if-turned-is_full.false) ∙ out in
+    let v = passage c.pass_respawns.new.machine left (standing c.pass_respawns.new.schedule) c.in_ok-is_filled.is_filled in
+    let w = passage c.pass_outside.new.machine left (standing c.pass_outside.new.schedule) false in
+    let outside = ap (passage c.pass_outside.new.machine left (standing c.pass_outside.new.schedule)) (sym c.if-turned-is_full.false) ∙ out in
     turned_by p v c.cpus_of-cpus.result c.slots_of-slots.result c.records_of-begun.result c.cpus_of-cpus.ensures c.slots_of-slots.ensures c.records_of-begun.ensures
     (turn_whole c.cpus_of-cpus.result c.records_of-begun.result p q r w v c.cpus_of-cpus.result c.slots_of-slots.result takes backs outside (c.in_ok-is_filled.ensures.passed left))
