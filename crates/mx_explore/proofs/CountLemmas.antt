@@ -148,7 +148,7 @@ module _ (f : List Departure → List (List Departure)) (t : Setting) (ds : List
   departed_next bound n dss b lt is h =
       let more : bound - n ≡ suc (bound - (n + 1)) = omega (arith, lt) in
       h ∙ ap (λ i. dss ++ departing f t ds at (n + 1) i) more
-      ∙ ap (λ c. dss ++ f (departed ds at (n + 1)) ++ cond c (departing f t ds at (n + 1 + 1) (bound - (n + 1))) []) is
+      ∙ ap (λ c. dss ++ (f (departed ds at (n + 1)) ++ cond c (departing f t ds at (n + 1 + 1) (bound - (n + 1))) [])) is
       ∙ sym (append_assoc dss (f (departed ds at (n + 1))) (cond b (departing f t ds at (n + 1 + 1) (bound - (n + 1))) []))
 
   pub departed_more : (bound n : ℕ) (dss : List (List Departure)) → n < bound → waits (n + 1) ≡ true → IsDeparted bound n dss → IsDeparted bound (n + 1) (dss ++ f (departed ds at (n + 1)))

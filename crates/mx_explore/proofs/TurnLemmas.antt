@@ -1,5 +1,5 @@
 -- Turns of a machine in which open offers are passed.
-use Rattle.std.proofs.Common.{◌≡◌, ◌∙◌, ℕ, zero, suc, ◌+◌, ◌-◌, ◌<◌, ◌≤◌, ◌++◌, ◌&&◌, Bool, true, false, List, [], ◌∷◌, map, drop, length, cond, Option, Some, None, is_none, refl, ap, sym, subst, arith}
+use Rattle.std.proofs.Common.{◌≡◌, ◌∙◌, ℕ, zero, suc, ◌+◌, ◌-◌, ◌<◌, ◌≤◌, ◌++◌, ◌&&◌, Bool, true, false, List, [], ◌∷◌, map, drop, length, append_assoc, cond, Option, Some, None, is_none, refl, ap, sym, subst, arith}
 use Rattle.std.specs.Prelude.{slice_get}
 use Rattle.std.specs.List.{range_with_len}
 use Rattle.std.proofs.lemmas.List.{drop-drop}
@@ -30,7 +30,8 @@ news_of n = map NewIn (range_with_len 0 n)
 in_parts : (other begun : ℕ) (p q r u : Passage) (cpus slots : ℕ) → q ≡ At other begun p (takes_of cpus) → r ≡ At other begun q (backs_of cpus) → u ≡ at_place other begun r FromOutside
     → At other begun p (places cpus slots) ≡ At other begun u (news_of slots)
 in_parts other begun p q r u cpus slots e f g =
-    at_append other begun p (takes_of cpus) (backs_of cpus ++ FromOutside ∷ news_of slots)
+    ap (At other begun p) (append_assoc (takes_of cpus) (backs_of cpus) (FromOutside ∷ news_of slots))
+    ∙ at_append other begun p (takes_of cpus) (backs_of cpus ++ FromOutside ∷ news_of slots)
     ∙ ap (λ (x : Passage). At other begun x (backs_of cpus ++ FromOutside ∷ news_of slots)) (sym e)
     ∙ at_append other begun q (backs_of cpus) (FromOutside ∷ news_of slots)
     ∙ ap (λ (x : Passage). At other begun x (FromOutside ∷ news_of slots)) (sym f)

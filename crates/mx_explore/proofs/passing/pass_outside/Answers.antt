@@ -1,4 +1,4 @@
-use Rattle.std.proofs.Common.{◌≡◌, ◌∙◌, Bool, List, Option, Some, cond, drop, false, ap, sym}
+use Rattle.std.proofs.Common.{◌≡◌, ◌∙◌, Bool, List, Option, Some, cond, drop, false, ap, rules, sym}
 use Rattle.std.specs.Prelude.{slice_get}
 use Rattle.mx_machine.specs.Machine.{world_of}
 use Rattle.mx_turns.specs.Turns.{next_now}
@@ -20,7 +20,7 @@ returns-then-not-is_gone-clause-passed c coming next =
 pub unreachable-requires : goal.unreachable-requires
 unreachable-requires c =
     none_comes (world_of c.args.machine.now) c.args.begun c.next_now-due.result c.open_outside.result (standing c.args.schedule.now) (standing c.is_made.new.schedule) c.in_ok-is_gone.is_gone
-    c.open_outside.ensures c.in-None.is c.in_ok-is_gone.ensures c.if-not-is_gone.false
+    c.open_outside.ensures (search rules) c.in_ok-is_gone.ensures c.if-not-is_gone.false
 
 pub returns-clause-passed : goal.returns-clause-passed
 returns-clause-passed c coming next =

@@ -1,4 +1,4 @@
-use Rattle.std.proofs.Common.{◌≡◌, ◌∙◌, ◌+◌, ◌-◌, ◌≤◌, ◌&&◌, ℕ, Bool, Option, true, false, cond, drop, is_none, refl, ap, sym, arith}
+use Rattle.std.proofs.Common.{◌≡◌, ◌∙◌, ◌+◌, ◌-◌, ◌≤◌, ◌&&◌, ℕ, Bool, List, Option, true, false, cond, drop, is_none, refl, ap, sym, arith}
 use Rattle.std.specs.Prelude.{slice_get}
 use Rattle.mx_machine.specs.Machine.{world_of}
 use Rattle.mx_machine.specs.Rest.{at_rest}
@@ -29,7 +29,7 @@ loop-preserved c =
     let t = standing c.pass_turn.new.schedule in
     let gone = c.in_ok-turned.turned.is_gone in
     let full = c.in_ok-turned.turned.is_full in
-    let more : at + c.from.result ≡ at + cond gone 1 0 = ap (λ k. at + k) c.from.ensures in
+    let more : at + c.from-place.result ≡ at + cond gone 1 0 = ap (λ k. at + k) c.from-place.ensures in
     record {
       room = c.in_ok-turned.ensures.room c.loop.invariant.room;
       few = (let one : cond gone 1 0 ≤ 1 = at_most gone in let few = c.loop.invariant.few in omega (arith, few, one, more));
@@ -37,5 +37,5 @@ loop-preserved c =
       goes_on (passage c.args.machine.now events (standing c.args.schedule.now) false) c.args.bound events c.loop.counter at m (standing c.loop.schedule) (passage n (cond gone (drop 1 (drop at events)) (drop at events)) t full)
       c.loop-test.true c.loop.invariant.left c.get-next.result c.get-next.ensures (sym c.is_over.ensures ∙ c.if-is_over.false) (c.in_ok-turned.ensures.passed (drop at events) (c.get-next.ensures ∙ sym (get_drop events at))) c.if-is_full.false
       ∙ ap (λ (l : List OutsideLine). passed_turns (c.args.bound - (c.loop.counter + 1)) (passage n l t full)) (coming_on events at gone ∙ ap (λ k. drop k events) (sym more))
-      ∙ ap (λ (b : Bool). passed_turns (c.args.bound - (c.loop.counter + 1)) (passage n (drop (at + c.from.result) events) t b)) c.if-is_full.false;
+      ∙ ap (λ (b : Bool). passed_turns (c.args.bound - (c.loop.counter + 1)) (passage n (drop (at + c.from-place.result) events) t b)) c.if-is_full.false;
     }
