@@ -62,7 +62,8 @@ request_text k (Back n) = place_text (after k (Back n))
 request_text k (Step n) = place_text (after k (Step n))
 request_text k (StepBack n) = place_text (after k (StepBack n))
 request_text k (GoTo p) =
-    if can_go k (position_asked k p) then place_text (after k (GoTo p)) else codes "refused 63 NoPosition\n"
+    if can_go k (position_asked k p) then place_text (after k (GoTo p))
+    else codes "refused 63 NoPosition: K is at most the number of records, and J a step of the next one\n"
 request_text k (Until h) =
     if has_slots k h then (until_halt k h).1 ++ place_text (after k (Until h)) else no_service
 request_text k Where = place_text k

@@ -25,7 +25,7 @@ has_slots k (Error (Some slot)) = has_service k slot
 
 -- what is printed if one hasn't
 abbrev pub no_service : List ℕ
-no_service = codes "refused 42 NoService\n"
+no_service = codes "refused 42 NoService: until [back] death SLOT, message FROM TO, error [SLOT] or SLOT TYPE\n"
 
 -- ---- the record that is met
 

@@ -29,7 +29,8 @@ use mx_word::NoMemory;
 use std::alloc::Global;
 
 /// What a slot that isn't there is answered.
-const NO_SERVICE: &str = "refused 42 NoService\n";
+const NO_SERVICE: &str =
+    "refused 42 NoService: until [back] death SLOT, message FROM TO, error [SLOT] or SLOT TYPE\n";
 
 /// Whether a slot has a service.
 fn has_service(walker: &Walker, slot: u32) -> bool
