@@ -1,0 +1,134 @@
+//! What standard error gets after a command that made a history, if that has a mark.
+
+ghost use Rattle.std.specs.Prelude.{◌≡◌, ◌++◌, IfOk, List, OnOk, option_map};
+ghost use Rattle.mx_app_db.specs.Asked.{Asked};
+ghost use Rattle.mx_app.specs.AfterRun.{TellsAfter, ended_text, is_stopped, made_by, names_of, pair_text, pointer_text, status_after, unknown_line, unknown_text, wants_marks};
+
+use crate::ending::DrivenEnding;
+use mx_app_command::CommandRequest;
+use mx_app_failure::Failure;
+use mx_app_run::RunEnding;
+use mx_app_start::Reader;
+use mx_why::{AfterRun, HistoryNames, line_after_run};
+use std::alloc::{AllocError, Global};
+
+/// Whether turns or a run were stopped.
+fn is_stopped(ending: Option<DrivenEnding>) -> bool
+    ensures { result ≡ is_stopped ending }
+{
+    matches!(
+        ending,
+        Some(DrivenEnding::Run(RunEnding::Stopped) | DrivenEnding::Interrupted)
+    )
+}
+
+/// Whether it is told if a history has a mark: where standard error shows it to somebody, or if a mark is an error;
+/// not if the run was stopped.
+pub fn wants_marks(ending: Option<DrivenEnding>, shows: bool, strict: bool) -> bool
+    ensures { result ≡ wants_marks ending shows strict }
+{
+    !is_stopped(ending) && (shows || strict)
+}
+
+/// The status to end with: 1 in place of 0, if a mark is an error and there is one.
+pub fn status_after(status: u8, strict: bool, marked: bool) -> u8
+    ensures { result ≡ status_after status strict marked }
+{
+    if status == 0 && strict && marked {
+        1
+    } else {
+        status
+    }
+}
+
+/// The files of the history that a request makes. A session tells itself how it goes.
+fn made_by(request: CommandRequest<'_>) -> Option<HistoryNames<'_>>
+    ensures { option_map names_of result ≡ made_by request.entry }
+{
+    match request {
+        CommandRequest::Step {
+            config,
+            save: Some(log),
+            ..
+        } => Some(HistoryNames { config, log }),
+        CommandRequest::Run { config, log, .. } => Some(HistoryNames { config, log }),
+        CommandRequest::Turns { config, log, .. } => Some(HistoryNames { config, log }),
+        _ => None,
+    }
+}
+
+/// What is told of the history that a request has made, if it makes one and that has a mark: how it ended, the
+/// first line with a mark, and how many more there are. The history is run again for it. A long one is only if a mark is
+/// an error: nobody waits for what wasn't asked for.
+pub fn told_after<R: Reader>(
+    alloc: Global,
+    reader: &mut R,
+    request: CommandRequest<'_>,
+    strict: bool,
+) -> Result<AfterRun, Failure>
+    ensures { (qs : List Asked) × (R.asked reader.new ≡ R.asked reader.old ++ qs)
+        × TellsAfter strict (made_by request.entry) qs result }
+{
+    match made_by(request) {
+        Some(names) => line_after_run(alloc, reader, names, strict),
+        None => Ok(AfterRun::Nothing),
+    }
+}
+
+/// Appends the words of a configuration and a history.
+#[tactic(auto, unfolding(crate::specs::AfterRun::pair_text))]
+fn push_pair(out: &mut Vec<u8>, config: &str, log: &str) -> Result<(), AllocError>
+    ensures { OnOk result (out.new.items ≡ out.old.items ++ pair_text config.now log.now) }
+{
+    out.extend_from_slice(config.as_bytes())?;
+    out.extend_from_slice(b" ")?;
+    out.extend_from_slice(log.as_bytes())
+}
+
+/// Appends how turns or a run ended.
+#[tactic(auto, unfolding(crate::specs::AfterRun::ended_text))]
+fn push_ended(out: &mut Vec<u8>, word: &str) -> Result<(), AllocError>
+    ensures { OnOk result (out.new.items ≡ out.old.items ++ ended_text word.now) }
+{
+    out.extend_from_slice(b"mx: ")?;
+    out.extend_from_slice(word.as_bytes())
+}
+
+/// Appends what tells more of a history.
+#[tactic(auto, unfolding(crate::specs::AfterRun::pointer_text))]
+fn push_pointer(out: &mut Vec<u8>, config: &str, log: &str) -> Result<(), AllocError>
+    ensures { OnOk result (out.new.items ≡ out.old.items ++ pointer_text config.now log.now) }
+{
+    out.extend_from_slice(b"; more: mx why ")?;
+    push_pair(out, config, log)
+}
+
+/// Appends the line of a history that isn't run again.
+#[tactic(auto, unfolding(crate::specs::AfterRun::unknown_text))]
+fn push_unknown(out: &mut Vec<u8>, word: &str, config: &str, log: &str) -> Result<(), AllocError>
+    ensures { OnOk result (out.new.items
+        ≡ out.old.items ++ unknown_text word.now config.now log.now) }
+{
+    push_ended(out, word)?;
+    push_pointer(out, config, log)?;
+    out.extend_from_slice(b"\n")
+}
+
+/// What is told of a history that isn't run again: how the turns or the run ended, and what tells more.
+pub fn unknown_line(
+    alloc: Global,
+    request: CommandRequest<'_>,
+    ending: Option<DrivenEnding>,
+) -> Result<Option<Vec<u8>>, AllocError>
+    ensures { IfOk result (λ line. option_map (λ l. l.items) line
+        ≡ unknown_line ending (made_by request.entry)) }
+{
+    match (made_by(request), ending) {
+        (Some(HistoryNames { config, log }), Some(ending)) => {
+            let mut line = Vec::new(alloc);
+            push_unknown(&mut line, ending.word(), config, log)?;
+            Ok(Some(line))
+        }
+        _ => Ok(None),
+    }
+}
