@@ -289,10 +289,36 @@ run_live() {
         (trap '' INT TERM HUP QUIT TSTP; start_program "$@") <"$room/keys" 3<&- &
     fi
     child=$!
+    wait_for_child
+}
+
+# The status of the program that was started, also if a signal wakes who waits for it.
+wait_for_child() {
     while :; do
         woken=''
         wait "$child"
         status=$?
         [ -n "$woken" ] || return "$status"
     done
+}
+
+# Whether these words are those of a run or of turns, in which nobody types.
+can_stop() {
+    case ${1-} in run | turns) ;; *) return 1 ;; esac
+    ! is_live "$@"
+}
+
+# Makes a run or turns of these words, by start_program of the script that calls it, which ends as the program. The
+# program sees no signals: those that end a command make the file that stops it, so that LOG has what was done until
+# then. The status is the program's.
+run_stoppable() {
+    saved='' feeder='' woken=''
+    room=$(mktemp -d) || return 3
+    stop=$(stop_named "$@")
+    [ -n "$stop" ] || { stop=$room/stop; set -- "$@" --stop "$stop"; }
+    trap leave_session EXIT
+    trap end_session INT TERM HUP
+    (trap '' INT TERM HUP; start_program "$@") &
+    child=$!
+    wait_for_child
 }

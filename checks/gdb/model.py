@@ -18,7 +18,7 @@ TARGET = (
 FEATURES = b"PacketSize=4000;vContSupported+;QStartNoAckMode+;ReverseStep+;ReverseContinue+;"
 READS = b"qXfer:features:read+;qXfer:exec-file:read+"
 FOR_GDB = b"gdb's own commands do that; of those that move only goto is here\n"
-MOVES = {"back", "break", "clear", "continue", "forward", "points", "quit", "reverse", "step", "stepback", "until", "watch"}
+MOVES = {"back", "break", "clear", "continue", "exit", "forward", "points", "quit", "reverse", "step", "stepback", "until", "watch"}
 VERBS = sorted(MOVES | {"goto", "help", "list", "mem", "messages", "print", "ps", "regs", "stack", "where", "why"})
 SIGNALS = {0: 8, 4: 8, 6: 4, 12: 11, 13: 11}
 REGISTERS = "EAX ECX EDX EBX ESP EBP ESI EDI EIP".split()
@@ -69,6 +69,11 @@ class Program:
         text, _, _, _, total, _ = struct.unpack("<6I", file[8:32])
         self.text = file[file[4] : file[4] + text]
         self.limit = (total + 4095) // 4096 * 4096
+
+
+def is_there(lines):
+    """Whether a search of `mx look` has found what it halts at; without a point it looks for nothing."""
+    return "not met" not in lines and "refused 73 BadRecord: no break, no watch" not in lines
 
 
 def is_text(line):
@@ -256,7 +261,7 @@ class Stub:
         for i in range(0, len(pieces) or 1, 8):
             self.set_points(slots, without, pieces[i : i + 8])
             lines = self.ask(verb)
-            if "not met" not in lines:
+            if is_there(lines):
                 nearer = found and (self.at < found[0] if verb == "continue" else self.at > found[0])
                 if found is None or nearer:
                     found = self.at, lines
@@ -399,7 +404,7 @@ class Stub:
     def console(self, line):
         fields = [it for it in line.split(b" ") if it]
         if not is_text(line):
-            return b"refused 73 BadRecord\n"
+            return b"refused 73 BadRecord: a line is text of at most 4096 bytes\n"
         if fields:
             text = fields[0].decode()
             verbs = [it for it in VERBS if it.startswith(text)]
@@ -407,7 +412,7 @@ class Stub:
             if verb in MOVES and self.is_formed(verb, fields[1:]):
                 return FOR_GDB
             if re.search(rb"[\n\0]", fields[0]):
-                return b"refused 73 BadRecord\n"
+                return b"refused 73 BadRecord: no command " + fields[0] + b"; help\n"
         # No field may have these two, which no line of a session has.
         lines = self.look.lines_to_mark(re.sub(rb"[\n\0]", b"\1", line))
         self.place([it.decode("latin-1").rstrip("\n") for it in lines])

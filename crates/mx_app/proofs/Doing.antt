@@ -35,7 +35,7 @@ use Rattle.mx_app_db.specs.Replayed.{Replayed}
 use Rattle.mx_app_db.specs.DebugLines.{DebuggedWorld, debug_lines_made}
 use Rattle.mx_app_db.specs.LineTexts.{debug_lines_text}
 use Rattle.mx_app_draw.specs.Scenes.{IsDrawingPrinted}
-use Rattle.mx_app_gdb.specs.Talks.{IsTalked}
+use Rattle.mx_app_gdb.specs.Talks.{HasTalkFailed, IsTalked}
 use Rattle.mx_app_gdb.specs.declared.talking.TalkEnding.{TalkEnding}
 use Rattle.mx_app_page.specs.Pages.{IsPagePrinted, run_of_files}
 use Rattle.mx_app_page.specs.Strips.{PrintsSweptPage}
@@ -49,9 +49,10 @@ use Rattle.mx_app_live.specs.Living.{Lives}
 use Rattle.mx_app_turns.specs.declared.sweeping.Swept.{Swept}
 use Rattle.mx_app_turns.specs.Turned.{MakesTurns}
 use Rattle.mx_app_run.specs.declared.run_by_threads.RunEnding.{RunEnding}
-use Rattle.mx_turns.specs.declared.turns.Ending.{Ending}
+use Rattle.mx_app_turns.specs.declared.turning.TurnsEnd.{TurnsEnd}
 use Rattle.mx_walk.specs.Parts.{walk_shown}
 use Rattle.mx_walk.specs.Walks.{Walk}
+use Rattle.mx_why.specs.Checking.{ChecksConfig}
 use Rattle.mx_why.specs.Telling.{IsWhyPrinted}
 use Rattle.mx_app.specs.Deeds.{Deeds, IsAlone, nothing_done}
 use Rattle.mx_app.specs.Explained.{ExplainsConfig}
@@ -59,7 +60,7 @@ use Rattle.mx_app.specs.Named.{Assembles, ShowsFile}
 use Rattle.mx_app.specs.Sparing.{SparesRequest}
 use Rattle.mx_app.specs.declared.performing.Done.{Done}
 use Rattle.mx_why.specs.declared.telling.Told.{Told}
-use Rattle.mx_app.specs.Requests.{Debugs, Draws, Explains, Looks, Pages, Performs, PerformsApart, PerformsUntyped, Replays, SavesSteps, Shows, Steps, Talks, Traces, Whys, done_after_gdb, done_after_live, done_after_replay, done_after_run, done_after_sweep, done_after_turns, done_after_why, done_after_work, over_read}
+use Rattle.mx_app.specs.Requests.{Debugs, Draws, Explains, Looks, Pages, Performs, PerformsApart, PerformsUntyped, Replays, SavesSteps, Shows, Steps, Talks, Traces, Whys, done_after_check, done_after_gdb, done_after_live, done_after_replay, done_after_run, done_after_sweep, done_after_turns, done_after_why, done_after_work, over_read}
 
 -- what a request asked for and wrote, and what is done of it
 abbrev pub AsksAndWrites : List Asked → List Asked → List Written → List Written → (List Asked → List Written → Type 0) → Type 0
@@ -75,10 +76,10 @@ Grows asked asked_now written written_now given given_now heard heard_now told t
 -- a request that takes no lines and shows no progress
 untyped : (WasShown : Part → Type 0) (request : CommandRequest) (asks : Bool) (qs : List Asked) (ws : List Written) (Prints : List ℕ → Type 0) (r : Result Done Kind)
     → PerformsUntyped request qs ws Prints r → PerformsApart WasShown request asks (record { asked = qs; written = ws; typed = []; heard = []; told = []; shown = [] }) Prints r
-untyped WasShown (Run config log ticks events) asks qs ws Prints r h = absurd h
+untyped WasShown (Run config log ticks events stop) asks qs ws Prints r h = absurd h
 untyped WasShown (Look config log) asks qs ws Prints r h = absurd h
 untyped WasShown (Gdb config log slot) asks qs ws Prints r h = absurd h
-untyped WasShown (Turns config log ticks events bound) asks qs ws Prints r h = absurd h
+untyped WasShown (Turns config log ticks events bound stop) asks qs ws Prints r h = absurd h
 untyped WasShown (Live config log raw hertz stop) asks qs ws Prints r h = absurd h
 untyped WasShown (Sweep config log fault bound from to jobs strict save) asks qs ws Prints r h = absurd h
 untyped WasShown (SweptPage config log fault bound from to jobs) asks qs ws Prints r h = absurd h
@@ -130,7 +131,7 @@ looks {heard} {told} asked now files files_now given given_now shown later confi
 pub talked : {heard : List Heard} {told : List Note} (asked now : List Asked) (files files_now : List Written) (given given_now : List (Option (List ℕ))) (shown later : List Part) (config log : List ℕ) (slot : Option ℕ) (x y : Option (List ℕ)) (d : Result TalkEnding Kind) (r : Result Done Kind)
     → IfOk d (λ ending. (qs : List Asked) × (typed : List (Option (List ℕ))) × (ps : List Part)
     × (now ≡ asked ++ qs) × (given_now ≡ given ++ typed) × (later ≡ shown ++ ps) × IsTalked config log slot qs typed ps (λ text. Appends x y text) ending)
-    → IfErr d (λ f. (qs : List Asked) × (typed : List (Option (List ℕ))) × (ps : List Part) × (now ≡ asked ++ qs) × (given_now ≡ given ++ typed) × (later ≡ shown ++ ps) × HasFailed config log qs ps f)
+    → IfErr d (λ f. (qs : List Asked) × (typed : List (Option (List ℕ))) × (ps : List Part) × (now ≡ asked ++ qs) × (given_now ≡ given ++ typed) × (later ≡ shown ++ ps) × HasTalkFailed config log slot qs typed ps (λ text. Appends x y text) f)
     → r ≡ done_after_gdb d → files_now ≡ files
     → Grows asked now files files_now given given_now heard heard told told shown later (λ did. IsAlone did × (e : Result TalkEnding Kind) × (did.written ≡ []) × Talks config log slot did.asked did.typed did.shown (λ text. Appends x y text) e × (r ≡ done_after_gdb e))
 talked {heard} {told} asked now files files_now given given_now shown later config log slot x y (Ok ending) r p f e same =
@@ -145,21 +146,29 @@ pub assembled : (asked now : List Asked) (files written : List Written) (known :
 assembled asked now files written known text file d r p e = (p.0, p.1, p.2, p.3, (d, p.4, appends_nothing known, e))
 
 -- a machine was run, or it wasn't
-pub runs : (WasShown : Part → Type 0) {given : List (Option (List ℕ))} {heard : List Heard} {told : List Note} (asked now : List Asked) (files written : List Written) (shown later : List Part) (config log : List ℕ) (events : Option (List ℕ)) (ticks : ℕ) (x y : Option (List ℕ)) (d : Result RunEnding Kind) (r : Result Done Kind)
-    → (qs : List Asked) × (ws : List Written) × (now ≡ asked ++ qs) × (written ≡ files ++ ws) × Runs WasShown config events log ticks qs ws (λ text. Appends x y text) d
-    → later ≡ shown → r ≡ done_after_run d
+pub runs : (WasShown : Part → Type 0) (stops : Bool) {given : List (Option (List ℕ))} {heard : List Heard} {told : List Note} (asked now : List Asked) (files written : List Written) (shown later : List Part) (config log : List ℕ) (events : Option (List ℕ)) (ticks : ℕ) (x y : Option (List ℕ)) (d : Result RunEnding Kind) (r : Result Done Kind)
+    → (qs : List Asked) × (ws : List Written) × (now ≡ asked ++ qs) × (written ≡ files ++ ws) × Runs WasShown stops config events log ticks qs ws (λ text. Appends x y text) d
+    → later ≡ shown → r ≡ done_after_run stops d
     → Grows asked now files written given given heard heard told told shown later (λ did. IsAlone did × (did.typed ≡ []) × (did.shown ≡ []) × (e : Result RunEnding Kind)
-    × Runs WasShown config events log ticks did.asked did.written (λ text. Appends x y text) e × (r ≡ done_after_run e))
-runs WasShown {given} {heard} {told} asked now files written shown later config log events ticks x y d r p same e =
+    × Runs WasShown stops config events log ticks did.asked did.written (λ text. Appends x y text) e × (r ≡ done_after_run stops e))
+runs WasShown stops {given} {heard} {told} asked now files written shown later config log events ticks x y d r p same e =
     (record nothing_done { asked = p.0; written = p.1 }, p.2, p.3, sym (append-nil given), sym (append-nil heard), sym (append-nil told), same ∙ sym (append-nil shown), ((refl, refl), refl, refl, d, p.4, e))
 
 -- turns were made, or they weren't
-pub turned : {given : List (Option (List ℕ))} {heard : List Heard} {told : List Note} (asked now : List Asked) (files written : List Written) (shown later : List Part) (config log : List ℕ) (events : Option (List ℕ)) (ticks bound : ℕ) (x y : Option (List ℕ)) (d : Result Ending Kind) (r : Result Done Kind)
-    → (qs : List Asked) × (ws : List Written) × (ps : List Part) × (now ≡ asked ++ qs) × (written ≡ files ++ ws) × (later ≡ shown ++ ps) × MakesTurns config events log ticks bound qs ws ps (λ text. Appends x y text) d
-    → r ≡ done_after_turns d
-    → Grows asked now files written given given heard heard told told shown later (λ did. IsAlone did × (did.typed ≡ []) × (e : Result Ending Kind) × MakesTurns config events log ticks bound did.asked did.written did.shown (λ text. Appends x y text) e × (r ≡ done_after_turns e))
-turned {given} {heard} {told} asked now files written shown later config log events ticks bound x y d r p e =
-    (record { asked = p.0; written = p.1; typed = []; heard = []; told = []; shown = p.2 }, p.3, p.4, sym (append-nil given), sym (append-nil heard), sym (append-nil told), p.5, ((refl, refl), refl, d, p.6, e))
+pub turned : (stops known : Bool) {given : List (Option (List ℕ))} {heard : List Heard} {told : List Note} (asked now : List Asked) (files written : List Written) (shown later : List Part) (config log : List ℕ) (events : Option (List ℕ)) (ticks bound : ℕ) (x y : Option (List ℕ)) (d : Result TurnsEnd Kind) (r : Result Done Kind)
+    → (qs : List Asked) × (ws : List Written) × (ps : List Part) × (now ≡ asked ++ qs) × (written ≡ files ++ ws) × (later ≡ shown ++ ps) × MakesTurns stops config events log ticks bound qs ws ps (λ text. Appends x y text) d
+    → stops ≡ known → r ≡ done_after_turns d
+    → Grows asked now files written given given heard heard told told shown later (λ did. IsAlone did × (did.typed ≡ []) × (e : Result TurnsEnd Kind) × MakesTurns known config events log ticks bound did.asked did.written did.shown (λ text. Appends x y text) e × (r ≡ done_after_turns e))
+turned stops known {given} {heard} {told} asked now files written shown later config log events ticks bound x y d r p same e = (
+  record { asked = p.0; written = p.1; typed = []; heard = []; told = []; shown = p.2 },
+  p.3,
+  p.4,
+  sym (append-nil given),
+  sym (append-nil heard),
+  sym (append-nil told),
+  p.5,
+  ((refl, refl), refl, d, subst (λ b. MakesTurns b config events log ticks bound p.0 p.1 p.2 (λ text. Appends x y text) d) same p.6, e),
+)
 
 -- a machine lived, or it didn't
 pub lived : (asked now : List Asked) (files written : List Written) (given given_now : List (Option (List ℕ))) (heard heard_now : List Heard) (told told_now : List Note) (shown later : List Part) (config log : List ℕ) (has_clock : Bool) (x y : Option (List ℕ)) (d : Result SessionEnding Kind) (r : Result Done Kind)
@@ -218,6 +227,11 @@ module _ (asked now : List Asked) (files : List Written) where
       → (q : Asked) × (now ≡ asked ++ q ∷ []) × ExplainsConfig name q (λ text. Appends x y text) d → r ≡ done_after_work d
       → WritesNone (λ qs ws. Explains name qs ws (λ text. Appends x y text) r)
   explains name x y d r p e = (p.0 ∷ [], [], p.1, sym (append-nil files), (p.0, d, refl, refl, p.2, e))
+
+  pub checks : (config : List ℕ) (x y : Option (List ℕ)) (d : Result Bool Kind) (r : Result Done Kind)
+      → (qs : List Asked) × (now ≡ asked ++ qs) × ChecksConfig config qs (λ text. Appends x y text) d → r ≡ done_after_check d
+      → WritesNone (λ qs ws. (e : Result Bool Kind) × (ws ≡ []) × ChecksConfig config qs (λ text. Appends x y text) e × (r ≡ done_after_check e))
+  checks config x y d r p e = (p.0, [], p.1, sym (append-nil files), (d, refl, p.2, e))
 
   pub steps : (config script : List ℕ) (numbered : Bool) (x y : Option (List ℕ)) (d : Result (Unit {0}) Kind) (r : Result Done Kind)
       → OnOk d ((qs : List Asked) × (c : Config) × (vs : List Service) × (said : List ScriptLine)

@@ -6,3 +6,4 @@ mod Complaints
 mod Grown
 mod Moved
 mod Summed
+mod Afterwards

@@ -23,11 +23,11 @@ missing Has name Prints r asked now f h e = (file_missed name h.0, h.1, inl (h.0
 
 -- the bytes as they were given are those that are shown
 pub shown : (Has : List ℕ → List ℕ → Type 0) (name bytes slice : List ℕ) (Prints : List ℕ → Type 0) (r : Result (Unit {0}) Kind) → slice ≡ bytes
-    → Tells (refusal_of slice) r → OnOk r ((text : List ℕ) × Has slice text × Prints text) → ShowsFile Has name (file_given name bytes) Prints r
+    → Tells slice (refusal_of slice) r → OnOk r ((text : List ℕ) × Has slice text × Prints text) → ShowsFile Has name (file_given name bytes) Prints r
 shown Has name bytes slice Prints r same tells text = inr (
   bytes,
   refl,
-  subst (λ (b : List ℕ). Tells (refusal_of b) r) same tells,
+  subst (λ (b : List ℕ). Tells b (refusal_of b) r) same tells,
   subst (λ (b : List ℕ). OnOk r ((text : List ℕ) × Has b text × Prints text)) same text,
 )
 

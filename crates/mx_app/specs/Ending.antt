@@ -4,7 +4,7 @@ use Rattle.mx_app.specs.declared.ending.Terminals.{Terminals}
 use Rattle.mx_app.specs.declared.ending.PrintedText.{PrintedText}
 use Rattle.mx_app.specs.declared.ending.PrintedText.TheVariants.{Symbols, Report, Other}
 use Rattle.mx_app.specs.declared.ending.DrivenEnding.{DrivenEnding}
-use Rattle.mx_app.specs.declared.ending.DrivenEnding.TheVariants.{Turns, Run}
+use Rattle.mx_app.specs.declared.ending.DrivenEnding.TheVariants.{Interrupted, Turns, Run}
 use Rattle.mx_app.specs.declared.ending.Note.{Note}
 use Rattle.mx_app.specs.declared.ending.Note.TheVariants.{Nothing, NoSymbols, Ended}
 use Rattle.mx_app_run.specs.declared.run_by_threads.RunEnding.TheVariants as runs
@@ -26,11 +26,15 @@ driven_word (Turns ending) = ending_word ending
 driven_word (Run runs.Rest) = ending_word turns.Rest
 driven_word (Run runs.Full) = ending_word turns.Full
 driven_word (Run runs.Stopped) = codes "stopped"
+driven_word Interrupted = codes "interrupted: LOG has what was done until then"
 
--- the report of a run that was stopped
-abbrev pub is_stopped : PrintedText → Bool
-is_stopped (Report (Run runs.Stopped)) = true
-is_stopped printed = false
+-- the report of a run that was stopped, or whose history is full
+abbrev pub is_cut_short : PrintedText → Bool
+is_cut_short (Report (Run runs.Stopped)) = true
+is_cut_short (Report (Run runs.Full)) = true
+is_cut_short (Report (Turns turns.Full)) = true
+is_cut_short (Report Interrupted) = true
+is_cut_short printed = false
 
 -- what a reader is helped with, by what was printed, and by the last byte that standard output got: that there are no
 -- symbols, or how turns or a run ended
@@ -40,9 +44,9 @@ help Symbols (Some byte) = Nothing
 help (Report ending) last = Ended ending
 help Other last = Nothing
 
--- standard error, if it is a terminal; if it isn't, only that a run was stopped
+-- standard error, if it is a terminal; if it isn't, only that a run was stopped, or that its history is full
 abbrev pub note : Terminals → PrintedText → Option ℕ → Note
-note terminals printed last = if terminals.err || is_stopped printed then help printed last else Nothing
+note terminals printed last = if terminals.err || is_cut_short printed then help printed last else Nothing
 
 -- THE LINE of a note
 abbrev pub note_text : Note → List ℕ

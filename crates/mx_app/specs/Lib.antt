@@ -1,3 +1,4 @@
+pub mod AfterRun
 pub mod Asking
 pub mod Deeds
 pub mod Ending

@@ -20,7 +20,7 @@ IsMissing about name q r =
 abbrev pub ShowsFile : (List ℕ → List ℕ → Type 0) → List ℕ → Asked → (List ℕ → Type 0) → Result (Unit {0}) Kind → Type 0
 ShowsFile Has name q Prints r =
     IsMissing Program name q r
-    ⊎ ((bytes : List ℕ) × (q ≡ file_given name bytes) × Tells (refusal_of bytes) r
+    ⊎ ((bytes : List ℕ) × (q ≡ file_given name bytes) × Tells bytes (refusal_of bytes) r
     × OnOk r ((text : List ℕ) × Has bytes text × Prints text))
 
 -- what comes of a file that was to be written

@@ -1,9 +1,9 @@
 -- What is done of requests (our own).
-use Rattle.std.specs.Prelude.{◌≡◌, ◌⊎◌, ◌&&◌, ℕ, ◌-◌, Bool, true, false, if◌then◌else◌, List, [], ◌∷◌, ◌++◌, Option, Some, None, Result, Ok, Err, nat_lt, option_map, take}
+use Rattle.std.specs.Prelude.{◌≡◌, ◌⊎◌, ◌&&◌, ℕ, ◌-◌, Bool, true, false, if◌then◌else◌, List, [], ◌∷◌, ◌++◌, Option, Some, None, Result, Ok, Err, is_some, nat_lt, option_map, take}
 use Rattle.mx_app_command.specs.Files.{writes_over}
 use Rattle.mx_app_command.specs.declared.command_line.CommandRequest.{CommandRequest}
 use Rattle.mx_app_command.specs.declared.command_line.RecordRange.{RecordRange}
-use Rattle.mx_app_command.specs.declared.command_line.CommandRequest.TheVariants.{One, As, Show, Explain, Step, Run, Turns, Live, Sweep, Replay, Trace, Draw, Page, SweptPage, Look, Gdb, Why, Db}
+use Rattle.mx_app_command.specs.declared.command_line.CommandRequest.TheVariants.{One, As, Show, Explain, Check, Step, Run, Turns, Live, Sweep, Replay, Trace, Draw, Page, SweptPage, Look, Gdb, Why, Db}
 use Rattle.mx_app_db.specs.ScriptLine.{ScriptLine}
 use Rattle.mx_app_db.specs.declared.script.DebugLine.{DebugLine}
 use Rattle.mx_app_failure.specs.declared.failure.Failure.{Failure as Kind}
@@ -34,7 +34,7 @@ use Rattle.mx_app_db.specs.Traces.{IsTracePrinted}
 use Rattle.mx_app_db.specs.Replayed.{Replayed}
 use Rattle.mx_app_db.specs.Replayed.TheVariants as replayed
 use Rattle.mx_app_draw.specs.Scenes.{IsDrawingPrinted}
-use Rattle.mx_app_gdb.specs.Talks.{IsTalked}
+use Rattle.mx_app_gdb.specs.Talks.{HasTalkFailed, IsTalked}
 use Rattle.mx_app_gdb.specs.declared.talking.TalkEnding.{TalkEnding}
 use Rattle.mx_app_gdb.specs.declared.talking.TalkEnding.TheVariants as talks
 use Rattle.mx_app_page.specs.Pages.{IsPagePrinted, run_of_files}
@@ -50,11 +50,13 @@ use Rattle.mx_app_turns.specs.declared.sweeping.Swept.TheVariants as swept
 use Rattle.mx_app_turns.specs.Turned.{MakesTurns}
 use Rattle.mx_app_run.specs.declared.run_by_threads.RunEnding.{RunEnding}
 use Rattle.mx_app_run.specs.declared.run_by_threads.RunEnding.TheVariants as runs
-use Rattle.mx_turns.specs.declared.turns.Ending.{Ending}
+use Rattle.mx_app_turns.specs.declared.turning.TurnsEnd.{TurnsEnd}
+use Rattle.mx_app.specs.declared.ending.DrivenEnding.{DrivenEnding}
 use Rattle.mx_walk.specs.Parts.{walk_shown}
 use Rattle.mx_walk.specs.Walks.{Walk}
 use Rattle.mx_app_db.specs.DebugLines.{DebuggedWorld, debug_lines_made}
 use Rattle.mx_app_db.specs.LineTexts.{debug_lines_text}
+use Rattle.mx_why.specs.Checking.{ChecksConfig}
 use Rattle.mx_why.specs.Telling.{IsWhyPrinted}
 use Rattle.mx_why.specs.declared.telling.Told.{Told}
 use Rattle.mx_why.specs.declared.telling.Told.TheVariants as tolds
@@ -81,9 +83,18 @@ done_after_replay (Ok replayed.Whole) = Ok (with_status 0)
 done_after_replay (Ok replayed.Refused) = Ok (with_status 1)
 done_after_replay (Err f) = Err f
 
--- turns are done, however they ended
-abbrev pub done_after_turns : Result Ending Kind → Result Done Kind
-done_after_turns (Ok ending) = Ok (record { status = 0; ending = Some (driven.Turns ending); untested = None; absent = None })
+-- a run or turns are done, with this status, and ended so
+abbrev pub done_after_driving : ℕ → DrivenEnding → Done
+done_after_driving n ending = record { status = n; ending = Some ending; untested = None; absent = None }
+
+-- what a file has stopped
+abbrev pub interrupted : Done
+interrupted = done_after_driving 130 driven.Interrupted
+
+-- turns are done, however they ended; or they were stopped
+abbrev pub done_after_turns : Result TurnsEnd Kind → Result Done Kind
+done_after_turns (Ok end) =
+    Ok (if end.is_stopped then interrupted else done_after_driving 0 (driven.Turns end.ending))
 done_after_turns (Err f) = Err f
 
 -- the status of a session is 130 if it was stopped
@@ -95,16 +106,13 @@ abbrev pub done_after_live : Result SessionEnding Kind → Result Done Kind
 done_after_live (Ok ending) = Ok (with_status (live_status ending))
 done_after_live (Err f) = Err f
 
--- the status of a run is 5 if it was stopped
-abbrev pub run_status : RunEnding → ℕ
-run_status runs.Rest = 0
-run_status runs.Full = 0
-run_status runs.Stopped = 5
-
-abbrev pub done_after_run : Result RunEnding Kind → Result Done Kind
-done_after_run (Ok ending) =
-    Ok (record { status = run_status ending; ending = Some (driven.Run ending); untested = None; absent = None })
-done_after_run (Err f) = Err f
+-- a run that ended before rest and before a full history was stopped by the file that may stop it; without one its
+-- status is 5
+abbrev pub done_after_run : Bool → Result RunEnding Kind → Result Done Kind
+done_after_run can_stop (Ok runs.Stopped) =
+    Ok (if can_stop then interrupted else done_after_driving 5 (driven.Run runs.Stopped))
+done_after_run can_stop (Ok ending) = Ok (done_after_driving 0 (driven.Run ending))
+done_after_run can_stop (Err f) = Err f
 
 -- a sweep, or a page with one, is done; its status is 1 if the history is refused, and, if it is strict, if an outcome
 -- differs or nothing was tested, which is told in any case
@@ -122,6 +130,11 @@ abbrev pub done_after_why : Bool → Result Told Kind → Result Done Kind
 done_after_why strict (Ok (tolds.Whole marked)) = Ok (with_status (if strict && marked then 1 else 0))
 done_after_why strict (Ok tolds.Refused) = Ok (with_status 1)
 done_after_why strict (Err f) = Err f
+
+-- it is told what can't work; the status is 1 if there is any
+abbrev pub done_after_check : Result Bool Kind → Result Done Kind
+done_after_check (Ok lacks) = Ok (with_status (if lacks then 1 else 0))
+done_after_check (Err f) = Err f
 
 -- ---- machines: the files are as the start wants them, and the text is printed, after the lines' numbers if that is
 -- asked; or it fails by the first fault
@@ -206,11 +219,11 @@ Looks config log asks qs typed ps Prints (Ok u) =
 Looks config log asks qs typed ps Prints (Err f) = HasFailed config log qs ps f
 
 -- a talk with gdb over a history: what is written is determined by the bytes that come, up to one that ends it or to the
--- end of the input
+-- end of the input; if it fails, by those that came
 abbrev pub Talks : List ℕ → List ℕ → Option ℕ → List Asked → List (Option (List ℕ)) → List Part → (List ℕ → Type 0)
     → Result TalkEnding Kind → Type 0
 Talks config log slot qs typed ps Prints (Ok ending) = IsTalked config log slot qs typed ps Prints ending
-Talks config log slot qs typed ps Prints (Err f) = HasFailed config log qs ps f
+Talks config log slot qs typed ps Prints (Err f) = HasTalkFailed config log slot qs typed ps Prints f
 
 -- the status is 0, unless it didn't begin
 abbrev pub done_after_gdb : Result TalkEnding Kind → Result Done Kind
@@ -243,14 +256,16 @@ PerformsUntyped (As text file) qs ws Prints r =
 PerformsUntyped (Show file listing) qs ws Prints r =
     Shows (λ bytes text. IsShown (IsListingOf listing) bytes text) file.now qs ws Prints r
 PerformsUntyped (Explain config) qs ws Prints r = Explains config.now qs ws Prints r
+PerformsUntyped (Check config) qs ws Prints r =
+    (d : Result Bool Kind) × (ws ≡ []) × ChecksConfig config.now qs Prints d × (r ≡ done_after_check d)
 PerformsUntyped (Step config script None numbered) qs ws Prints r =
     (d : Result (Unit {0}) Kind) × (ws ≡ []) × Steps config.now script.now numbered qs Prints d
     × (r ≡ done_after_work d)
 PerformsUntyped (Step config script (Some log) numbered) qs ws Prints r =
     (d : Result (Unit {0}) Kind) × SavesSteps config.now script.now log.now numbered qs ws Prints d
     × (r ≡ done_after_work d)
-PerformsUntyped (Run config log ticks events) qs ws Prints r = ⊥
-PerformsUntyped (Turns config log ticks events bound) qs ws Prints r = ⊥
+PerformsUntyped (Run config log ticks events stop) qs ws Prints r = ⊥
+PerformsUntyped (Turns config log ticks events bound stop) qs ws Prints r = ⊥
 PerformsUntyped (Live config log raw hertz stop) qs ws Prints r = ⊥
 PerformsUntyped (Sweep config log fault bound from to jobs strict save) qs ws Prints r = ⊥
 PerformsUntyped (Replay config log) qs ws Prints r =
@@ -281,13 +296,14 @@ PerformsApart WasShown (Look config log) asks did Prints r =
 PerformsApart WasShown (Gdb config log slot) asks did Prints r =
     IsAlone did × (d : Result TalkEnding Kind) × (did.written ≡ [])
     × Talks config.now log.now slot did.asked did.typed did.shown Prints d × (r ≡ done_after_gdb d)
-PerformsApart WasShown (Run config log ticks events) asks did Prints r =
+PerformsApart WasShown (Run config log ticks events stop) asks did Prints r =
     IsAlone did × (did.typed ≡ []) × (did.shown ≡ []) × (d : Result RunEnding Kind)
-    × Runs WasShown config.now (option_map (λ s. s.now) events) log.now ticks did.asked did.written Prints d
-    × (r ≡ done_after_run d)
-PerformsApart WasShown (Turns config log ticks events bound) asks did Prints r =
-    IsAlone did × (did.typed ≡ []) × (d : Result Ending Kind)
-    × MakesTurns config.now
+    × Runs WasShown (is_some stop) config.now
+    (option_map (λ s. s.now) events) log.now ticks did.asked did.written Prints d
+    × (r ≡ done_after_run (is_some stop) d)
+PerformsApart WasShown (Turns config log ticks events bound stop) asks did Prints r =
+    IsAlone did × (did.typed ≡ []) × (d : Result TurnsEnd Kind)
+    × MakesTurns (is_some stop) config.now
     (option_map (λ s. s.now) events) log.now ticks bound did.asked did.written did.shown Prints d
     × (r ≡ done_after_turns d)
 PerformsApart WasShown (Live config log raw hertz stop) asks did Prints r =

@@ -44,8 +44,8 @@ first_name r = (files_read r).first.name
 -- a request that makes a history has sums written; all others have them compared
 abbrev pub writes_sums : CommandRequest → Bool
 writes_sums (Step config script save numbered) = true
-writes_sums (Run config log ticks events) = true
-writes_sums (Turns config log ticks events bound) = true
+writes_sums (Run config log ticks events stop) = true
+writes_sums (Turns config log ticks events bound stop) = true
 writes_sums (Live config log raw hertz stop) = true
 writes_sums r = false
 

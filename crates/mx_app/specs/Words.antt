@@ -58,7 +58,7 @@ course_text =
 -- and of an option of `--live` without it
 abbrev pub not_live_text : List ℕ
 not_live_text =
-    codes "error: the arguments '--hertz <H>', '--raw' and '--stop <FILE>' need '--live'\n\n"
+    codes "error: the arguments '--hertz <H>' and '--raw' need '--live'\n\n"
     ++ codes "Usage: mx turns [OPTIONS] <CONFIG> <LOG>\n\nFor more information, try '--help'.\n"
 
 -- and of an option of `--fault` without it, at `page`

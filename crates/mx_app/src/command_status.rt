@@ -20,6 +20,7 @@ use mx_app_start::{FileWriter, LineReader, Reader, SharedProgress};
 use mx_walk::Progress;
 use std::alloc::{AllocError, Global};
 use std::io::Write;
+use std::rt::Files;
 use std::sync::Wait;
 use std::thread::Threads;
 use std::time::Clock;
@@ -128,7 +129,7 @@ fn answer(
 /// end with and how turns ended, or what standard error gets, which `shows` it at once if it is a terminal.
 pub fn perform_words<
     'a,
-    T: Threads + Wait + Clock + Sync,
+    T: Threads + Wait + Clock + Files + Sync,
     R: Reader + Drop,
     F: FileWriter + Drop,
     W: Write + Drop,
@@ -142,6 +143,9 @@ pub fn perform_words<
     io: &mut CommandIo<R, F, W, L, O, P>,
     shows: bool,
 ) -> Result<Done, Complaint>
+where
+    T::File: Send,
+    T::Dir: Send,
     ensures asks { io.new.asks ≡ io.old.asks }
     ensures done { Does io.old io.new R.asked F.written W.contents L.given O.heard O.told P.shown
         (λ did Prints. IsPerformed (P.was_shown io.old.progress)

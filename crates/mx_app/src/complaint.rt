@@ -25,8 +25,7 @@ For more information, try '--help'.
 ";
 
 /// What is printed of `turns` with an option of `--live`, and without it.
-const NOT_LIVE: &str =
-    "error: the arguments '--hertz <H>', '--raw' and '--stop <FILE>' need '--live'
+const NOT_LIVE: &str = "error: the arguments '--hertz <H>' and '--raw' need '--live'
 
 Usage: mx turns [OPTIONS] <CONFIG> <LOG>
 
@@ -50,7 +49,7 @@ pub enum Complaint {
     TicksAndEvents,
     /// They are those of `turns --live` with `--ticks`, `--events` or `--turns`.
     LiveWithCourse,
-    /// They are those of `turns` with `--hertz`, `--raw` or `--stop`, and without `--live`.
+    /// They are those of `turns` with `--hertz` or `--raw`, and without `--live`.
     NotLive,
     /// They are those of `page` with `--turns` or `--jobs`, and without `--fault`.
     NoFault,

@@ -3,7 +3,7 @@
 ghost use Rattle.std.specs.Prelude.{◌≡◌, IfErr, IfOk, None};
 ghost use Rattle.std.specs.Io.{WritesAtMost};
 ghost use Rattle.std.specs.Io.KnownBytes.{WriteAppends};
-ghost use Rattle.mx_app.specs.Ending.{driven_word, is_stopped, last_taken, note, text_end};
+ghost use Rattle.mx_app.specs.Ending.{driven_word, is_cut_short, last_taken, note, text_end};
 
 use mx_app_run::RunEnding;
 use mx_turns::Ending;
@@ -15,6 +15,8 @@ use std::{fmt, io};
 pub enum DrivenEnding {
     Turns(Ending),
     Run(RunEnding),
+    /// A file stopped them.
+    Interrupted,
 }
 
 impl DrivenEnding {
@@ -27,6 +29,7 @@ impl DrivenEnding {
             DrivenEnding::Run(RunEnding::Rest) => Ending::Rest.word(),
             DrivenEnding::Run(RunEnding::Full) => Ending::Full.word(),
             DrivenEnding::Run(RunEnding::Stopped) => "stopped",
+            DrivenEnding::Interrupted => "interrupted: LOG has what was done until then",
         }
     }
 }
@@ -43,12 +46,16 @@ pub enum PrintedText {
 }
 
 impl PrintedText {
-    /// Whether it is the report of a run that was stopped.
-    fn is_stopped(self) -> bool
-        ensures { result ≡ is_stopped self }
+    /// Whether it is the report of a run that was stopped, or had no room in its history.
+    fn is_cut_short(self) -> bool
+        ensures { result ≡ is_cut_short self }
     {
         match self {
-            PrintedText::Report(DrivenEnding::Run(RunEnding::Stopped)) => true,
+            PrintedText::Report(
+                DrivenEnding::Run(RunEnding::Stopped | RunEnding::Full)
+                | DrivenEnding::Turns(Ending::Full)
+                | DrivenEnding::Interrupted,
+            ) => true,
             _ => false,
         }
     }
@@ -105,11 +112,11 @@ impl Terminals {
 
     /// What standard error gets after a command that is done: that a program has no symbols, if they
     /// were asked for and nothing was printed; how turns or a run ended, if there were any. Only that a run was
-    /// stopped is said where standard error is no terminal too, since its status isn't 0.
+    /// stopped, or that its history is full, is said where standard error is no terminal too.
     pub fn note(self, printed: PrintedText, last: Option<u8>) -> Note
         ensures { result ≡ note self printed last }
     {
-        if !self.err && !printed.is_stopped() {
+        if !self.err && !printed.is_cut_short() {
             return Note::Nothing;
         }
         match printed {

@@ -2,6 +2,7 @@
 //! command line to what is done: a status and perhaps a `Complaint`.
 #![tactic(auto)]
 
+mod after_run;
 mod asking;
 mod command_io;
 mod command_status;
@@ -14,6 +15,7 @@ mod program;
 mod sparing;
 mod summing;
 
+pub use after_run::{line_after, status_after, wants_marks};
 pub use asking::texts_asked;
 pub use command_io::CommandIo;
 pub use command_status::perform_words;

@@ -2,7 +2,7 @@
 
 ghost use Rattle.std.specs.Prelude.{◌≡◌};
 ghost use Rattle.mx_app.specs.Deeds.{Does};
-ghost use Rattle.mx_app.specs.Requests.{Performs, PerformsApart, done_after_gdb, done_after_live, done_after_replay, done_after_run, done_after_sweep, done_after_turns, done_after_why, done_after_work, run_status, with_status};
+ghost use Rattle.mx_app.specs.Requests.{Performs, PerformsApart, done_after_check, done_after_driving, done_after_gdb, done_after_live, done_after_replay, done_after_run, done_after_sweep, done_after_turns, done_after_why, done_after_work, with_status};
 
 use crate::command_io::CommandIo;
 use crate::ending::DrivenEnding;
@@ -18,15 +18,15 @@ use mx_app_live::{LiveNames, Outside, SessionEnding, Sitting, live};
 use mx_app_look::{SessionWanted, look};
 use mx_app_page::{page, swept_page};
 use mx_app_run::{RunEnding, RunWanted, run};
-use mx_app_start::{FileWriter, LineReader, Reader, SharedProgress};
+use mx_app_start::{FileWriter, LineReader, Reader, SharedProgress, StopFile};
 use mx_app_turns::{
-    SweepNames, SweepWanted, Swept, TurnsNames, TurnsWanted, Untested, sweep, turns,
+    SweepNames, SweepWanted, Swept, TurnsEnd, TurnsNames, TurnsWanted, Untested, sweep, turns,
 };
-use mx_turns::Ending;
 use mx_walk::Progress;
-use mx_why::{Told, why};
+use mx_why::{Told, check, why};
 use std::alloc::Global;
 use std::io::Write;
+use std::rt::Files;
 use std::sync::Wait;
 use std::thread::Threads;
 use std::time::Clock;
@@ -68,6 +68,16 @@ fn done_after_work(done: Result<(), Failure>) -> Result<Done, Failure>
     }
 }
 
+/// What is done after a check: the status is 1 if something can't work.
+fn done_after_check(done: Result<bool, Failure>) -> Result<Done, Failure>
+    ensures { result ≡ done_after_check done }
+{
+    match done {
+        Ok(lacks) => Ok(Done::with_status(u8::from(lacks))),
+        Err(failure) => Err(failure),
+    }
+}
+
 /// What is done after a replay: the status after a history that is refused is 1.
 fn done_after_replay(replayed: Result<Replayed, Failure>) -> Result<Done, Failure>
     ensures { result ≡ done_after_replay replayed }
@@ -94,41 +104,50 @@ fn done_after_why(told: Result<Told, Failure>, strict: bool) -> Result<Done, Fai
 /// The status of a run that was stopped.
 const STOPPED: u8 = 5;
 
-/// What is done after a run: the status is 0 if it came to rest or its history is full.
-fn done_after_run(done: Result<RunEnding, Failure>) -> Result<Done, Failure>
-    ensures { result ≡ done_after_run done }
+/// The status of what a file stopped, as a shell has it of what SIGINT ended.
+const INTERRUPTED: u8 = 130;
+
+/// What is done after a run or turns that ended so.
+fn done_after_driving(status: u8, ending: DrivenEnding) -> Done
+    ensures { result ≡ done_after_driving status ending }
+{
+    Done {
+        status,
+        ending: Some(ending),
+        untested: None,
+        absent: None,
+    }
+}
+
+/// What is done after a run: the status is 0 if it came to rest or its history is full. One that ended before was
+/// stopped by the file that is named, if one is.
+fn done_after_run(done: Result<RunEnding, Failure>, can_stop: bool) -> Result<Done, Failure>
+    ensures { result ≡ done_after_run can_stop done }
 {
     match done {
-        Ok(ending) => Ok(Done {
-            status: match ending {
-                RunEnding::Rest | RunEnding::Full => 0,
-                RunEnding::Stopped => STOPPED,
-            },
-            ending: Some(DrivenEnding::Run(ending)),
-            untested: None,
-            absent: None,
+        Ok(RunEnding::Stopped) => Ok(if can_stop {
+            done_after_driving(INTERRUPTED, DrivenEnding::Interrupted)
+        } else {
+            done_after_driving(STOPPED, DrivenEnding::Run(RunEnding::Stopped))
         }),
+        Ok(ending) => Ok(done_after_driving(0, DrivenEnding::Run(ending))),
         Err(failure) => Err(failure),
     }
 }
 
-/// What is done after turns: the status is 0, however they ended.
-fn done_after_turns(done: Result<Ending, Failure>) -> Result<Done, Failure>
+/// What is done after turns: the status is 0, however they ended, unless they were stopped.
+fn done_after_turns(done: Result<TurnsEnd, Failure>) -> Result<Done, Failure>
     ensures { result ≡ done_after_turns done }
 {
     match done {
-        Ok(ending) => Ok(Done {
-            status: 0,
-            ending: Some(DrivenEnding::Turns(ending)),
-            untested: None,
-            absent: None,
+        Ok(end) => Ok(if end.is_stopped {
+            done_after_driving(INTERRUPTED, DrivenEnding::Interrupted)
+        } else {
+            done_after_driving(0, DrivenEnding::Turns(end.ending))
         }),
         Err(failure) => Err(failure),
     }
 }
-
-/// The status of a session that was stopped, as a shell has it of what SIGINT ended.
-const INTERRUPTED: u8 = 130;
 
 /// What is done after a session: the status is 0, unless it was stopped.
 fn done_after_live(done: Result<SessionEnding, Failure>) -> Result<Done, Failure>
@@ -181,7 +200,7 @@ fn done_after_gdb(done: Result<TalkEnding, Failure>) -> Result<Done, Failure>
 
 /// Does what a request asks for that writes over nothing that it reads.
 fn perform_apart<
-    T: Threads + Wait + Clock + Sync,
+    T: Threads + Wait + Clock + Files + Sync,
     R: Reader + Drop,
     F: FileWriter + Drop,
     W: Write + Drop,
@@ -194,6 +213,9 @@ fn perform_apart<
     io: &mut CommandIo<R, F, W, L, O, P>,
     request: CommandRequest<'_>,
 ) -> Result<Done, Failure>
+where
+    T::File: Send,
+    T::Dir: Send,
     ensures asks { io.new.asks ≡ io.old.asks }
     ensures done { Does io.old io.new R.asked F.written W.contents L.given O.heard O.told P.shown
         (λ did Prints. PerformsApart (P.was_shown io.old.progress)
@@ -220,6 +242,11 @@ fn perform_apart<
             let reader = &mut channels.reader;
             let out = &mut channels.out;
             done_after_work(explain_named(alloc, reader, config, out))
+        }
+        CommandRequest::Check { config } => {
+            let reader = &mut channels.reader;
+            let out = &mut channels.out;
+            done_after_check(check(alloc, reader, config, out))
         }
         CommandRequest::Step {
             config,
@@ -251,14 +278,17 @@ fn perform_apart<
             log,
             ticks,
             events,
+            stop,
         } => {
             let wanted = RunWanted {
                 config,
                 log,
                 events,
                 ticks,
+                stop,
             };
-            done_after_run(run(rt, alloc, channels, wanted, &mut io.progress))
+            let done = run(rt, alloc, channels, wanted, &mut io.progress);
+            done_after_run(done, stop.is_some())
         }
         CommandRequest::Turns {
             config,
@@ -266,6 +296,7 @@ fn perform_apart<
             ticks,
             events,
             bound,
+            stop,
         } => {
             let names = TurnsNames {
                 config,
@@ -273,7 +304,8 @@ fn perform_apart<
                 events,
             };
             let wanted = TurnsWanted { ticks, bound };
-            done_after_turns(turns(alloc, channels, names, wanted, &mut io.progress))
+            let sign = StopFile::new(rt, stop);
+            done_after_turns(turns(alloc, channels, names, wanted, &sign, &mut io.progress))
         }
         CommandRequest::Live {
             config,
@@ -407,7 +439,7 @@ fn perform_apart<
 /// written over: nothing is read or written then. Two names of one file aren't seen to be one. Nor is a file written over
 /// that holds something else than what is written, unless that is forced: only its first bytes are read then.
 pub fn perform<
-    T: Threads + Wait + Clock + Sync,
+    T: Threads + Wait + Clock + Files + Sync,
     R: Reader + Drop,
     F: FileWriter + Drop,
     W: Write + Drop,
@@ -421,6 +453,9 @@ pub fn perform<
     request: CommandRequest<'_>,
     force: bool,
 ) -> Result<Done, Failure>
+where
+    T::File: Send,
+    T::Dir: Send,
     ensures asks { io.new.asks ≡ io.old.asks }
     ensures done { Does io.old io.new R.asked F.written W.contents L.given O.heard O.told P.shown
         (λ did Prints. Performs (P.was_shown io.old.progress)

@@ -4,16 +4,19 @@ ghost use Rattle.std.specs.Prelude.{◌≡◌, ◌⊎◌, Err, IfErr, MatchResul
 ghost use Rattle.std.specs.IoError.{error_kind};
 ghost use Rattle.mx_app.specs.Words.{words_failure_of};
 
+use crate::after_run::{line_after, status_after, wants_marks};
 use crate::asking::{begin_with, texts_asked};
 use crate::command_io::CommandIo;
 use crate::command_status::perform_words;
 use crate::complaint::Complaint;
 use crate::ending::{NotingOutput, PrintedText, Terminals};
 use crate::performing::Done;
+use mx_app_command::{CommandLine, command};
 use mx_app_failure::Failure;
 use mx_app_live::Seat;
-use mx_app_start::{Channels, InputLines, RuntimeFiles, RuntimeProgress, RuntimeWriter};
+use mx_app_start::{Channels, InputLines, Reader, RuntimeFiles, RuntimeProgress, RuntimeWriter};
 use mx_walk::Progress;
+use std::alloc::Global;
 use std::io::IsTerminal;
 use std::rt::{Env, Files};
 use std::sync::Wait;
@@ -58,17 +61,72 @@ fn printed_text(words: &[&str], done: Done) -> PrintedText {
     }
 }
 
-/// Helps a reader at a terminal after a command that printed such a text up to this byte.
+/// What a command that is done tells of the history that it has made.
+#[derive(Drop)]
+struct Marks {
+    /// The line of standard error, if the history has a mark.
+    line: Option<String>,
+    /// Whether a mark is an error.
+    strict: bool,
+}
+
+/// The line of the history that a request has made, if it has a mark and somebody wants to know it.
+fn marked_line<R: Reader>(
+    alloc: Global,
+    reader: &mut R,
+    terminals: Terminals,
+    line: CommandLine<'_>,
+    done: Done,
+) -> Option<String> {
+    if !wants_marks(done.ending, terminals.err, line.strict) {
+        return None;
+    }
+    match line_after(alloc, reader, line.request) {
+        Ok(Some(text)) => String::from_utf8(text).ok(),
+        _ => None,
+    }
+}
+
+/// What is told after a command with this answer of the history that it has made.
+fn marks_after<R: Reader>(
+    alloc: Global,
+    reader: &mut R,
+    terminals: Terminals,
+    words: &[&str],
+    answer: &Result<Done, Complaint>,
+) -> Marks {
+    match (answer, command(alloc, words)) {
+        (Ok(done), Ok(line)) => Marks {
+            line: marked_line(alloc, reader, terminals, line, *done),
+            strict: line.strict,
+        },
+        _ => Marks {
+            line: None,
+            strict: false,
+        },
+    }
+}
+
+/// Helps a reader at a terminal after a command that printed such a text up to this byte. What is told of a mark
+/// says how the command ended, too.
 fn help_reader(
     rt: &(impl Print + Eprint),
     terminals: Terminals,
     printed: PrintedText,
+    marks: &Marks,
     last: Option<u8>,
 ) {
     let end = terminals.text_end(last);
-    let note = terminals.note(printed, last);
     let _ = print!(rt; "{end}");
-    let _ = eprint!(rt; "{note}");
+    match &marks.line {
+        Some(line) => {
+            let _ = eprint!(rt; "{line}");
+        }
+        None => {
+            let note = terminals.note(printed, last);
+            let _ = eprint!(rt; "{note}");
+        }
+    }
 }
 
 /// Helps a reader at a terminal after a command with this answer, whose text had this last byte.
@@ -77,6 +135,7 @@ fn help_after(
     terminals: Terminals,
     words: &[&str],
     answer: &Result<Done, Complaint>,
+    marks: &Marks,
     last: Option<u8>,
 ) {
     let printed = match answer {
@@ -89,7 +148,7 @@ fn help_after(
     } else {
         last
     };
-    help_reader(rt, terminals, printed, last);
+    help_reader(rt, terminals, printed, marks, last);
 }
 
 /// Says on standard error why a sweep tested nothing, or that gdb was to have a slot that isn't there.
@@ -134,6 +193,8 @@ fn perform_texts<R>(rt: &R, terminals: Terminals, words: &[&str]) -> Result<u8, 
 where
     R: Env + Files + Input + Print + Eprint + AllocGlobal + Threads + Wait + Clock + Sync,
     R::Reader: IsTerminal,
+    R::File: Send,
+    R::Dir: Send,
 {
     let mut work = CommandIo {
         channels: Channels {
@@ -148,9 +209,19 @@ where
     };
     let answer = perform_words(rt, rt.alloc(), words, &mut work, terminals.err);
     work.progress.clear();
-    help_after(rt, terminals, words, &answer, work.channels.out.last());
+    let reader = &mut work.channels.reader;
+    let marks = marks_after(rt.alloc(), reader, terminals, words, &answer);
+    help_after(
+        rt,
+        terminals,
+        words,
+        &answer,
+        &marks,
+        work.channels.out.last(),
+    );
     tell_untested(rt, &answer);
-    status_of(answer)
+    let status = status_of(answer)?;
+    Ok(status_after(status, marks.strict, marks.line.is_some()))
 }
 
 /// Does what the program's words ask for, and answers the status to end with, or why it isn't done.
@@ -158,6 +229,8 @@ fn perform_arguments<R>(rt: &R, terminals: Terminals) -> Result<u8, Complaint>
 where
     R: Env + Files + Input + Print + Eprint + AllocGlobal + Threads + Wait + Clock + Sync,
     R::Reader: IsTerminal,
+    R::File: Send,
+    R::Dir: Send,
 {
     let arguments = arguments(rt)?;
     let texts = texts_asked(rt.alloc(), arguments.as_slice())?;
@@ -170,6 +243,8 @@ pub fn run_program<R>(rt: &R, terminals: Terminals) -> u8
 where
     R: Env + Files + Input + Print + Eprint + AllocGlobal + Threads + Wait + Clock + Sync,
     R::Reader: IsTerminal,
+    R::File: Send,
+    R::Dir: Send,
 {
     match perform_arguments(rt, terminals) {
         Ok(status) => status,

@@ -25,6 +25,7 @@ use mx_walk::Progress;
 use std::alloc::Global;
 use std::fmt;
 use std::io::Write;
+use std::rt::Files;
 use std::sync::Wait;
 use std::thread::Threads;
 use std::time::Clock;
@@ -197,7 +198,7 @@ fn write_sums<F: FileWriter>(
 
 /// Does a request of a machine that has sums, and then writes them to a file.
 fn perform_summed<
-    T: Threads + Wait + Clock + Sync,
+    T: Threads + Wait + Clock + Files + Sync,
     R: Reader + Drop,
     F: FileWriter + Drop,
     W: Write + Drop,
@@ -212,6 +213,9 @@ fn perform_summed<
     force: bool,
     name: &str,
 ) -> Result<Done, LineFailure>
+where
+    T::File: Send,
+    T::Dir: Send,
     ensures asks { io.new.asks ≡ io.old.asks }
     ensures done { Does io.old io.new R.asked F.written W.contents L.given O.heard O.told P.shown
         (λ did Prints. PerformsSummed (P.was_shown io.old.progress)
@@ -225,7 +229,7 @@ fn perform_summed<
 
 /// Does the same, unless the file of sums is spared.
 fn perform_sparing<
-    T: Threads + Wait + Clock + Sync,
+    T: Threads + Wait + Clock + Files + Sync,
     R: Reader + Drop,
     F: FileWriter + Drop,
     W: Write + Drop,
@@ -240,6 +244,9 @@ fn perform_sparing<
     force: bool,
     name: &str,
 ) -> Result<Done, LineFailure>
+where
+    T::File: Send,
+    T::Dir: Send,
     ensures asks { io.new.asks ≡ io.old.asks }
     ensures done { Does io.old io.new R.asked F.written W.contents L.given O.heard O.told P.shown
         (λ did Prints. PerformsSparing (P.was_shown io.old.progress)
@@ -251,7 +258,7 @@ fn perform_sparing<
 
 /// Does a request of a machine that has the sums of a file, and of no other.
 fn perform_compared<
-    T: Threads + Wait + Clock + Sync,
+    T: Threads + Wait + Clock + Files + Sync,
     R: Reader + Drop,
     F: FileWriter + Drop,
     W: Write + Drop,
@@ -266,6 +273,9 @@ fn perform_compared<
     force: bool,
     name: &str,
 ) -> Result<Done, LineFailure>
+where
+    T::File: Send,
+    T::Dir: Send,
     ensures asks { io.new.asks ≡ io.old.asks }
     ensures done { Does io.old io.new R.asked F.written W.contents L.given O.heard O.told P.shown
         (λ did Prints. PerformsCompared (P.was_shown io.old.progress)
@@ -279,7 +289,7 @@ fn perform_compared<
 /// Does what a request asks for, with a file of sums, which no other word may name. If the request makes a history,
 /// its machine's sums are written to the file once it is done; any other is done only of a machine with its sums.
 fn perform_with_sums<
-    T: Threads + Wait + Clock + Sync,
+    T: Threads + Wait + Clock + Files + Sync,
     R: Reader + Drop,
     F: FileWriter + Drop,
     W: Write + Drop,
@@ -294,6 +304,9 @@ fn perform_with_sums<
     force: bool,
     name: &str,
 ) -> Result<Done, LineFailure>
+where
+    T::File: Send,
+    T::Dir: Send,
     ensures asks { io.new.asks ≡ io.old.asks }
     ensures done { Does io.old io.new R.asked F.written W.contents L.given O.heard O.told P.shown
         (λ did Prints. PerformsWith (P.was_shown io.old.progress)
@@ -312,7 +325,7 @@ fn perform_with_sums<
 /// Does what a command line asks for. With a file of sums, a request that makes a history has the machine's sums
 /// written to it in the end, and one that reads a history isn't begun for a machine with others.
 pub fn perform_line<
-    T: Threads + Wait + Clock + Sync,
+    T: Threads + Wait + Clock + Files + Sync,
     R: Reader + Drop,
     F: FileWriter + Drop,
     W: Write + Drop,
@@ -325,6 +338,9 @@ pub fn perform_line<
     io: &mut CommandIo<R, F, W, L, O, P>,
     line: CommandLine<'_>,
 ) -> Result<Done, LineFailure>
+where
+    T::File: Send,
+    T::Dir: Send,
     ensures asks { io.new.asks ≡ io.old.asks }
     ensures done { Does io.old io.new R.asked F.written W.contents L.given O.heard O.told P.shown
         (λ did Prints. PerformsLine (P.was_shown io.old.progress)

@@ -15,7 +15,7 @@ use Rattle.clap.specs.Faults.{defaults_fault, entered_fault, level_fault, settle
 use Rattle.clap.specs.Walk.{answers_to, finished, nothing_held, rows_after, settled, stop_after, walk, walk_from}
 use Rattle.clap.specs.declared.builder.value_parser.ValueParser.TheVariants.{Signed}
 use Rattle.clap.proofs.ValueTestLemmas.{accepts-Accepts}
-use Rattle.mx_app_command.specs.Words.{HasNumber, IsAsked, IsGiven, MayHaveNumber, MayHaveRange, as_shape, following_shape, gdb_shape, jobs_after, looking_shape, mx_grammar, number_after, of_one, of_two, one_shape, page_shape, run_shape, step_shape, sweep_shape, turns_shape, why_shape, required_text, required_number}
+use Rattle.mx_app_command.specs.Words.{HasNumber, IsAsked, IsGiven, MayHaveNumber, MayHaveRange, as_shape, explain_shape, flag, following_shape, gdb_shape, jobs_after, looking_shape, mx_grammar, number_after, of_one, of_two, one_shape, page_shape, run_shape, step_shape, sweep_shape, turns_shape, why_shape, required_text, required_number}
 use Rattle.mx_app_command.proofs.Given.{IsOnly, SetsValue, all_found, has_wanted, no_fault, value_given, value_if_given}
 
 -- the grammar as a parse sees it: with the help flag, and each argument's place
@@ -208,13 +208,13 @@ number_sets : (long id : Text) (n : ℕ) → SetsValue (with_index n (filled (nu
 number_sets long id n = record { set = refl; least = omega arith; defaults = refl }
 
 only_run_config : IsOnly config_rule run_whole.rules
-only_run_config = ((λ e. refl), ((λ e. never e), ((λ e. never e), ((λ e. never e), ((λ e. never e), ((λ e. never e), ((λ e. never e), ((λ e. never e), ((λ e. never e), tt)))))))))
+only_run_config = ((λ e. refl), ((λ e. never e), ((λ e. never e), ((λ e. never e), ((λ e. never e), ((λ e. never e), ((λ e. never e), ((λ e. never e), ((λ e. never e), ((λ e. never e), ((λ e. never e), tt)))))))))))
 
 only_log : IsOnly log_rule run_whole.rules
-only_log = ((λ e. never e), ((λ e. refl), ((λ e. never e), ((λ e. never e), ((λ e. never e), ((λ e. never e), ((λ e. never e), ((λ e. never e), ((λ e. never e), tt)))))))))
+only_log = ((λ e. never e), ((λ e. refl), ((λ e. never e), ((λ e. never e), ((λ e. never e), ((λ e. never e), ((λ e. never e), ((λ e. never e), ((λ e. never e), ((λ e. never e), ((λ e. never e), tt)))))))))))
 
 only_ticks : IsOnly ticks_rule run_whole.rules
-only_ticks = ((λ e. never e), ((λ e. never e), ((λ e. refl), ((λ e. never e), ((λ e. never e), ((λ e. never e), ((λ e. never e), ((λ e. never e), ((λ e. never e), tt)))))))))
+only_ticks = ((λ e. never e), ((λ e. never e), ((λ e. refl), ((λ e. never e), ((λ e. never e), ((λ e. never e), ((λ e. never e), ((λ e. never e), ((λ e. never e), ((λ e. never e), ((λ e. never e), tt)))))))))))
 
 -- a number after a long name, of which the argument is the only one
 number_if_given : (s : Shape) (long id : Text) (n : ℕ) → IsOnly (with_index n (filled (number_after long id))) s.rules
@@ -260,22 +260,22 @@ abbrev bound_rule : Rule
 bound_rule = with_index 5 (filled (number_after (codes "turns") (codes "N")))
 
 only_turns_config : IsOnly config_rule turns_whole.rules
-only_turns_config = ((λ e. refl), ((λ e. never e), ((λ e. never e), ((λ e. never e), ((λ e. never e), ((λ e. never e), ((λ e. never e), ((λ e. never e), ((λ e. never e), ((λ e. never e), ((λ e. never e), ((λ e. never e), ((λ e. never e), ((λ e. never e), tt))))))))))))))
+only_turns_config = ((λ e. refl), ((λ e. never e), ((λ e. never e), ((λ e. never e), ((λ e. never e), ((λ e. never e), ((λ e. never e), ((λ e. never e), ((λ e. never e), ((λ e. never e), ((λ e. never e), ((λ e. never e), ((λ e. never e), ((λ e. never e), ((λ e. never e), tt)))))))))))))))
 
 only_turns_log : IsOnly log_rule turns_whole.rules
-only_turns_log = ((λ e. never e), ((λ e. refl), ((λ e. never e), ((λ e. never e), ((λ e. never e), ((λ e. never e), ((λ e. never e), ((λ e. never e), ((λ e. never e), ((λ e. never e), ((λ e. never e), ((λ e. never e), ((λ e. never e), ((λ e. never e), tt))))))))))))))
+only_turns_log = ((λ e. never e), ((λ e. refl), ((λ e. never e), ((λ e. never e), ((λ e. never e), ((λ e. never e), ((λ e. never e), ((λ e. never e), ((λ e. never e), ((λ e. never e), ((λ e. never e), ((λ e. never e), ((λ e. never e), ((λ e. never e), ((λ e. never e), tt)))))))))))))))
 
 only_turns_ticks : IsOnly ticks_rule turns_whole.rules
-only_turns_ticks = ((λ e. never e), ((λ e. never e), ((λ e. refl), ((λ e. never e), ((λ e. never e), ((λ e. never e), ((λ e. never e), ((λ e. never e), ((λ e. never e), ((λ e. never e), ((λ e. never e), ((λ e. never e), ((λ e. never e), ((λ e. never e), tt))))))))))))))
+only_turns_ticks = ((λ e. never e), ((λ e. never e), ((λ e. refl), ((λ e. never e), ((λ e. never e), ((λ e. never e), ((λ e. never e), ((λ e. never e), ((λ e. never e), ((λ e. never e), ((λ e. never e), ((λ e. never e), ((λ e. never e), ((λ e. never e), ((λ e. never e), tt)))))))))))))))
 
 only_bound : IsOnly bound_rule turns_whole.rules
-only_bound = ((λ e. never e), ((λ e. never e), ((λ e. never e), ((λ e. never e), ((λ e. refl), ((λ e. never e), ((λ e. never e), ((λ e. never e), ((λ e. never e), ((λ e. never e), ((λ e. never e), ((λ e. never e), ((λ e. never e), ((λ e. never e), tt))))))))))))))
+only_bound = ((λ e. never e), ((λ e. never e), ((λ e. never e), ((λ e. never e), ((λ e. refl), ((λ e. never e), ((λ e. never e), ((λ e. never e), ((λ e. never e), ((λ e. never e), ((λ e. never e), ((λ e. never e), ((λ e. never e), ((λ e. never e), ((λ e. never e), tt)))))))))))))))
 
 abbrev hertz_rule : Rule
 hertz_rule = with_index 8 (filled (number_after (codes "hertz") (codes "H")))
 
 only_hertz : IsOnly hertz_rule turns_whole.rules
-only_hertz = ((λ e. never e), ((λ e. never e), ((λ e. never e), ((λ e. never e), ((λ e. never e), ((λ e. never e), ((λ e. never e), ((λ e. refl), ((λ e. never e), ((λ e. never e), ((λ e. never e), ((λ e. never e), ((λ e. never e), ((λ e. never e), tt))))))))))))))
+only_hertz = ((λ e. never e), ((λ e. never e), ((λ e. never e), ((λ e. never e), ((λ e. never e), ((λ e. never e), ((λ e. never e), ((λ e. refl), ((λ e. never e), ((λ e. never e), ((λ e. never e), ((λ e. never e), ((λ e. never e), ((λ e. never e), ((λ e. never e), tt)))))))))))))))
 
 turns_fits : Fits turns_whole
 turns_fits words fine =
@@ -464,8 +464,8 @@ db_fits : Fits (whole_of (of_two (codes "db") (codes "CONFIG") (codes "SCRIPT"))
 db_fits words fine = let given = two_texts_given (codes "db") (codes "CONFIG") (codes "SCRIPT") (refl, refl, refl) (refl, refl, refl) refl refl words fine in
     ((λ e. (given.0, inr (inl (given.1, inr refl)))), (λ e. absurd (true≢false e)))
 
-explain_fits : Fits (whole_of (of_one (codes "explain") (codes "CONFIG") []))
-explain_fits words fine = let given = one_text_given (codes "explain") (codes "CONFIG") [] refl words fine in
+explain_fits : Fits (whole_of explain_shape)
+explain_fits words fine = let given = one_text_given (codes "explain") (codes "CONFIG") (flag (codes "check") ∷ []) refl words fine in
     ((λ e. (given, inl refl)), (λ e. absurd (true≢false e)))
 
 all_fit : AllByRecursion Fits whole.subs

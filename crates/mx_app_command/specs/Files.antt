@@ -6,7 +6,7 @@ use Rattle.mx_app_command.specs.declared.files.FileKind.TheVariants as kinds
 use Rattle.mx_app_command.specs.declared.files.NamedWord.{NamedWord}
 use Rattle.mx_app_command.specs.declared.files.ReadWords.{ReadWords}
 use Rattle.mx_app_command.specs.declared.command_line.CommandRequest.{CommandRequest}
-use Rattle.mx_app_command.specs.declared.command_line.CommandRequest.TheVariants.{One, As, Show, Explain, Step, Run, Turns, Live, Sweep, Replay, Trace, Draw, Page, SweptPage, Look, Gdb, Why, Db}
+use Rattle.mx_app_command.specs.declared.command_line.CommandRequest.TheVariants.{One, As, Show, Explain, Check, Step, Run, Turns, Live, Sweep, Replay, Trace, Draw, Page, SweptPage, Look, Gdb, Why, Db}
 
 -- A word of the command line that names a file: the word as help has it, and the name.
 pub record FileWord : Type 0 where
@@ -49,9 +49,10 @@ files_read (One file steps) = one_file (codes "FILE") file.now
 files_read (As text file) = one_file (codes "TEXT") text.now
 files_read (Show file listing) = one_file (codes "FILE") file.now
 files_read (Explain config) = one_file (codes "CONFIG") config.now
+files_read (Check config) = one_file (codes "CONFIG") config.now
 files_read (Step config script save numbered) = with_course config.now (codes "SCRIPT") script.now
-files_read (Run config log ticks events) = with_events config.now (option_map (λ s. s.now) events)
-files_read (Turns config log ticks events bound) = with_events config.now (option_map (λ s. s.now) events)
+files_read (Run config log ticks events stop) = with_events config.now (option_map (λ s. s.now) events)
+files_read (Turns config log ticks events bound stop) = with_events config.now (option_map (λ s. s.now) events)
 files_read (Live config log raw hertz stop) = one_file (codes "CONFIG") config.now
 files_read (Sweep config log fault bound from to jobs strict save) = with_fault config.now log.now fault.now
 files_read (Replay config log) = with_course config.now (codes "LOG") log.now
@@ -68,8 +69,8 @@ files_read (Db config script) = with_course config.now (codes "SCRIPT") script.n
 abbrev pub file_written : CommandRequest → Option FileWord
 file_written (As text file) = Some (file_word (codes "FILE") file.now)
 file_written (Step config script (Some log) numbered) = Some (file_word (codes "LOG") log.now)
-file_written (Run config log ticks events) = Some (file_word (codes "LOG") log.now)
-file_written (Turns config log ticks events bound) = Some (file_word (codes "LOG") log.now)
+file_written (Run config log ticks events stop) = Some (file_word (codes "LOG") log.now)
+file_written (Turns config log ticks events bound stop) = Some (file_word (codes "LOG") log.now)
 file_written (Live config log raw hertz stop) = Some (file_word (codes "LOG") log.now)
 file_written (Sweep config log fault bound from to jobs strict (Some file)) = Some (file_word (codes "FILE") file.now)
 file_written r = None

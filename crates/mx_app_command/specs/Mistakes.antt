@@ -1,5 +1,5 @@
 -- Why the words of a command line ask for nothing (our own).
-use Rattle.std.specs.Prelude.{◌≡◌, ◌&&◌, ◌||◌, if◌then◌else◌, not, Bool, true, is_some, codes, List, [], Option, Some, None}
+use Rattle.std.specs.Prelude.{◌≡◌, ◌&&◌, ◌||◌, if◌then◌else◌, not, Bool, is_some, codes, List, [], Option, Some, None}
 use Rattle.std.specs.Str.{bytes_eq}
 use Rattle.clap.specs.Words.{HasKind, Row, Text, fault_of, first_of, kind_of, subcommand_of}
 use Rattle.clap.specs.declared.error.kind.ErrorKind.TheVariants.{OutOfMemory}
@@ -22,12 +22,12 @@ has_course name rows =
     && (is_on (codes "live") rows
     && (is_there (codes "T") rows || (is_there (codes "EVENTS") rows || is_there (codes "N") rows)))
 
--- those of `turns` with `--hertz`, `--raw` or `--stop`, and without `--live`
+-- those of `turns` with `--hertz` or `--raw`, and without `--live`
 abbrev pub lacks_live : Text → List Row → Bool
 lacks_live name rows =
     bytes_eq name (codes "turns")
     && (not (is_on (codes "live") rows)
-    && (is_there (codes "H") rows || (is_on (codes "raw") rows || is_there (codes "FILE") rows)))
+    && (is_there (codes "H") rows || is_on (codes "raw") rows))
 
 -- those of `page` with `--turns` or `--jobs`, and without `--fault`
 abbrev pub lacks_fault : Text → List Row → Bool

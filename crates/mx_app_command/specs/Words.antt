@@ -13,7 +13,7 @@ use Rattle.mx_app_command.specs.declared.command_line.CommandRequest.{CommandReq
 use Rattle.mx_app_command.specs.declared.command_line.Listing.{Listing}
 use Rattle.mx_app_command.specs.declared.command_line.Listing.TheVariants.{Instructions, Symbols}
 use Rattle.mx_app_command.specs.declared.command_line.RecordRange.{RecordRange}
-use Rattle.mx_app_command.specs.declared.command_line.CommandRequest.TheVariants.{One, As, Show, Explain, Step, Run, Turns, Live, Sweep, Replay, Trace, Draw, Page, SweptPage, Look, Gdb, Why, Db}
+use Rattle.mx_app_command.specs.declared.command_line.CommandRequest.TheVariants.{One, As, Show, Explain, Check, Step, Run, Turns, Live, Sweep, Replay, Trace, Draw, Page, SweptPage, Look, Gdb, Why, Db}
 
 -- ---- the grammar
 
@@ -79,6 +79,10 @@ abbrev pub as_shape : Shape
 as_shape =
     subcommand (codes "as") (required_text (codes "TEXT") ∷ required_text (codes "FILE") ∷ force_rule ∷ [])
 
+-- `explain CONFIG --check`
+abbrev pub explain_shape : Shape
+explain_shape = of_one (codes "explain") (codes "CONFIG") (flag (codes "check") ∷ [])
+
 -- `step CONFIG SCRIPT --save LOG --numbered --sums SUMS --force`
 abbrev pub step_shape : Shape
 step_shape =
@@ -86,22 +90,23 @@ step_shape =
     (required_text (codes "CONFIG") ∷ required_text (codes "SCRIPT") ∷ after_name (codes "save") (codes "LOG")
     ∷ flag (codes "numbered") ∷ sums_rule ∷ force_rule ∷ [])
 
--- `run CONFIG LOG --ticks T --events EVENTS --sums SUMS --force`
+-- `run CONFIG LOG --ticks T --events EVENTS --stop FILE --strict --sums SUMS --force`
 abbrev pub run_shape : Shape
 run_shape =
     subcommand (codes "run")
     (required_text (codes "CONFIG") ∷ required_text (codes "LOG") ∷ number_after (codes "ticks") (codes "T")
-    ∷ after_name (codes "events") (codes "EVENTS") ∷ sums_rule ∷ force_rule ∷ [])
+    ∷ after_name (codes "events") (codes "EVENTS") ∷ after_name (codes "stop") (codes "FILE")
+    ∷ flag (codes "strict") ∷ sums_rule ∷ force_rule ∷ [])
 
--- `turns CONFIG LOG --ticks T --events EVENTS --turns N --live --raw --hertz H --stop FILE --sums SUMS
--- --force`; which of them exclude each other, `Mistakes` has
+-- `turns CONFIG LOG --ticks T --events EVENTS --turns N --live --raw --hertz H --stop FILE --strict
+-- --sums SUMS --force`; which of them exclude each other, `Mistakes` has
 abbrev pub turns_shape : Shape
 turns_shape =
     subcommand (codes "turns")
     (required_text (codes "CONFIG") ∷ required_text (codes "LOG") ∷ number_after (codes "ticks") (codes "T")
     ∷ after_name (codes "events") (codes "EVENTS") ∷ number_after (codes "turns") (codes "N")
     ∷ flag (codes "live") ∷ flag (codes "raw") ∷ number_after (codes "hertz") (codes "H")
-    ∷ after_name (codes "stop") (codes "FILE") ∷ sums_rule ∷ force_rule ∷ [])
+    ∷ after_name (codes "stop") (codes "FILE") ∷ flag (codes "strict") ∷ sums_rule ∷ force_rule ∷ [])
 
 -- `sweep CONFIG LOG FAULT --turns N --from A --to B --jobs J --strict --save FILE --sums SUMS --force`
 abbrev pub sweep_shape : Shape
@@ -164,7 +169,7 @@ program_app = record { top = record top_app.top { is_leaf = false }; subs = prog
 
 -- those that start a machine
 abbrev pub machine_shapes : List Shape
-machine_shapes = of_one (codes "explain") (codes "CONFIG") []
+machine_shapes = explain_shape
     ∷ step_shape
     ∷ run_shape
     ∷ []
@@ -254,17 +259,22 @@ AsksBy (One file steps) name rows =
 AsksBy (As text file) name rows =
     (name ≡ codes "as") × HasText (codes "TEXT") rows text.now × HasText (codes "FILE") rows file.now
 AsksBy (Show file listing) name rows = AsksForListing listing name rows × HasText (codes "FILE") rows file.now
-AsksBy (Explain config) name rows = (name ≡ codes "explain") × HasText (codes "CONFIG") rows config.now
+AsksBy (Explain config) name rows =
+    (name ≡ codes "explain") × HasText (codes "CONFIG") rows config.now × (is_on (codes "check") rows ≡ false)
+AsksBy (Check config) name rows =
+    (name ≡ codes "explain") × HasText (codes "CONFIG") rows config.now × (is_on (codes "check") rows ≡ true)
 AsksBy (Step config script save numbered) name rows =
     (name ≡ codes "step") × HasText (codes "CONFIG") rows config.now × HasText (codes "SCRIPT") rows script.now
     × MayHaveText (codes "LOG") rows (option_map (λ s. s.now) save) × IsFlag (codes "numbered") rows numbered
-AsksBy (Run config log ticks events) name rows =
+AsksBy (Run config log ticks events stop) name rows =
     (name ≡ codes "run") × HasText (codes "CONFIG") rows config.now × HasText (codes "LOG") rows log.now
     × HasNumberOr 0 (codes "T") rows ticks × MayHaveText (codes "EVENTS") rows (option_map (λ s. s.now) events)
-AsksBy (Turns config log ticks events bound) name rows =
+    × MayHaveText (codes "FILE") rows (option_map (λ s. s.now) stop)
+AsksBy (Turns config log ticks events bound stop) name rows =
     (name ≡ codes "turns") × HasText (codes "CONFIG") rows config.now × HasText (codes "LOG") rows log.now
     × HasNumberOr 0 (codes "T") rows ticks × MayHaveText (codes "EVENTS") rows (option_map (λ s. s.now) events)
     × HasNumberOr 4294967295 (codes "N") rows bound × (is_on (codes "live") rows ≡ false)
+    × MayHaveText (codes "FILE") rows (option_map (λ s. s.now) stop)
 AsksBy (Live config log raw hertz stop) name rows =
     (name ≡ codes "turns") × HasText (codes "CONFIG") rows config.now × HasText (codes "LOG") rows log.now
     × (is_on (codes "live") rows ≡ true) × (raw ≡ is_on (codes "raw") rows)
@@ -321,6 +331,11 @@ AsksForSums sums None = ⊥
 abbrev pub AsksForForce : Bool → Option (Text × List Row) → Type 0
 AsksForForce force (Some found) = force ≡ is_on (codes "force") found.1
 AsksForForce force None = ⊥
+
+-- the words ask that a mark is an error, or they don't
+abbrev pub AsksToBeStrict : Bool → Option (Text × List Row) → Type 0
+AsksToBeStrict strict (Some found) = strict ≡ is_on (codes "strict") found.1
+AsksToBeStrict strict None = ⊥
 
 abbrev pub Asks : CommandRequest → Option (Text × List Row) → Type 0
 Asks request (Some found) = AsksBy request found.0 found.1

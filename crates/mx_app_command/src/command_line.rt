@@ -2,7 +2,7 @@
 
 ghost use Rattle.std.specs.Prelude.{◌≡◌, ◌&&◌, ◌⊎◌, ℕ, Bool, IfErr, IfOk, MatchResult, None, [], codes, is_none, is_some, map, option_map, true};
 ghost use Rattle.clap.specs.Words.{FailsBy, HasMatchesOf, fault_of, first_of, found_of, kind_of, rows_of, subcommand_of, takes};
-ghost use Rattle.mx_app_command.specs.Words.{Asks, AsksBy, AsksForForce, AsksForSilence, AsksForSums, AsksToExplain, HasNumber, HasNumberIf, HasNumberOr, HasRange, HasText, IsAsked, IsFlag, IsHistoryAsked, IsMachineAsked, IsOtherHistoryAsked, IsProgramAsked, IsRecordsAsked, IsScriptAsked, MayHaveNumber, MayHaveRange, MayHaveStrip, MayHaveSweep, MayHaveText, MayHaveTurns, is_following, is_machine, is_on, mx_grammar};
+ghost use Rattle.mx_app_command.specs.Words.{Asks, AsksBy, AsksForForce, AsksForSilence, AsksForSums, AsksToBeStrict, AsksToExplain, HasNumber, HasNumberIf, HasNumberOr, HasRange, HasText, IsAsked, IsFlag, IsHistoryAsked, IsMachineAsked, IsOtherHistoryAsked, IsProgramAsked, IsRecordsAsked, IsScriptAsked, MayHaveNumber, MayHaveRange, MayHaveStrip, MayHaveSweep, MayHaveText, MayHaveTurns, is_following, is_machine, is_on, mx_grammar};
 ghost use Rattle.mx_app_command.specs.Mistakes.{IsMistake, IsOutOfMemory, has_both, has_course, lacks_fault, lacks_live, mistake_given, mistake_in};
 
 use crate::grammar::grammar;
@@ -54,6 +54,10 @@ pub enum CommandRequest<'a> {
     Explain {
         config: &'a str,
     },
+    /// `explain CONFIG --check`.
+    Check {
+        config: &'a str,
+    },
     /// `step CONFIG SCRIPT`, with `--save LOG` and `--numbered` or without.
     Step {
         config: &'a str,
@@ -61,14 +65,16 @@ pub enum CommandRequest<'a> {
         save: Option<&'a str>,
         numbered: bool,
     },
-    /// `run CONFIG LOG`, with `--ticks T` or, for no ticks, without, and with `--events EVENTS` or without.
+    /// `run CONFIG LOG`, with `--ticks T` or, for no ticks, without, and with `--events EVENTS` and `--stop FILE` or without.
     Run {
         config: &'a str,
         log: &'a str,
         ticks: u32,
         events: Option<&'a str>,
+        /// The file that stops it once it is there.
+        stop: Option<&'a str>,
     },
-    /// `turns CONFIG LOG`, with `--ticks T` or `--events EVENTS`, and with `--turns N`, or without.
+    /// `turns CONFIG LOG`, with `--ticks T` or `--events EVENTS`, and with `--turns N` and `--stop FILE`, or without.
     Turns {
         config: &'a str,
         log: &'a str,
@@ -76,6 +82,8 @@ pub enum CommandRequest<'a> {
         events: Option<&'a str>,
         /// The most turns, which a history can't have if none are given.
         bound: u32,
+        /// The file that stops them once it is there.
+        stop: Option<&'a str>,
     },
     /// `turns CONFIG LOG --live`, with `--hertz H`, `--raw` and `--stop FILE` or without.
     Live {
@@ -179,6 +187,9 @@ pub struct CommandLine<'a> {
     pub sums: Option<&'a str>,
     /// Whether a file is written over whatever it holds.
     pub force: bool,
+    /// Whether the status is 1 if a history that is made has a mark, a line of `why` that no right machine has. A
+    /// sweep and `why` have their own.
+    pub strict: bool,
 }
 
 /// Why the words of a command line ask for nothing.
@@ -190,7 +201,7 @@ pub enum Mistake {
     TicksAndEvents,
     /// `turns --live` has `--ticks`, `--events` or `--turns`: what comes is what is typed.
     LiveWithCourse,
-    /// `turns` has `--hertz`, `--raw` or `--stop`, and no `--live`.
+    /// `turns` has `--hertz` or `--raw`, and no `--live`.
     NotLive,
     /// `page` has `--turns` or `--jobs`, and no `--fault`.
     NoFault,
@@ -352,6 +363,7 @@ fn turns_request<'a>(config: &'a str, log: &'a str, matches: &ArgMatches<'a>) ->
         ticks,
         events,
         bound,
+        stop: value_if_asked(matches, "FILE"),
     }
 }
 
@@ -396,6 +408,7 @@ fn run_request<'a>(config: &'a str, log: &'a str, matches: &ArgMatches<'a>) -> C
         log,
         ticks,
         events,
+        stop: value_if_asked(matches, "FILE"),
     }
 }
 
@@ -539,6 +552,18 @@ fn history_request<'a>(name: &str, config: &'a str, matches: &ArgMatches<'a>) ->
     }
 }
 
+/// What the words of `explain` ask for.
+fn explain_request<'a>(config: &'a str, matches: &ArgMatches<'a>) -> CommandRequest<'a>
+    requires { HasText (codes "CONFIG") (rows_of (found_of matches.now)) config.now }
+    ensures { AsksBy result (codes "explain") (rows_of (found_of matches.now)) }
+{
+    if is_on(matches, "check") {
+        CommandRequest::Check { config }
+    } else {
+        CommandRequest::Explain { config }
+    }
+}
+
 /// What the words of a subcommand on a machine ask for.
 fn machine_request<'a>(name: &str, matches: &ArgMatches<'a>) -> CommandRequest<'a>
     requires { IsMachineAsked name.now (rows_of (found_of matches.now)) }
@@ -546,7 +571,7 @@ fn machine_request<'a>(name: &str, matches: &ArgMatches<'a>) -> CommandRequest<'
 {
     let config = value_asked(matches, "CONFIG");
     if name == "explain" {
-        CommandRequest::Explain { config }
+        explain_request(config, matches)
     } else if name == "step" || name == "db" {
         script_request(name, config, matches)
     } else {
@@ -625,13 +650,11 @@ fn has_course(name: &str, matches: &ArgMatches<'_>) -> bool
         && (is_given(matches, "T") || is_given(matches, "EVENTS") || is_given(matches, "N"))
 }
 
-/// Whether these are the words of `turns` with `--hertz`, `--raw` or `--stop`, and without `--live`.
+/// Whether these are the words of `turns` with `--hertz` or `--raw`, and without `--live`.
 fn lacks_live(name: &str, matches: &ArgMatches<'_>) -> bool
     ensures { result ≡ lacks_live name.now (rows_of (found_of matches.now)) }
 {
-    name == "turns"
-        && !is_on(matches, "live")
-        && (is_given(matches, "H") || is_on(matches, "raw") || is_given(matches, "FILE"))
+    name == "turns" && !is_on(matches, "live") && (is_given(matches, "H") || is_on(matches, "raw"))
 }
 
 /// Whether these are the words of `page` with `--turns` or `--jobs`, and without `--fault`.
@@ -672,6 +695,8 @@ pub fn command<'a>(alloc: Global, words: &'a [&'a str]) -> Result<CommandLine<'a
         (subcommand_of mx_grammar (map (λ s. s.now) words.now))) }
     ensures force { IfOk result (λ l. AsksForForce l.force
         (subcommand_of mx_grammar (map (λ s. s.now) words.now))) }
+    ensures strict { IfOk result (λ l. AsksToBeStrict l.strict
+        (subcommand_of mx_grammar (map (λ s. s.now) words.now))) }
     ensures passes { IfErr result (λ m.
         (takes mx_grammar (map (λ s. s.now) words.now)
         && is_none (mistake_given (subcommand_of mx_grammar (map (λ s. s.now) words.now)))) ≡ true
@@ -694,6 +719,7 @@ pub fn command<'a>(alloc: Global, words: &'a [&'a str]) -> Result<CommandLine<'a
                 silent: flag_asked(found, "no-explain"),
                 sums: value_if_asked(found, "SUMS"),
                 force: is_on(found, "force"),
+                strict: is_on(found, "strict"),
             })
         }
         None => unreachable!(),

@@ -114,6 +114,7 @@ impl<'a> CommandRequest<'a> {
             CommandRequest::As { text, .. } => one_file("TEXT", text),
             CommandRequest::Show { file, .. } => one_file("FILE", file),
             CommandRequest::Explain { config } => one_file("CONFIG", config),
+            CommandRequest::Check { config } => one_file("CONFIG", config),
             CommandRequest::Step { config, script, .. } => with_course(config, "SCRIPT", script),
             CommandRequest::Db { config, script } => with_course(config, "SCRIPT", script),
             CommandRequest::Run { config, events, .. } => with_events(config, events),

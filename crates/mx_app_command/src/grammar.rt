@@ -81,6 +81,13 @@ const CONFIG: CommandArgument<'static> = CommandArgument {
     form: ArgumentForm::Text,
 };
 
+/// Whether it is only told what can't work.
+const CHECK: CommandArgument<'static> = CommandArgument {
+    name: "check",
+    help: "Prints only what can't work, by CONFIG and the programs alone: ends with status 1 if there is any",
+    form: ArgumentForm::Flag,
+};
+
 /// What happens to it.
 const SCRIPT: CommandArgument<'static> = CommandArgument {
     name: "SCRIPT",
@@ -126,14 +133,14 @@ const TICKS: CommandArgument<'static> = CommandArgument {
 /// What happens from outside while turns are made.
 const EVENTS: CommandArgument<'static> = CommandArgument {
     name: "EVENTS",
-    help: "A file of outside events, one for each turn: line L, tick or kill E; not with --ticks",
+    help: "A file of outside events, one for each turn: line L, tick, kill E or respawn S; not with --ticks",
     form: ArgumentForm::After("events"),
 };
 
 /// What the second other actor does in a run.
 const CALLS: CommandArgument<'static> = CommandArgument {
     name: "EVENTS",
-    help: "A file of what the second other actor does: line L, tick, kill E, or wait N for N records",
+    help: "A file of what the second other actor does: line L, tick, kill E, respawn S, or wait N for N records",
     form: ArgumentForm::After("events"),
 };
 
@@ -158,10 +165,10 @@ const HERTZ: CommandArgument<'static> = CommandArgument {
     form: ArgumentForm::NumberAfter("hertz"),
 };
 
-/// The file that ends a session.
+/// The file that stops a run, turns or a session.
 const STOP: CommandArgument<'static> = CommandArgument {
     name: "FILE",
-    help: "With --live: ends the session, and saves LOG, once the file FILE is there",
+    help: "Stops, and saves LOG up to there, once the file FILE is there",
     form: ArgumentForm::After("stop"),
 };
 
@@ -211,6 +218,13 @@ const JOBS: CommandArgument<'static> = CommandArgument {
 const STRICT: CommandArgument<'static> = CommandArgument {
     name: "strict",
     help: "Ends with status 1 if the fault changes the outcome of a position, or tests none",
+    form: ArgumentForm::Flag,
+};
+
+/// Whether a mark of the history that is made is an error.
+const STRICT_RUN: CommandArgument<'static> = CommandArgument {
+    name: "strict",
+    help: "Ends with status 1 if LOG tells what no right machine does, as mx why says it",
     form: ArgumentForm::Flag,
 };
 
@@ -359,7 +373,7 @@ static MACHINE_COMMANDS: [Subcommand<'static>; 3] = [
     Subcommand {
         name: "explain",
         help: "Prints what the services of a machine may do, one a line",
-        arguments: &[CONFIG, EXPLAIN, SILENT],
+        arguments: &[CONFIG, CHECK, EXPLAIN, SILENT],
         example: Example::Explain,
     },
     Subcommand {
@@ -385,6 +399,8 @@ static MACHINE_COMMANDS: [Subcommand<'static>; 3] = [
             RECORDED,
             TICKS,
             CALLS,
+            STOP,
+            STRICT_RUN,
             WRITTEN_SUMS,
             FORCE,
             EXPLAIN,
@@ -409,6 +425,7 @@ static TURN_COMMANDS: [Subcommand<'static>; 2] = [
             RAW,
             HERTZ,
             STOP,
+            STRICT_RUN,
             WRITTEN_SUMS,
             FORCE,
             EXPLAIN,

@@ -136,8 +136,13 @@ A line for each service: its slot and name, and what its masks allow. The servic
 programs aren't read. Whoever sends needs the trap SEND, SENDREC or NOTIFY, and
 whoever makes kernel calls needs SENDREC. No mask says from whom one may RECEIVE.
 
-Status: 0 done; 1 CONFIG is refused; 2 a mistake in the words; 3 CONFIG can't be
-read; 4 no memory. Formats: docs/use/REFERENCE.md.";
+With --check it reads the programs too, and prints only what can't work by them and
+CONFIG alone, as mx why has it in lines of CONFIG: bits of masks that mean nothing,
+questions that nobody may answer, a program without an instruction.
+
+Status: 0 done; 1 CONFIG is refused, or, with --check, a program, or something can't
+work; 2 a mistake in the words; 3 a file can't be read; 4 no memory. Formats:
+docs/use/REFERENCE.md.";
 
 /// A configuration, and a script.
 const STEP_EXAMPLE: &str = "In the folder examples/machines/alarm:
@@ -216,12 +221,15 @@ it. Two runs may differ; the replay of a run's history never does. With --sums S
 the file SUMS gets sums of the machine, by which replay knows it (mx replay --help).
 
 With --events EVENTS the second other actor has a thread, so CONFIG needs others 2 or
-more. It makes the lines of EVENTS in order: line L, kill E, tick, and wait N, which
-ends after N records more, or if the machine is at rest. The run ends after the last.
+more. It makes the lines of EVENTS in order: line L, kill E, tick, respawn S, and wait N,
+which ends after N records more, or if the machine is at rest. A service's name may stand
+for E and S. A line may be empty, or end with # and a comment. The run ends after the
+last.
 
-Status: 0 done, also if the history was full; 1 a text or a program's file is refused;
-2 a mistake in the words; 3 a file can't be read or written, or LOG is CONFIG; 4 no
-memory; 5 the run was stopped. Formats: docs/use/REFERENCE.md.";
+Status: 0 done, also if the history was full; 1 a text or a program's file is refused,
+or, with --strict, LOG tells what no right machine does (mx why --help); 2 a mistake in
+the words; 3 a file can't be read or written, or LOG is CONFIG; 4 no memory; 5 the run
+was stopped. Formats: docs/use/REFERENCE.md.";
 
 /// Turns on one thread, and their history.
 const TURNS_EXAMPLE: &str = "In the folder examples/machines/pair:
@@ -243,11 +251,14 @@ fault or the end of its budget, and gives it back; then the next outside event i
 made, and what is down is respawned while it has restarts. It ends where the machine
 is at rest and no outside event is to come, after N turns, or if the history is full;
 at a terminal standard error shows which: rest, turns or full. EVENTS has the outside
-events, one a line: line L, tick or kill E. It isn't given together with --ticks.
+events, one a line: line L, tick, kill E or respawn S, where a service's name may stand
+for E and S. A line may be empty, or end with # and a comment. It isn't given together
+with --ticks.
 
-Status: 0 done, also if the history was full; 1 a text or a program's file is refused;
-2 a mistake in the words; 3 a file can't be read or written, or LOG is CONFIG; 4 no
-memory. Formats: docs/use/REFERENCE.md.";
+Status: 0 done, also if the history was full; 1 a text or a program's file is refused,
+or, with --strict, LOG tells what no right machine does (mx why --help); 2 a mistake in
+the words; 3 a file can't be read or written, or LOG is CONFIG; 4 no memory. Formats:
+docs/use/REFERENCE.md.";
 
 /// A history with a fault at each position.
 const SWEEP_EXAMPLE: &str = "In the folder examples/machines/pair:
@@ -269,9 +280,10 @@ to come. Positions in a row that print the same are one block: what is answered 
 FAULT's lines, each service's name, endpoint and state, how the turns ended (rest,
 turns or full), and the console. Of a block that ends otherwise than without the fault
 the last line names the first such position K; --from K --to K --save FILE writes the
-history of its run. FAULT has lines of a script, and kill slot S, which kills who is in
-slot S then. If nothing was tested, standard error says why. What is printed is the
-same for each J of --jobs.
+history of its run. FAULT has lines of a script, and kill slot S and kill NAME, which
+kill who is in slot S, or of the service NAME, then; and respawn NAME. A line may be
+empty, or end with # and a comment. If nothing was tested, standard error says why. What
+is printed is the same for each J of --jobs.
 
 Status: 0 done; 1 a text or a program's file is refused, or an event of LOG, or, with
 --strict, a position ends otherwise than without the fault, or nothing was tested; 2 a
@@ -321,7 +333,11 @@ forward [N], back [N]    by records         step [N], stepback [N]    by events
 goto K, K.J or end       to a position      where, why                the record before
 ps, messages             as mx step, mx db  print SLOT NAME           a variable
 regs, list, stack [SLOT] its process        mem SLOT ADDRESS N        its bytes
-help, quit
+break, watch, continue   what one halts at  until, until back         what happened
+help, quit               all commands
+
+SLOT is a number or a service's name. The line why says what one record did; the command
+mx why says of a whole history who waits for ever.
 
 Status: 0 the session ended; 1 a text or a program's file is refused; 2 a mistake in
 the words; 3 a file can't be read; 4 no memory. Formats: docs/use/REFERENCE.md.";
@@ -428,8 +444,9 @@ waits: button receives from HARDWARE since record 4: nobody raises its line 5
 A line that begins with never: is of a process that no event but a kill makes go on; one
 with waits: of a process that an interrupt line or an alarm may make go on; with busy: of
 one that computes without a call; with CONFIG: of what the configuration alone forbids.
+What one record did is shown by the line why of mx look.
 
-Status: 0 done; 1 a text or a program's file is refused, or an event, whose line is
+Status: 0 done; 1 a text or a program's file is refused, or an event, whose record is
 named, or, with --strict, a line tells what no right machine does; 2 a mistake in the
 words; 3 a file can't be read; 4 no memory. Formats:
 docs/use/REFERENCE.md.";

@@ -3,3 +3,6 @@ mod Printed
 mod Spaced
 mod Reserved
 mod Passing
+mod Masks
+mod Folders
+mod Slots

@@ -1,6 +1,6 @@
 -- THE FAULT OF A LINE of a configuration (our own): the first place where another word is wanted. What lines above say
 -- is no fault of a line here.
-use Rattle.std.specs.Prelude.{ℕ, ◌-◌, ◌&&◌, not, if◌then◌else◌, Bool, List, [], ◌∷◌, codes, Option, Some, None, is_some, Result, Ok, Err, slice_get}
+use Rattle.std.specs.Prelude.{ℕ, ◌-◌, ◌==◌, ◌||◌, ◌&&◌, not, false, if◌then◌else◌, Bool, List, [], ◌∷◌, codes, Option, Some, None, is_some, Result, Ok, Err, slice_get, slice_index}
 use Rattle.std.specs.List.{list_any}
 use Rattle.std.specs.Str.{bytes_eq, is_utf8}
 use Rattle.mx_text.specs.Names.{name_of}
@@ -61,12 +61,22 @@ after_name fs = do
   n ← word_at Name fs
   fitting (is_some (name_of n.0) && not (is_reserved n.0)) Name n.1
 
+-- the word after a file's name
+abbrev pub is_traps : List (List ℕ) → Bool
+is_traps [] = false
+is_traps (word ∷ more) = bytes_eq word (key_word keys.Traps)
+
+-- no file's name, by what follows: the next key, or the first word in quotes
+abbrev pub is_misfit : List ℕ → List (List ℕ) → Bool
+is_misfit file rest =
+    (bytes_eq file (key_word keys.Traps) || (slice_index file 0 == 34)) && not (is_traps rest)
+
 -- NAME FILE
 unfoldable pub after_file : List (List ℕ) → Result (List (List ℕ)) Field
 after_file fs = do
   rest ← after_name fs
   f ← word_at File rest
-  fitting (not (list_any is_stray f.0) && is_utf8 f.0) File f.1
+  fitting (not (list_any is_stray f.0) && (is_utf8 f.0 && not (is_misfit f.0 f.1))) File f.1
 
 -- traps T send S calls C
 unfoldable pub after_masks : List (List ℕ) → Result (List (List ℕ)) Field

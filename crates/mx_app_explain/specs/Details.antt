@@ -1,10 +1,20 @@
 -- What was wanted, and where (our own words).
-use Rattle.std.specs.Prelude.{ℕ, ◌-◌, ◌==◌, if◌then◌else◌, List, [], ◌++◌, codes, Option, Some, None, slice_get}
+use Rattle.std.specs.Prelude.{ℕ, ◌-◌, ◌==◌, ◌||◌, Bool, false, if◌then◌else◌, List, [], ◌∷◌, ◌++◌, codes, Option, Some, None, slice_get}
 use Rattle.std.specs.Str.{is_utf8}
-use Rattle.mx_app_explain.specs.ConfigFaults.{fault_in, words_at}
+use Rattle.std.specs.List.{before_first}
+use Rattle.mx_boot.specs.Items.{is_hash, said_in}
+use Rattle.mx_text.specs.Fields.{fields}
+use Rattle.mx_text.specs.Lines.{lines}
+use Rattle.mx_app_explain.specs.ConfigFaults.{fault_in}
 use Rattle.mx_app_explain.specs.ConfigFields.{value_name, wanted_at, words_before}
 use Rattle.mx_app_explain.specs.FoundWords.{field_told, found_at, found_told}
+use Rattle.mx_app_explain.specs.Hints.{hint_told}
+use Rattle.mx_app_explain.specs.LineLooks.{hint_at}
+use Rattle.mx_app_explain.specs.MaskNames.{is_service, mask_hint}
 use Rattle.mx_app_explain.specs.declared.config_field.Field.{Field}
+use Rattle.mx_app_explain.specs.declared.config_field.Field.TheVariants.{Item, Value}
+use Rattle.mx_app_explain.specs.declared.config_field.Key.{Key as Kind}
+use Rattle.mx_app_explain.specs.declared.line_looks.LineLooks.TheVariants.{Config}
 use Rattle.mx_app_explain.specs.declared.detail.Detail.{Detail}
 use Rattle.mx_app_explain.specs.declared.detail.Label.{Label}
 use Rattle.mx_app_explain.specs.declared.detail.Label.TheVariants as labels
@@ -37,27 +47,66 @@ field_label words before None =
 
 -- ---- the whole
 
-abbrev pub wanted_told : List ℕ → List ℕ → List ℕ → List ℕ
-wanted_told label wanted found = label ++ codes "wanted " ++ wanted ++ found
+-- where, what was wanted, what is there, and what is added
+abbrev pub wanted_told : List ℕ → List ℕ → List ℕ → List ℕ → List ℕ
+wanted_told label wanted found hint = label ++ codes "wanted " ++ wanted ++ found ++ hint
 
 abbrev pub detail_told : Detail → List ℕ
-detail_told d = wanted_told (label_told d.label) d.wanted.now (found_told d.found)
+detail_told d = wanted_told (label_told d.label) d.wanted.now (found_told d.found) (hint_told d.hint)
 
--- at a place of a configuration's line that has these words
-abbrev pub wanted_of_field : List (List ℕ) → Field → List ℕ
-wanted_of_field words place =
-    wanted_told (field_label words (words_before place) (value_name place)) (wanted_at place)
-    (found_at (slice_get words (words_before place)))
+-- ---- a configuration
+
+-- what is added at a value of a configuration of these lines
+abbrev pub value_hint : List (List ℕ) → Kind → Option (List ℕ) → List ℕ
+value_hint ls key None = []
+value_hint ls key (Some word) = mask_hint ls key word
+
+-- at a place of a line: at its first word what takes such a line, and at a mask of names the number that it is
+abbrev pub field_hint : List (List ℕ) → List ℕ → Field → List ℕ
+field_hint ls line Item = hint_at line Config
+field_hint ls line (Value key) = value_hint ls key (slice_get (fields line) (words_before (Value key)))
+field_hint ls line place = []
+
+-- what is told at a place of a line, which has no comment
+abbrev pub wanted_of_field : List (List ℕ) → List ℕ → Field → List ℕ
+wanted_of_field ls line place =
+    wanted_told (field_label (fields line) (words_before place) (value_name place)) (wanted_at place)
+    (found_at (slice_get (fields line) (words_before place))) (field_hint ls line place)
 
 -- THE DETAIL of a configuration's line, if it has a fault of its own
-abbrev pub field_detail : List (List ℕ) → Option Field → Option (List ℕ)
-field_detail words None = None
-field_detail words (Some place) = Some (wanted_of_field words place)
+abbrev pub field_detail : List (List ℕ) → List ℕ → Option Field → Option (List ℕ)
+field_detail ls line None = None
+field_detail ls line (Some place) = Some (wanted_of_field ls line place)
+
+abbrev pub line_detail : List (List ℕ) → Option (List ℕ) → Option (List ℕ)
+line_detail ls None = None
+line_detail ls (Some line) =
+    let said = before_first is_hash line in field_detail ls said (fault_in (fields said))
+
+-- of a text without a line at fault: it has no service
+abbrev pub has_service : List (List ℕ) → Bool
+has_service [] = false
+has_service (l ∷ ls) = is_service (said_in l) || has_service ls
+
+abbrev pub service_detail : List (List ℕ) → Option (List ℕ)
+service_detail ls =
+    if has_service ls then None
+    else Some (wanted_told [] (codes "at least one line service NAME FILE traps T send S calls C level L best B "
+    ++ codes "quantum Q restarts R") [] [])
+
+abbrev pub detail_or : Option (List ℕ) → Option (List ℕ) → Option (List ℕ)
+detail_or None other = other
+detail_or (Some detail) other = Some detail
+
+-- a line that isn't there has none
+abbrev pub text_detail : List (List ℕ) → Option (List ℕ) → Option (List ℕ)
+text_detail ls None = None
+text_detail ls (Some line) = detail_or (line_detail ls (Some line)) (service_detail ls)
 
 abbrev pub config_detail : List ℕ → ℕ → Option (List ℕ)
-config_detail text number = let words = words_at text number in field_detail words (fault_in words)
+config_detail text number = text_detail (lines text) (slice_get (lines text) (number - 1))
 
 -- THE DETAIL of a word of a text for the assembler: what is wanted, and the word
 abbrev pub word_detail : List ℕ → Option (List ℕ) → List ℕ
-word_detail wanted None = wanted_told [] wanted []
-word_detail wanted (Some word) = wanted_told [] wanted (field_told word)
+word_detail wanted None = wanted_told [] wanted [] []
+word_detail wanted (Some word) = wanted_told [] wanted (field_told word) []

@@ -1,11 +1,17 @@
 -- The second line of a failure: what it is about, and what was wanted (our own).
-use Rattle.std.specs.Prelude.{◌++◌, ℕ, List, [], codes, Option, Some, None, option_map, string_bytes}
+use Rattle.std.specs.Prelude.{◌++◌, ◌==◌, ℕ, Bool, false, if◌then◌else◌, List, [], codes, length, Option, Some, None, option_map, slice_index, string_bytes, take}
+use Rattle.std.specs.Path.{rfind_below}
+use Rattle.std.specs.Str.{bytes_eq}
 use Rattle.mx_text.specs.declared.error.BootError.{BootError}
 use Rattle.mx_text.specs.declared.error.BootError.TheVariants as lines
 use Rattle.mx_app_command.specs.Files.{FileWord, file_written, files_read, written_kind}
 use Rattle.mx_app_command.specs.declared.command_line.CommandRequest.{CommandRequest}
-use Rattle.mx_app_command.specs.declared.command_line.CommandRequest.TheVariants.{Step, Run, Turns, Sweep, SweptPage, Db}
+use Rattle.mx_aout.specs.declared.program.FileError.{FileError}
 use Rattle.mx_app_failure.specs.declared.failure.About.{About}
+use Rattle.mx_app_failure.specs.declared.failure.Access.{Access}
+use Rattle.mx_app_failure.specs.declared.failure.Access.TheVariants as access
+use Rattle.mx_app_failure.specs.declared.failure.Looks.{Looks}
+use Rattle.mx_app_failure.specs.declared.failure.Looks.TheVariants as looks
 use Rattle.mx_app_failure.specs.declared.failure.About.TheVariants as about
 use Rattle.mx_app_failure.specs.declared.failure.FileFailure.{FileFailure}
 use Rattle.mx_app_failure.specs.declared.failure.FileProblem.{FileProblem}
@@ -14,8 +20,9 @@ use Rattle.mx_app_failure.specs.declared.failure.OutputProblem.{OutputProblem}
 use Rattle.mx_app_failure.specs.declared.failure.OutputProblem.TheVariants.{ReaderEnded, NoRoom, Other}
 use Rattle.mx_app_failure.specs.declared.failure.Failure.{Failure as Kind}
 use Rattle.mx_app_failure.specs.declared.failure.Failure.TheVariants.{Of, NotText, Input, Output, NoMemory}
-use Rattle.mx_app_db.specs.Looks.{script_lines}
 use Rattle.mx_app_explain.specs.Details.{config_detail, detail_told, wanted_told}
+use Rattle.mx_app_explain.specs.Hints.{folder_told, words_told}
+use Rattle.mx_app_explain.specs.RecordLines.{record_detail, record_wanted}
 use Rattle.mx_app_explain.specs.TextAdvice.{advice_told, advised, words_at}
 use Rattle.mx_app_explain.specs.Wanted.{kind_said, kind_wanted, problem_wanted, refusal_wanted}
 use Rattle.mx_app_explain.specs.declared.explaining.Explanation.{Explanation}
@@ -77,47 +84,48 @@ subject_of r NoMemory = memory_told
 
 -- ---- what was wanted
 
--- the lines of a history that is swept, and of the fault
-abbrev pub swept_wanted : List ℕ
-swept_wanted = codes "in LOG a record and its line feed; in FAULT an event of a script, or kill slot S"
-
--- the lines of a script, of a debugger's script, and of a history
-abbrev pub record_wanted : CommandRequest → List ℕ
-record_wanted (Step config script save numbered) =
-    codes "an event: take C, step C K, back C, line L, tick, kill E or respawn S"
-record_wanted (Db config script) = script_lines
-record_wanted (Run config log ticks events) =
-    codes "line L, tick, kill E or wait N; --events wants others 2 or more in CONFIG"
-record_wanted (Turns config log ticks events bound) = codes "an outside event: line L, tick or kill E"
-record_wanted (Sweep config log fault bound from to jobs strict save) = swept_wanted
-record_wanted (SweptPage config log fault bound from to jobs) = swept_wanted
-record_wanted r =
-    codes "a record and its line feed: A take, A back N, A line L, A tick, A kill E or A respawn S; or "
-    ++ codes "rules 2 on line 1"
-
-abbrev pub lines_wanted : CommandRequest → BootError → List ℕ
-lines_wanted r (lines.BadLine n) =
+abbrev pub lines_wanted : CommandRequest → About → BootError → List ℕ
+lines_wanted r a (lines.BadLine n) =
     codes "an item: cpus 1 to 8, others 1 to 4, log 1 to 1048576, rules 1 or 2, or service NAME FILE traps "
     ++ codes "T send S calls C level L best B quantum Q restarts R, with T, S, C hexadecimal without 0x, L 0 "
     ++ codes "to 14, B 0 to L, Q 1 to 65535, R 0 to 1048575, NAME at most 8 bytes and no register; a line "
     ++ codes "feed alone at the end, no byte order mark; and at least one service"
-lines_wanted r (lines.TwiceNamed n) =
+lines_wanted r a (lines.TwiceNamed n) =
     codes "each item once, and a name of its own for each service"
-lines_wanted r (lines.TooMany n) = codes "at most 32 services"
-lines_wanted r (lines.BadRecord n) = record_wanted r
-lines_wanted r lines.NoMemory = codes "more of it"
+lines_wanted r a (lines.TooMany n) = codes "at most 32 services"
+lines_wanted r a (lines.BadRecord n) = record_wanted r a
+lines_wanted r a lines.NoMemory = codes "more of it"
 
-abbrev pub file_wanted : CommandRequest → FileProblem → List ℕ
-file_wanted r (Refused e) = refusal_wanted e
-file_wanted r (Faulty f) = problem_wanted f.problem
-file_wanted r (Misstated e) = lines_wanted r e
-file_wanted r Unread = codes "a file that can be read"
-file_wanted r NotUtf8 = codes "a text in UTF-8"
-file_wanted r IsProgram = codes "a text in UTF-8; it is a program"
-file_wanted r Unwritten = codes "a file that can be written"
-file_wanted r OverRead = codes "another file than the one that is read"
-file_wanted r OverProgram = codes "another file than a service's program"
-file_wanted r OtherKind = kind_wanted (written_kind r)
+abbrev pub read_wanted : Access → List ℕ
+read_wanted access.Missing = codes "a file that can be read: it isn't there"
+read_wanted access.Forbidden = codes "a file that can be read: there is no right to"
+read_wanted access.Folder = codes "a file that can be read: it is a folder"
+read_wanted a = codes "a file that can be read"
+
+abbrev pub write_wanted : Access → List ℕ
+write_wanted access.Missing = codes "a file that can be written: its folder isn't there"
+write_wanted access.Forbidden = codes "a file that can be written: there is no right to"
+write_wanted access.Folder = codes "a file that can be written: it is a folder"
+write_wanted access.NoRoom = codes "a file that can be written: there is no room"
+write_wanted access.Other = codes "a file that can be written"
+
+abbrev pub program_wanted : FileError → Looks → List ℕ
+program_wanted e looks.Text = codes "an a.out file; this is a text: mx as FILE OTHER.out"
+program_wanted e looks.Elf =
+    codes "an a.out file; this is an ELF file: examples/c/Makefile makes a.out files of C"
+program_wanted e looks.Other = refusal_wanted e
+
+abbrev pub file_wanted : CommandRequest → About → FileProblem → List ℕ
+file_wanted r a (Refused e l) = program_wanted e l
+file_wanted r a (Faulty f) = problem_wanted f.problem
+file_wanted r a (Misstated e) = lines_wanted r a e
+file_wanted r a (Unread why) = read_wanted why
+file_wanted r a NotUtf8 = codes "a text in UTF-8, and not in UTF-16 or another encoding"
+file_wanted r a IsProgram = codes "a text in UTF-8; it is a program"
+file_wanted r a (Unwritten why) = write_wanted why
+file_wanted r a OverRead = codes "another file than the one that is read"
+file_wanted r a OverProgram = codes "another file than a service's program"
+file_wanted r a OtherKind = kind_wanted (written_kind r)
 
 -- ---- the word at fault
 
@@ -126,8 +134,45 @@ abbrev pub file_label : CommandRequest → FileProblem → List ℕ
 file_label r OtherKind = kind_said (written_kind r) ++ codes "; "
 file_label r p = []
 
-abbrev pub plain_detail : CommandRequest → FileProblem → List ℕ
-plain_detail r p = wanted_told (file_label r p) (file_wanted r p) []
+-- the folder in a file's name: what is before its last stroke
+abbrev pub folder_of : List ℕ → Option (List ℕ)
+folder_of name = option_map (λ n. take n name) (rfind_below 47 name (length name))
+
+abbrev pub folder_if : Option (List ℕ) → List ℕ
+folder_if None = []
+folder_if (Some folder) = folder_told folder
+
+-- a file's name that is a dash, as that of standard input elsewhere
+abbrev pub is_dash : Option FileWord → Bool
+is_dash None = false
+is_dash (Some w) = bytes_eq w.name (codes "-")
+
+-- the word of the command line that names a file which is read
+abbrev pub word_read : CommandRequest → About → Option FileWord
+word_read r about.Course = (files_read r).course
+word_read r about.Fault = (files_read r).fault
+word_read r about.Written = None
+word_read r (about.Service name) = None
+word_read r a = Some (files_read r).first
+
+-- where a service's program is sought: its configuration's folder is none of this, and a tilde is no home
+abbrev pub place_told : List ℕ → CommandRequest → List ℕ
+place_told name r =
+    if slice_index name 0 == 126 then words_told (codes "~ is no home in CONFIG: write the whole name, from /")
+    else folder_if (folder_of (files_read r).first.name)
+
+-- what is added of a file that isn't there
+abbrev pub missing_hint : CommandRequest → About → List ℕ
+missing_hint r (about.Service name) = place_told (string_bytes name) r
+missing_hint r a =
+    if is_dash (word_read r a) then words_told (codes "standard input has the name /dev/stdin") else []
+
+abbrev pub plain_hint : CommandRequest → About → FileProblem → List ℕ
+plain_hint r a (Unread access.Missing) = missing_hint r a
+plain_hint r a p = []
+
+abbrev pub plain_detail : CommandRequest → About → FileProblem → List ℕ
+plain_detail r a p = wanted_told (file_label r p) (file_wanted r a p) [] (plain_hint r a p)
 
 -- the words of the line at fault of a text for the assembler
 abbrev pub faulty_words : FileProblem → Option (List ℕ) → List (List ℕ)
@@ -135,10 +180,11 @@ faulty_words (Faulty f) (Some text) = words_at text f.line
 faulty_words p text = []
 
 -- what was wanted of the line at fault of a text, if that is known
-abbrev pub line_detail : FileProblem → Option (List ℕ) → Option (List ℕ)
-line_detail (Misstated (lines.BadLine n)) (Some text) = config_detail text n
-line_detail (Faulty f) (Some text) = Some (advice_told (advised f.problem (words_at text f.line)))
-line_detail p text = None
+abbrev pub line_detail : CommandRequest → About → FileProblem → Option (List ℕ) → Option (List ℕ)
+line_detail r a (Misstated (lines.BadLine n)) (Some text) = config_detail text n
+line_detail r a (Misstated (lines.BadRecord n)) (Some text) = record_detail r a text n
+line_detail r a (Faulty f) (Some text) = Some (advice_told (advised f.problem (words_at text f.line)))
+line_detail r a p text = None
 
 -- that, or else what was wanted of no line that is known
 abbrev pub detail_or : List ℕ → Option (List ℕ) → List ℕ
@@ -149,7 +195,7 @@ abbrev pub text_of : FileFailure → Option (List ℕ)
 text_of f = option_map (λ t. t.items) f.text
 
 abbrev pub file_said : CommandRequest → FileFailure → List ℕ
-file_said r f = detail_or (plain_detail r f.problem) (line_detail f.problem (text_of f))
+file_said r f = detail_or (plain_detail r f.about f.problem) (line_detail r f.about f.problem (text_of f))
 
 abbrev pub output_said : OutputProblem → List ℕ
 output_said ReaderEnded = codes "its reader has ended"

@@ -3,10 +3,13 @@ use Rattle.std.specs.Prelude.{ℕ, ◌==◌, ◌||◌, ◌&&◌, nat_lt, Bool, i
 use Rattle.std.specs.List.{list_any}
 use Rattle.std.specs.Str.{is_utf8}
 use Rattle.mx_app_explain.specs.declared.found_word.FoundWord.{FoundWord}
-use Rattle.mx_app_explain.specs.declared.found_word.FoundWord.TheVariants.{Unseen, Nothing, Word, Return, ByteOrderMark, Bytes}
+use Rattle.mx_app_explain.specs.declared.found_word.FoundWord.TheVariants.{Unseen, Nothing, Word, Return, ByteOrderMark, Tab, Bytes}
 
 abbrev pub is_return : ℕ → Bool
 is_return b = b == 13
+
+abbrev pub is_tab : ℕ → Bool
+is_tab b = b == 9
 
 -- below the space, or DEL
 abbrev pub is_control : ℕ → Bool
@@ -28,6 +31,9 @@ return_told = codes ", stands a word with a carriage return: a line ends in a li
 abbrev pub mark_told : List ℕ
 mark_told = codes ", stands a byte order mark, which a text may not have"
 
+abbrev pub tab_told : List ℕ
+tab_told = codes ", stands a word with a tab: between words are spaces alone"
+
 abbrev pub bytes_told : List ℕ
 bytes_told = codes ", stands a word with bytes that aren't printable"
 
@@ -36,6 +42,7 @@ unfoldable pub field_told : List ℕ → List ℕ
 field_told word =
     if list_any is_return word then return_told else
     if is_marked word then mark_told else
+    if list_any is_tab word then tab_told else
     if list_any is_control word then bytes_told else
     if is_utf8 word then word_told word else
     bytes_told
@@ -51,4 +58,5 @@ found_told Nothing = nothing_told
 found_told (Word text) = word_told text.now
 found_told Return = return_told
 found_told ByteOrderMark = mark_told
+found_told Tab = tab_told
 found_told Bytes = bytes_told

@@ -1,6 +1,10 @@
 pub mod ConfigFaults
 pub mod ConfigFields
+pub mod Hints
+pub mod LineLooks
+pub mod MaskNames
 pub mod Details
+pub mod RecordLines
 pub mod Explaining
 pub mod FoundWords
 pub mod ServiceWords

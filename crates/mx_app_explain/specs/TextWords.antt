@@ -1,6 +1,6 @@
 -- The words of a line of a text for the assembler, as one who mends it sees them (our own). A line at fault need not
 -- have tokens, so it is parted without them.
-use Rattle.std.specs.Prelude.{◌==◌, ◌||◌, ◌&&◌, not, nat_lt, ℕ, Bool, if◌then◌else◌, List, [], ◌∷◌, length, drop, slice_index, is_some}
+use Rattle.std.specs.Prelude.{◌==◌, ◌||◌, ◌&&◌, not, nat_lt, ℕ, Bool, if◌then◌else◌, List, [], ◌∷◌, length, drop, slice_index, Option, Some, None, is_some}
 use Rattle.std.specs.List.{before_first, flat_map, list_any}
 use Rattle.std.specs.Str.{bytes_eq}
 use Rattle.std.specs.Prelude.{codes}
@@ -39,6 +39,24 @@ is_quote b = b == 34
 
 abbrev pub is_equals : ℕ → Bool
 is_equals b = b == 61
+
+abbrev pub is_beyond_ascii : ℕ → Bool
+is_beyond_ascii b = nat_lt 127 b
+
+-- # or / begins a comment of other languages
+abbrev pub begins_comment : List ℕ → Bool
+begins_comment w = (slice_index w 0 == 35) || (slice_index w 0 == 47)
+
+-- n, 0, a quote and a backslash may be after a backslash in a text
+abbrev pub is_escaped : ℕ → Bool
+is_escaped b = b == 110 || (b == 48 || (b == 34 || b == 92))
+
+-- the first escape that no text has: a backslash, and what is after it in the word
+abbrev pub bad_escape : List ℕ → Option (List ℕ)
+bad_escape [] = None
+bad_escape (b ∷ []) = if b == 92 then Some (b ∷ []) else None
+bad_escape (b ∷ c ∷ bs) =
+    if b == 92 then (if is_escaped c then bad_escape bs else Some (b ∷ c ∷ [])) else bad_escape (c ∷ bs)
 
 -- no part of a word, a mark or a directive
 abbrev pub is_odd_byte : ℕ → Bool
@@ -100,6 +118,25 @@ reserved_words =
 
 abbrev pub is_reserved : List ℕ → Bool
 is_reserved w = list_any (bytes_eq w) reserved_words
+
+abbrev pub is_loop : List ℕ → Bool
+is_loop w = list_any (bytes_eq w) (codes "loop" ∷ codes "loope" ∷ codes "loopne" ∷ [])
+
+-- a conditional jump or a loop
+abbrev pub is_jump : List ℕ → Bool
+is_jump w = ((slice_index w 0 == 106) && not (bytes_eq w (codes "jmp"))) || is_loop w
+
+-- operators of other assemblers
+abbrev pub is_operator : List ℕ → Bool
+is_operator w = bytes_eq w (codes "offset") || bytes_eq w (codes "ptr")
+
+-- a register of 8 or 16 bits: no other reserved word has two letters
+abbrev pub is_narrow_register : List ℕ → Bool
+is_narrow_register w = (length w == 2) && is_reserved w
+
+-- fewer than 32 bits are pushed
+abbrev pub is_unpushed : List ℕ → Bool
+is_unpushed w = bytes_eq w (codes "byte") || (bytes_eq w (codes "word") || is_narrow_register w)
 
 -- a word that is no mark, no number, no text, no register and no size
 abbrev pub is_free_word : List ℕ → Bool

@@ -32,7 +32,7 @@ problem_wanted problems.Twice = codes "each label, .sep, .entry and .stack once"
 problem_wanted problems.Undefined = codes "a name that a line defines"
 problem_wanted problems.TooFar = codes "a target at most 127 bytes ahead or 128 back"
 problem_wanted problems.WrongSection = codes "a statement that may stand in this section"
-problem_wanted problems.TooLarge = codes "a program within the limits of a file"
+problem_wanted problems.TooLarge = codes "at most 1048576 bytes of text and 4194304 in all"
 problem_wanted problems.LongName = codes "a name of at most 8 bytes"
 
 -- what is wrong with a file that is there, if what is to be written holds this; and what was wanted in its place

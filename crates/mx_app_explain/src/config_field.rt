@@ -109,7 +109,7 @@ impl Field {
             Field::Rules => "1 or 2",
             Field::Name =>
                 "a letter or _, and then letters, digits and _, at most 8 in all, and no register or size",
-            Field::File => "a file's name, without tabs",
+            Field::File => "the name of the program's file, without spaces, tabs and quotes",
             Field::Key(key) => key.word(),
             Field::Value(Key::Traps | Key::Send | Key::Calls) => {
                 "1 to 8 hexadecimal digits, without 0x"

@@ -2,10 +2,11 @@
 
 ghost use Rattle.std.specs.Prelude.{◌≡◌, Err, Ok, Some, MatchResult};
 ghost use Rattle.mx_text.specs.Fields.{fields};
-ghost use Rattle.mx_app_explain.specs.ConfigFaults.{after_file, after_key, after_levels, after_mask, after_masks, after_name, after_number, after_service, end_fault, fault_after, fault_in, fault_of_other, number_at, word_at};
+ghost use Rattle.mx_app_explain.specs.ConfigFaults.{after_file, after_key, after_levels, after_mask, after_masks, after_name, after_number, after_service, end_fault, fault_after, fault_in, fault_of_other, is_misfit, is_traps, number_at, word_at};
 ghost use Rattle.mx_app_explain.specs.declared.config_field.Field.TheVariants.{ItemEnd, ServiceEnd};
 
 use crate::config_field::{Field, Key};
+use crate::found_word::byte_at;
 use crate::text_words::is_reserved;
 use mx_boot::{has_stray, mask, number_between};
 use mx_text::{name_of, next_field};
@@ -84,6 +85,23 @@ fn after_name(line: &[u8]) -> Result<&[u8], Field>
     Ok(rest)
 }
 
+/// Whether the first word of what follows is the one that stands after a file's name.
+fn is_traps(rest: &[u8]) -> bool
+    ensures { result ≡ is_traps (fields rest.now) }
+{
+    match next_field(rest) {
+        Some((word, _)) => word == Key::Traps.word().as_bytes(),
+        None => false,
+    }
+}
+
+/// Whether a word is no file's name, by what follows it: the next key, or the first word in quotes.
+fn is_misfit(file: &[u8], rest: &[u8]) -> bool
+    ensures { result ≡ is_misfit file.now (fields rest.now) }
+{
+    (file == Key::Traps.word().as_bytes() || byte_at(file, 0) == b'"') && !is_traps(rest)
+}
+
 /// What is after a service's name and file.
 #[tactic(auto, unfolding(crate::specs::ConfigFaults::after_file), using(crate::proofs::Printed::printed, crate::proofs::Printed::unprinted))]
 fn after_file(line: &[u8]) -> Result<&[u8], Field>
@@ -92,7 +110,7 @@ fn after_file(line: &[u8]) -> Result<&[u8], Field>
 {
     let rest = after_name(line)?;
     let (file, rest) = word_at(rest, Field::File)?;
-    if has_stray(file) || str::from_utf8(file).is_err() {
+    if has_stray(file) || (str::from_utf8(file).is_err() || is_misfit(file, rest)) {
         return Err(Field::File);
     }
     Ok(rest)

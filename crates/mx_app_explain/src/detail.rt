@@ -5,11 +5,17 @@ ghost use Rattle.mx_text.specs.Fields.{fields};
 ghost use Rattle.mx_text.specs.Lines.{lines};
 ghost use Rattle.mx_app_explain.specs.ConfigFaults.{fault_in};
 ghost use Rattle.mx_app_explain.specs.ConfigFields.{value_name, words_before};
-ghost use Rattle.mx_app_explain.specs.Details.{after_words, config_detail, detail_told, label_told, field_detail, field_label, wanted_of_field};
+ghost use Rattle.mx_app_explain.specs.Details.{after_words, config_detail, detail_told, label_told, field_detail, field_hint, field_label, has_service, service_detail, wanted_of_field};
+ghost use Rattle.mx_app_explain.specs.MaskNames.{is_service};
+ghost use Rattle.mx_boot.specs.Items.{said_in};
+ghost use Rattle.mx_app_explain.specs.Hints.{hint_told};
 
 use crate::config_field::Field;
 use crate::config_line::line_fault;
 use crate::found_word::{FoundWord, found_at};
+use crate::hint::Hint;
+use crate::line_looks::{LineLooks, hint_at};
+use crate::mask_names::mask_hint;
 use mx_boot::before_comment;
 use mx_text::{next_field, next_line};
 use std::{fmt, str};
@@ -44,12 +50,13 @@ impl fmt::Display for Label<'_> {
     }
 }
 
-/// What was wanted, where, and what is there.
+/// What was wanted, where, and what is there; and what is added.
 #[derive(Clone, Copy)]
 pub struct Detail<'a> {
     pub label: Label<'a>,
     pub wanted: &'static str,
     pub found: FoundWord<'a>,
+    pub hint: Hint<'a>,
 }
 
 /// As `quantum: wanted 1 to 65535, stands "0"`.
@@ -64,8 +71,9 @@ impl fmt::Display for Detail<'_> {
             label,
             wanted,
             found,
+            hint,
         } = *self;
-        write!(f, "{label}wanted {wanted}{found}")
+        write!(f, "{label}wanted {wanted}{found}{hint}")
     }
 }
 
@@ -136,36 +144,94 @@ fn field_label(line: &[u8], place: Field) -> Label<'_>
     }
 }
 
-/// What was wanted at a place of a configuration's line.
-fn field_detail(line: &[u8], place: Field) -> Detail<'_>
-    ensures { detail_told result ≡ wanted_of_field (fields line.now) place }
+/// What is added at a place of a line of a configuration's text: at its first word what takes such a line, and at a
+/// mask of names the number that it is.
+fn field_hint<'a>(text: &[u8], line: &'a [u8], place: Field) -> Hint<'a>
+    ensures { hint_told result ≡ field_hint (lines text.now) line.now place }
+{
+    match place {
+        Field::Item => hint_at(line, LineLooks::Config),
+        Field::Value(key) => match word_after(line, place.words_before()) {
+            Some(word) => mask_hint(text, key, word),
+            None => Hint::Nothing,
+        },
+        _ => Hint::Nothing,
+    }
+}
+
+/// What was wanted at a place of a line of a configuration's text.
+fn field_detail<'a>(text: &[u8], line: &'a [u8], place: Field) -> Detail<'a>
+    ensures { detail_told result ≡ wanted_of_field (lines text.now) line.now place }
 {
     Detail {
         label: field_label(line, place),
         wanted: place.wanted_text(),
         found: found_at(word_after(line, place.words_before())),
+        hint: field_hint(text, line, place),
     }
 }
 
-/// What was wanted of a configuration's line up to its comment. None if the line has no fault of its own.
-fn line_detail(line: &[u8]) -> Option<Detail<'_>>
+/// What was wanted of a line of a configuration's text up to its comment. None if the line has no fault of its own.
+fn line_detail<'a>(text: &[u8], line: &'a [u8]) -> Option<Detail<'a>>
     ensures { option_map detail_told result
-        ≡ field_detail (fields line.now) (fault_in (fields line.now)) }
+        ≡ field_detail (lines text.now) line.now (fault_in (fields line.now)) }
 {
     match line_fault(line) {
         None => None,
-        Some(place) => Some(field_detail(line, place)),
+        Some(place) => Some(field_detail(text, line, place)),
     }
 }
 
-/// What was wanted of the line of a configuration's text that has this number, counted from 1. None if the line
-/// has no fault of its own.
+/// Whether a line is a service's.
+fn is_service_line(line: &[u8]) -> bool
+    ensures { result ≡ is_service (said_in line.now) }
+{
+    match next_field(before_comment(line)) {
+        Some((word, _)) => word == b"service".as_slice(),
+        None => false,
+    }
+}
+
+/// Whether a configuration's text has a line that is a service's.
+fn has_service(text: &[u8]) -> bool
+    ensures { result ≡ has_service (lines text.now) }
+{
+    let mut rest = text;
+    while let Some((line, below)) = next_line(rest) {
+        if is_service_line(line) {
+            return true;
+        }
+        rest = below;
+    }
+    false
+}
+
+/// What was wanted of a configuration's text of which no line has a fault: a service. None if it has one.
+fn service_detail<'a>(text: &[u8]) -> Option<Detail<'a>>
+    ensures { option_map detail_told result ≡ service_detail (lines text.now) }
+{
+    if has_service(text) {
+        return None;
+    }
+    Some(Detail {
+        label: Label::Nowhere,
+        wanted: "at least one line service NAME FILE traps T send S calls C level L best B quantum Q restarts R",
+        found: FoundWord::Unseen,
+        hint: Hint::Nothing,
+    })
+}
+
+/// What was wanted of the line of a configuration's text that has this number, counted from 1, or of the text. None if
+/// neither has a fault of its own.
 #[tactic(auto, unfolding(crate::specs::ConfigFaults::fault_in))]
 pub(crate) fn config_detail(text: &[u8], number: usize) -> Option<Detail<'_>>
     ensures { option_map detail_told result ≡ config_detail text.now number }
 {
     match line_below(text, number.saturating_sub(1)) {
         None => None,
-        Some(line) => line_detail(before_comment(line)),
+        Some(line) => match line_detail(text, before_comment(line)) {
+            Some(detail) => Some(detail),
+            None => service_detail(text),
+        },
     }
 }

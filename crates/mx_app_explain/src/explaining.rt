@@ -1,18 +1,22 @@
 //! The second line of a failure.
 
 ghost use Rattle.std.specs.Prelude.{◌≡◌, IfOk, option_map, string_bytes};
+ghost use Rattle.mx_app_command.specs.Files.{word_of};
 ghost use Rattle.mx_app_explain.specs.Details.{detail_told, label_told};
-ghost use Rattle.mx_app_explain.specs.Explaining.{explained, faulty_words, file_label, file_said, file_subject, line_detail, output_said, plain_detail, said_line, subject_told, text_of};
+ghost use Rattle.mx_app_explain.specs.Explaining.{explained, faulty_words, file_label, file_said, file_subject, folder_of, is_dash, line_detail, missing_hint, output_said, plain_detail, place_told, plain_hint, said_line, subject_told, text_of, word_read};
+ghost use Rattle.mx_app_explain.specs.Hints.{hint_told};
 ghost use Rattle.mx_text.specs.Fields.{fields};
 
 use crate::detail::{Detail, Label, config_detail, line_below};
-use crate::found_word::FoundWord;
+use crate::found_word::{FoundWord, byte_at};
+use crate::hint::Hint;
+use crate::record_line::record_detail;
 use crate::subject::{Subject, file_subject, first_subject};
 use crate::text_advice::advice_on;
 use crate::text_words::with_spaces;
 use crate::wanted::{file_wanted, kind_said};
-use mx_app_command::CommandRequest;
-use mx_app_failure::{Failure, FileFailure, FileProblem, OutputProblem};
+use mx_app_command::{CommandRequest, NamedWord};
+use mx_app_failure::{About, Access, Failure, FileFailure, FileProblem, OutputProblem};
 use mx_text::BootError;
 use std::alloc::{AllocError, Global};
 use std::fmt;
@@ -79,14 +83,21 @@ fn faulty_words(alloc: Global, failure: &FileFailure) -> Result<Vec<u8>, AllocEr
 
 /// What was wanted of the line of a text that is at fault: of a text for the assembler its words are given. None if
 /// there is no such line.
-fn line_detail<'a>(failure: &'a FileFailure, words: &'a [u8]) -> Option<Detail<'a>>
+fn line_detail<'a>(
+    request: CommandRequest<'_>,
+    failure: &'a FileFailure,
+    words: &'a [u8],
+) -> Option<Detail<'a>>
     requires { fields words.now ≡ faulty_words failure.now.problem (text_of failure.now) }
     ensures { option_map detail_told result
-        ≡ line_detail failure.now.problem (text_of failure.now) }
+        ≡ line_detail request.entry failure.now.about failure.now.problem (text_of failure.now) }
 {
     match (failure.problem, &failure.text) {
         (FileProblem::Misstated(BootError::BadLine(number)), Some(text)) => {
             config_detail(text.as_slice(), number)
+        }
+        (FileProblem::Misstated(BootError::BadRecord(number)), Some(text)) => {
+            record_detail(request, &failure.about, text.as_slice(), number)
         }
         (FileProblem::Faulty(fault), Some(_)) => Some(advice_on(words, fault.problem).detail()),
         _ => None,
@@ -103,14 +114,87 @@ fn file_label<'a>(request: CommandRequest<'_>, problem: FileProblem) -> Label<'a
     }
 }
 
+/// The folder in a file's name: what is before its last stroke.
+fn folder_of(name: &str) -> Option<&str>
+    ensures { option_map (λ s. s.now) result ≡ folder_of name.now }
+{
+    match name.rsplit_once('/') {
+        Some((folder, _)) => Some(folder),
+        None => None,
+    }
+}
+
+/// Whether a file's name is a dash, as that of standard input elsewhere.
+fn is_dash(word: Option<NamedWord<'_>>) -> bool
+    ensures { result ≡ is_dash (option_map word_of word.entry) }
+{
+    match word {
+        Some(word) => word.name == "-",
+        None => false,
+    }
+}
+
+/// The word of the command line that names a file which is read.
+fn word_read<'a>(request: CommandRequest<'a>, about: &About) -> Option<NamedWord<'a>>
+    ensures { option_map word_of result ≡ word_read request.entry about.now }
+{
+    let reads = request.reads();
+    match about {
+        About::Program | About::Source | About::Config => Some(reads.first),
+        About::Course => reads.course,
+        About::Fault => reads.fault,
+        About::Written | About::Service(_) => None,
+    }
+}
+
+/// What is added of a service's program that isn't there: that a tilde is no home, or where its configuration is.
+fn place_hint<'a>(request: CommandRequest<'a>, name: &str) -> Hint<'a>
+    ensures { hint_told result ≡ place_told name.now request.entry }
+{
+    if byte_at(name.as_bytes(), 0) == b'~' {
+        return Hint::Words("~ is no home in CONFIG: write the whole name, from /");
+    }
+    match folder_of(request.reads().first.name) {
+        Some(folder) => Hint::Folder(folder),
+        None => Hint::Nothing,
+    }
+}
+
+/// What is added of a file that isn't there.
+fn missing_hint<'a>(request: CommandRequest<'a>, about: &About) -> Hint<'a>
+    ensures { hint_told result ≡ missing_hint request.entry about.now }
+{
+    match about {
+        About::Service(name) => place_hint(request, name.as_str()),
+        _ => {
+            if is_dash(word_read(request, about)) {
+                Hint::Words("standard input has the name /dev/stdin")
+            } else {
+                Hint::Nothing
+            }
+        }
+    }
+}
+
+/// What is added of a file of which no line is at fault, if it isn't there.
+fn plain_hint<'a>(request: CommandRequest<'a>, about: &About, problem: FileProblem) -> Hint<'a>
+    ensures { hint_told result ≡ plain_hint request.entry about.now problem }
+{
+    match problem {
+        FileProblem::Unread(Access::Missing) => missing_hint(request, about),
+        _ => Hint::Nothing,
+    }
+}
+
 /// What was wanted of a file of which no line is at fault.
-fn plain_detail<'a>(request: CommandRequest<'_>, problem: FileProblem) -> Detail<'a>
-    ensures { detail_told result ≡ plain_detail request.entry problem }
+fn plain_detail<'a>(request: CommandRequest<'a>, about: &About, problem: FileProblem) -> Detail<'a>
+    ensures { detail_told result ≡ plain_detail request.entry about.now problem }
 {
     Detail {
         label: file_label(request, problem),
-        wanted: file_wanted(request, problem),
+        wanted: file_wanted(request, about, problem),
         found: FoundWord::Unseen,
+        hint: plain_hint(request, about, problem),
     }
 }
 
@@ -123,9 +207,9 @@ fn detail_of<'a>(
     requires { fields words.now ≡ faulty_words failure.now.problem (text_of failure.now) }
     ensures { detail_told result ≡ file_said request.entry failure.now }
 {
-    match line_detail(failure, words) {
+    match line_detail(request, failure, words) {
         Some(detail) => detail,
-        None => plain_detail(request, failure.problem),
+        None => plain_detail(request, &failure.about, failure.problem),
     }
 }
 

@@ -2,7 +2,7 @@
 
 ghost use Rattle.std.specs.Prelude.{◌≡◌, option_map, slice_index};
 ghost use Rattle.std.specs.List.{list_any};
-ghost use Rattle.mx_app_explain.specs.FoundWords.{field_told, found_at, found_told, is_control, is_marked, is_return};
+ghost use Rattle.mx_app_explain.specs.FoundWords.{field_told, found_at, found_told, is_control, is_marked, is_return, is_tab};
 
 use std::{fmt, str};
 
@@ -18,6 +18,8 @@ pub enum FoundWord<'a> {
     Return,
     /// A byte order mark.
     ByteOrderMark,
+    /// A word with a tab.
+    Tab,
     /// A word with other bytes that can't be printed.
     Bytes,
 }
@@ -42,6 +44,10 @@ impl fmt::Display for FoundWord<'_> {
                 f,
                 ", stands a byte order mark, which a text may not have"
             ),
+            FoundWord::Tab => write!(
+                f,
+                ", stands a word with a tab: between words are spaces alone"
+            ),
             FoundWord::Bytes => write!(f, ", stands a word with bytes that aren't printable"),
         }
     }
@@ -51,6 +57,12 @@ fn is_return(byte: u8) -> bool
     ensures { result ≡ is_return byte }
 {
     byte == b'\r'
+}
+
+fn is_tab(byte: u8) -> bool
+    ensures { result ≡ is_tab byte }
+{
+    byte == b'\t'
 }
 
 fn is_control(byte: u8) -> bool
@@ -63,6 +75,12 @@ fn has_return(word: &[u8]) -> bool
     ensures { result ≡ list_any is_return word.now }
 {
     word.iter().any(|byte| is_return(*byte))
+}
+
+fn has_tab(word: &[u8]) -> bool
+    ensures { result ≡ list_any is_tab word.now }
+{
+    word.iter().any(|byte| is_tab(*byte))
 }
 
 fn has_control(word: &[u8]) -> bool
@@ -95,6 +113,9 @@ fn of_field(word: &[u8]) -> FoundWord<'_>
     }
     if is_marked(word) {
         return FoundWord::ByteOrderMark;
+    }
+    if has_tab(word) {
+        return FoundWord::Tab;
     }
     if has_control(word) {
         return FoundWord::Bytes;

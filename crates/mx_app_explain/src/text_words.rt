@@ -1,8 +1,8 @@
 //! The words of a line of a text for the assembler, and what each of them is.
 
-ghost use Rattle.std.specs.Prelude.{◌≡◌, ◌++◌, IfOk, OnOk};
+ghost use Rattle.std.specs.Prelude.{◌≡◌, ◌++◌, IfOk, OnOk, option_map};
 ghost use Rattle.std.specs.List.{flat_map, list_any};
-ghost use Rattle.mx_app_explain.specs.TextWords.{begins_with_digit, is_bad_number, is_blank, is_capital, is_close, is_equals, is_free_word, is_long_name, is_punctuation, is_punctuation_word, is_number, is_odd_byte, is_open, is_quote, is_reserved, is_size, with_spaces, spaced_byte};
+ghost use Rattle.mx_app_explain.specs.TextWords.{bad_escape, begins_comment, begins_with_digit, is_bad_number, is_beyond_ascii, is_blank, is_capital, is_close, is_equals, is_escaped, is_free_word, is_jump, is_long_name, is_loop, is_narrow_register, is_operator, is_punctuation, is_punctuation_word, is_number, is_odd_byte, is_open, is_quote, is_reserved, is_size, is_unpushed, with_spaces, spaced_byte};
 
 use crate::found_word::byte_at;
 use mx_boot::before_byte;
@@ -70,6 +70,54 @@ pub(crate) fn is_odd(word: &[u8]) -> bool
     ensures { result ≡ list_any is_odd_byte word.now }
 {
     word.iter().any(|byte| is_odd_byte(*byte))
+}
+
+/// Whether a byte is none of ASCII.
+fn is_beyond_ascii(byte: u8) -> bool
+    ensures { result ≡ is_beyond_ascii byte }
+{
+    byte > 127
+}
+
+pub(crate) fn is_beyond(word: &[u8]) -> bool
+    ensures { result ≡ list_any is_beyond_ascii word.now }
+{
+    word.iter().any(|byte| is_beyond_ascii(*byte))
+}
+
+/// Whether a word begins a comment of other languages.
+pub(crate) fn begins_comment(word: &[u8]) -> bool
+    ensures { result ≡ begins_comment word.now }
+{
+    byte_at(word, 0) == b'#' || byte_at(word, 0) == b'/'
+}
+
+/// Whether a text has this byte after a backslash.
+fn is_escaped(byte: u8) -> bool
+    ensures { result ≡ is_escaped byte }
+{
+    byte == b'n' || byte == b'0' || byte == b'"' || byte == b'\\'
+}
+
+/// The first escape of a word that no text has: a backslash, and what is after it in the word.
+pub(crate) fn bad_escape(word: &[u8]) -> Option<&[u8]>
+    ensures { option_map (λ w. w.now) result ≡ bad_escape word.now }
+{
+    let mut rest = word;
+    while let Some((first, more)) = rest.split_first() {
+        if *first != b'\\' {
+            rest = more;
+            continue;
+        }
+        let Some((second, others)) = more.split_first() else {
+            return Some(rest);
+        };
+        if !is_escaped(*second) {
+            return Some(&rest[..2]);
+        }
+        rest = others;
+    }
+    None
 }
 
 pub(crate) fn has_quote(word: &[u8]) -> bool
@@ -147,6 +195,41 @@ pub(crate) fn is_free_word(word: &[u8]) -> bool
     ensures { result ≡ is_free_word word.now }
 {
     begins_name(byte_at(word, 0)) && !(is_reserved(word) || word == b"short".as_slice())
+}
+
+/// Whether a word is a loop instruction.
+fn is_loop(word: &[u8]) -> bool
+    ensures { result ≡ is_loop word.now }
+{
+    word == b"loop".as_slice() || word == b"loope".as_slice() || word == b"loopne".as_slice()
+}
+
+/// Whether a word is a conditional jump or a loop.
+pub(crate) fn is_jump(word: &[u8]) -> bool
+    ensures { result ≡ is_jump word.now }
+{
+    (byte_at(word, 0) == b'j' && word != b"jmp".as_slice()) || is_loop(word)
+}
+
+/// Whether a word is an operator of other assemblers.
+pub(crate) fn is_operator(word: &[u8]) -> bool
+    ensures { result ≡ is_operator word.now }
+{
+    word == b"offset".as_slice() || word == b"ptr".as_slice()
+}
+
+/// Whether a word says that fewer than 32 bits are pushed: a size, or a register.
+pub(crate) fn is_unpushed(word: &[u8]) -> bool
+    ensures { result ≡ is_unpushed word.now }
+{
+    word == b"byte".as_slice() || word == b"word".as_slice() || is_narrow_register(word)
+}
+
+/// Whether a word is a register of 8 or 16 bits.
+fn is_narrow_register(word: &[u8]) -> bool
+    ensures { result ≡ is_narrow_register word.now }
+{
+    word.len() == 2 && is_reserved(word)
 }
 
 pub(crate) fn is_open(word: &[u8]) -> bool

@@ -2,12 +2,13 @@
 
 ghost use Rattle.std.specs.Prelude.{◌≡◌};
 ghost use Rattle.mx_app_explain.specs.Wanted.{kind_said, kind_wanted, problem_wanted, refusal_wanted};
-ghost use Rattle.mx_app_explain.specs.Explaining.{file_wanted, lines_wanted, record_wanted};
+ghost use Rattle.mx_app_explain.specs.Explaining.{file_wanted, lines_wanted, program_wanted, read_wanted, write_wanted};
+ghost use Rattle.mx_app_explain.specs.RecordLines.{record_wanted};
 
 use mx_aout::FileError;
 use mx_app_command::{CommandRequest, FileKind};
 use mx_app_db::script_lines;
-use mx_app_failure::FileProblem;
+use mx_app_failure::{About, Access, FileProblem, Looks};
 use mx_asm::Problem;
 use mx_text::BootError;
 
@@ -52,26 +53,30 @@ pub(crate) fn problem_wanted(problem: Problem) -> &'static str
         Problem::Undefined => "a name that a line defines",
         Problem::TooFar => "a target at most 127 bytes ahead or 128 back",
         Problem::WrongSection => "a statement that may stand in this section",
-        Problem::TooLarge => "a program within the limits of a file",
+        Problem::TooLarge => "at most 1048576 bytes of text and 4194304 in all",
         Problem::LongName => "a name of at most 8 bytes",
     }
 }
 
 /// What is wanted of a line of a script or of a history.
-fn record_wanted(request: CommandRequest<'_>) -> &'static str
-    ensures { result.now ≡ record_wanted request.entry }
+pub(crate) fn record_wanted(request: CommandRequest<'_>, about: &About) -> &'static str
+    ensures { result.now ≡ record_wanted request.entry about.now }
 {
-    match request {
-        CommandRequest::Step { .. } => {
+    match (request, about) {
+        (CommandRequest::Step { .. }, _) => {
             "an event: take C, step C K, back C, line L, tick, kill E or respawn S"
         }
-        CommandRequest::Db { .. } => script_lines(),
-        CommandRequest::Run { .. } => {
-            "line L, tick, kill E or wait N; --events wants others 2 or more in CONFIG"
+        (CommandRequest::Db { .. }, _) => script_lines(),
+        (CommandRequest::Run { .. }, _) => {
+            "line L, tick, kill E, respawn S or wait N, where a service's name may stand for E \
+             and S; --events wants others 2 or more in CONFIG"
         }
-        CommandRequest::Turns { .. } => "an outside event: line L, tick or kill E",
-        CommandRequest::Sweep { .. } | CommandRequest::SweptPage { .. } => {
-            "in LOG a record and its line feed; in FAULT an event of a script, or kill slot S"
+        (CommandRequest::Turns { .. }, _) => {
+            "an outside event: line L, tick, kill E or respawn S, where a service's name may \
+             stand for E and S"
+        }
+        (CommandRequest::Sweep { .. } | CommandRequest::SweptPage { .. }, About::Fault) => {
+            "an event of a script, kill slot S, kill NAME or respawn NAME"
         }
         _ => {
             "a record and its line feed: A take, A back N, A line L, A tick, A kill E or \
@@ -81,8 +86,8 @@ fn record_wanted(request: CommandRequest<'_>) -> &'static str
 }
 
 /// What is wanted of the lines of a text that starts or drives a machine.
-fn lines_wanted(request: CommandRequest<'_>, error: BootError) -> &'static str
-    ensures { result.now ≡ lines_wanted request.entry error }
+fn lines_wanted(request: CommandRequest<'_>, about: &About, error: BootError) -> &'static str
+    ensures { result.now ≡ lines_wanted request.entry about.now error }
 {
     match error {
         BootError::BadLine(_) => {
@@ -94,7 +99,7 @@ fn lines_wanted(request: CommandRequest<'_>, error: BootError) -> &'static str
         }
         BootError::TwiceNamed(_) => "each item once, and a name of its own for each service",
         BootError::TooMany(_) => "at most 32 services",
-        BootError::BadRecord(_) => record_wanted(request),
+        BootError::BadRecord(_) => record_wanted(request, about),
         BootError::NoMemory => MORE,
     }
 }
@@ -121,18 +126,60 @@ pub(crate) fn kind_wanted(kind: FileKind) -> &'static str
     }
 }
 
+/// What was wanted of a file that is read.
+fn read_wanted(access: Access) -> &'static str
+    ensures { result.now ≡ read_wanted access }
+{
+    match access {
+        Access::Missing => "a file that can be read: it isn't there",
+        Access::Forbidden => "a file that can be read: there is no right to",
+        Access::Folder => "a file that can be read: it is a folder",
+        Access::NoRoom | Access::Other => "a file that can be read",
+    }
+}
+
+/// What was wanted of a file that is written.
+fn write_wanted(access: Access) -> &'static str
+    ensures { result.now ≡ write_wanted access }
+{
+    match access {
+        Access::Missing => "a file that can be written: its folder isn't there",
+        Access::Forbidden => "a file that can be written: there is no right to",
+        Access::Folder => "a file that can be written: it is a folder",
+        Access::NoRoom => "a file that can be written: there is no room",
+        Access::Other => "a file that can be written",
+    }
+}
+
+/// What is wanted of a program's file, by what it looks like.
+fn program_wanted(error: FileError, looks: Looks) -> &'static str
+    ensures { result.now ≡ program_wanted error looks }
+{
+    match looks {
+        Looks::Text => "an a.out file; this is a text: mx as FILE OTHER.out",
+        Looks::Elf => {
+            "an a.out file; this is an ELF file: examples/c/Makefile makes a.out files of C"
+        }
+        Looks::Other => refusal_wanted(error),
+    }
+}
+
 /// What was wanted of a file.
-pub(crate) fn file_wanted(request: CommandRequest<'_>, problem: FileProblem) -> &'static str
-    ensures { result.now ≡ file_wanted request.entry problem }
+pub(crate) fn file_wanted(
+    request: CommandRequest<'_>,
+    about: &About,
+    problem: FileProblem,
+) -> &'static str
+    ensures { result.now ≡ file_wanted request.entry about.now problem }
 {
     match problem {
-        FileProblem::Refused(error) => refusal_wanted(error),
+        FileProblem::Refused(error, looks) => program_wanted(error, looks),
         FileProblem::Faulty(fault) => problem_wanted(fault.problem),
-        FileProblem::Misstated(error) => lines_wanted(request, error),
-        FileProblem::Unread => "a file that can be read",
-        FileProblem::NotUtf8 => "a text in UTF-8",
+        FileProblem::Misstated(error) => lines_wanted(request, about, error),
+        FileProblem::Unread(access) => read_wanted(access),
+        FileProblem::NotUtf8 => "a text in UTF-8, and not in UTF-16 or another encoding",
         FileProblem::IsProgram => "a text in UTF-8; it is a program",
-        FileProblem::Unwritten => "a file that can be written",
+        FileProblem::Unwritten(access) => write_wanted(access),
         FileProblem::OverRead => "another file than the one that is read",
         FileProblem::OverProgram => "another file than a service's program",
         FileProblem::OtherKind => kind_wanted(request.written_kind()),

@@ -1,5 +1,5 @@
--- Failures that have the text of their file.
-use Rattle.std.proofs.Common.{◌≡◌, ◌≢◌, ℕ, List, Some, refl, sym, subst}
+-- Failures that have the text of their file; and the bytes that are looked at, to see whether a file is a text.
+use Rattle.std.proofs.Common.{◌≡◌, ◌≢◌, ◌≤◌, ℕ, List, Some, length, refl, sym, subst, take, take_all}
 use Rattle.std.specs.Prelude.{Vec}
 use Rattle.std.specs.declared.alloc.Global.{Global}
 use Rattle.mx_asm.specs.declared.fault.AsmError.{AsmError}
@@ -25,3 +25,7 @@ misstated_told (lines.TwiceNamed n) about text v same other = (v, refl, same)
 misstated_told (lines.TooMany n) about text v same other = (v, refl, same)
 misstated_told (lines.BadRecord n) about text v same other = (v, refl, same)
 misstated_told lines.NoMemory about text v same other = absurd (other refl)
+
+-- a short file is looked at to its end
+pub all_taken : (n : ℕ) (b : List ℕ) → length b ≤ n → b ≡ take n b
+all_taken n b short = sym (take_all n b short)

@@ -1,5 +1,6 @@
 -- Failures: which error becomes which failure, and each failure's line and exit status.
-use Rattle.std.specs.Prelude.{◌≡◌, ◌⊎◌, ◌&&◌, ◌==◌, ℕ, if◌then◌else◌, List, ◌++◌, codes, Option, Some, None, Result, Err, IfErr, Vec, length, nat_lt, slice_index}
+use Rattle.std.specs.Prelude.{◌≡◌, ◌⊎◌, ◌&&◌, ◌||◌, ◌==◌, ℕ, Bool, not, if◌then◌else◌, List, ◌∷◌, ◌++◌, codes, Option, Some, None, Result, Err, IfErr, Vec, length, nat_eq, nat_le, nat_lt, slice_index, take}
+use Rattle.std.specs.List.{list_all, starts_with}
 use Rattle.std.specs.Fmt.{decimal}
 use Rattle.std.specs.declared.alloc.Global.{Global}
 use Rattle.std.specs.declared.io.ErrorKind.{ErrorKind}
@@ -16,6 +17,10 @@ use Rattle.mx_text.specs.declared.error.BootError.{BootError}
 use Rattle.mx_text.specs.declared.error.BootError.TheVariants as lines
 use Rattle.mx_app_failure.specs.declared.failure.About.{About}
 use Rattle.mx_app_failure.specs.declared.failure.About.TheVariants.{Program, Source, Written}
+use Rattle.mx_app_failure.specs.declared.failure.Access.{Access}
+use Rattle.mx_app_failure.specs.declared.failure.Access.TheVariants as access
+use Rattle.mx_app_failure.specs.declared.failure.Looks.{Looks}
+use Rattle.mx_app_failure.specs.declared.failure.Looks.TheVariants as looks
 use Rattle.mx_app_failure.specs.declared.failure.FileProblem.{FileProblem}
 use Rattle.mx_app_failure.specs.declared.failure.FileProblem.TheVariants.{Refused, Faulty, Misstated, Unread, NotUtf8, IsProgram, Unwritten}
 use Rattle.mx_app_failure.specs.declared.failure.OutputProblem.{OutputProblem}
@@ -25,7 +30,7 @@ use Rattle.mx_app_failure.specs.declared.failure.Failure.TheVariants.{Of, NotTex
 
 -- THE STATUS
 abbrev pub status_of_problem : FileProblem → ℕ
-status_of_problem (Refused e) = 1
+status_of_problem (Refused e l) = 1
 status_of_problem (Faulty f) = 1
 status_of_problem (Misstated e) = 1
 status_of_problem p = 3
@@ -49,20 +54,45 @@ abbrev pub IsOfText : FileProblem → About → List ℕ → Kind → Type 0
 IsOfText p about text f =
     (v : Vec ℕ Global) × (f ≡ Of (record { problem = p; about = about; text = Some v })) × (v.items ≡ text)
 
+-- why a file can't be read or written
+abbrev pub access_of : ErrorKind → Access
+access_of kinds.NotFound = access.Missing
+access_of kinds.NotADirectory = access.Missing
+access_of kinds.PermissionDenied = access.Forbidden
+access_of kinds.ReadOnlyFilesystem = access.Forbidden
+access_of kinds.IsADirectory = access.Folder
+access_of kinds.StorageFull = access.NoRoom
+access_of kinds.QuotaExceeded = access.NoRoom
+access_of kinds.FileTooLarge = access.NoRoom
+access_of kinds.WriteZero = access.NoRoom
+access_of k = access.Other
+
 -- of a file that is read
 abbrev pub problem_of_reading : ErrorKind → Option FileProblem
 problem_of_reading kinds.OutOfMemory = None
-problem_of_reading k = Some Unread
+problem_of_reading k = Some (Unread (access_of k))
 
--- of a program file
-abbrev pub problem_of_refusal : FileError → Option FileProblem
-problem_of_refusal errors.NoMemory = None
-problem_of_refusal e = Some (Refused e)
+-- what a file that is no program looks like, by its first bytes (our own, but for those of ELF)
+abbrev pub is_of_text : ℕ → Bool
+is_of_text b = (nat_le 32 b && nat_lt b 127) || ((b == 9) || ((b == 10) || (b == 13)))
+
+abbrev pub begins_text : List ℕ → Bool
+begins_text b = not (length b == 0) && list_all is_of_text (take 64 b)
+
+-- ELF: System V ABI, 4-5
+abbrev pub looks_of : List ℕ → Looks
+looks_of b =
+    if starts_with nat_eq b (127 ∷ codes "ELF") then looks.Elf else if begins_text b then looks.Text else looks.Other
+
+-- of a program file of these bytes
+abbrev pub problem_of_refusal : List ℕ → FileError → Option FileProblem
+problem_of_refusal b errors.NoMemory = None
+problem_of_refusal b e = Some (Refused e (looks_of b))
 
 -- of the file that is written
 abbrev pub unwritten_of : ErrorKind → Kind
 unwritten_of kinds.OutOfMemory = NoMemory
-unwritten_of k = failure_if (Some Unwritten) Written
+unwritten_of k = failure_if (Some (Unwritten (access_of k))) Written
 
 -- of a text for the assembler
 abbrev pub IsFaulty : AsmError → List ℕ → Kind → Type 0
@@ -121,7 +151,7 @@ lines_told lines.NoMemory = codes "90 NoMemory"
 
 -- the words after "mx: " in the line of a file's failure
 abbrev pub problem_told : FileProblem → List ℕ
-problem_told (Refused e) = decimal (refusal_code e) ++ codes " " ++ refusal_name e
+problem_told (Refused e l) = decimal (refusal_code e) ++ codes " " ++ refusal_name e
 problem_told (Faulty f) =
     decimal (problem_code f.problem) ++ codes " " ++ problem_name f.problem ++ codes " line " ++ decimal f.line
 problem_told (Misstated e) = lines_told e
@@ -149,8 +179,8 @@ PrintsFront Prints text = (front : List ℕ) × (rest : List ℕ) × (text ≡ f
 abbrev pub IsUntyped : Kind → Type 0
 IsUntyped f = (f ≡ Input) ⊎ (f ≡ NoMemory)
 
--- a command answers r about a file. If the file has a refusal e, r is that failure. If not, r is no failure,
--- or one from outside
-abbrev pub Tells : Option FileError → {A : Type 0} → Result A Kind → Type 0
-Tells (Some e) r = r ≡ Err (failure_if (problem_of_refusal e) Program)
-Tells None r = IfErr r IsWanting
+-- a command answers r about a file of these bytes. If the file has a refusal e, r is that failure. If not, r is no
+-- failure, or one from outside
+abbrev pub Tells : List ℕ → Option FileError → {A : Type 0} → Result A Kind → Type 0
+Tells b (Some e) r = r ≡ Err (failure_if (problem_of_refusal b e) Program)
+Tells b None r = IfErr r IsWanting

@@ -1,8 +1,9 @@
 //! Why a command fails: its line on standard error, and its status.
 
-ghost use Rattle.std.specs.Prelude.{◌≡◌, string_bytes};
+ghost use Rattle.std.specs.Prelude.{◌≡◌, string_bytes, take};
 ghost use Rattle.std.specs.IoError.{error_kind};
-ghost use Rattle.mx_app_failure.specs.Failure.{IsFaulty, IsMisstated, IsUntyped, IsWanting, failure_if, input_of, output_of, output_problem, problem_name, problem_of_bytes, problem_of_reading, problem_of_refusal, status_of, unwritten_of};
+ghost use Rattle.std.specs.List.{list_all};
+ghost use Rattle.mx_app_failure.specs.Failure.{IsFaulty, IsMisstated, IsUntyped, IsWanting, access_of, begins_text, failure_if, input_of, is_of_text, looks_of, output_of, output_problem, problem_name, problem_of_bytes, problem_of_reading, problem_of_refusal, status_of, unwritten_of};
 
 use mx_aout::FileError;
 use mx_asm::{AsmError, Fault, Problem};
@@ -10,6 +11,12 @@ use mx_text::BootError;
 use mx_word::NoMemory;
 use std::alloc::{AllocError, AllocFailed};
 use std::{fmt, io};
+
+/// How many bytes of a file are looked at, to see what it is.
+const LOOKED_AT: usize = 64;
+
+/// The bytes that a file in the format ELF begins with.
+const ELF: &[u8] = b"\x7fELF";
 
 /// What a failure is about: a file that the command line names, by what it is to the command; or a service's program,
 /// by the name that its configuration gave it, which is moved here and not copied.
@@ -29,23 +36,46 @@ pub enum About {
     Service(String),
 }
 
+/// What a file that is no program looks like.
+#[derive(Clone, Copy, Debug, PartialEq, Eq)]
+pub enum Looks {
+    Text,
+    /// A program of the host, in its format ELF.
+    Elf,
+    Other,
+}
+
+/// Why a file can't be read or written.
+#[derive(Clone, Copy, Debug, PartialEq, Eq)]
+pub enum Access {
+    /// It isn't there; or the folder that it would be written in isn't.
+    Missing,
+    /// There is no right to.
+    Forbidden,
+    /// It is a folder.
+    Folder,
+    /// There is no room for it.
+    NoRoom,
+    Other,
+}
+
 /// What is wrong with a file.
 #[derive(Clone, Copy, Debug, PartialEq, Eq)]
 pub enum FileProblem {
-    /// It is no program, for this reason, which isn't memory.
-    Refused(FileError),
+    /// It is no program, for this reason, which isn't memory; and this is what it looks like.
+    Refused(FileError, Looks),
     /// A text for the assembler has this fault.
     Faulty(Fault),
     /// A configuration, a script or a saved history has a wrong line; memory isn't the reason.
     Misstated(BootError),
-    /// It can't be read.
-    Unread,
+    /// It can't be read, for this reason.
+    Unread(Access),
     /// It isn't UTF-8, so it is no text.
     NotUtf8,
     /// It isn't UTF-8, and begins as a program does.
     IsProgram,
-    /// It can't be written.
-    Unwritten,
+    /// It can't be written, for this reason.
+    Unwritten(Access),
     /// It is read, and would be written over.
     OverRead,
     /// It is a service's program, and would be written over.
@@ -89,6 +119,72 @@ pub enum Failure {
     NoMemory,
 }
 
+impl Access {
+    /// Why a file can't be read or written if that fails with an error of this kind.
+    fn of_kind(kind: io::ErrorKind) -> Access
+        ensures { result ≡ access_of kind }
+    {
+        match kind {
+            io::ErrorKind::NotFound | io::ErrorKind::NotADirectory => Access::Missing,
+            io::ErrorKind::PermissionDenied | io::ErrorKind::ReadOnlyFilesystem =>
+                Access::Forbidden,
+            io::ErrorKind::IsADirectory => Access::Folder,
+            io::ErrorKind::StorageFull
+            | io::ErrorKind::QuotaExceeded
+            | io::ErrorKind::FileTooLarge
+            | io::ErrorKind::WriteZero => Access::NoRoom,
+            _ => Access::Other,
+        }
+    }
+}
+
+/// Whether a text may have a byte: a printable one, a tab or one that ends a line.
+fn is_of_text(byte: u8) -> bool
+    ensures { result ≡ is_of_text byte }
+{
+    byte >= 32 && byte < 127 || byte == b'\t' || byte == b'\n' || byte == b'\r'
+}
+
+/// Whether a text may have all of these bytes.
+fn are_of_text(bytes: &[u8]) -> bool
+    ensures { result ≡ list_all is_of_text bytes.now }
+{
+    bytes.iter().all(|byte| is_of_text(*byte))
+}
+
+/// The first bytes of a file, as many as are looked at.
+fn looked_at(bytes: &[u8]) -> &[u8]
+    ensures { result.now ≡ take 64 bytes.now }
+{
+    if bytes.len() > LOOKED_AT {
+        &bytes[..LOOKED_AT]
+    } else {
+        bytes
+    }
+}
+
+/// Whether the first bytes of a file are those of a text.
+fn begins_text(bytes: &[u8]) -> bool
+    ensures { result ≡ begins_text bytes.now }
+{
+    !bytes.is_empty() && are_of_text(looked_at(bytes))
+}
+
+impl Looks {
+    /// What a file looks like.
+    fn of_bytes(bytes: &[u8]) -> Looks
+        ensures { result ≡ looks_of bytes.now }
+    {
+        if bytes.starts_with(ELF) {
+            Looks::Elf
+        } else if begins_text(bytes) {
+            Looks::Text
+        } else {
+            Looks::Other
+        }
+    }
+}
+
 impl FileProblem {
     /// What is wrong with a program's file that can't be read; None for lack of memory.
     pub fn of_reading(error: &io::Error) -> Option<FileProblem>
@@ -96,17 +192,17 @@ impl FileProblem {
     {
         match error.kind() {
             io::ErrorKind::OutOfMemory => None,
-            _ => Some(FileProblem::Unread),
+            kind => Some(FileProblem::Unread(Access::of_kind(kind))),
         }
     }
 
-    /// What is wrong with a program's file that is refused; None for lack of memory.
-    pub fn of_refusal(error: FileError) -> Option<FileProblem>
-        ensures { result ≡ problem_of_refusal error }
+    /// What is wrong with a program's file of these bytes that is refused; None for lack of memory.
+    pub fn of_refusal(error: FileError, bytes: &[u8]) -> Option<FileProblem>
+        ensures { result ≡ problem_of_refusal bytes.now error }
     {
         match error {
             FileError::NoMemory => None,
-            _ => Some(FileProblem::Refused(error)),
+            _ => Some(FileProblem::Refused(error, Looks::of_bytes(bytes))),
         }
     }
 
@@ -160,11 +256,11 @@ impl Failure {
         Failure::of(FileProblem::of_reading(error), about)
     }
 
-    /// The failure of a file that is no program.
-    pub fn refused(error: FileError, about: About) -> Failure
-        ensures { result ≡ failure_if (problem_of_refusal error) about }
+    /// The failure of a file of these bytes, which is no program.
+    pub fn refused(error: FileError, bytes: &[u8], about: About) -> Failure
+        ensures { result ≡ failure_if (problem_of_refusal bytes.now error) about }
     {
-        Failure::of(FileProblem::of_refusal(error), about)
+        Failure::of(FileProblem::of_refusal(error, bytes), about)
     }
 
     /// The failure of the file that can't be written.
@@ -173,7 +269,10 @@ impl Failure {
     {
         match error.kind() {
             io::ErrorKind::OutOfMemory => Failure::NoMemory,
-            _ => Failure::of(Some(FileProblem::Unwritten), About::Written),
+            kind => {
+                let problem = FileProblem::Unwritten(Access::of_kind(kind));
+                Failure::of(Some(problem), About::Written)
+            }
         }
     }
 
@@ -234,7 +333,8 @@ impl Failure {
     {
         match self {
             Failure::Of(failure) => match failure.problem {
-                FileProblem::Refused(_) | FileProblem::Faulty(_) | FileProblem::Misstated(_) => 1,
+                FileProblem::Refused(_, _) | FileProblem::Faulty(_) | FileProblem::Misstated(_) =>
+                    1,
                 _ => 3,
             },
             Failure::NotText => 2,
@@ -274,7 +374,7 @@ impl fmt::Display for Failure {
     fn fmt<W: fmt::Write>(&self, f: &mut fmt::Formatter<W>) -> fmt::Result {
         match self {
             Failure::Of(failure) => match failure.problem {
-                FileProblem::Refused(error) => {
+                FileProblem::Refused(error, _) => {
                     let code = error.code();
                     let name = error.name();
                     write!(f, "mx: {code} {name}")

@@ -12,5 +12,5 @@
 mod failure;
 mod printing;
 
-pub use failure::{About, Failure, FileFailure, FileProblem, OutputProblem};
+pub use failure::{About, Access, Failure, FileFailure, FileProblem, Looks, OutputProblem};
 pub use printing::print_text;

@@ -1,15 +1,13 @@
 -- Where a search back comes to, and why one halts there.
-use Rattle.std.proofs.Common.{◌≡◌, ◌∙◌, ◌||◌, ℕ, Bool, true, false, cond, List, [], ◌∷◌, ◌++◌, map, Option, Some, None, refl, ap, sym, subst, inl, inr}
+use Rattle.std.proofs.Common.{◌≡◌, ◌∙◌, ◌||◌, ℕ, Bool, true, false, cond, List, map, Option, Some, None, refl, ap, sym, subst, inl, inr}
 use Rattle.std.specs.Prelude.{slice_get, unwrap_or}
 use Rattle.mx_machine.specs.declared.events.Event.{Event}
-use Rattle.mx_machine.specs.declared.history.Record.{Record}
 use Rattle.mx_machine.specs.World.{World}
 use Rattle.mx_walk.specs.declared.either.Either.{Either}
 use Rattle.mx_walk.specs.declared.positions.Position.{Position}
 use Rattle.mx_walk.specs.declared.several.Several.{Several}
-use Rattle.mx_walk.specs.declared.stopping.CodePlace.{CodePlace}
 use Rattle.mx_walk.specs.declared.stopping.Leaving.{Leaving}
-use Rattle.mx_walk.specs.Positions.{IsBefore, IsPosition, IsUpTo, first, next_event, next_position, world_at}
+use Rattle.mx_walk.specs.Positions.{IsPosition, IsUpTo, first, next_event, next_position, world_at}
 use Rattle.mx_walk.specs.Seeking.{IsLastMarked, IsPassed}
 use Rattle.mx_walk.specs.Several.{any_marks}
 use Rattle.mx_walk.specs.Stopping.{leaves, leaves_any}
@@ -18,7 +16,7 @@ use Rattle.mx_walk.proofs.Next.{above_trans}
 use Rattle.mx_app_look.specs.declared.changes.Seen.{Seen}
 use Rattle.mx_app_look.specs.declared.points.Points.{Points}
 use Rattle.mx_app_look.specs.declared.watches.Watch.{Watch}
-use Rattle.mx_app_look.specs.Changes.{as_seen, first_change, seen_in}
+use Rattle.mx_app_look.specs.Changes.{as_seen, first_change}
 use Rattle.mx_app_look.specs.Marks.{changes_bytes, changes_watched, code_place, is_looked_for, leaving}
 use Rattle.mx_app_look.specs.Searches.{is_break, next_made}
 use Rattle.mx_app_look.specs.Slots.{slot_next}

@@ -1,8 +1,7 @@
 -- A search on, as a walker makes it.
 use Rattle.std.proofs.Common.{◌≡◌, ◌∙◌, ◌<◌, ◌+◌, ◌-◌, ◌||◌, ℕ, Bool, true, false, cond, List, [], ◌∷◌, is_some, length, map, Option, Some, None, refl, ap, sym, subst, inl, inr, arith}
-use Rattle.std.specs.Prelude.{MatchOption, slice_get, unwrap_or}
+use Rattle.std.specs.Prelude.{slice_get, unwrap_or}
 use Rattle.mx_machine.specs.declared.events.Event.{Event}
-use Rattle.mx_machine.specs.World.{World}
 use Rattle.mx_walk.specs.declared.either.Either.{Either}
 use Rattle.mx_walk.specs.declared.halting.Halt.{Halt as Halting}
 use Rattle.mx_walk.specs.declared.halting.Halt.TheVariants as halting
@@ -11,7 +10,7 @@ use Rattle.mx_walk.specs.declared.several.Several.{Several}
 use Rattle.mx_walk.specs.declared.stopping.CodePlace.{CodePlace}
 use Rattle.mx_walk.specs.declared.stopping.Coming.{Coming}
 use Rattle.mx_walk.specs.Halting.{HaltsAt}
-use Rattle.mx_walk.specs.Positions.{IsBefore, IsPosition, IsUpTo, events_before, is_up_to, next_event, next_position}
+use Rattle.mx_walk.specs.Positions.{IsPosition, IsUpTo, events_before, is_up_to, next_event, next_position}
 use Rattle.mx_walk.specs.Seeking.{IsPassed}
 use Rattle.mx_walk.specs.Several.{any_marks}
 use Rattle.mx_walk.specs.Stopping.{comes_any, leaves_any}
@@ -28,7 +27,7 @@ use Rattle.mx_app_gdb.specs.declared.halts.Halted.TheVariants.{AtBreak, AtEnd}
 use Rattle.mx_app_gdb.specs.declared.halts.Halts.{Halts}
 use Rattle.mx_app_gdb.specs.declared.marks.Faulting.{Faulting}
 use Rattle.mx_app_gdb.specs.declared.threads.Counted.{Counted}
-use Rattle.mx_app_gdb.specs.Halts.{IsUnchanged, halted_here, halts_after}
+use Rattle.mx_app_gdb.specs.Halts.{IsUnchanged, halted_here}
 use Rattle.mx_app_gdb.specs.Marks.{faults}
 use Rattle.mx_app_gdb.specs.Moves.{Halt, IsAfterNext, IsMadeNext, IsSearchedOn, LeadsOn, Marks, at}
 use Rattle.mx_app_gdb.proofs.RightAfter.{halts_is, none_halts}

@@ -1,6 +1,6 @@
 -- Steps of a slot's process within a range of code, one after the other.
 use Rattle.std.specs.Prelude.{option_map, unwrap_or}
-use Rattle.std.proofs.Common.{append-nil, ◌≡◌, ◌∙◌, ◌⊎◌, ◌<◌, ◌||◌, ◌&&◌, ℕ, Bool, true, false, cond, not, List, [], ◌∷◌, ◌++◌, map, nat_eq, Option, Some, None, refl, ap, sym, subst, inl, inr, arith}
+use Rattle.std.proofs.Common.{append-nil, ◌≡◌, ◌∙◌, ◌⊎◌, ◌||◌, ◌&&◌, ℕ, Bool, true, false, cond, not, List, [], ◌∷◌, ◌++◌, nat_eq, Option, Some, None, refl, ap, sym, subst, inl, inr}
 use Rattle.std.proofs.lemmas.Bool.{eqb-true}
 use Rattle.mx_debug.specs.Points.{has_breakpoint}
 use Rattle.mx_machine.specs.declared.events.Event.{Event}

@@ -18,3 +18,8 @@ mod SteppedOn
 mod Grown
 mod Behind
 mod Opening
+mod Passed
+mod OneHalt
+mod OneReply
+mod OneTalk
+mod Returning

@@ -1,25 +1,23 @@
 -- On to where a step of a slot's process is next.
-use Rattle.std.proofs.Common.{◌≡◌, ◌∙◌, ◌⊎◌, ◌<◌, ◌||◌, ◌&&◌, ℕ, Bool, true, false, cond, not, List, [], ◌∷◌, ◌++◌, Option, Some, None, refl, ap, sym, subst, inl, inr, arith}
+use Rattle.std.proofs.Common.{◌≡◌, ◌∙◌, ◌||◌, ◌&&◌, ℕ, Bool, true, false, cond, not, List, [], ◌∷◌, ◌++◌, Option, Some, None, refl, ap, sym, subst, inl, inr}
 use Rattle.mx_machine.specs.declared.events.Event.{Event}
-use Rattle.mx_machine.specs.declared.history.Record.{Record}
 use Rattle.mx_machine.specs.History.{world_after_events}
 use Rattle.mx_machine.specs.Move.{world_after_event}
-use Rattle.mx_machine.specs.World.{HeldProcess, World, held_by}
+use Rattle.mx_machine.specs.World.{World, held_by}
 use Rattle.mx_walk.specs.declared.positions.Position.{Position}
 use Rattle.mx_walk.specs.Positions.{IsBefore, IsPosition, IsUpTo, events_before, next_event, next_position, position_before, world_at}
 use Rattle.mx_walk.specs.Seeking.{IsFirstMarked, IsPassed, NoneMarked, is_marked}
 use Rattle.mx_walk.specs.Stopping.{is_step}
-use Rattle.mx_walk.specs.Walks.{Walk, world_here}
+use Rattle.mx_walk.specs.Walks.{Walk}
 use Rattle.mx_walk.proofs.Along.{itself}
 use Rattle.mx_walk.proofs.Meeting.{above_first}
-use Rattle.mx_walk.proofs.Next.{above_it, above_trans, has_event, is_position_too, next_up_to, not_itself, up_to_of, world_next}
+use Rattle.mx_walk.proofs.Next.{above_trans, has_event, is_position_too, next_up_to, not_itself, up_to_of, world_next}
 use Rattle.mx_walk.proofs.Passing.{found, found_more, none_passed, passed_more}
-use Rattle.mx_app_look.specs.Searches.{next_made}
 use Rattle.mx_app_gdb.specs.declared.halts.Halted.{Halted}
 use Rattle.mx_app_gdb.specs.declared.halts.Halted.TheVariants.{AtEnd}
 use Rattle.mx_app_gdb.specs.declared.halts.Halts.{Halts}
 use Rattle.mx_app_gdb.specs.Marks.{is_of, moves}
-use Rattle.mx_app_gdb.specs.Moves.{Halt, IsComeFrom, IsSearchedOn, IsUnmarked, LeadsOn, Marks, at, come_by, halt_by, is_met, is_met_or_moves, moves_next, stands}
+use Rattle.mx_app_gdb.specs.Moves.{Halt, IsComeFrom, IsSearchedOn, Marks, at, come_by, halt_by, is_met, is_met_or_moves, moves_next, stands}
 use Rattle.mx_app_gdb.proofs.Onward.{back_from, is_before, is_next, last_event, last_world, made_before, rest_is, same_rest}
 use Rattle.mx_app_gdb.proofs.SearchedOn.{front, none_by, or_true}
 use Rattle.mx_app_gdb.proofs.Stepped.{and_false, not_false, same_actor, stays_after}

@@ -1,8 +1,7 @@
--- Where a talk begins, and how it is cut off.
-use Rattle.std.proofs.Common.{◌≡◌, ◌∙◌, ◌++◌, ℕ, List, [], Vec, Global, append_assoc, ap, inr, length, map, min, refl, subst, sym}
+-- Where a talk begins.
+use Rattle.std.proofs.Common.{◌≡◌, ◌∙◌, ◌++◌, ℕ, List, [], Vec, Global, append_assoc, ap, length, map, min, refl, subst, sym}
 use Rattle.std.proofs.lemmas.List.{length-map}
-use Rattle.mx_app_failure.specs.declared.failure.Failure.{Failure}
-use Rattle.mx_app_look.specs.Sessions.{HasFailed, IsBegun, IsCutOff, sight_at}
+use Rattle.mx_app_look.specs.Sessions.{IsBegun, sight_at}
 use Rattle.mx_app_look.specs.declared.points.Points.{Points}
 use Rattle.mx_app_look.specs.declared.sight.Sight.{Sight}
 use Rattle.mx_app_look.specs.declared.watches.Watch.{Watch}
@@ -51,10 +50,6 @@ module _ (config log : List ℕ) (qs : List Asked) (ps : List Part) (c : Config)
     begun = o.begun;
     shown = more_shown;
   }
-
-  pub cut_off : (f : Failure) → IsCutOff f → HasFailed config log qs (ps ++ more) f
-  cut_off f cut =
-      inr (c, o.services, o.records, k.last, o.started, o.begun.last, subst (λ (rs : List Record). HasGrown (walk_shown rs k.last) (ps ++ more)) o.begun.records more_shown, cut)
 
 -- ---- slots
 

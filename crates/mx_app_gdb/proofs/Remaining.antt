@@ -1,5 +1,5 @@
 -- No request changes the history.
-use Rattle.std.proofs.Common.{◌≡◌, ℕ, Bool, true, false, cond, List, Option, Some, None, is_some, refl, subst, sym}
+use Rattle.std.proofs.Common.{◌≡◌, ◌||◌, ℕ, Bool, true, false, cond, List, Option, Some, None, is_some, refl, subst, sym}
 use Rattle.mx_rsp.specs.declared.fields.Which.{Which}
 use Rattle.mx_rsp.specs.declared.moves.Action.{Action}
 use Rattle.mx_rsp.specs.declared.moves.Action.TheVariants as action
@@ -12,9 +12,13 @@ use Rattle.mx_app_look.specs.declared.request.Request.{Request as Line}
 use Rattle.mx_app_look.specs.declared.request.Request.TheVariants as line
 use Rattle.mx_app_look.specs.declared.sight.Sight.{Sight}
 use Rattle.mx_app_look.specs.Answers.{IsMade, after}
-use Rattle.mx_app_look.specs.Requests.{request_of as line_of}
-use Rattle.mx_app_look.specs.Seeking.{point_made}
+use Rattle.mx_app_look.specs.declared.happening.Happening.{Happening}
+use Rattle.mx_app_look.specs.Requests.{ends, request_of as line_of}
+use Rattle.mx_app_look.specs.Seeking.{IsGoneBack, IsGoneBy as IsSearchedBy, IsGoneOn, IsGoneUntilBackBy, IsHalted, has_points, point_made}
 use Rattle.mx_app_look.specs.Sessions.{IsAnsweredBy}
+use Rattle.mx_app_look.specs.Until.{has_slots}
+use Rattle.mx_walk.specs.declared.positions.Position.{Position}
+use Rattle.mx_walk.specs.Walks.{world_here}
 use Rattle.mx_app_gdb.specs.declared.replying.After.{After}
 use Rattle.mx_app_gdb.specs.declared.replying.Way.{Way}
 use Rattle.mx_app_gdb.specs.declared.replying.Way.TheVariants.{Back, On, Step, StepBack}
@@ -54,10 +58,22 @@ IsSameWalk s u = u.walker ≡ record s.walker { here = u.walker.here }
 sight_by : (s u v : Sight) → u ≡ v → IsSameWalk s v → IsSameWalk s u
 sight_by s u v e same = subst (λ (x : Sight). IsSameWalk s x) (sym e) same
 
+halted_stays : (s : Sight) (h : Position × List ℕ) (u : Sight) (text : List ℕ) → IsHalted s h u text → IsSameWalk s u
+halted_stays s h u text (e, t) = sight_by s u (record s { walker = record s.walker { here = h.0 } }) e refl
+
+searched_stays : (b : Bool) (IsGone : Sight → Sight → List ℕ → Type 0) (s u : Sight) (text : List ℕ) → (IsGone s u text → IsSameWalk s u) → IsSearchedBy b IsGone s u text → IsSameWalk s u
+searched_stays true IsGone s u text f a = f a
+searched_stays false IsGone s u text f (e, t) = sight_by s u s e refl
+
+happened_stays : (b : Bool) (s : Sight) (h : Happening) (u : Sight) (text : List ℕ) → IsGoneUntilBackBy b s h u text → IsSameWalk s u
+happened_stays true s h u text (at, last, halted) = halted_stays s at u text halted
+happened_stays false s h u text (e, t) = sight_by s u s e refl
+
 made_stays : (s : Sight) (r : Line) (u : Sight) (text : List ℕ) → IsMade s r u text → IsSameWalk s u
 made_stays s (line.Point p) u text (e, t) = sight_by s u (record s { points = (point_made s p).1 }) e refl
-made_stays s line.Continue u text (h, halt, (e, t)) = sight_by s u (record s { walker = record s.walker { here = h.0 } }) e refl
-made_stays s line.Reverse u text (h, halt, (e, t)) = sight_by s u (record s { walker = record s.walker { here = h.0 } }) e refl
+made_stays s line.Continue u text said = searched_stays (has_points s.points) IsGoneOn s u text (λ a. halted_stays s a.0 u text a.2) said
+made_stays s line.Reverse u text said = searched_stays (has_points s.points) IsGoneBack s u text (λ a. halted_stays s a.0 u text a.2) said
+made_stays s (line.UntilBack h) u text said = happened_stays (has_slots s.walker h) s h u text said
 made_stays s line.Nothing u text (e, t) = sight_by s u (record s { walker = after s.walker line.Nothing }) e refl
 made_stays s (line.Forward n) u text (e, t) = sight_by s u (record s { walker = after s.walker (line.Forward n) }) e refl
 made_stays s (line.Back n) u text (e, t) = sight_by s u (record s { walker = after s.walker (line.Back n) }) e refl
@@ -71,7 +87,6 @@ made_stays s line.Processes u text (e, t) = sight_by s u (record s { walker = af
 made_stays s line.Messages u text (e, t) = sight_by s u (record s { walker = after s.walker line.Messages }) e refl
 made_stays s (line.Show q) u text (e, t) = sight_by s u (record s { walker = after s.walker (line.Show q) }) e refl
 made_stays s line.Help u text (e, t) = sight_by s u (record s { walker = after s.walker line.Help }) e refl
-made_stays s line.Quit u text (e, t) = sight_by s u (record s { walker = after s.walker line.Quit }) e refl
 
 answered_stays : (s : Sight) (typed : List ℕ) (o : Option Line) (u : Sight) (text : List ℕ) → IsAnsweredBy s typed o u text → IsSameWalk s u
 answered_stays s typed None u text (e, t) = sight_by s u s e refl
@@ -79,7 +94,7 @@ answered_stays s typed (Some r) u text said = made_stays s r u text said
 
 told_stays : (b : Bool) (s : Sight) (typed : List ℕ) (u : Sight) (text : List ℕ) → IsToldIf b s typed u text → IsSameWalk s u
 told_stays true s typed u text (e, t) = sight_by s u s e refl
-told_stays false s typed u text said = answered_stays s typed (line_of typed) u text said
+told_stays false s typed u text said = answered_stays s typed (line_of (world_here s.walker).services typed) u text said
 
 -- ---- processes
 
@@ -113,7 +128,7 @@ said_stays s word.End u reply next (e, said, last) = by_is s u s e refl
 pub replied_stays : (s u : Stub) (r : Request) (reply : Option (List ℕ)) (next : After) → IsReplied s r u reply next → IsSameHistory s u
 replied_stays s u (request.Plain w) reply next said = said_stays s w u reply next said
 replied_stays s u (request.Go r) reply next (text, moved, said, last) = resumed_stays s r (read_by s.threads r.first.who) u text moved
-replied_stays s u (request.Console typed) reply next (text, (e, told), said, last) = told_stays (is_for_gdb (line_of typed)) s.sight typed u.sight text told
+replied_stays s u (request.Console typed) reply next (text, (e, told), said, last) = told_stays (ends typed || is_for_gdb (line_of (world_here s.sight.walker).services typed)) s.sight typed u.sight text told
 replied_stays s u (request.Supported b) reply next (e, said, last) = by_is s u (with_names s b) e refl
 replied_stays s u (request.ForReading w) reply next (e, said, last) = by_is s u (reading s (read_by s.threads w)) e (reading_stays s (read_by s.threads w))
 replied_stays s u (request.ForGoing w) reply next (e, said, last) = by_is s u (going s w) e (going_stays s w)

@@ -1,13 +1,11 @@
 -- Right after an event with nothing changed before it, a move halts if, and only if, the event is one after which it does.
-use Rattle.std.proofs.Common.{◌≡◌, ◌≢◌, ◌∙◌, ◌<◌, ◌≤◌, ◌+◌, ◌&&◌, ◌||◌, ℕ, zero, suc, Bool, true, false, cond, List, [], ◌∷◌, get_or, is_some, length, map, nat_eq, nat_lt, Option, Some, None, slice_get, refl, ap, sym, subst, inl, inr, arith}
+use Rattle.std.proofs.Common.{◌≡◌, ◌∙◌, ◌<◌, ◌≤◌, ◌+◌, ◌&&◌, ◌||◌, ℕ, zero, suc, Bool, true, false, cond, List, [], ◌∷◌, get_or, is_some, length, map, nat_eq, Option, Some, None, slice_get, refl, ap, sym, inl, inr, arith}
 use Rattle.std.specs.List.{flat_map}
 use Rattle.std.proofs.lemmas.Bool.{cases_lt, ne_eqb}
 use Rattle.mx_machine.specs.declared.events.Event.{Event}
-use Rattle.mx_machine.specs.declared.events.Event.TheVariants as event
 use Rattle.mx_machine.specs.declared.history.Record.{Record}
 use Rattle.mx_machine.specs.declared.history.Recorded.{Recorded}
 use Rattle.mx_machine.specs.declared.history.Recorded.TheVariants as recorded
-use Rattle.mx_machine.specs.Move.{world_after_event}
 use Rattle.mx_machine.specs.World.{HeldProcess, World, held_by}
 use Rattle.mx_walk.specs.declared.positions.Position.{Position}
 use Rattle.mx_walk.specs.declared.watching.BytePlace.{BytePlace}
@@ -24,7 +22,7 @@ use Rattle.mx_app_look.specs.Watches.{places_of}
 use Rattle.mx_app_look.specs.declared.changes.Seen.{Seen}
 use Rattle.mx_app_look.specs.declared.watches.Watch.{Watch}
 use Rattle.mx_app_gdb.specs.declared.halts.Halted.{Halted}
-use Rattle.mx_app_gdb.specs.declared.halts.Halted.TheVariants.{Changed, Fault}
+use Rattle.mx_app_gdb.specs.declared.halts.Halted.TheVariants.{Changed}
 use Rattle.mx_app_gdb.specs.declared.halts.Halts.{Halts}
 use Rattle.mx_app_gdb.specs.declared.threads.Counted.{Counted}
 use Rattle.mx_app_gdb.specs.Halts.{IsUnchanged, fault_at, fault_by, fault_held, fault_here, halted_by, halted_here, halts_after}

@@ -1,7 +1,6 @@
 -- Where a search on comes to, which is told of what a move halts at, of what comes to a breakpoint, and of what is marked.
-use Rattle.std.proofs.Common.{◌≡◌, ◌∙◌, ◌⊎◌, ◌<◌, ◌-◌, ◌+◌, ◌&&◌, ◌||◌, ℕ, Bool, true, false, cond, List, [], ◌∷◌, ◌++◌, append_assoc, is_some, length, length-append, map, Option, Some, None, refl, ap, sym, subst, inl, inr, arith}
+use Rattle.std.proofs.Common.{◌≡◌, ◌∙◌, ◌+◌, ◌&&◌, ◌||◌, ℕ, Bool, true, false, cond, List, [], ◌∷◌, ◌++◌, append_assoc, is_some, length, length-append, map, Option, Some, None, refl, ap, sym, subst, inl, inr, arith}
 use Rattle.mx_machine.specs.declared.events.Event.{Event}
-use Rattle.mx_machine.specs.declared.history.Record.{Record}
 use Rattle.mx_machine.specs.History.{world_after_events}
 use Rattle.mx_machine.specs.Move.{world_after_event}
 use Rattle.mx_machine.specs.World.{World, held_by}
@@ -20,7 +19,6 @@ use Rattle.mx_walk.proofs.Unleft.{up_by_events}
 use Rattle.mx_app_look.specs.declared.points.Points.{Points}
 use Rattle.mx_app_look.specs.Marks.{changes_watched, code_place, leaves_breakpoint, leaving}
 use Rattle.mx_app_look.specs.Searches.{is_break}
-use Rattle.mx_app_look.specs.Slots.{slot_next}
 use Rattle.mx_app_gdb.specs.declared.halts.Halted.{Halted}
 use Rattle.mx_app_gdb.specs.declared.halts.Halted.TheVariants.{AtBreak, AtEnd}
 use Rattle.mx_app_gdb.specs.declared.halts.Halts.{Halts}
@@ -28,7 +26,7 @@ use Rattle.mx_app_gdb.specs.Halts.{IsUnchanged, halted_here, halts_after}
 use Rattle.mx_app_gdb.specs.Marks.{faults}
 use Rattle.mx_app_gdb.specs.Moves.{Halt, IsSearchedOn, IsUnmarked, Marks, at, halt_by, is_met, slot_of_next}
 use Rattle.mx_app_gdb.proofs.Onward.{back_from, last_event, last_world, same_rest}
-use Rattle.mx_app_gdb.proofs.RightAfter.{halts_is, none_halts, still_there, watched}
+use Rattle.mx_app_gdb.proofs.RightAfter.{halts_is, still_there, watched}
 use Rattle.mx_app_gdb.proofs.SameBytes.{SameBytes, changed_of_all, both_false, or_left, or_right, same_itself, same_trans, unchanged}
 
 -- ---- a step at a breakpoint leaves a place

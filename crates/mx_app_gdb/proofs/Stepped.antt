@@ -1,6 +1,5 @@
 -- Steps of a slot's process along a record: it stays on its processor.
-use Rattle.std.proofs.Common.{◌≡◌, ◌≢◌, ◌∙◌, ◌⊎◌, ◌<◌, ◌≤◌, ◌+◌, ◌&&◌, ◌||◌, ℕ, zero, suc, Bool, true, false, cond, not, List, [], ◌∷◌, ◌++◌, get_or, get_or-set_same, length, map, nat_eq, Option, Some, None, refl, ap, sym, subst, inl, inr, arith}
-use Rattle.std.specs.List.{list_any}
+use Rattle.std.proofs.Common.{◌≡◌, ◌∙◌, ◌<◌, ◌&&◌, ◌||◌, ℕ, zero, suc, Bool, true, false, not, List, [], ◌∷◌, get_or, get_or-set_same, length, map, nat_eq, Option, Some, None, refl, ap, sym, inl, inr, arith}
 use Rattle.std.proofs.lemmas.Bool.{cases_lt, eq-eqb, ne_eqb}
 use Rattle.std.proofs.lemmas.Bool.Decides.{eqb_tells}
 use Rattle.mx_debug.specs.declared.points.Breakpoint.{Breakpoint}
@@ -12,13 +11,11 @@ use Rattle.mx_machine.specs.Held.{out_after_step}
 use Rattle.mx_machine.specs.Move.{at_stop, world_after_event, world_after_step}
 use Rattle.mx_machine.specs.World.{HeldProcess, World, held_by}
 use Rattle.mx_walk.specs.declared.positions.Position.{Position}
-use Rattle.mx_walk.specs.declared.stopping.CodePlace.{CodePlace}
-use Rattle.mx_walk.specs.Positions.{IsPosition, next_event, next_position, steps_in}
+use Rattle.mx_walk.specs.Positions.{next_event, next_position, steps_in}
 use Rattle.mx_walk.proofs.Along.{any_record}
-use Rattle.mx_walk.specs.Stopping.{is_step, leaves_any, stands_at, stands_at_any}
+use Rattle.mx_walk.specs.Stopping.{is_step, leaves_any, stands_at_any}
 use Rattle.mx_app_look.specs.Marks.{code_place}
-use Rattle.mx_app_gdb.specs.Marks.{is_of, is_within, moves, stands_within}
-use Rattle.mx_app_gdb.specs.declared.ranges.Range.{Range}
+use Rattle.mx_app_gdb.specs.Marks.{is_of}
 use Rattle.mx_app_gdb.proofs.RightAfter.{by_entry, entry, own_is, step_is}
 
 there_is : {X : Type 0} (xs : List (Option X)) (a : ℕ) (x : X) → get_or xs a None ≡ Some x → a < length xs

@@ -1,5 +1,5 @@
 -- Moves that begin with the next event, and steps one after the other.
-use Rattle.std.proofs.Common.{◌≡◌, ◌∙◌, ◌<◌, ◌+◌, ◌-◌, ℕ, Bool, true, false, cond, Option, Some, None, is_some, map, nat_eq, nat_le, nat_lt, not, refl, ap, sym, subst, inl, inr, arith}
+use Rattle.std.proofs.Common.{◌≡◌, ◌∙◌, ◌<◌, ℕ, Bool, true, false, cond, Option, Some, None, is_some, map, nat_le, nat_lt, not, refl, ap, sym, subst, inl, inr, arith}
 use Rattle.std.proofs.lemmas.Bool.{eq-eqb, le-leb}
 use Rattle.mx_machine.specs.declared.events.Event.{Event}
 use Rattle.mx_machine.specs.World.{World}
@@ -9,23 +9,21 @@ use Rattle.mx_walk.specs.Several.{any_marks}
 use Rattle.mx_walk.specs.Positions.{IsBefore, IsPosition, IsUpTo, is_up_to, next_event, next_position}
 use Rattle.mx_walk.specs.Seeking.{IsPassed, is_marked}
 use Rattle.mx_walk.specs.Walks.{Walk, world_here}
-use Rattle.mx_walk.proofs.Along.{itself, up_trans}
-use Rattle.mx_walk.proofs.Next.{above_to, above_trans, up_to_of}
+use Rattle.mx_walk.proofs.Next.{above_to}
 use Rattle.mx_walk.proofs.Passing.{found_more, passed_more}
 use Rattle.mx_walk.proofs.Unleft.{fewer_to}
 use Rattle.mx_app_look.specs.Searches.{next_made}
 use Rattle.mx_app_gdb.specs.declared.halts.Halted.{Halted}
-use Rattle.mx_app_gdb.specs.declared.halts.Halted.TheVariants.{AtEnd}
 use Rattle.mx_app_gdb.specs.declared.halts.Halts.{Halts}
 use Rattle.mx_app_gdb.specs.declared.marks.Moving.{Moving}
 use Rattle.mx_app_gdb.specs.declared.ranges.Range.{Range}
 use Rattle.mx_app_gdb.specs.Marks.{moves}
 use Rattle.mx_app_gdb.specs.Halts.{IsUnchanged, halted_here, halts_after}
 use Rattle.mx_app_gdb.specs.Moves.{AreStepped, EndsBy, Halt, IsAfterNext, IsAtStep, IsCome, IsComeFrom, IsComeIf, IsHaltFrom, IsMadeNext, IsOnFrom, IsSearchedOn, IsStepped, IsSteppedFrom, LeadsOn, Marks, at, ended, ends_of, further, halted, is_met, moves_next, process_next, stands, stands_in}
-use Rattle.mx_app_gdb.proofs.HaltedOn.{OnWay, events_to, left_of, leads_trans, made_halts, made_is, made_on}
+use Rattle.mx_app_gdb.proofs.HaltedOn.{OnWay, events_to, left_of, made_halts, made_is, made_on}
 use Rattle.mx_app_gdb.proofs.InRange.{leaving, range_halts, range_on, stepped_in}
 use Rattle.mx_app_gdb.proofs.OnToStep.{come_at, come_more, ending, halts_on, passes_on}
-use Rattle.mx_app_gdb.proofs.RightAfter.{halts_is, none_halts}
+use Rattle.mx_app_gdb.proofs.RightAfter.{halts_is}
 
 -- ---- an event can be made, so it is before the last position
 

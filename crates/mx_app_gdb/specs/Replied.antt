@@ -1,5 +1,5 @@
 -- What each request is answered, and what the stub has in hand after it (our own).
-use Rattle.std.specs.Prelude.{◌≡◌, ℕ, Bool, true, false, is_none, is_some, if◌then◌else◌, ◌&&◌}
+use Rattle.std.specs.Prelude.{◌≡◌, ℕ, Bool, true, false, is_none, is_some, if◌then◌else◌, ◌&&◌, ◌||◌}
 use Rattle.std.specs.Prelude.{List, [], ◌++◌, codes, map, option_map, slice_set, Option, Some, None}
 use Rattle.std.specs.List.{list_any, range_with_len}
 use Rattle.hex.specs.Hex.{encode_lower}
@@ -22,7 +22,7 @@ use Rattle.mx_walk.specs.Walks.{Walk, world_here}
 use Rattle.mx_app_look.specs.declared.points.Points.{Points}
 use Rattle.mx_app_look.specs.declared.sight.Sight.{Sight}
 use Rattle.mx_app_look.specs.Changes.{as_seen, seen_in}
-use Rattle.mx_app_look.specs.Requests.{request_of as line_of}
+use Rattle.mx_app_look.specs.Requests.{ends, request_of as line_of}
 use Rattle.mx_app_look.specs.Sessions.{IsAnswered}
 use Rattle.mx_app_gdb.specs.declared.halts.Halted.{Halted}
 use Rattle.mx_app_gdb.specs.declared.halts.Halted.TheVariants.{There}
@@ -174,7 +174,8 @@ IsToldIf true s line u text = (u ≡ s) × (text ≡ for_gdb_text)
 IsToldIf false s line u text = IsAnswered s line u text
 
 abbrev pub IsToldBy : Sight → List ℕ → Sight → List ℕ → Type 0
-IsToldBy s line u text = IsToldIf (is_for_gdb (line_of line)) s line u text
+IsToldBy s line u text =
+    IsToldIf (ends line || is_for_gdb (line_of (world_here s.walker).services line)) s line u text
 
 abbrev pub IsConsoled : Stub → List ℕ → Stub → List ℕ → Type 0
 IsConsoled s line u text = (u ≡ record s { sight = u.sight }) × IsToldBy s.sight line u.sight text

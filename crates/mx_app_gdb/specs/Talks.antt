@@ -1,12 +1,14 @@
 -- The talk: bytes that come, and bytes that are written (our own).
-use Rattle.std.specs.Prelude.{◌≡◌, ℕ, suc, ◌^◌, ◌-◌, Bool, true, false, if◌then◌else◌}
+use Rattle.std.specs.Prelude.{◌≡◌, ◌⊎◌, ℕ, suc, ◌^◌, ◌-◌, Bool, true, false, if◌then◌else◌}
 use Rattle.std.specs.Prelude.{List, [], ◌∷◌, ◌++◌, codes, length, map, min, nat_lt, Option, Some, None, Result, Ok, Err}
 use Rattle.mx_rsp.specs.declared.hearing.Heard.{Heard}
 use Rattle.mx_rsp.specs.declared.hearing.Heard.TheVariants.{Again, Nothing, Packet, TooLong, Wrong}
 use Rattle.mx_rsp.specs.Hearing.{heard_of, reading_after}
 use Rattle.mx_rsp.specs.Packets.{packet}
 use Rattle.mx_rsp.specs.Requests.{request_of}
-use Rattle.mx_app_look.specs.Sessions.{IsBegun, sight_at}
+use Rattle.mx_app_failure.specs.Failure.{IsUntyped, IsWanting, PrintsFront}
+use Rattle.mx_app_failure.specs.declared.failure.Failure.{Failure}
+use Rattle.mx_app_look.specs.Sessions.{HasFailed, IsBegun, sight_at}
 use Rattle.mx_app_step.specs.Asked.{Asked}
 use Rattle.mx_app_step.specs.Config.{Config}
 use Rattle.mx_app_step.specs.Course.{IsSaved}
@@ -92,6 +94,40 @@ IsTalkOf n (Some t) (Some l ∷ xs) text =
 abbrev pub IsTalk : Talk → List (Option (List ℕ)) → List ℕ → Type 0
 IsTalk t typed text = IsTalkOf (2 ^ 64 - 1) (Some t) typed text
 
+-- ---- what is written where the output takes no more, or memory is out: a front
+
+-- of the acknowledgement; or of all, where the reply is known
+abbrev pub IsAnswerBegun : Talk → List ℕ → (List ℕ → Type 0) → Type 0
+IsAnswerBegun t payload Prints =
+    PrintsFront Prints (if_acks t.acks (codes "+"))
+    ⊎ ((s : Stub) × (reply : Option (List ℕ)) × (next : After)
+    × IsReplied t.stub (request_of payload) s reply next
+    × PrintsFront Prints (if_acks t.acks (codes "+") ++ reply_text reply))
+
+abbrev pub IsHeardBegun : Talk → Heard → (List ℕ → Type 0) → Type 0
+IsHeardBegun t Nothing Prints = Prints []
+IsHeardBegun t Again Prints = PrintsFront Prints (if_acks t.acks t.last.items)
+IsHeardBegun t Wrong Prints = PrintsFront Prints (if_acks t.acks (codes "-"))
+IsHeardBegun t TooLong Prints = IsAnswerBegun t [] Prints
+IsHeardBegun t (Packet p) Prints = IsAnswerBegun t p Prints
+
+abbrev pub IsByteBegun : Talk → ℕ → (List ℕ → Type 0) → Type 0
+IsByteBegun t b Prints = IsHeardBegun (read_to t b) (heard_of t.reader b) Prints
+
+-- THE TALK fails for this: no byte can be read, after all answers to those before; or the last one can't be answered
+-- whole. The bytes before it went on
+abbrev pub IsCutOf : ℕ → Talk → List (Option (List ℕ)) → (List ℕ → Type 0) → Failure → Type 0
+IsCutOf n t [] Prints f = (m : ℕ) × (n ≡ suc m) × IsUntyped f × Prints []
+IsCutOf n t (None ∷ xs) Prints f = ⊥
+IsCutOf n t (Some l ∷ xs) Prints f =
+    (m : ℕ) × (b : ℕ) × (n ≡ suc m) × (l ≡ b ∷ [])
+    × (((xs ≡ []) × IsWanting f × IsByteBegun t b Prints)
+    ⊎ ((u : Talk) × (now : List ℕ) × IsByteHeard t b (Some u) now
+    × IsCutOf m u xs (λ rest. Prints (now ++ rest)) f))
+
+abbrev pub IsTalkCut : Talk → List (Option (List ℕ)) → (List ℕ → Type 0) → Failure → Type 0
+IsTalkCut t typed Prints f = IsCutOf (2 ^ 64 - 1) t typed Prints f
+
 -- ---- where it begins
 
 abbrev pub file_names : List ServiceLine → List (List ℕ)
@@ -132,3 +168,11 @@ IsTalked config log slot qs typed ps Prints Ended =
 IsTalked config log slot qs typed ps Prints (NoService s) =
     (c : Config) × (k : Walk) × IsOpened config log qs ps c k
     × (only_by (slot_count c) slot ≡ Err s) × (typed ≡ []) × Prints []
+
+-- no history is opened: nothing is taken of the input, and nothing written; or a talk fails
+abbrev pub HasTalkFailed : List ℕ → List ℕ → Option ℕ → List Asked → List (Option (List ℕ)) → List Part
+    → (List ℕ → Type 0) → Failure → Type 0
+HasTalkFailed config log slot qs typed ps Prints f =
+    ((typed ≡ []) × Prints [] × HasFailed config log qs ps f)
+    ⊎ ((c : Config) × (k : Walk) × (only : Option ℕ) × (t : Talk) × IsOpened config log qs ps c k
+    × (only_by (slot_count c) slot ≡ Ok only) × IsTalkBegun c k only t × IsTalkCut t typed Prints f)

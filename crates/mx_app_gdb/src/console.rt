@@ -8,15 +8,14 @@ ghost use Rattle.mx_app_gdb.specs.Replied.{IsConsoled, IsToldBy};
 
 use crate::stub::Stub;
 use mx_app_failure::Failure;
-use mx_app_look::{Request, Sight, answer_line, request_of};
+use mx_app_look::{Request, Sight, answer_line, ends, request_of, services_here};
 use mx_walk::Progress;
 use std::alloc::Global;
 
 /// What a command is answered for which gdb has its own.
 const FOR_GDB: &str = "gdb's own commands do that; of those that move only goto is here\n";
 
-/// Whether gdb has its own command for a request: it moves, but not to a position that is named; or it is about points;
-/// or it ends the session.
+/// Whether gdb has its own command for a request: it moves, but not to a position that is named; or it is about points.
 fn is_for_gdb(request: &Option<Request>) -> bool
     ensures { result ≡ is_for_gdb request.now }
 {
@@ -30,7 +29,7 @@ fn is_for_gdb(request: &Option<Request>) -> bool
             | Request::Continue
             | Request::Reverse
             | Request::Until(_)
-            | Request::Quit => true,
+            | Request::UntilBack(_) => true,
             _ => false,
         },
         None => false,
@@ -48,7 +47,7 @@ fn answer<P: Progress>(
     ensures told { IfOk result (λ r. IsToldBy sight line.now r.0 r.1.items) }
     ensures grown { HasGrown (P.shown progress.old) (P.shown progress.new) }
 {
-    if is_for_gdb(&request_of(line)) {
+    if ends(line) || is_for_gdb(&request_of(services_here(&sight.walker), line)) {
         let mut text = Vec::new(alloc);
         text.extend_from_slice(FOR_GDB.as_bytes())?;
         return Ok((sight, text));

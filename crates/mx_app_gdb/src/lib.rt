@@ -30,8 +30,10 @@ mod stepping;
 mod stops;
 mod stub;
 mod symbol_files;
+mod talk_laws;
 mod talking;
 mod threads;
 
-pub use reply_laws::history_stays;
+pub use reply_laws::{back_returns, history_stays};
+pub use talk_laws::one_talk;
 pub use talking::{TalkEnding, TalkWanted, gdb};

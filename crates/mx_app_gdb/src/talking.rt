@@ -5,14 +5,14 @@ ghost use Rattle.std.specs.Io.KnownBytes.{Appends};
 ghost use Rattle.mx_app_start.specs.Asked.{byte_line};
 ghost use Rattle.mx_app_step.specs.Asked.{Asked};
 ghost use Rattle.mx_app_step.specs.Config.{Config as Configured};
-ghost use Rattle.mx_app_step.specs.Failure.{IsUntyped, IsWanting};
+ghost use Rattle.mx_app_step.specs.Failure.{IsUntyped, IsWanting, PrintsFront};
 ghost use Rattle.mx_walk.specs.declared.progress.Part.{Part as Parts};
 ghost use Rattle.mx_walk.specs.Parts.{HasGrown};
 ghost use Rattle.mx_walk.specs.Walks.{Walk};
-ghost use Rattle.mx_app_look.specs.Sessions.{HasFailed, IsCutOff, sight_at};
+ghost use Rattle.mx_app_look.specs.Sessions.{HasFailed, sight_at};
 ghost use Rattle.mx_app_gdb.specs.Replied.{text_of};
 ghost use Rattle.mx_app_gdb.specs.Threads.{threads_at};
-ghost use Rattle.mx_app_gdb.specs.Talks.{IsAnswered, IsByteHeard, IsLeft, IsOpened, IsTalk, IsTalked, file_names, if_acks, last_of, only_by, reply_text};
+ghost use Rattle.mx_app_gdb.specs.Talks.{HasTalkFailed, IsAnswerBegun, IsAnswered, IsByteBegun, IsByteHeard, IsLeft, IsOpened, IsTalk, IsTalkCut, IsTalked, file_names, if_acks, last_of, only_by, reply_text};
 
 use crate::replying::{After, Reply, reply_to};
 use crate::stub::Stub;
@@ -58,7 +58,11 @@ struct Talk {
 /// Writes a byte about a packet, if packets are acknowledged.
 fn acknowledge<W: Write>(acks: bool, byte: &[u8], out: &mut W) -> Result<(), Failure>
     ensures err { IfErr result IsWanting }
-    ensures bytes { OnOk result (Appends (W.contents out.old) (W.contents out.new) (if_acks acks byte.now)) }
+    ensures begun { IfErr result (λ _. PrintsFront
+        (λ front. Appends (W.contents out.old) (W.contents out.new) front)
+        (if_acks acks byte.now)) }
+    ensures bytes { OnOk result (Appends (W.contents out.old) (W.contents out.new)
+        (if_acks acks byte.now)) }
 {
     if acks { print_text(byte, out) } else { Ok(()) }
 }
@@ -73,6 +77,9 @@ fn write_reply<W: Write>(
     ensures err { IfErr result IsWanting }
     ensures last { IfOk result (λ now. now.items
         ≡ last_of last.items (option_map (λ v. v.items) text)) }
+    ensures begun { IfErr result (λ _. PrintsFront
+        (λ front. Appends (W.contents out.old) (W.contents out.new) front)
+        (reply_text (option_map (λ v. v.items) text))) }
     ensures bytes { OnOk result (Appends (W.contents out.old) (W.contents out.new)
         (reply_text (option_map (λ v. v.items) text))) }
 {
@@ -95,6 +102,9 @@ fn send<W: Write>(
 ) -> Result<Option<Talk>, Failure>
     ensures err { IfErr result IsWanting }
     ensures left { IfOk result (λ next. IsLeft talk talk.stub (text_of reply) reply.after next) }
+    ensures begun { IfErr result (λ _. PrintsFront
+        (λ front. Appends (W.contents out.old) (W.contents out.new) front)
+        (reply_text (text_of reply))) }
     ensures bytes { OnOk result (Appends (W.contents out.old) (W.contents out.new)
         (reply_text (text_of reply))) }
 {
@@ -135,6 +145,8 @@ fn answer<P: Progress, W: Write>(
     ensures answered { IfOk result (λ next. (text : List ℕ)
         × IsAnswered talk payload.now next text
         × Appends (W.contents out.old) (W.contents out.new) text) }
+    ensures begun { IfErr result (λ _. IsAnswerBegun talk payload.now
+        (λ text. Appends (W.contents out.old) (W.contents out.new) text)) }
     ensures grown { HasGrown (P.shown progress.old) (P.shown progress.new) }
 {
     acknowledge(talk.acks, b"+", out)?;
@@ -167,6 +179,8 @@ fn hear<P: Progress, W: Write>(
     ensures heard { IfOk result (λ next. (text : List ℕ)
         × IsByteHeard talk byte next text
         × Appends (W.contents out.old) (W.contents out.new) text) }
+    ensures begun { IfErr result (λ _. IsByteBegun talk byte
+        (λ text. Appends (W.contents out.old) (W.contents out.new) text)) }
     ensures grown { HasGrown (P.shown progress.old) (P.shown progress.new) }
 {
     let mut talk = talk;
@@ -207,8 +221,9 @@ fn converse<L: LineReader, P: Progress, W: Write>(
     progress: &mut P,
     out: &mut W,
 ) -> Result<(), Failure>
-    ensures err { IfErr result (λ f. IsCutOff f × ((typed : List (Option (List ℕ)))
-        × (L.given lines.new ≡ L.given lines.old ++ typed))) }
+    ensures cut { IfErr result (λ f. (typed : List (Option (List ℕ)))
+        × (L.given lines.new ≡ L.given lines.old ++ typed)
+        × IsTalkCut talk typed (λ text. Appends (W.contents out.old) (W.contents out.new) text) f) }
     ensures talked { OnOk result ((typed : List (Option (List ℕ))) × (text : List ℕ)
         × (L.given lines.new ≡ L.given lines.old ++ typed) × IsTalk talk typed text
         × Appends (W.contents out.old) (W.contents out.new) text) }
@@ -329,7 +344,8 @@ pub fn gdb<R: FileReader + Drop, F: Drop, W: Write + Drop, L: LineReader, P: Pro
         × (ps : List Parts) × (R.asked channels.new.reader ≡ R.asked channels.old.reader ++ qs)
         × (L.given lines.new ≡ L.given lines.old ++ typed)
         × (P.shown progress.new ≡ P.shown progress.old ++ ps)
-        × HasFailed wanted.entry.config.now wanted.entry.log.now qs ps f) }
+        × HasTalkFailed wanted.entry.config.now wanted.entry.log.now wanted.entry.slot qs typed ps
+        (λ text. Appends (W.contents channels.old.out) (W.contents channels.new.out) text) f) }
 {
     let opened = open_history(alloc, &mut channels.reader, progress, wanted)?;
     let count = slot_count(opened.files.as_slice());

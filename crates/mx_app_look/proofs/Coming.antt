@@ -67,7 +67,7 @@ up_to_trans p q r (inl lt) (inr h) = let same = h.0 in let less : p.records < r.
 up_to_trans p q r (inr g) (inl lt) = let same = g.0 in let less : p.records < r.records = omega (arith, lt, same) in inl less
 up_to_trans p q r (inr g) (inr h) = let a = g.1 in let b = h.1 in let few : p.steps ≤ r.steps = omega (arith, a, b) in inr (g.0 ∙ h.0, few)
 
-order : (p q : Position) → IsUpTo q p ⊎ IsBefore p q
+pub order : (p q : Position) → IsUpTo q p ⊎ IsBefore p q
 order p q = elim (cases_lt p.records q.records) [
   | inl lt ↦ inr (inl lt)
   | inr ge ↦ elim (cases_lt q.records p.records) [
@@ -81,7 +81,7 @@ order p q = elim (cases_lt p.records q.records) [
   ]
 ]
 
-above_by : (f : World → ℕ × Event → World → Bool) (boot : World) (records : List Record) (p q : Position) → IsPosition records p → IsPosition records q → IsLastMarked f boot records p q → IsUpTo q p ⊎ IsBefore p q → IsBefore p q
+pub above_by : (f : World → ℕ × Event → World → Bool) (boot : World) (records : List Record) (p q : Position) → IsPosition records p → IsPosition records q → IsLastMarked f boot records p q → IsUpTo q p ⊎ IsBefore p q → IsBefore p q
 above_by f boot records p q h l found (inr lt) = lt
 above_by f boot records p q h l found (inl le) =
     let r = begins records q p l h le in

@@ -16,8 +16,10 @@ use Rattle.mx_walk.proofs.Naming.{first_is_one, last_is_one}
 use Rattle.mx_walk.proofs.Next.{above_it}
 use Rattle.mx_app_look.proofs.Lists.{same_rest}
 use Rattle.mx_app_look.specs.declared.points.Points.{Points}
+use Rattle.mx_app_look.specs.declared.happening.Happening.{Happening}
+use Rattle.mx_app_look.specs.Happenings.{is_happening}
 use Rattle.mx_app_look.specs.Marks.{changes_watched, is_looked_for, leaves_breakpoint}
-use Rattle.mx_app_look.specs.Searches.{IsHalt, IsHaltAfter, IsHaltBy, IsLastHalt, IsNextHalt, changes_from, halt_by, next_made}
+use Rattle.mx_app_look.specs.Searches.{IsHalt, IsHaltAfter, IsHaltBy, IsLastHalt, IsLastHappened, IsNextHalt, changes_from, halt_by, next_made, record_after}
 
 -- ---- what is passed isn't met
 
@@ -51,6 +53,17 @@ module _ (f : World → ℕ × Event → World → Bool) where
         ap (λ (xs : List (ℕ × Event)). world_after_events boot xs) none.1 ∙ after_both boot es none.0 in
         none_there (world_at boot records first) none.0 s.0 s.1 (subst (λ (xs : List (ℕ × Event)). NoneMarked f (world_at boot records first) xs) same g.2)
         (subst (λ (v : World). is_marked f v s.0 ≡ true) world s.3)
+
+-- ---- one last event in which something happens
+
+module _ (k : Walk) (h : Happening) where
+  pub one_last_happened : (x y : Position × List ℕ) → IsLastHappened k h x → IsLastHappened k h y → x ≡ y
+  one_last_happened x y (inl a) (inl b) =
+      let same : a.0 ≡ b.0 = last_is_one (is_happening h) k.boot k.records a.0 b.0 k.here a.1 b.1 a.2 b.2 in
+      a.3 ∙ ap (λ (p : Position). (p, record_after k p)) same ∙ sym b.3
+  one_last_happened x y (inl a) (inr b) = absurd (passed_isnt_last (is_happening h) k.boot k.records a.0 k.here a.1 a.2 b.0)
+  one_last_happened x y (inr a) (inl b) = absurd (passed_isnt_last (is_happening h) k.boot k.records b.0 k.here b.1 b.2 a.0)
+  one_last_happened x y (inr a) (inr b) = a.1 ∙ sym b.1
 
 -- ---- one halt
 

@@ -16,4 +16,5 @@ mod Texts
 mod ShownMore
 mod Making
 mod Since
+mod Happened
 mod Ranges

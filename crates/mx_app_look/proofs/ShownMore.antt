@@ -1,9 +1,11 @@
 -- What requests show.
-use Rattle.std.proofs.Common.{◌≡◌, ◌∙◌, ◌⊎◌, ◌≤◌, ◌<◌, ℕ, suc, ◌+◌, ◌-◌, List, [], ◌++◌, append_assoc, Option, Some, None, Result, Ok, Err, IfErr, IfOk, OnOk, drop, find, get_or, length, slice_get, refl, ap, sym, subst, inl, inr, arith}
+use Rattle.std.proofs.Common.{◌≡◌, ◌∙◌, ◌⊎◌, ◌≤◌, ◌<◌, ℕ, suc, ◌+◌, ◌-◌, Bool, true, false, List, [], ◌++◌, append_assoc, Option, Some, None, Result, Ok, Err, IfErr, IfOk, OnOk, drop, find, get_or, length, slice_get, refl, ap, sym, subst, inl, inr, arith}
 use Rattle.std.specs.List.{range_with_len}
 use Rattle.std.proofs.lemmas.Bool.{cases_lt}
 use Rattle.std.proofs.lemmas.List.{append-nil}
+use Rattle.mx_machine.specs.declared.events.Event.{Event}
 use Rattle.mx_machine.specs.declared.history.Record.{Record}
+use Rattle.mx_machine.specs.World.{World}
 use Rattle.mx_walk.specs.declared.positions.Position.{Position}
 use Rattle.mx_walk.specs.declared.progress.Part.{Part}
 use Rattle.mx_walk.specs.Parts.{HasGrown, parts_between, walk_between, walk_shown}
@@ -13,12 +15,11 @@ use Rattle.mx_walk.specs.Seeking.{IsLastMarked, IsPassed}
 use Rattle.mx_walk.proofs.PartsShown.{joined, none_between}
 use Rattle.mx_app_look.specs.declared.points.Points.{Points}
 use Rattle.mx_app_look.specs.declared.request.Request.{Request}
-use Rattle.mx_app_look.specs.declared.request.Request.TheVariants.{Nothing, Quit, Why}
+use Rattle.mx_app_look.specs.declared.request.Request.TheVariants.{Nothing, Why}
 use Rattle.mx_app_look.specs.declared.sight.Sight.{Sight}
 use Rattle.mx_app_look.specs.Before.{record_before}
-use Rattle.mx_app_look.specs.Marks.{is_looked_for}
 use Rattle.mx_app_look.specs.Searches.{IsNextHalt, not_met}
-use Rattle.mx_app_look.specs.Shows.{IsLastShown, IsNextShown, IsRequestShown, record_shown, return_shown, steps_made, why_shown, why_shown_by}
+use Rattle.mx_app_look.specs.Shows.{IsLastShown, IsNextShown, IsRequestShown, IsShownIf, record_shown, return_shown, steps_made, why_shown, why_shown_by}
 use Rattle.mx_app_look.specs.declared.happening.Happening.{Happening}
 use Rattle.mx_app_look.specs.Until.{past, halt_after, has, met, until_halt}
 use Rattle.mx_walk.proofs.Along.{up_trans}
@@ -82,6 +83,17 @@ pub then_none : (k w : Walk) (n : ℕ) (p : Position) (before now after ps : Lis
 then_none k w n p before now after ps one moved a b =
     let few : 0 ≤ p.steps = omega arith in
     b ∙ ap (λ (v : Walk). now ++ shown_to v p) moved ∙ ap (λ (xs : List Part). now ++ xs) (none_shown (gone k (past n)) p (inr (one, few)) one) ∙ append-nil now ∙ a
+
+-- one whose steps are made, and then back
+pub returned_shown : (k w : Walk) (n : ℕ) (x : Record) (here : Position) (before now after : List Part) → k.here ≡ steps_made n x → w ≡ gone k (past n) → here ≡ k.here
+    → now ≡ before ++ record_shown k n x → after ≡ now ++ shown_to w here → after ≡ before ++ return_shown k k.here (past n)
+returned_shown k w n x here before now after there moved at a b =
+    let le : k.here.steps ≤ k.here.steps = omega arith in
+    let one : record_shown k n x ≡ shown_way k k.here (past n) =
+    ap (λ (p : Position). shown_to k p ++ shown_way k p (past n)) (sym there) ∙ ap (λ (ps : List Part). ps ++ shown_way k k.here (past n)) (none_shown k k.here (inr (refl, le)) refl) in
+    let back : shown_to w here ≡ shown_way k (past n) k.here = ap (λ (v : Walk). shown_to v here) moved ∙ ap (λ (p : Position). shown_way k (past n) p) at in
+    both_shown before now after (record_shown k n x) (shown_to w here) a b
+    ∙ ap (λ (ps : List Part). before ++ (ps ++ shown_to w here)) one ∙ ap (λ (ps : List Part). before ++ (shown_way k k.here (past n) ++ ps)) back
 
 pub why_is_shown : (k : Walk) (m : ℕ) (x : Record) → k.here.records ≡ suc m → slice_get k.records m ≡ Some x → why_shown k ≡ record_shown k m x
 why_is_shown k m x e h =
@@ -204,15 +216,16 @@ module _ (k : Walk) (s : Points) where
   pub here_shown : (before : List Part) → IsNextHalt k s (k.here, not_met) → Shows before before (λ ps. IsNextShown k s ps)
   here_shown before h = (walk_between k.records k.here k.here, none_between (length k.records) k.here.records before, ((k.here, not_met), h, refl))
 
-  -- back
+-- back
+module _ (k : Walk) (f : World → ℕ × Event → World → Bool) where
   abbrev back : Position → List Part
   back p = walk_shown k.records k.here ++ shown_to k p
 
-  pub none_before : (p : Position) (before after : List Part) → p ≡ first → IsPassed (is_looked_for s) k.boot k.records first k.here → after ≡ before ++ back p → Shows before after (λ ps. IsLastShown k s ps)
+  pub none_before : (p : Position) (before after : List Part) → p ≡ first → IsPassed f k.boot k.records first k.here → after ≡ before ++ back p → Shows before after (λ ps. IsLastShown f k ps)
   none_before p before after at passed a = (back p, a, inr (passed, ap back at))
 
-  pub back_shown : (j : Walk) (next : Position) (before now after : List Part) → j ≡ gone k j.here → IsPosition j.records j.here → IsLastMarked (is_looked_for s) k.boot k.records j.here k.here
-      → next ≡ next_position j.records j.here → now ≡ before ++ back j.here → after ≡ now ++ return_shown j j.here next → Shows before after (λ ps. IsLastShown k s ps)
+  pub back_shown : (j : Walk) (next : Position) (before now after : List Part) → j ≡ gone k j.here → IsPosition j.records j.here → IsLastMarked f k.boot k.records j.here k.here
+      → next ≡ next_position j.records j.here → now ≡ before ++ back j.here → after ≡ now ++ return_shown j j.here next → Shows before after (λ ps. IsLastShown f k ps)
   back_shown j next before now after moved position found there a b =
       let p = j.here in
       let records : j.records ≡ k.records = ap (λ (w : Walk). w.records) moved in
@@ -243,6 +256,12 @@ stayed_shown r s q p before is h =
     ok_always r (Shows before before (λ ps. IsRequestShown s q ps))
     (shown_to s.walker s.walker.here, stays_shown s.walker before, subst (λ (x : Request). IsRequestShown s x (shown_to s.walker s.walker.here)) (sym is) h)
 
-pub nothing_shown : {A E : Type 0} (r : Result A E) (s : Sight) (q : Request) (before : List Part) → (q ≡ Nothing) ⊎ (q ≡ Quit) → OnOk r (Shows before before (λ ps. IsRequestShown s q ps))
-nothing_shown r s q before (inl e) = stayed_shown r s q Nothing before e refl
-nothing_shown r s q before (inr e) = stayed_shown r s q Quit before e refl
+pub nothing_shown : {A E : Type 0} (r : Result A E) (s : Sight) (q : Request) (before : List Part) → q ≡ Nothing → OnOk r (Shows before before (λ ps. IsRequestShown s q ps))
+nothing_shown r s q before e = stayed_shown r s q Nothing before e refl
+
+-- a search, if it is made
+pub shown_if : {A E : Type 0} (r : Result A E) (b : Bool) (IsSearch : List Part → Type 0) (before after : List Part) → b ≡ true → OnOk r (Shows before after IsSearch) → OnOk r (Shows before after (λ ps. IsShownIf b IsSearch ps))
+shown_if r b IsSearch before after is h = subst (λ (x : Bool). OnOk r (Shows before after (λ ps. IsShownIf x IsSearch ps))) (sym is) h
+
+pub unshown_if : {A E : Type 0} (r : Result A E) (b : Bool) (IsSearch : List Part → Type 0) (before : List Part) → b ≡ false → OnOk r (Shows before before (λ ps. IsShownIf b IsSearch ps))
+unshown_if r b IsSearch before is = ok_always r _ (subst (λ (x : Bool). Shows before before (λ ps. IsShownIf x IsSearch ps)) (sym is) ([], sym (append-nil before), refl))

@@ -4,7 +4,8 @@ use Rattle.std.proofs.KnownBytes.{Appends-nil, Appends-trans}
 use Rattle.std.proofs.lemmas.List.{append-nil}
 use Rattle.std.specs.Io.KnownBytes.{Appends}
 use Rattle.mx_app_look.specs.declared.sight.Sight.{Sight}
-use Rattle.mx_app_look.specs.Sessions.{IsAnswered, IsSession, IsWhole, end_text, ends, is_nothing, is_over, prompt_text}
+use Rattle.mx_app_look.specs.Requests.{ends}
+use Rattle.mx_app_look.specs.Sessions.{IsAnswered, IsSession, IsWhole, end_text, is_nothing, is_over, prompt_text}
 use Rattle.mx_app_look.specs.Shows.{IsShown}
 use Rattle.mx_walk.specs.Parts.{HasGrown}
 use Rattle.mx_walk.specs.declared.progress.Part.{Part}

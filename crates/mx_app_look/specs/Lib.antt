@@ -1,3 +1,4 @@
+pub mod SlotWords
 pub mod Verbs
 pub mod PointRequests
 pub mod Queries
@@ -8,14 +9,15 @@ pub mod Ranges
 pub mod Points
 pub mod Marks
 pub mod Changes
+pub mod Before
+pub mod Happenings
+pub mod Seen
 pub mod Searches
 pub mod Places
 pub mod Slots
 pub mod Showing
+pub mod Until
 pub mod Seeking
 pub mod Shows
-pub mod Before
-pub mod Happenings
-pub mod Until
 pub mod Answers
 pub mod Sessions

@@ -5,19 +5,21 @@ use Rattle.mx_boot.specs.Script.{count_field, only_count}
 use Rattle.mx_app_look.specs.declared.query.Query.{Query}
 use Rattle.mx_app_look.specs.declared.query.Query.TheVariants.{Code, Memory, Registers, Stack, Variable}
 use Rattle.mx_boot.specs.Addresses.{address_of_word, symbol_name}
+use Rattle.mx_machine.specs.Service.{Service}
+use Rattle.mx_app_look.specs.SlotWords.{only_slot, slot_of_word}
 
 -- regs [SLOT]
-abbrev pub registers_of_fields : List (List ℕ) → Option Query
-registers_of_fields [] = Some (Registers None)
-registers_of_fields (f ∷ fs) = do
-  s ← only_count (f ∷ fs)
+abbrev pub registers_of_fields : List Service → List (List ℕ) → Option Query
+registers_of_fields services [] = Some (Registers None)
+registers_of_fields services (f ∷ fs) = do
+  s ← only_slot services (f ∷ fs)
   Some (Registers (Some s))
 
 -- mem SLOT ADDRESS N
-abbrev pub memory_of_fields : List (List ℕ) → Option Query
-memory_of_fields [] = None
-memory_of_fields (f ∷ fs) = do
-  s ← count_field f
+abbrev pub memory_of_fields : List Service → List (List ℕ) → Option Query
+memory_of_fields services [] = None
+memory_of_fields services (f ∷ fs) = do
+  s ← slot_of_word services f
   p ← pair fs
   m ← address_of_word p.0
   n ← count_field p.1
@@ -31,10 +33,10 @@ code_of_slot s (f ∷ fs) = do
   m ← address_of_word g
   Some (Code (Some s) (Some m))
 
-abbrev pub code_of_fields : List (List ℕ) → Option Query
-code_of_fields [] = Some (Code None None)
-code_of_fields (f ∷ fs) = do
-  s ← count_field f
+abbrev pub code_of_fields : List Service → List (List ℕ) → Option Query
+code_of_fields services [] = Some (Code None None)
+code_of_fields services (f ∷ fs) = do
+  s ← slot_of_word services f
   code_of_slot s fs
 
 -- stack [SLOT [N]]: eight dwords without N
@@ -44,15 +46,15 @@ stack_of_slot s (f ∷ fs) = do
   n ← only_count (f ∷ fs)
   Some (Stack (Some s) n)
 
-abbrev pub stack_of_fields : List (List ℕ) → Option Query
-stack_of_fields [] = Some (Stack None 8)
-stack_of_fields (f ∷ fs) = do
-  s ← count_field f
+abbrev pub stack_of_fields : List Service → List (List ℕ) → Option Query
+stack_of_fields services [] = Some (Stack None 8)
+stack_of_fields services (f ∷ fs) = do
+  s ← slot_of_word services f
   stack_of_slot s fs
 
 -- print SLOT NAME
-abbrev pub variable_of_fields : List (List ℕ) → Option Query
-variable_of_fields fs = do
+abbrev pub variable_of_fields : List Service → List (List ℕ) → Option Query
+variable_of_fields services fs = do
   p ← pair fs
-  s ← count_field p.0
+  s ← slot_of_word services p.0
   Some (Variable s (symbol_name p.1))

@@ -1,12 +1,15 @@
 -- Where searches halt (our own).
-use Rattle.std.specs.Prelude.{◌≡◌, ◌⊎◌, ℕ, Bool, true, false, List, [], codes, Option, Some, None, if◌then◌else◌}
+use Rattle.std.specs.Prelude.{◌≡◌, ◌⊎◌, ℕ, Bool, true, false, List, [], codes, Option, Some, None, if◌then◌else◌, slice_get}
 use Rattle.mx_machine.specs.declared.events.Event.{Event}
 use Rattle.mx_walk.specs.declared.positions.Position.{Position}
 use Rattle.mx_walk.specs.Positions.{IsPosition, IsUpTo, next_event, first, is_up_to, next_position, position_before, world_at}
 use Rattle.mx_walk.specs.Seeking.{IsFirstMarked, IsLastMarked, IsPassed, is_marked}
 use Rattle.mx_walk.specs.Walks.{Walk, world_here}
 use Rattle.mx_app_look.specs.declared.points.Points.{Points}
+use Rattle.mx_app_look.specs.declared.happening.Happening.{Happening}
+use Rattle.mx_app_look.specs.Before.{why_by}
 use Rattle.mx_app_look.specs.Changes.{change_text}
+use Rattle.mx_app_look.specs.Happenings.{is_happening}
 use Rattle.mx_app_look.specs.Marks.{changes_watched, is_looked_for, leaves_breakpoint}
 
 -- what is printed if a search meets nothing
@@ -59,3 +62,17 @@ IsLastHalt k s h =
     ((p : Position) × IsPosition k.records p × IsLastMarked (is_looked_for s) k.boot k.records p k.here
     × (h ≡ (p, changes_from k s p (next_position k.records p))))
     ⊎ (IsPassed (is_looked_for s) k.boot k.records first k.here × (h ≡ (first, not_met)))
+
+-- ---- something that happens
+
+-- what the record does whose own event is right after a position
+abbrev pub record_after : Walk → Position → List ℕ
+record_after k p = why_by k p.records (slice_get k.records p.records)
+
+-- UNTIL BACK: right before the last event in which it happens, with what that record does; or at the first position.
+-- So what is seen there is what it happened to; and one more such search goes to the one before
+abbrev pub IsLastHappened : Walk → Happening → Position × List ℕ → Type 0
+IsLastHappened k h at =
+    ((p : Position) × IsPosition k.records p × IsLastMarked (is_happening h) k.boot k.records p k.here
+    × (at ≡ (p, record_after k p)))
+    ⊎ (IsPassed (is_happening h) k.boot k.records first k.here × (at ≡ (first, not_met)))

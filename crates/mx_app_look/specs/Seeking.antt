@@ -1,5 +1,5 @@
 -- Requests about what a search halts at, and the searches (our own).
-use Rattle.std.specs.Prelude.{◌≡◌, ℕ, List, [], ◌++◌, Option, Some, None, Result, Ok, Err}
+use Rattle.std.specs.Prelude.{◌≡◌, ◌==◌, ◌&&◌, ℕ, not, Bool, true, false, List, [], ◌++◌, codes, length, Option, Some, None, Result, Ok, Err}
 use Rattle.mx_debug.specs.declared.error.DebugError.{DebugError}
 use Rattle.mx_debug.specs.declared.error.DebugError.TheVariants.{TooMany}
 use Rattle.mx_debug.specs.declared.points.Breakpoint.{Breakpoint}
@@ -9,7 +9,9 @@ use Rattle.mx_app_look.specs.declared.point_request.PointRequest.{PointRequest}
 use Rattle.mx_app_look.specs.declared.point_request.PointRequest.TheVariants.{Break, Clear, Show, Watch}
 use Rattle.mx_app_look.specs.declared.points.Points.{Points}
 use Rattle.mx_app_look.specs.Points.{points_text}
-use Rattle.mx_app_look.specs.Searches.{IsLastHalt, IsNextHalt}
+use Rattle.mx_app_look.specs.declared.happening.Happening.{Happening}
+use Rattle.mx_app_look.specs.Searches.{IsLastHalt, IsLastHappened, IsNextHalt}
+use Rattle.mx_app_look.specs.Until.{has_slots, no_service}
 use Rattle.mx_app_look.specs.declared.watches.Watch.{Watch as Watched}
 use Rattle.mx_app_look.specs.Watches.{watch_set}
 use Rattle.mx_print_answers.specs.Answers.{done_line}
@@ -87,3 +89,27 @@ IsGoneOn s u text = (h : Position × List ℕ) × IsNextHalt s.walker s.points h
 
 abbrev pub IsGoneBack : Sight → Sight → List ℕ → Type 0
 IsGoneBack s u text = (h : Position × List ℕ) × IsLastHalt s.walker s.points h × IsHalted s h u text
+
+-- there is something to halt at
+abbrev pub has_points : Points → Bool
+has_points s = not ((length s.breakpoints == 0) && (length s.watches == 0))
+
+-- what is printed if there is nothing
+abbrev pub no_points : List ℕ
+no_points = codes "refused 73 BadRecord: no break, no watch\n"
+
+-- a search for breakpoints and watched bytes, if there are any; else one stays
+abbrev pub IsGoneBy : Bool → (Sight → Sight → List ℕ → Type 0) → Sight → Sight → List ℕ → Type 0
+IsGoneBy true IsGone s u text = IsGone s u text
+IsGoneBy false IsGone s u text = (u ≡ s) × (text ≡ no_points)
+
+abbrev pub IsGoneIf : (Sight → Sight → List ℕ → Type 0) → Sight → Sight → List ℕ → Type 0
+IsGoneIf IsGone s u text = IsGoneBy (has_points s.points) IsGone s u text
+
+-- a search back for what happens, if each slot that it is about has a service; else one stays
+abbrev pub IsGoneUntilBackBy : Bool → Sight → Happening → Sight → List ℕ → Type 0
+IsGoneUntilBackBy true s h u text = (at : Position × List ℕ) × IsLastHappened s.walker h at × IsHalted s at u text
+IsGoneUntilBackBy false s h u text = (u ≡ s) × (text ≡ no_service)
+
+abbrev pub IsGoneUntilBack : Sight → Happening → Sight → List ℕ → Type 0
+IsGoneUntilBack s h u text = IsGoneUntilBackBy (has_slots s.walker h) s h u text

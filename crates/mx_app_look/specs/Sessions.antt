@@ -1,8 +1,7 @@
 -- Sessions (our own).
 use Rattle.std.specs.Prelude.{◌≡◌, ◌⊎◌, ◌^◌, ◌-◌, ℕ, Bool, true, false, List, [], ◌∷◌, ◌++◌, codes, length, Option, Some, None, if◌then◌else◌}
 use Rattle.mx_app_look.specs.declared.request.Request.{Request}
-use Rattle.mx_app_look.specs.declared.request.Request.TheVariants.{Quit}
-use Rattle.mx_app_look.specs.Requests.{request_of}
+use Rattle.mx_app_look.specs.Requests.{ends, request_of}
 use Rattle.mx_app_look.specs.Verbs.{unknown_text}
 use Rattle.mx_app_failure.specs.declared.failure.Failure.{Failure}
 use Rattle.mx_app_step.specs.Asked.{Asked}
@@ -17,7 +16,7 @@ use Rattle.mx_machine.specs.World.{World}
 use Rattle.mx_walk.specs.declared.positions.Position.{Position}
 use Rattle.mx_walk.specs.declared.progress.Part.{Part}
 use Rattle.mx_walk.specs.Parts.{HasGrown, walk_shown}
-use Rattle.mx_walk.specs.Walks.{IsLast, Walk}
+use Rattle.mx_walk.specs.Walks.{IsLast, Walk, world_here}
 use Rattle.mx_walk.specs.Positions.{first}
 use Rattle.mx_app_look.specs.declared.sight.Sight.{Sight}
 use Rattle.mx_app_look.specs.Answers.{IsMade}
@@ -26,21 +25,13 @@ use Rattle.mx_app_look.specs.Shows.{IsShown}
 
 -- ---- one line
 
-abbrev pub is_quit : Option Request → Bool
-is_quit (Some Quit) = true
-is_quit _ = false
-
--- the line ends the session
-abbrev pub ends : List ℕ → Bool
-ends line = is_quit (request_of line)
-
 -- what a line that asks for this leaves in hand, and the answer: one that asks for nothing known changes nothing
 abbrev pub IsAnsweredBy : Sight → List ℕ → Option Request → Sight → List ℕ → Type 0
 IsAnsweredBy s line None u text = (u ≡ s) × (text ≡ unknown_text line)
 IsAnsweredBy s line (Some r) u text = IsMade s r u text
 
 abbrev pub IsAnswered : Sight → List ℕ → Sight → List ℕ → Type 0
-IsAnswered s line u text = IsAnsweredBy s line (request_of line) u text
+IsAnswered s line u text = IsAnsweredBy s line (request_of (world_here s.walker).services line) u text
 
 -- who asks prints the position before each line
 abbrev pub prompt_text : Bool → Walk → List ℕ

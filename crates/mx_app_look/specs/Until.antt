@@ -1,12 +1,12 @@
 -- On to a record in which something happens (our own).
-use Rattle.std.specs.Prelude.{ℕ, ◌+◌, ◌-◌, ◌&&◌, nat_lt, Bool, false, List, length, find, Option, Some, None, slice_get}
+use Rattle.std.specs.Prelude.{ℕ, ◌+◌, ◌-◌, ◌&&◌, nat_lt, Bool, true, false, List, codes, length, find, Option, Some, None, slice_get}
 use Rattle.std.specs.List.{range_with_len}
 use Rattle.mx_machine.specs.declared.history.Record.{Record}
 use Rattle.mx_walk.specs.declared.positions.Position.{Position}
 use Rattle.mx_walk.specs.Walks.{Walk, world_here}
 use Rattle.mx_app_look.specs.Before.{step_before, why_text}
 use Rattle.mx_app_look.specs.declared.happening.Happening.{Happening}
-use Rattle.mx_app_look.specs.declared.happening.Happening.TheVariants.{Call, Death, Delivery}
+use Rattle.mx_app_look.specs.declared.happening.Happening.TheVariants.{Call, Death, Delivery, Error}
 use Rattle.mx_app_look.specs.Happenings.{happens}
 use Rattle.mx_app_look.specs.Searches.{not_met}
 
@@ -20,6 +20,12 @@ abbrev pub has_slots : Walk → Happening → Bool
 has_slots k (Call slot kind) = has_service k slot
 has_slots k (Death slot) = has_service k slot
 has_slots k (Delivery from to) = has_service k from && has_service k to
+has_slots k (Error None) = true
+has_slots k (Error (Some slot)) = has_service k slot
+
+-- what is printed if one hasn't
+abbrev pub no_service : List ℕ
+no_service = codes "refused 42 NoService\n"
 
 -- ---- the record that is met
 

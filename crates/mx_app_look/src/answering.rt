@@ -9,52 +9,30 @@ ghost use Rattle.mx_walk.specs.Walks.{shown_to, world_here};
 ghost use Rattle.mx_walk.specs.Positions.{IsPosition, IsUpTo};
 ghost use Rattle.mx_app_look.specs.declared.sight.Sight.{Sight as Seen};
 ghost use Rattle.mx_app_look.specs.Before.{why_text};
-ghost use Rattle.mx_app_look.specs.Answers.{IsMade, after, help_text, processes_text, request_text, to_of, walks};
+ghost use Rattle.mx_app_look.specs.Answers.{IsMade, after, processes_text, request_text, to_of, walks};
 ghost use Rattle.mx_app_look.specs.Showing.{query_text};
 ghost use Rattle.mx_print_answers.specs.Messages.{delivery_lines};
 ghost use Rattle.mx_app_look.specs.Places.{place_text};
-ghost use Rattle.mx_app_look.specs.Sessions.{IsAnswered, IsAnsweredBy, ends, is_quit, prompt_text};
+ghost use Rattle.mx_app_look.specs.Requests.{ends};
+ghost use Rattle.mx_app_look.specs.Sessions.{IsAnswered, IsAnsweredBy, prompt_text};
 ghost use Rattle.mx_app_look.specs.Shows.{IsRequestShown, IsShown, IsShownBy, why_shown};
-ghost use Rattle.mx_app_look.specs.Verbs.{unknown_text};
+ghost use Rattle.mx_app_look.specs.Verbs.{help_text, unknown_text};
 
-use crate::going_until::go_until;
+use crate::going_until::{go_until, go_until_back};
 use crate::places::{push_place, push_position};
 use crate::query::Query;
-use crate::request::{Request, request_of};
+use crate::request::{Request, ends, request_of};
 use crate::seeking::{go_back, go_on, perform_point};
 use crate::showing::push_shown;
 use crate::sight::{Sight, say};
-use crate::verb::push_unknown;
+use crate::verb::{push_help, push_unknown};
 use crate::world_texts::{push_deliveries, push_processes, push_why};
 use mx_app_failure::Failure;
+use mx_machine::Service;
 use mx_walk::{
     Position, PositionWord, Progress, Walker, back_from, forward_from, steps_back, steps_on,
 };
 use std::alloc::{AllocError, Global};
-
-/// What `help` prints.
-const HELP: &str = "forward [N], back [N]       by N records, or one\n\
-        step [N], stepback [N]      by N events, or one: a step, or what a record does besides\n\
-        goto K, goto K.J, goto end  after K records; and J steps of the next; the last position\n\
-        break SLOT ADDRESS          a breakpoint of the slot's process\n\
-        watch SLOT ADDRESS N        watches N bytes of its memory, 1 to 16\n\
-        points, clear               what is set; takes all of them away\n\
-        continue, reverse           on to the next breakpoint or change of watched bytes, or back\n\
-        until SLOT TYPE             on to a kernel call of the slot's process, as TIMES or 0x601\n\
-        until death SLOT            on to its death\n\
-        until message FROM TO       on to what one slot's process gets of another\n\
-        where, why                  the position again; what the record before did\n\
-        ps, messages                the report; what was delivered\n\
-        regs [SLOT]                 registers of the slot's process\n\
-        mem SLOT ADDRESS N          N bytes of its memory\n\
-        list [SLOT [ADDRESS]]       its code, from the address or from EIP on\n\
-        stack [SLOT [N]]            N dwords of its stack, or eight\n\
-        print SLOT NAME             its variable of that name\n\
-        help, quit                  this; the end\n\
-        A record is one event; back N is N steps of a process, and then its return.\n\
-        A command may be shortened, as f or stepb. Without SLOT it is the process on the\n\
-        processor whose record is next. ADDRESS is a number, decimal or 0x.., or a symbol\n\
-        of the slot's program, as count or top+4.\n";
 
 /// What a position that isn't there is answered.
 const NO_POSITION: &str = "refused 63 NoPosition\n";
@@ -157,6 +135,17 @@ fn show_deliveries(alloc: Global, sight: Sight) -> Result<(Sight, Vec<u8>), Fail
     Ok((sight, text))
 }
 
+/// Answers the commands.
+fn show_help(alloc: Global, sight: Sight) -> Result<(Sight, Vec<u8>), Failure>
+    ensures err { IfErr result IsWanting }
+    ensures same { IfOk result (λ r. r.0 ≡ sight) }
+    ensures text { IfOk result (λ r. r.1.items ≡ help_text) }
+{
+    let mut text = Vec::new(alloc);
+    push_help(&mut text)?;
+    Ok((sight, text))
+}
+
 /// Answers what is asked for of a slot's process.
 fn show(alloc: Global, sight: Sight, query: &Query) -> Result<(Sight, Vec<u8>), Failure>
     ensures err { IfErr result IsWanting }
@@ -191,8 +180,8 @@ fn perform_here<P: Progress>(
         Request::Processes => show_processes(alloc, sight),
         Request::Messages => show_deliveries(alloc, sight),
         Request::Show(query) => show(alloc, sight, query),
-        Request::Help => say(alloc, sight, HELP),
-        Request::Nothing | Request::Quit => say(alloc, sight, ""),
+        Request::Help => show_help(alloc, sight),
+        Request::Nothing => say(alloc, sight, ""),
         _ => unreachable!(),
     }
 }
@@ -232,6 +221,7 @@ pub(crate) fn perform<P: Progress>(
         Request::Continue => go_on(alloc, sight, progress),
         Request::Reverse => go_back(alloc, sight, progress),
         Request::Until(happening) => go_until(alloc, sight, *happening, progress),
+        Request::UntilBack(happening) => go_until_back(alloc, sight, *happening, progress),
         _ => perform_here(alloc, sight, request, progress),
     }
 }
@@ -278,14 +268,12 @@ pub(crate) fn push_prompt(out: &mut Vec<u8>, asks: bool, walker: &Walker) -> Res
     out.extend_from_slice(b"> ")
 }
 
-/// Whether a request ends the session.
-fn is_quit(request: &Option<Request>) -> bool
-    ensures { result ≡ is_quit request.now }
+/// The services of the machine, by which a line names slots.
+#[tactic(auto, unfolding(mx_machine::specs::Machine::world_of))]
+pub fn services_here(walker: &Walker) -> &[Service]
+    ensures { result.now ≡ (world_here walker.now).services }
 {
-    match request {
-        Some(Request::Quit) => true,
-        _ => false,
-    }
+    walker.machine().kernel().services()
 }
 
 /// The answer to a line, and what asks for the next; nothing if it ends the session. What is at a terminal of a
@@ -306,10 +294,10 @@ pub fn answer_line<P: Progress>(
         × (P.shown progress.new ≡ P.shown progress.old ++ ps)))) }
     ensures grown { IfErr result (λ _. HasGrown (P.shown progress.old) (P.shown progress.new)) }
 {
-    let request = request_of(line);
-    if is_quit(&request) {
+    if ends(line) {
         return Ok(None);
     }
+    let request = request_of(services_here(&sight.walker), line);
     let (sight, mut text) = answer(alloc, sight, line, request, progress)?;
     push_prompt(&mut text, asks, &sight.walker)?;
     progress.clear();

@@ -1,19 +1,26 @@
-//! On to a record in which something happens.
+//! On to a record in which something happens, and back to one.
 
-ghost use Rattle.std.specs.Prelude.{◌≡◌, ◌++◌, IfErr, IfOk, OnOk, true};
+ghost use Rattle.std.specs.Prelude.{◌≡◌, ◌++◌, IfErr, IfOk, List, OnOk, false, true, ℕ};
 ghost use Rattle.mx_app_step.specs.Failure.{IsWanting};
-ghost use Rattle.mx_walk.specs.Parts.{HasGrown};
+ghost use Rattle.mx_walk.specs.declared.progress.Part.{Part as Parts};
+ghost use Rattle.mx_walk.specs.Parts.{HasGrown, walk_shown};
+ghost use Rattle.mx_walk.specs.Positions.{first};
+ghost use Rattle.mx_walk.specs.Seeking.{IsLastMarked, IsPassed};
 ghost use Rattle.mx_walk.specs.Walks.{shown_to};
 ghost use Rattle.mx_app_look.specs.declared.request.Request.TheVariants as requests;
 ghost use Rattle.mx_app_look.specs.Answers.{after, request_text, to_of};
-ghost use Rattle.mx_app_look.specs.Searches.{not_met};
+ghost use Rattle.mx_app_look.specs.Happenings.{is_happening};
+ghost use Rattle.mx_app_look.specs.Searches.{IsLastHappened, not_met};
+ghost use Rattle.mx_app_look.specs.Seeking.{IsGoneUntilBack};
+ghost use Rattle.mx_app_look.specs.Shows.{IsLastShown, IsShownIf};
 ghost use Rattle.mx_app_look.specs.Until.{has_service, has_slots, until_halt};
 
 use crate::asked_slot::slot_asked;
 use crate::happening::{Happening, happens};
+use crate::happening_mark::HappeningMark;
 use crate::places::push_place;
 use crate::sight::{Sight, say};
-use crate::world_texts::{Placed, see_record};
+use crate::world_texts::{Placed, push_record_after, see_record};
 use mx_app_failure::Failure;
 use mx_app_step::resting_transition;
 use mx_look::push_record;
@@ -41,6 +48,8 @@ fn has_slots(walker: &Walker, happening: Happening) -> bool
     match happening {
         Happening::Call(slot, _) | Happening::Death(slot) => has_service(walker, slot),
         Happening::Delivery(from, to) => has_service(walker, from) && has_service(walker, to),
+        Happening::Error(None) => true,
+        Happening::Error(Some(slot)) => has_service(walker, slot),
     }
 }
 
@@ -139,4 +148,78 @@ pub(crate) fn go_until<P: Progress>(
         return go_on_to(alloc, sight, happening, progress);
     }
     say(alloc, sight, NO_SERVICE)
+}
+
+/// Goes back to right before the last event in which it happens; to the first position if there is none. Answers
+/// whether there is one.
+fn seek_back<P: Progress>(
+    alloc: Global,
+    walker: Walker,
+    happening: Happening,
+    progress: &mut P,
+) -> Result<(Walker, bool), NoMemory>
+    ensures same { IfOk result (λ back. back.0 ≡ record walker { here = back.0.here }) }
+    ensures found { IfOk result (λ back. back.1 ≡ true → IsLastMarked (is_happening happening)
+        walker.boot walker.records back.0.here walker.here) }
+    ensures nowhere { IfOk result (λ back. back.1 ≡ false → (back.0.here ≡ first)
+        × IsPassed (is_happening happening) walker.boot walker.records first walker.here) }
+    ensures shown { IfOk result (λ back. P.shown progress.new ≡ P.shown progress.old
+        ++ (walk_shown walker.records walker.here ++ shown_to walker back.0.here)) }
+    ensures grown { IfErr result (λ _. HasGrown (P.shown progress.old) (P.shown progress.new)) }
+{
+    let mut mark = HappeningMark::new(walker.machine(), happening);
+    walker.seek_back(alloc, &mut mark, progress)
+}
+
+/// Goes back to right before the last event in which it happens, and appends what its record does; to the first position
+/// if there is none.
+fn go_back_until<P: Progress>(
+    alloc: Global,
+    walker: Walker,
+    happening: Happening,
+    out: &mut Vec<u8>,
+    progress: &mut P,
+) -> Result<Walker, NoMemory>
+    ensures walker { IfOk result (λ w. w ≡ record walker { here = w.here }) }
+    ensures halt { IfOk result (λ w. (text : List ℕ) × (out.new.items ≡ out.old.items ++ text)
+        × IsLastHappened walker happening (w.here, text)) }
+    ensures shown { OnOk result ((ps : List Parts)
+        × (P.shown progress.new ≡ P.shown progress.old ++ ps)
+        × IsLastShown (is_happening happening) walker ps) }
+    ensures grown { IfErr result (λ _. HasGrown (P.shown progress.old) (P.shown progress.new)) }
+{
+    // Where it is now is a position, and not past the last: so is right after an event that is found.
+    let _ = walker.here();
+    let (walker, found) = seek_back(alloc, walker, happening, progress)?;
+    if !found {
+        out.extend_from_slice(b"not met\n")?;
+        return Ok(walker);
+    }
+    let earlier = walker.here().records;
+    let entry = walker.records()[earlier];
+    push_record_after(alloc, out, walker, Placed { earlier, entry }, progress)
+}
+
+/// Goes back to right before the last event in which it happens, if each slot that it is about has a service.
+pub(crate) fn go_until_back<P: Progress>(
+    alloc: Global,
+    sight: Sight,
+    happening: Happening,
+    progress: &mut P,
+) -> Result<(Sight, Vec<u8>), Failure>
+    ensures err { IfErr result IsWanting }
+    ensures gone { IfOk result (λ r. IsGoneUntilBack sight happening r.0 r.1.items) }
+    ensures shown { OnOk result ((ps : List Parts)
+        × (P.shown progress.new ≡ P.shown progress.old ++ ps)
+        × IsShownIf (has_slots sight.walker happening)
+        (IsLastShown (is_happening happening) sight.walker) ps) }
+    ensures grown { IfErr result (λ _. HasGrown (P.shown progress.old) (P.shown progress.new)) }
+{
+    if !has_slots(&sight.walker, happening) {
+        return say(alloc, sight, NO_SERVICE);
+    }
+    let mut text = Vec::new(alloc);
+    let mut walker = go_back_until(alloc, sight.walker, happening, &mut text, progress)?;
+    push_place(alloc, &mut text, &mut walker)?;
+    Ok((Sight { walker, ..sight }, text))
 }

@@ -4,7 +4,9 @@ ghost use Rattle.std.specs.Prelude.{◌≡◌};
 ghost use Rattle.mx_text.specs.Fields.{fields};
 ghost use Rattle.mx_app_look.specs.Queries.{code_of_fields, code_of_slot, memory_of_fields, registers_of_fields, stack_of_fields, stack_of_slot, variable_of_fields};
 
+use crate::slot_word::{only_slot, slot_of_word};
 use mx_boot::{AddressWord, SymbolName, address_named, count, only_count, symbol_name};
+use mx_machine::Service;
 use mx_text::{next_field, one_field, two_fields};
 
 /// How many dwords of a stack are shown if no number is typed.
@@ -27,21 +29,21 @@ pub enum Query {
 }
 
 /// The slot whose registers are asked for.
-pub(crate) fn registers(line: &[u8]) -> Option<Query>
-    ensures { result ≡ registers_of_fields (fields line.now) }
+pub(crate) fn registers(services: &[Service], line: &[u8]) -> Option<Query>
+    ensures { result ≡ registers_of_fields services.now (fields line.now) }
 {
     match next_field(line) {
         None => Some(Query::Registers(None)),
-        Some(_) => Some(Query::Registers(Some(only_count(line)?))),
+        Some(_) => Some(Query::Registers(Some(only_slot(services, line)?))),
     }
 }
 
 /// The slot, the address and the count of bytes that are asked for.
-pub(crate) fn memory(line: &[u8]) -> Option<Query>
-    ensures { result ≡ memory_of_fields (fields line.now) }
+pub(crate) fn memory(services: &[Service], line: &[u8]) -> Option<Query>
+    ensures { result ≡ memory_of_fields services.now (fields line.now) }
 {
     let (first, rest) = next_field(line)?;
-    let slot = count(first)?;
+    let slot = slot_of_word(services, first)?;
     let (second, third) = two_fields(rest)?;
     let from = address_named(second)?;
     let bytes = count(third)?;
@@ -62,12 +64,12 @@ fn code_of_slot(slot: u32, line: &[u8]) -> Option<Query>
 }
 
 /// The slot and the address from which on code is asked for, as far as they are typed.
-pub(crate) fn code(line: &[u8]) -> Option<Query>
-    ensures { result ≡ code_of_fields (fields line.now) }
+pub(crate) fn code(services: &[Service], line: &[u8]) -> Option<Query>
+    ensures { result ≡ code_of_fields services.now (fields line.now) }
 {
     match next_field(line) {
         None => Some(Query::Code(None, None)),
-        Some((first, rest)) => code_of_slot(count(first)?, rest),
+        Some((first, rest)) => code_of_slot(slot_of_word(services, first)?, rest),
     }
 }
 
@@ -82,20 +84,20 @@ fn stack_of_slot(slot: u32, line: &[u8]) -> Option<Query>
 }
 
 /// The slot and how many dwords of its stack are asked for, as far as they are typed.
-pub(crate) fn stack(line: &[u8]) -> Option<Query>
-    ensures { result ≡ stack_of_fields (fields line.now) }
+pub(crate) fn stack(services: &[Service], line: &[u8]) -> Option<Query>
+    ensures { result ≡ stack_of_fields services.now (fields line.now) }
 {
     match next_field(line) {
         None => Some(Query::Stack(None, DWORDS)),
-        Some((first, rest)) => stack_of_slot(count(first)?, rest),
+        Some((first, rest)) => stack_of_slot(slot_of_word(services, first)?, rest),
     }
 }
 
 /// The slot and the name of the variable that are asked for.
-pub(crate) fn variable(line: &[u8]) -> Option<Query>
-    ensures { result ≡ variable_of_fields (fields line.now) }
+pub(crate) fn variable(services: &[Service], line: &[u8]) -> Option<Query>
+    ensures { result ≡ variable_of_fields services.now (fields line.now) }
 {
     let (first, second) = two_fields(line)?;
-    let slot = count(first)?;
+    let slot = slot_of_word(services, first)?;
     Some(Query::Variable(slot, symbol_name(second)))
 }

@@ -1,22 +1,19 @@
 //! What typed lines ask for.
 
 ghost use Rattle.std.specs.Prelude.{◌≡◌};
-ghost use Rattle.std.specs.Str.{is_utf8};
 ghost use Rattle.mx_text.specs.Fields.{fields};
-ghost use Rattle.mx_app_look.specs.Requests.{count_or_one, request_by, request_of, without_fields};
+ghost use Rattle.mx_app_look.specs.Requests.{count_or_one, ends, is_quit, request_by, request_of, until_of, without_fields};
 
 use crate::happening::Happening;
 use crate::point_request::{PointRequest, break_asked, watch_asked};
 use crate::position_word::position_named;
 use crate::query::{Query, code, memory, registers, stack, variable};
-use crate::until_request::until_asked;
-use crate::verb::{Verb, verb_named};
+use crate::until_request::{UntilAsked, until_asked};
+use crate::verb::{Verb, is_text, verb_named};
 use mx_boot::{count, only_count};
+use mx_machine::Service;
 use mx_text::{next_field, one_field};
 use mx_walk::PositionWord;
-
-/// How many bytes a line has at most.
-const LONGEST: usize = 4096;
 
 /// What a typed line asks for.
 #[derive(Drop)]
@@ -41,6 +38,8 @@ pub enum Request {
     Reverse,
     /// On to a record in which something happens.
     Until(Happening),
+    /// Back to the last event in which something happens.
+    UntilBack(Happening),
     /// Where one is.
     Where,
     /// What the record before did.
@@ -53,8 +52,6 @@ pub enum Request {
     Show(Query),
     /// The commands.
     Help,
-    /// The end of the session.
-    Quit,
 }
 
 /// The number that is a line's only field, or one if it has no field.
@@ -77,9 +74,20 @@ fn without_fields(line: &[u8], request: Request) -> Option<Request>
     }
 }
 
-/// What a line asks for that begins with a verb and goes on like this.
-fn request_by(verb: Verb, rest: &[u8]) -> Option<Request>
-    ensures { result ≡ request_by verb (fields rest.now) }
+/// A search for what happens, as it is asked for.
+fn until_of(asked: UntilAsked) -> Request
+    ensures { result ≡ until_of asked }
+{
+    if asked.is_back {
+        Request::UntilBack(asked.happening)
+    } else {
+        Request::Until(asked.happening)
+    }
+}
+
+/// What a line asks for that begins with a verb and goes on like this, of a machine with these services.
+fn request_by(services: &[Service], verb: Verb, rest: &[u8]) -> Option<Request>
+    ensures { result ≡ request_by services.now verb (fields rest.now) }
 {
     match verb {
         Verb::Forward => Some(Request::Forward(count_or_one(rest)?)),
@@ -87,49 +95,63 @@ fn request_by(verb: Verb, rest: &[u8]) -> Option<Request>
         Verb::Step => Some(Request::Step(count_or_one(rest)?)),
         Verb::StepBack => Some(Request::StepBack(count_or_one(rest)?)),
         Verb::GoTo => Some(Request::GoTo(position_named(one_field(rest)?)?)),
-        Verb::Break => Some(Request::Point(break_asked(rest)?)),
-        Verb::Watch => Some(Request::Point(watch_asked(rest)?)),
+        Verb::Break => Some(Request::Point(break_asked(services, rest)?)),
+        Verb::Watch => Some(Request::Point(watch_asked(services, rest)?)),
         Verb::Points => without_fields(rest, Request::Point(PointRequest::Show)),
         Verb::Clear => without_fields(rest, Request::Point(PointRequest::Clear)),
         Verb::Continue => without_fields(rest, Request::Continue),
         Verb::Reverse => without_fields(rest, Request::Reverse),
-        Verb::Until => Some(Request::Until(until_asked(rest)?)),
+        Verb::Until => Some(until_of(until_asked(services, rest)?)),
         Verb::Where => without_fields(rest, Request::Where),
         Verb::Why => without_fields(rest, Request::Why),
         Verb::Processes => without_fields(rest, Request::Processes),
         Verb::Messages => without_fields(rest, Request::Messages),
-        Verb::Registers => Some(Request::Show(registers(rest)?)),
-        Verb::Memory => Some(Request::Show(memory(rest)?)),
-        Verb::Listing => Some(Request::Show(code(rest)?)),
-        Verb::Stack => Some(Request::Show(stack(rest)?)),
-        Verb::Print => Some(Request::Show(variable(rest)?)),
+        Verb::Registers => Some(Request::Show(registers(services, rest)?)),
+        Verb::Memory => Some(Request::Show(memory(services, rest)?)),
+        Verb::Listing => Some(Request::Show(code(services, rest)?)),
+        Verb::Stack => Some(Request::Show(stack(services, rest)?)),
+        Verb::Print => Some(Request::Show(variable(services, rest)?)),
         Verb::Help => without_fields(rest, Request::Help),
-        Verb::Quit => without_fields(rest, Request::Quit),
+        // What ends a session asks for nothing else.
+        Verb::Quit | Verb::Exit => None,
     }
 }
 
-/// Whether these bytes are text.
-#[tactic(auto, using(crate::proofs::Texts::text_is, crate::proofs::Texts::text_isnt))]
-fn is_text(line: &[u8]) -> bool
-    ensures { result ≡ is_utf8 line.now }
+/// Whether a verb ends the session.
+fn is_quit(verb: Option<Verb>) -> bool
+    ensures { result ≡ is_quit verb }
 {
-    match str::from_utf8(line) {
-        Ok(_) => true,
-        Err(_) => false,
+    match verb {
+        Some(Verb::Quit | Verb::Exit) => true,
+        _ => false,
     }
 }
 
-/// What a typed line asks for, if it is text of at most 4,096 bytes and asks for anything known: a verb or
-/// an abbreviation of one, and its fields.
+/// Whether a line ends the session: it is a verb that does, and has nothing after it.
+#[tactic(auto, unfolding(crate::specs::Requests::ends))]
+pub fn ends(line: &[u8]) -> bool
+    ensures { result ≡ ends line.now }
+{
+    if !is_text(line) {
+        return false;
+    }
+    match one_field(line) {
+        Some(word) => is_quit(verb_named(word)),
+        None => false,
+    }
+}
+
+/// What a typed line asks for of a machine with these services, if it is text of at most 4,096 bytes and asks for
+/// anything known: a verb or an abbreviation of one, and its fields.
 #[tactic(auto, unfolding(crate::specs::Requests::request_of))]
-pub fn request_of(line: &[u8]) -> Option<Request>
-    ensures { result ≡ request_of line.now }
+pub fn request_of(services: &[Service], line: &[u8]) -> Option<Request>
+    ensures { result ≡ request_of services.now line.now }
 {
-    if line.len() > LONGEST || !is_text(line) {
+    if !is_text(line) {
         return None;
     }
     match next_field(line) {
         None => Some(Request::Nothing),
-        Some((word, rest)) => request_by(verb_named(word)?, rest),
+        Some((word, rest)) => request_by(services, verb_named(word)?, rest),
     }
 }

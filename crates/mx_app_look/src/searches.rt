@@ -181,7 +181,7 @@ pub fn go_back_to_point<P: Progress>(
     ensures halt { IfOk result (λ r. IsLastHalt walker points.now (r.0.here, string_bytes r.1)) }
     ensures shown { OnOk result ((ps : List Parts)
         × (P.shown progress.new ≡ P.shown progress.old ++ ps)
-        × IsLastShown walker points.now ps) }
+        × IsLastShown (is_looked_for points.now) walker ps) }
     ensures grown { IfErr result (λ _. HasGrown (P.shown progress.old) (P.shown progress.new)) }
 {
     // Where it is now is a position, and not past the last: so is right after an event that is found.

@@ -5,15 +5,16 @@ ghost use Rattle.mx_app_step.specs.Failure.{IsWanting};
 ghost use Rattle.mx_walk.specs.declared.progress.Part.{Part as Parts};
 ghost use Rattle.mx_walk.specs.Parts.{HasGrown};
 ghost use Rattle.mx_app_look.specs.Places.{place_text};
-ghost use Rattle.mx_app_look.specs.Seeking.{IsGoneBack, IsGoneOn, breaks_after, point_made, point_text, points_after, watches_after};
-ghost use Rattle.mx_app_look.specs.Shows.{IsLastShown, IsNextShown};
+ghost use Rattle.mx_app_look.specs.Seeking.{IsGoneBack, IsGoneIf, IsGoneOn, breaks_after, has_points, point_made, point_text, points_after, watches_after};
+ghost use Rattle.mx_app_look.specs.Marks.{is_looked_for};
+ghost use Rattle.mx_app_look.specs.Shows.{IsLastShown, IsNextShown, IsShownIf};
 
 use crate::asked_slot::{address_here, limit_here, slot_asked};
 use crate::places::push_place;
 use crate::point_request::PointRequest;
 use crate::points::Points;
 use crate::searches::{go_back_to_point, go_on_to_point};
-use crate::sight::Sight;
+use crate::sight::{Sight, say};
 use crate::watches::Watch;
 use mx_app_failure::Failure;
 use mx_boot::AddressWord;
@@ -130,36 +131,53 @@ fn show_halt(alloc: Global, sight: Sight, found: String) -> Result<(Sight, Vec<u
     Ok((sight, text))
 }
 
-/// Goes on to the next halt.
+/// What a search is answered that has nothing to halt at.
+const NO_POINTS: &str = "refused 73 BadRecord: no break, no watch\n";
+
+/// Whether there is something to halt at.
+fn has_points(points: &Points) -> bool
+    ensures { result ≡ has_points points.now }
+{
+    !points.breakpoints.as_slice().is_empty() || !points.watches.as_slice().is_empty()
+}
+
+/// Goes on to the next halt, if there is something to halt at.
 pub(crate) fn go_on<P: Progress>(
     alloc: Global,
     sight: Sight,
     progress: &mut P,
 ) -> Result<(Sight, Vec<u8>), Failure>
     ensures err { IfErr result IsWanting }
-    ensures halted { IfOk result (λ r. IsGoneOn sight r.0 r.1.items) }
+    ensures halted { IfOk result (λ r. IsGoneIf IsGoneOn sight r.0 r.1.items) }
     ensures shown { OnOk result ((ps : List Parts)
         × (P.shown progress.new ≡ P.shown progress.old ++ ps)
-        × IsNextShown sight.walker sight.points ps) }
+        × IsShownIf (has_points sight.points) (IsNextShown sight.walker sight.points) ps) }
     ensures grown { IfErr result (λ _. HasGrown (P.shown progress.old) (P.shown progress.new)) }
 {
+    if !has_points(&sight.points) {
+        return say(alloc, sight, NO_POINTS);
+    }
     let (walker, found) = go_on_to_point(alloc, sight.walker, &sight.points, progress)?;
     show_halt(alloc, Sight { walker, ..sight }, found)
 }
 
-/// Goes back to the last halt.
+/// Goes back to the last halt, if there is something to halt at.
 pub(crate) fn go_back<P: Progress>(
     alloc: Global,
     sight: Sight,
     progress: &mut P,
 ) -> Result<(Sight, Vec<u8>), Failure>
     ensures err { IfErr result IsWanting }
-    ensures halted { IfOk result (λ r. IsGoneBack sight r.0 r.1.items) }
+    ensures halted { IfOk result (λ r. IsGoneIf IsGoneBack sight r.0 r.1.items) }
     ensures shown { OnOk result ((ps : List Parts)
         × (P.shown progress.new ≡ P.shown progress.old ++ ps)
-        × IsLastShown sight.walker sight.points ps) }
+        × IsShownIf (has_points sight.points)
+        (IsLastShown (is_looked_for sight.points) sight.walker) ps) }
     ensures grown { IfErr result (λ _. HasGrown (P.shown progress.old) (P.shown progress.new)) }
 {
+    if !has_points(&sight.points) {
+        return say(alloc, sight, NO_POINTS);
+    }
     let (walker, found) = go_back_to_point(alloc, sight.walker, &sight.points, progress)?;
     show_halt(alloc, Sight { walker, ..sight }, found)
 }

@@ -13,7 +13,8 @@ ghost use Rattle.mx_machine.specs.declared.history.Record.{Record as Noted};
 ghost use Rattle.mx_walk.specs.declared.progress.Part.{Part as Parts};
 ghost use Rattle.mx_walk.specs.Parts.{HasGrown, walk_shown};
 ghost use Rattle.mx_walk.specs.Walks.{Walk};
-ghost use Rattle.mx_app_look.specs.Sessions.{HasFailed, IsAnswered, IsBegun, IsCutOff, IsSession, IsWhole, begun_text, end_text, ends, prompt_text, sight_at};
+ghost use Rattle.mx_app_look.specs.Requests.{ends};
+ghost use Rattle.mx_app_look.specs.Sessions.{HasFailed, IsAnswered, IsBegun, IsCutOff, IsSession, IsWhole, begun_text, end_text, prompt_text, sight_at};
 ghost use Rattle.mx_app_look.specs.Shows.{IsShown};
 
 use crate::answering::{answer_line, push_prompt};

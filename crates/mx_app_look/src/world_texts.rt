@@ -5,10 +5,11 @@ ghost use Rattle.mx_app_step.specs.Failure.{IsWanting};
 ghost use Rattle.mx_look.specs.Trace.{record_text};
 ghost use Rattle.mx_print_answers.specs.Messages.{delivery_lines};
 ghost use Rattle.mx_walk.specs.Parts.{HasGrown};
+ghost use Rattle.mx_walk.specs.Positions.{IsUpTo};
 ghost use Rattle.mx_walk.specs.Walks.{world_here};
 ghost use Rattle.mx_app_look.specs.Before.{step_before, why_text};
 ghost use Rattle.mx_app_look.specs.Answers.{line_end, processes_text};
-ghost use Rattle.mx_app_look.specs.Shows.{record_shown, why_shown};
+ghost use Rattle.mx_app_look.specs.Shows.{record_shown, return_shown, steps_made, why_shown};
 ghost use Rattle.mx_app_look.specs.Until.{past};
 
 use mx_app_failure::Failure;
@@ -66,6 +67,31 @@ pub(crate) fn see_record<P: Progress>(
     transition.actor = entry.actor;
     transition.event = entry.event;
     Ok(walker)
+}
+
+/// Appends what the record does whose own event is next, and is then where the walker was.
+pub(crate) fn push_record_after<P: Progress>(
+    alloc: Global,
+    out: &mut Vec<u8>,
+    walker: Walker,
+    placed: Placed,
+    progress: &mut P,
+) -> Result<Walker, NoMemory>
+    requires there { IsUpTo (past placed.earlier) walker.last }
+    requires here { walker.here ≡ steps_made placed.earlier placed.entry }
+    requires entry { slice_get walker.records placed.earlier ≡ Some placed.entry }
+    ensures same { IfOk result (λ w. w ≡ walker) }
+    ensures text { OnOk result (out.new.items ≡ out.old.items
+        ++ record_text (step_before walker.boot walker.records placed.earlier placed.entry)) }
+    ensures shown { OnOk result (P.shown progress.new
+        ≡ P.shown progress.old ++ return_shown walker walker.here (past placed.earlier)) }
+    ensures grown { IfErr result (λ _. HasGrown (P.shown progress.old) (P.shown progress.new)) }
+{
+    let here = walker.here();
+    let mut transition = resting_transition(walker.machine());
+    let walker = see_record(alloc, walker, placed, &mut transition, progress)?;
+    push_record(out, &transition)?;
+    walker.go_to(alloc, here, progress)
 }
 
 /// Appends what a record did, and goes back to where the walker was.

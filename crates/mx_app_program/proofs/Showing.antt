@@ -23,11 +23,11 @@ module _ {S : Type 0} (bytes_of : S → List ℕ) (Has : Program → List ℕ �
   shows_text (Some d) b p text h g = absurd cc
   shows_text None b p text h g = (p, h, g)
 
-  pub tells_refused : (o : Option FileError) (b : List ℕ) (e : FileError) → Shows {S = S} bytes_of Has o b (Err e) → Tells o {A = Unit {0}} (Err (failure_if (problem_of_refusal e) #Program))
-  tells_refused (Some d) b e h = let s : e ≡ d = cc in ap (λ (x : FileError). Err (failure_if (problem_of_refusal x) #Program)) s
-  tells_refused None b e h = subst (λ (x : FileError). IsWanting (failure_if (problem_of_refusal x) #Program)) (sym h) (inr refl)
+  pub tells_refused : (o : Option FileError) (b : List ℕ) (e : FileError) → Shows {S = S} bytes_of Has o b (Err e) → Tells b o {A = Unit {0}} (Err (failure_if (problem_of_refusal b e) #Program))
+  tells_refused (Some d) b e h = let s : e ≡ d = cc in ap (λ (x : FileError). Err (failure_if (problem_of_refusal b x) #Program)) s
+  tells_refused None b e h = subst (λ (x : FileError). IsWanting (failure_if (problem_of_refusal b x) #Program)) (sym h) (inr refl)
 
-  pub tells_written : (o : Option FileError) (b : List ℕ) (text : S) (r : Result (Unit {0}) Kind) → Shows {S = S} bytes_of Has o b (Ok text) → IfErr r IsWanting → Tells o r
+  pub tells_written : (o : Option FileError) (b : List ℕ) (text : S) (r : Result (Unit {0}) Kind) → Shows {S = S} bytes_of Has o b (Ok text) → IfErr r IsWanting → Tells b o r
   tells_written (Some d) b text r h w = absurd cc
   tells_written None b text r h w = w
 

@@ -16,12 +16,12 @@ use Rattle.mx_app_failure.specs.declared.failure.About.TheVariants.{Program}
 use Rattle.mx_app_failure.specs.Failure.{IsFaulty, IsWanting, Tells, failure_if, problem_of_refusal}
 
 -- a refusal, or lack of memory
-pub tells_refusal : (o : Option FileError) (b : List ℕ) (n : ℕ) (e : FileError) → Answers o b n (Err e) → Tells o {A = Unit {0}} (Err (failure_if (problem_of_refusal e) Program))
-tells_refusal (Some d) b n e h = let s : e ≡ d = cc in ap (λ (x : FileError). Err (failure_if (problem_of_refusal x) Program)) s
-tells_refusal None b n e h = subst (λ (x : FileError). IsWanting (failure_if (problem_of_refusal x) Program)) (sym h) (inr refl)
+pub tells_refusal : (o : Option FileError) (b : List ℕ) (n : ℕ) (e : FileError) → Answers o b n (Err e) → Tells b o {A = Unit {0}} (Err (failure_if (problem_of_refusal b e) Program))
+tells_refusal (Some d) b n e h = let s : e ≡ d = cc in ap (λ (x : FileError). Err (failure_if (problem_of_refusal b x) Program)) s
+tells_refusal None b n e h = subst (λ (x : FileError). IsWanting (failure_if (problem_of_refusal b x) Program)) (sym h) (inr refl)
 
 -- what is wanting where it is printed
-pub tells_printed : (o : Option FileError) (b : List ℕ) (n : ℕ) (p : ℕ × Stop × Image) (r : Result (Unit {0}) Kind) → Answers o b n (Ok p) → IfErr r IsWanting → Tells o r
+pub tells_printed : (o : Option FileError) (b : List ℕ) (n : ℕ) (p : ℕ × Stop × Image) (r : Result (Unit {0}) Kind) → Answers o b n (Ok p) → IfErr r IsWanting → Tells b o r
 tells_printed (Some d) b n p r h w = absurd cc
 tells_printed None b n p r h w = w
 

@@ -40,13 +40,13 @@ pub fn print_listing<W: Write>(
     listing: Listing,
     out: &mut W,
 ) -> Result<(), Failure>
-    ensures tells { Tells (refusal_of bytes.now) result }
+    ensures tells { Tells bytes.now (refusal_of bytes.now) result }
     ensures shown { OnOk result ((text : List ℕ) × IsShown (IsListingOf listing) bytes.now text
         × Appends (W.contents out.old) (W.contents out.new) text) }
 {
     let text = match listing_of(alloc, bytes, listing) {
         Ok(text) => text,
-        Err(error) => return Err(Failure::refused(error, About::Program)),
+        Err(error) => return Err(Failure::refused(error, bytes, About::Program)),
     };
     print_text(text.as_bytes(), out)
 }

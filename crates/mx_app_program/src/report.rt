@@ -22,13 +22,13 @@ pub fn print_one<W: Write>(
     steps: u32,
     out: &mut W,
 ) -> Result<(), Failure>
-    ensures tells { Tells (refusal_of bytes.now) result }
+    ensures tells { Tells bytes.now (refusal_of bytes.now) result }
     ensures shown { OnOk result ((text : List ℕ) × IsPrinted bytes.now steps text
         × Appends (W.contents out.old) (W.contents out.new) text) }
 {
     let (count, stop, image) = match one(alloc, bytes, steps) {
         Ok(made) => made,
-        Err(error) => return Err(Failure::refused(error, About::Program)),
+        Err(error) => return Err(Failure::refused(error, bytes, About::Program)),
     };
     print_steps(alloc, count, stop, &image, out)
 }

@@ -35,23 +35,23 @@ use Rattle.mx_cpus.specs.declared.outside.OutsideCall.{OutsideCall}
 use Rattle.mx_app_run.specs.Calls.{AreCallsGiven, IsCallsFault, call_line, tick_of, ticks_of}
 use Rattle.mx_text.specs.Lines.{lines}
 use Rattle.mx_text.specs.declared.error.BootError.{BootError}
-use Rattle.mx_boot.specs.Reading.{AreLinesRead, TellsUnread}
+use Rattle.mx_app_turns.specs.Commented.{AreSaid, TellsUnsaid}
 use Rattle.mx_walk.specs.declared.progress.Part.{Part}
 use Rattle.mx_app_run.specs.Shows.{shows}
 use Rattle.mx_app_run.specs.Run.{ComesTo, EndsDriven, IsCalled, IsNotCalled, IsRun, IsRunHistory, ReportsRun, run_ending}
 
 -- a run ends at a kernel whose loops have ended
-pub run_of : (WasShown : Part → Type 0) (c : Config) (vs : List Service) (ticks : ℕ) (xs : List OutsideCall) (whole : Bool) (k : BootAndHistory) (boot : World) (z : TableId) (seats : List SeatView)
-    → boot ≡ world_at_boot c vs → seats ≡ all_seats c z → k.boot ≡ boot → EndsDriven boot (shows WasShown c.log) (length boot.cpus) ticks xs whole seats k.history
-    → AreAccepted k.boot (events_of_history k.history) → All (IsWritable (actors (replay k))) k.history → IsRun WasShown c vs ticks xs whole k
-run_of WasShown c vs ticks xs whole k boot z seats booted all is ends accepted written =
+pub run_of : (WasShown : Part → Type 0) (stops : Bool) (c : Config) (vs : List Service) (ticks : ℕ) (xs : List OutsideCall) (whole : Bool) (k : BootAndHistory) (boot : World) (z : TableId) (seats : List SeatView)
+    → boot ≡ world_at_boot c vs → seats ≡ all_seats c z → k.boot ≡ boot → EndsDriven boot (shows WasShown c.log stops) (length boot.cpus) ticks xs whole seats k.history
+    → AreAccepted k.boot (events_of_history k.history) → All (IsWritable (actors (replay k))) k.history → IsRun WasShown stops c vs ticks xs whole k
+run_of WasShown stops c vs ticks xs whole k boot z seats booted all is ends accepted written =
     let many : length boot.cpus ≡ c.cpus = ap (λ (w : World). length w.cpus) booted ∙ length-replicate c.cpus None in
     record {
       history = record { boot = is ∙ booted; accepted = accepted; written = written };
       table = z;
-      loops = subst (λ (w : World). EndsDriven w (shows WasShown c.log) c.cpus ticks xs whole (all_seats c z) k.history) booted
-          (subst (λ n. EndsDriven boot (shows WasShown c.log) n ticks xs whole (all_seats c z) k.history) many
-          (subst (λ (l : List SeatView). EndsDriven boot (shows WasShown c.log) (length boot.cpus) ticks xs whole l k.history) all ends));
+      loops = subst (λ (w : World). EndsDriven w (shows WasShown c.log stops) c.cpus ticks xs whole (all_seats c z) k.history) booted
+          (subst (λ n. EndsDriven boot (shows WasShown c.log stops) n ticks xs whole (all_seats c z) k.history) many
+          (subst (λ (l : List SeatView). EndsDriven boot (shows WasShown c.log stops) (length boot.cpus) ticks xs whole l k.history) all ends));
     }
 
 -- one service for each line
@@ -79,15 +79,15 @@ pub called_alone : (config : List ℕ) (o : Option (List ℕ)) (qs : List Asked)
 called_alone config o qs c vs xs is setup none = subst (λ (p : Option (List ℕ)). IsCalled config p qs c vs xs) (sym is) (setup, none)
 
 -- a file's calls, by the text that was read
-pub calls_given : (name text slice : List ℕ) (q : Asked) (others : ℕ) (xs : List OutsideCall) → slice ≡ text → IsTextGiven name q text → AreLinesRead (call_line others) (lines slice) xs → AreCallsGiven name q others xs
-calls_given name text slice q others xs of t h = (text, t, subst (λ (x : List ℕ). AreLinesRead (call_line others) (lines x) xs) of h)
+pub calls_given : (name text slice : List ℕ) (q : Asked) (others : Config) (xs : List OutsideCall) → slice ≡ text → IsTextGiven name q text → AreSaid (call_line others) (lines slice) xs → AreCallsGiven name q others xs
+calls_given name text slice q others xs of t h = (text, t, subst (λ (x : List ℕ). AreSaid (call_line others) (lines x) xs) of h)
 
-pub calls_unread : (name text slice : List ℕ) (q : Asked) (others : ℕ) (e : BootError) (f : Kind) → slice ≡ text → IsTextGiven name q text → TellsUnread (call_line others) (lines slice) e → IsMisstated e Course text f
+pub calls_unread : (name text slice : List ℕ) (q : Asked) (others : Config) (e : BootError) (f : Kind) → slice ≡ text → IsTextGiven name q text → TellsUnsaid (call_line others) (lines slice) e → IsMisstated e Course text f
     → IsCallsFault name q others f
-calls_unread name text slice q others e f of t h m = inr (text, e, t, subst (λ (x : List ℕ). TellsUnread (call_line others) (lines x) e) of h, m)
+calls_unread name text slice q others e f of t h m = inr (text, e, t, subst (λ (x : List ℕ). TellsUnsaid (call_line others) (lines x) e) of h, m)
 
 -- those of a file
-pub called_by : (config name : List ℕ) (o : Option (List ℕ)) (qs : List Asked) (q : Asked) (c : Config) (vs : List Service) (xs : List OutsideCall) → o ≡ Some name → IsSetup config qs c vs → AreCallsGiven name q c.others xs
+pub called_by : (config name : List ℕ) (o : Option (List ℕ)) (qs : List Asked) (q : Asked) (c : Config) (vs : List Service) (xs : List OutsideCall) → o ≡ Some name → IsSetup config qs c vs → AreCallsGiven name q c xs
     → IsCalled config o (qs ++ q ∷ []) c vs xs
 called_by config name o qs q c vs xs is setup given = subst (λ (p : Option (List ℕ)). IsCalled config p (qs ++ q ∷ []) c vs xs) (sym is) (qs, q, refl, setup, given)
 
@@ -95,7 +95,7 @@ pub not_set_up : (config : List ℕ) (o : Option (List ℕ)) (qs : List Asked) (
 not_set_up config None qs f h = h
 not_set_up config (Some name) qs f h = inl h
 
-pub calls_faulty : (config name : List ℕ) (o : Option (List ℕ)) (qs : List Asked) (q : Asked) (c : Config) (vs : List Service) (f : Kind) → o ≡ Some name → IsSetup config qs c vs → IsCallsFault name q c.others f
+pub calls_faulty : (config name : List ℕ) (o : Option (List ℕ)) (qs : List Asked) (q : Asked) (c : Config) (vs : List Service) (f : Kind) → o ≡ Some name → IsSetup config qs c vs → IsCallsFault name q c f
     → IsNotCalled config o (qs ++ q ∷ []) f
 calls_faulty config name o qs q c vs f is setup h = subst (λ (p : Option (List ℕ)). IsNotCalled config p (qs ++ q ∷ []) f) (sym is) (inr (qs, q, c, vs, refl, setup, h))
 
@@ -116,9 +116,9 @@ by_rules : (c : Config) (vs : List Service) (k : BootAndHistory) → IsRunHistor
 by_rules c vs k run = ap (λ (r : Rules). saved_text r k.history) (ap (λ (w : World). w.table.rules) run.boot ∙ rules_at_boot c vs)
 
 -- a run whose kernel is reported
-pub run_reported : (WasShown : Part → Type 0) (c : Config) (vs : List Service) (ticks : ℕ) (xs : List OutsideCall) (whole : Bool) (k : BootAndHistory) → IsRun WasShown c vs ticks xs whole k → (log : List ℕ) (ws : List Written) (Prints : List ℕ → Type 0) (ending : RunEnding) (r : Result RunEnding Kind)
-    → ending ≡ run_ending c.log ticks xs whole k → ReportsRun log (text_kept k) (report_text (replay k).table (replay k).services) ws Prints ending r → ComesTo WasShown c vs xs log ticks ws Prints r
-run_reported WasShown c vs ticks xs whole k run log ws Prints ending r is h =
+pub run_reported : (WasShown : Part → Type 0) (stops : Bool) (c : Config) (vs : List Service) (ticks : ℕ) (xs : List OutsideCall) (whole : Bool) (k : BootAndHistory) → IsRun WasShown stops c vs ticks xs whole k → (log : List ℕ) (ws : List Written) (Prints : List ℕ → Type 0) (ending : RunEnding) (r : Result RunEnding Kind)
+    → ending ≡ run_ending c.log ticks xs whole k → ReportsRun log (text_kept k) (report_text (replay k).table (replay k).services) ws Prints ending r → ComesTo WasShown stops c vs xs log ticks ws Prints r
+run_reported WasShown stops c vs ticks xs whole k run log ws Prints ending r is h =
     let report = report_text (replay k).table (replay k).services in
     inr (
       k,

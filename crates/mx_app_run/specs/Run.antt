@@ -53,12 +53,13 @@ pub record IsRunHistory (c : Config) (vs : List Service) (k : BootAndHistory) : 
 
 -- A RUN of a configuration and its services with at most some ticks, and with some calls of the outsider, ends at a
 -- kernel. It was booted so, each event of its history is accepted, and the records of each actor there are those of its
--- loop, which went on until the history was full or the gate ended it. WasShown holds of what the progress was shown.
-pub record IsRun (WasShown : Part → Type 0) (c : Config) (vs : List Service) (ticks : ℕ) (xs : List OutsideCall)
+-- loop, which went on until the history was full or the gate ended it. WasShown holds of what the progress was shown,
+-- and `stops` says whether there is a file that stops the run.
+pub record IsRun (WasShown : Part → Type 0) (stops : Bool) (c : Config) (vs : List Service) (ticks : ℕ) (xs : List OutsideCall)
     (whole : Bool) (k : BootAndHistory) : Type 0 where
   pub history : IsRunHistory c vs k
   pub table : TableId
-  pub loops : EndsDriven (world_at_boot c vs) (shows WasShown c.log) c.cpus ticks xs whole (all_seats c table) k.history
+  pub loops : EndsDriven (world_at_boot c vs) (shows WasShown c.log stops) c.cpus ticks xs whole (all_seats c table) k.history
 
 -- fewer records are free than the two that a turn needs
 abbrev pub is_full : ℕ → BootAndHistory → Bool
@@ -81,7 +82,7 @@ abbrev pub IsCalled : List ℕ → Option (List ℕ) → List Asked → Config �
 IsCalled config None qs c vs xs = IsSetup config qs c vs × (xs ≡ [])
 IsCalled config (Some name) qs c vs xs =
     (before : List Asked) × (q : Asked) × (qs ≡ before ++ q ∷ []) × IsSetup config before c vs
-    × AreCallsGiven name q c.others xs
+    × AreCallsGiven name q c xs
 
 -- the first fault of these files
 abbrev pub IsNotCalled : List ℕ → Option (List ℕ) → List Asked → Kind → Type 0
@@ -90,7 +91,7 @@ IsNotCalled config (Some name) qs f =
     IsSetupFault config qs f
     ⊎ ((before : List Asked) × (q : Asked) × (c : Config) × (vs : List Service) × (qs ≡ before ++ q ∷ [])
     × IsSetup config before c vs
-    × IsCallsFault name q c.others f)
+    × IsCallsFault name q c f)
 
 -- WHAT REPORTING A RUN DOES: it writes the history's text, whole, then prints the report, and answers how the run ended;
 -- or it answers why not all of this was done
@@ -102,23 +103,23 @@ ReportsRun log text report ws Prints ending (Err f) = IsUnreported log text ws P
 
 -- WHAT A RUN OF WHAT WAS READ COMES TO: it answers that there is no memory for it, and prints nothing; or the run is
 -- reported, with the report on the replay of its history
-abbrev pub ComesTo : (Part → Type 0) → Config → List Service → List OutsideCall → List ℕ → ℕ → List Written
+abbrev pub ComesTo : (Part → Type 0) → Bool → Config → List Service → List OutsideCall → List ℕ → ℕ → List Written
     → (List ℕ → Type 0) → Result RunEnding Kind → Type 0
-ComesTo WasShown c vs xs log ticks ws Prints r =
+ComesTo WasShown stops c vs xs log ticks ws Prints r =
     ((ws ≡ []) × Prints [] × IsErrAnd r (λ f. f ≡ NoMemory))
-    ⊎ ((k : BootAndHistory) × (whole : Bool) × IsRun WasShown c vs ticks xs whole k
+    ⊎ ((k : BootAndHistory) × (whole : Bool) × IsRun WasShown stops c vs ticks xs whole k
     × ReportsRun log (saved_text c.rules k.history) (report_text (replay k).table (replay k).services) ws Prints
     (run_ending c.log ticks xs whole k) r)
 
 -- WHAT `mx run` DOES: it answers why no run is begun, and prints nothing; or, after its files were read, it spares a
 -- service's program that the history would be written over; or it runs what was read, and this comes of it
-abbrev pub Runs : (Part → Type 0) → List ℕ → Option (List ℕ) → List ℕ → ℕ → List Asked → List Written
+abbrev pub Runs : (Part → Type 0) → Bool → List ℕ → Option (List ℕ) → List ℕ → ℕ → List Asked → List Written
     → (List ℕ → Type 0) → Result RunEnding Kind → Type 0
-Runs WasShown config events log ticks qs ws Prints r =
+Runs WasShown stops config events log ticks qs ws Prints r =
     IsErrAnd r (λ f. (ws ≡ []) × Prints [] × IsNotCalled config events qs f)
     ⊎ ((c : Config) × (vs : List Service) × (xs : List OutsideCall) × IsCalled config events qs c vs xs
     × (IsErrAnd r (SparesProgram c log ws Prints)
-    ⊎ ((names_program c log ≡ false) × ComesTo WasShown c vs xs log ticks ws Prints r)))
+    ⊎ ((names_program c log ≡ false) × ComesTo WasShown stops c vs xs log ticks ws Prints r)))
 
 -- ---- its replay
 

@@ -1,6 +1,6 @@
 -- What the gate of a run shows, and when it ends a loop (our own).
 use Rattle.std.specs.Prelude.{◌≡◌, ◌-◌, ◌&&◌, ◌||◌, ℕ, Bool, true, false, nat_lt, if◌then◌else◌}
-use Rattle.mx_cpus.specs.Gates.{GateCall, asked_call, seen_call}
+use Rattle.mx_cpus.specs.Gates.{GateCall, asked_call, seen_call, stops_call}
 use Rattle.mx_cpus.specs.declared.locked.HowFar.{HowFar}
 use Rattle.mx_walk.specs.declared.progress.Part.{Part}
 
@@ -24,9 +24,10 @@ abbrev pub nap_after : ℕ → Bool → ℕ
 nap_after questions is_respawner = if is_respawner || nat_lt 16 questions then 1 else 0
 
 -- A CALL OF THE GATE showed how many records the history has, of so many that it may have, if an actor saw it then; and
--- a loop that it ended may end
-abbrev pub shows : (Part → Type 0) → ℕ → GateCall → Type 0
-shows WasShown log (seen_call actor records) = WasShown (record { done = records; all = log })
-shows WasShown log (asked_call actor records at_rest is_done goes_on) =
-    goes_on ≡ false → may_end log records at_rest is_done ≡ true
-shows WasShown log _ = Unit {0}
+-- a loop that it ended may end. If there is a file that stops the run, each may at any question
+abbrev pub shows : (Part → Type 0) → ℕ → Bool → GateCall → Type 0
+shows WasShown log stops (seen_call actor records) = WasShown (record { done = records; all = log })
+shows WasShown log stops (asked_call actor records at_rest is_done goes_on) =
+    goes_on ≡ false → (stops || may_end log records at_rest is_done) ≡ true
+shows WasShown log stops (stops_call cpu stopped) = stopped ≡ true → stops ≡ true
+shows WasShown log stops _ = Unit {0}

@@ -12,13 +12,14 @@
 //! itself, and by what it has asked before; that another loop has ended doesn't matter. So nothing ends too early: the
 //! last one that recorded something has seen the whole history.
 
-ghost use Rattle.std.specs.Prelude.{◌≡◌, ◌==◌, not, true, length};
+ghost use Rattle.std.specs.Prelude.{◌≡◌, ◌==◌, not, true, is_some, length};
 ghost use Rattle.mx_app_run.specs.Shows.{is_full_at, is_settled, may_end, nap_after};
 
 use crate::respawns::Respawns;
-use mx_app_start::SharedProgress;
+use mx_app_start::{SharedProgress, StopFile, StopSign};
 use mx_cpus::{HowFar, Outside, WatchingGate};
 use mx_walk::Part;
+use std::rt::Files;
 use std::sync::Wait;
 use std::sync::atomic::{AtomicBool, AtomicU32, Ordering};
 use std::time::{Clock, Duration};
@@ -57,25 +58,30 @@ struct Earlier {
 
 /// What the gate of a run has to know of it.
 #[derive(Clone, Copy)]
-pub struct RunPlan {
+pub struct RunPlan<'a> {
     /// The first actor that is no processor. The next one is the outsider, if there are calls for it to make.
     respawner: u8,
     has_calls: bool,
     /// How many records the history may have.
     log: usize,
+    /// The file that stops it once it is there, if one is named.
+    stop: Option<&'a str>,
 }
 
-impl RunPlan {
-    /// The plan of a run with so many processors, what comes from outside, and room for so many records.
-    pub fn new(cpus: u8, outside: Outside<'_>, log: usize) -> RunPlan
+impl<'a> RunPlan<'a> {
+    /// The plan of a run with so many processors, what comes from outside, and room for so many records; and with a file
+    /// that stops it, if one is named.
+    pub fn new(cpus: u8, outside: Outside<'_>, log: usize, stop: Option<&'a str>) -> RunPlan<'a>
         ensures respawner { result.respawner ≡ cpus }
         ensures calls { result.has_calls ≡ not (length outside.entry.calls.now == 0) }
         ensures log { result.log ≡ log }
+        ensures stop { is_some result.stop ≡ is_some stop.entry }
     {
         RunPlan {
             respawner: cpus,
             has_calls: !outside.calls.is_empty(),
             log,
+            stop,
         }
     }
 }
@@ -90,10 +96,10 @@ pub(crate) fn is_full_at(log: usize, records: usize) -> bool
 /// Whether a loop ends. The machine is at rest, its work is done, and an earlier question of it came after all ticks
 /// and calls: nothing can become ready then. Or the history is full, as at an earlier question of it; the outsider's
 /// wait ends then too.
-fn is_settled(plan: RunPlan, actor: u8, far: HowFar, is_done: bool, earlier: Earlier) -> bool
-    ensures value { result ≡ is_settled plan.respawner plan.log
+fn is_settled(plan: RunPlan<'_>, actor: u8, far: HowFar, is_done: bool, earlier: Earlier) -> bool
+    ensures value { result ≡ is_settled plan.entry.respawner plan.entry.log
         actor far is_done earlier.is_past_all earlier.has_seen_full }
-    ensures may { result ≡ true → may_end plan.log far.records far.at_rest is_done ≡ true }
+    ensures may { result ≡ true → may_end plan.entry.log far.records far.at_rest is_done ≡ true }
 {
     if is_full_at(plan.log, far.records) {
         earlier.has_seen_full && (is_done || actor > plan.respawner)
@@ -114,12 +120,14 @@ fn nap_after(questions: u32, is_respawner: bool) -> u64
 }
 
 /// The gate of a run: it ends all loops if the machine is at rest after the last tick and the outsider's
-/// last call, and if the history is full. It shows how long the history is.
+/// last call, if the history is full, and if the file that stops the run is there. It shows how long the history is.
 #[derive(Drop)]
 pub struct RunGate<'a, R, P: SharedProgress> {
     clock: &'a R,
     progress: &'a P,
-    plan: RunPlan,
+    plan: RunPlan<'a>,
+    /// Whether the file that stops it was seen.
+    is_stopped: AtomicBool,
     are_ticks_made: AtomicBool,
     are_calls_made: AtomicBool,
     respawns: Respawns,
@@ -128,14 +136,15 @@ pub struct RunGate<'a, R, P: SharedProgress> {
 
 impl<'a, R, P: SharedProgress> RunGate<'a, R, P> {
     /// The gate of a run, by its clock, by what shows its progress, and by its plan.
-    pub fn new(clock: &'a R, progress: &'a P, plan: RunPlan) -> RunGate<'a, R, P>
-        ensures plan { result.plan ≡ plan }
+    pub fn new(clock: &'a R, progress: &'a P, plan: RunPlan<'a>) -> RunGate<'a, R, P>
+        ensures plan { result.plan ≡ plan.entry }
         ensures progress { result.progress.now ≡ progress.now }
     {
         RunGate {
             clock,
             progress,
             plan,
+            is_stopped: AtomicBool::new(false),
             are_ticks_made: AtomicBool::new(false),
             are_calls_made: AtomicBool::new(!plan.has_calls),
             respawns: Respawns::new(),
@@ -193,6 +202,21 @@ impl<'a, R, P: SharedProgress> RunGate<'a, R, P> {
     }
 }
 
+impl<'a, R: Files, P: SharedProgress> RunGate<'a, R, P> {
+    /// Whether the run is stopped. The respawner looks for the file at each of its questions, so about each millisecond.
+    fn is_stopped(&self, actor: u8) -> bool
+        ensures { result ≡ true → is_some self.now.plan.stop ≡ true }
+    {
+        if self.plan.stop.is_none() {
+            return false;
+        }
+        if actor == self.plan.respawner && StopFile::new(self.clock, self.plan.stop).is_up() {
+            self.is_stopped.store(true, Ordering::SeqCst);
+        }
+        self.is_stopped.load(Ordering::SeqCst)
+    }
+}
+
 impl<'a, R: Clock + Wait, P: SharedProgress> RunGate<'a, R, P> {
     /// Lets others run, and sleeps if the loop is idle for long.
     fn wait(&self, actor: u8) {
@@ -208,10 +232,12 @@ impl<'a, R: Clock + Wait, P: SharedProgress> RunGate<'a, R, P> {
     }
 }
 
-impl<'a, R: Clock + Wait, P: SharedProgress> WatchingGate for RunGate<'a, R, P> {
+impl<'a, R: Clock + Wait + Files, P: SharedProgress> WatchingGate for RunGate<'a, R, P> {
+    ghost use Rattle.std.specs.Prelude.{is_some};
     ghost use Rattle.mx_app_run.specs.Shows.{shows};
 
-    ghost was_called = { λ gate call. shows (P.was_shown gate.progress.now) gate.plan.log call };
+    ghost was_called = { λ gate call.
+        shows (P.was_shown gate.progress.now) gate.plan.log (is_some gate.plan.stop) call };
 
     fn held(&self, cpu: u8, _turn: u64) {
         if let Some(state) = self.loops.get(usize::from(cpu)) {
@@ -243,11 +269,15 @@ impl<'a, R: Clock + Wait, P: SharedProgress> WatchingGate for RunGate<'a, R, P> 
             self.note_done(actor);
         }
         let earlier = self.note_question(actor, far);
-        if is_settled(self.plan, actor, far, is_done, earlier) {
+        if self.is_stopped(actor) || is_settled(self.plan, actor, far, is_done, earlier) {
             return false;
         }
         self.wait(actor);
         true
+    }
+
+    fn stops(&self, cpu: u8) -> bool {
+        self.is_stopped(cpu)
     }
 
     fn ended(&self, actor: u8) {

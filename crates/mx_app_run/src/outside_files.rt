@@ -3,14 +3,15 @@
 ghost use Rattle.std.specs.Prelude.{◌≡◌, ◌≤◌, IfErr, IfOk};
 ghost use Rattle.mx_text.specs.Fields.{fields};
 ghost use Rattle.mx_text.specs.Lines.{lines};
-ghost use Rattle.mx_boot.specs.Reading.{AreLinesRead, TellsUnread};
-ghost use Rattle.mx_app_run.specs.Calls.{call_line, call_of_event, call_of_fields, tick_of, ticks_of};
+ghost use Rattle.mx_app_turns.specs.Commented.{AreSaid, TellsUnsaid};
+ghost use Rattle.mx_app_run.specs.Calls.{call_line, call_of_event, call_of_fields, call_of_outside, tick_of, ticks_of};
 
-use mx_app_turns::outside_event_of;
-use mx_boot::{ReadsLine, event_kind_named, only_count, read_lines};
+use mx_app_turns::{outside_line_of, read_commented};
+use mx_boot::{ReadsLine, event_kind_named, only_count};
 use mx_cpus::OutsideCall;
-use mx_machine::Event;
+use mx_machine::{Config, Event};
 use mx_text::{BootError, next_field};
+use mx_turns::OutsideLine;
 use std::alloc::Global;
 
 /// How many actors that are no processors a file of outside events wants: the first one makes ticks and respawns, and
@@ -24,52 +25,69 @@ fn call_of_event(event: Event) -> Option<OutsideCall>
     match event {
         Event::Line(line) => Some(OutsideCall::Line(line)),
         Event::Kill(endpoint) => Some(OutsideCall::Kill(endpoint)),
+        Event::Respawn(slot) => Some(OutsideCall::Respawn(slot)),
         Event::Tick => Some(OutsideCall::Tick),
         _ => None,
     }
 }
 
+/// What comes from outside, as a call.
+fn call_of_outside(line: OutsideLine) -> Option<OutsideCall>
+    ensures { result ≡ call_of_outside line }
+{
+    match line {
+        OutsideLine::Plain(event) => call_of_event(event),
+        OutsideLine::KillSlot(slot) => Some(OutsideCall::KillSlot(slot)),
+    }
+}
+
 /// What a line says: `wait N`, or an outside event.
-fn call_of(line: &[u8]) -> Option<OutsideCall>
-    ensures { result ≡ call_of_fields (fields line.now) }
+fn call_of(config: &Config, line: &[u8]) -> Option<OutsideCall>
+    ensures { result ≡ call_of_fields config.now.lines (fields line.now) }
 {
     let (word, rest) = next_field(line)?;
     if word == b"wait".as_slice() {
         return Some(OutsideCall::Wait(only_count(rest)?));
     }
     let kind = event_kind_named(word)?;
-    call_of_event(outside_event_of(kind, rest)?)
+    call_of_outside(outside_line_of(config, kind, rest)?)
 }
 
-/// Reads the lines of a file for a machine with so many actors that are no processors.
+/// Reads the lines of a file for the machine of a configuration.
 #[derive(Clone, Copy)]
-struct CallReader {
-    others: u8,
+struct CallReader<'a> {
+    config: &'a Config,
 }
 
-impl ReadsLine for CallReader {
+impl<'a> ReadsLine for CallReader<'a> {
     ghost use Rattle.mx_app_run.specs.Calls.{call_line};
 
     type Said = OutsideCall;
 
-    ghost says = { λ r line. call_line r.others line };
+    ghost says = { λ r line. call_line r.config.now line };
 
     fn read(&self, line: &[u8]) -> Option<OutsideCall> {
-        if self.others < WANTED_OTHERS {
+        if self.config.others < WANTED_OTHERS {
             return None;
         }
-        call_of(line)
+        call_of(self.config, line)
     }
 }
 
-/// The lines of a run's file of outside events, one a line: `line L`, `tick`, `kill E` and `wait N`. The numbers are
-/// decimal, at most 2,147,483,647. Each line wants a machine with two actors that are no processors, or more.
-pub fn outside_calls(alloc: Global, text: &str, others: u8) -> Result<Vec<OutsideCall>, BootError>
+/// The lines of a run's file of outside events, one a line: `line L`, `tick`, `kill E`, `respawn S` and `wait N`, where E
+/// and S may be the name of a service. The numbers are decimal, at most 2,147,483,647. Each such line wants a machine
+/// with two actors that are no processors, or more. A line may be empty, or end with a comment, which `#` begins.
+pub fn outside_calls(
+    alloc: Global,
+    text: &str,
+    config: &Config,
+) -> Result<Vec<OutsideCall>, BootError>
     ensures read { IfOk result (λ found.
-        AreLinesRead (call_line others) (lines text.now) found.items) }
-    ensures unread { IfErr result (λ e. TellsUnread (call_line others) (lines text.now) e) }
+        AreSaid (call_line config.now) (lines text.now) found.items) }
+    ensures unread { IfErr result (λ e.
+        TellsUnsaid (call_line config.now) (lines text.now) e) }
 {
-    read_lines(alloc, &CallReader { others }, text.as_bytes())
+    read_commented(alloc, &CallReader { config }, text.as_bytes())
 }
 
 /// 1 for a tick, and 0 for another call.

@@ -1,6 +1,6 @@
 //! `mx run`: boots a machine, drives it by threads, saves its history and prints its report.
 
-ghost use Rattle.std.specs.Prelude.{◌≡◌, ◌<◌, ◌≤◌, ◌++◌, ◌∷◌, [], List, All, IfErr, IfOk, None, length, option_map};
+ghost use Rattle.std.specs.Prelude.{◌≡◌, ◌<◌, ◌≤◌, ◌++◌, ◌∷◌, [], List, All, IfErr, IfOk, None, is_some, length, option_map};
 ghost use Rattle.std.specs.Io.KnownBytes.{Appends};
 ghost use Rattle.mx_machine.specs.History.{replay};
 ghost use Rattle.mx_app_step.specs.Asked.{Asked};
@@ -26,6 +26,7 @@ use mx_word::NoMemory;
 use std::alloc::Global;
 use std::io::Write;
 use std::marker::Brand;
+use std::rt::Files;
 use std::sync::Wait;
 use std::thread::Threads;
 use std::time::Clock;
@@ -47,49 +48,66 @@ struct RunPlace<'a, T, P> {
     rt: &'a T,
     alloc: Global,
     progress: &'a P,
+    /// The file that stops the run once it is there, if one is named.
+    stop: Option<&'a str>,
 }
 
 /// Runs the loops of a machine's seats by the gate of a run. The seats after that, and whether all calls were made, if
-/// there was memory for all threads.
-fn drive_seats<M: Naming + Send + Sync, T: Threads + Wait + Clock + Sync, P: SharedProgress + Sync>(
+/// there was memory for all threads. The gate looks for the file that stops the run from other threads than this one,
+/// so what the runtime has of files may go to another thread.
+fn drive_seats<
+    M: Naming + Send + Sync,
+    T: Threads + Wait + Clock + Files + Sync,
+    P: SharedProgress + Sync,
+>(
     place: &RunPlace<'_, T, P>,
     shared: &Shared<M>,
     seats: Vec<ActorSeat>,
     log: u32,
     outside: Outside<'_>,
 ) -> Result<(Vec<ActorSeat>, bool), NoMemory>
+where
+    T::File: Send,
+    T::Dir: Send,
     requires tables { All (λ s. s.table ≡ M.table) seats.items }
     requires empties { All (λ s. s.held ≡ None) seats.items }
     ensures driven { IfOk result (λ v. AreDrivenWith (length M.boot.cpus) outside.entry.ticks
         outside.entry.calls.now seats.items v.0.items) }
     ensures served { IfOk result (λ v. AreServedWith M.boot
-        (shows (P.was_shown place.now.progress.now) log) (length M.boot.cpus)
+        (shows (P.was_shown place.now.progress.now) log (is_some place.now.stop)) (length M.boot.cpus)
         outside.entry.ticks outside.entry.calls.now seats.items v.0.items) }
     ensures whole { IfOk result (λ v. AreWholeWith M.boot
-        (shows (P.was_shown place.now.progress.now) log) (length M.boot.cpus)
+        (shows (P.was_shown place.now.progress.now) log (is_some place.now.stop)) (length M.boot.cpus)
         outside.entry.calls.now seats.items v.0.items v.1) }
     ensures tables { IfOk result (λ v. All (λ s. s.table ≡ M.table) v.0.items) }
 {
-    let plan = RunPlan::new(shared.cpus(), outside, log as usize);
+    let plan = RunPlan::new(shared.cpus(), outside, log as usize, place.stop);
     let gate = RunGate::new(place.rt, place.progress, plan);
     drive_with(place.rt, shared, seats, &gate, outside)
 }
 
 /// Drives a machine that was just booted, until it is at rest after its ticks and calls, or its history is full.
-fn drive_blank<M: Naming + Send + Sync, T: Threads + Wait + Clock + Sync, P: SharedProgress + Sync>(
+fn drive_blank<
+    M: Naming + Send + Sync,
+    T: Threads + Wait + Clock + Files + Sync,
+    P: SharedProgress + Sync,
+>(
     place: &RunPlace<'_, T, P>,
     blank: Blank,
     seats: Vec<ActorSeat>,
     log: u32,
     outside: Outside<'_>,
 ) -> Result<(Kernel, bool), NoMemory>
+where
+    T::File: Send,
+    T::Dir: Send,
     requires table { blank.table ≡ M.table }
     requires boot { blank.boot ≡ M.boot }
     requires tables { All (λ s. s.table ≡ M.table) seats.items }
     requires empties { All (λ s. s.held ≡ None) seats.items }
     ensures boot { IfOk result (λ r. r.0.boot ≡ blank.boot) }
     ensures driven { IfOk result (λ r.
-        EndsDriven blank.boot (shows (P.was_shown place.now.progress.now) log)
+        EndsDriven blank.boot (shows (P.was_shown place.now.progress.now) log (is_some place.now.stop))
         (length blank.boot.cpus) outside.entry.ticks outside.entry.calls.now
         r.1 seats.items r.0.history) }
 {
@@ -105,15 +123,18 @@ fn drive_blank<M: Naming + Send + Sync, T: Threads + Wait + Clock + Sync, P: Sha
 }
 
 /// Boots the machine of a configuration and its services, and drives it.
-fn run_machine<T: Threads + Wait + Clock + Sync, P: SharedProgress + Sync>(
+fn run_machine<T: Threads + Wait + Clock + Files + Sync, P: SharedProgress + Sync>(
     place: &RunPlace<'_, T, P>,
     config: &Config,
     mut services: Vec<Service>,
     outside: Outside<'_>,
 ) -> Result<(Kernel, bool), NoMemory>
+where
+    T::File: Send,
+    T::Dir: Send,
     requires some { 0 < length services.items }
     requires few { length services.items ≤ 32 }
-    ensures { IfOk result (λ r. IsRun (P.was_shown place.now.progress.now)
+    ensures { IfOk result (λ r. IsRun (P.was_shown place.now.progress.now) (is_some place.now.stop)
         config.entry.now services.items outside.entry.ticks
         outside.entry.calls.now r.1 r.0) }
 {
@@ -161,6 +182,8 @@ pub struct RunWanted<'a> {
     pub log: &'a str,
     pub events: Option<&'a str>,
     pub ticks: u32,
+    /// The file that stops it once it is there, if one is named.
+    pub stop: Option<&'a str>,
 }
 
 /// What a run's files say: the configuration, its services, and the outsider's calls.
@@ -176,16 +199,16 @@ fn calls_of<R: Reader>(
     alloc: Global,
     reader: &mut R,
     name: &str,
-    others: u8,
+    config: &Config,
 ) -> Result<Vec<OutsideCall>, Failure>
     ensures calls { IfOk result (λ calls. (q : Asked)
         × (R.asked reader.new ≡ R.asked reader.old ++ q ∷ [])
-        × AreCallsGiven name.now q others calls.items) }
+        × AreCallsGiven name.now q config.now calls.items) }
     ensures fault { IfErr result (λ f. (q : Asked)
-        × (R.asked reader.new ≡ R.asked reader.old ++ q ∷ []) × IsCallsFault name.now q others f) }
+        × (R.asked reader.new ≡ R.asked reader.old ++ q ∷ []) × IsCallsFault name.now q config.now f) }
 {
     let text = text_of(alloc, reader, name, About::Course)?;
-    match outside_calls(alloc, text.as_str(), others) {
+    match outside_calls(alloc, text.as_str(), config) {
         Ok(calls) => Ok(calls),
         Err(error) => Err(Failure::misstated(error, About::Course, text)),
     }
@@ -214,7 +237,7 @@ fn begin<R: Reader>(
             calls: Vec::new(alloc),
         }),
         Some(name) => {
-            let calls = calls_of(alloc, reader, name, config.others)?;
+            let calls = calls_of(alloc, reader, name, &config)?;
             Ok(Begun {
                 config,
                 services,
@@ -247,14 +270,17 @@ fn report_run<R: Drop, F: FileWriter + Drop, W: Write + Drop>(
 
 /// Boots the machine of what was read, and drives it. The kernel after that, how the run ended, and whether all calls
 /// were made.
-fn drive_begun<T: Threads + Wait + Clock + Sync, P: SharedProgress + Sync>(
+fn drive_begun<T: Threads + Wait + Clock + Files + Sync, P: SharedProgress + Sync>(
     place: &RunPlace<'_, T, P>,
     begun: Begun,
     ticks: u32,
 ) -> Result<(Kernel, RunEnding, bool), NoMemory>
+where
+    T::File: Send,
+    T::Dir: Send,
     requires some { 0 < length begun.services.items }
     requires few { length begun.services.items ≤ 32 }
-    ensures run { IfOk result (λ r. IsRun (P.was_shown place.now.progress.now)
+    ensures run { IfOk result (λ r. IsRun (P.was_shown place.now.progress.now) (is_some place.now.stop)
         begun.config begun.services.items ticks
         begun.calls.items r.2 r.0) }
     ensures ending { IfOk result (λ r. r.1
@@ -276,7 +302,7 @@ fn drive_begun<T: Threads + Wait + Clock + Sync, P: SharedProgress + Sync>(
 
 /// Runs the machine of what was read, writes its history, prints the report, and answers how the run ended.
 fn run_begun<
-    T: Threads + Wait + Clock + Sync,
+    T: Threads + Wait + Clock + Files + Sync,
     R: Drop,
     F: FileWriter + Drop,
     W: Write + Drop,
@@ -289,12 +315,15 @@ fn run_begun<
     begun: Begun,
     progress: &mut P,
 ) -> Result<RunEnding, Failure>
+where
+    T::File: Send,
+    T::Dir: Send,
     requires some { 0 < length begun.services.items }
     requires few { length begun.services.items ≤ 32 }
     ensures reader { channels.new.reader ≡ channels.old.reader }
     ensures reported { (ws : List Written)
         × (F.written channels.new.files ≡ F.written channels.old.files ++ ws)
-        × ComesTo (P.was_shown progress.old) begun.config begun.services.items begun.calls.items wanted.entry.log.now
+        × ComesTo (P.was_shown progress.old) (is_some wanted.entry.stop) begun.config begun.services.items begun.calls.items wanted.entry.log.now
         wanted.entry.ticks ws (λ text. Appends (W.contents channels.old.out)
         (W.contents channels.new.out) text) result }
     ensures shown { P.shown progress.new ≡ P.shown progress.old }
@@ -303,6 +332,7 @@ fn run_begun<
         rt,
         alloc,
         progress: &*progress,
+        stop: wanted.stop,
     };
     let (kernel, ending, _whole) = drive_begun(&place, begun, wanted.ticks)?;
     progress.clear();
@@ -310,12 +340,13 @@ fn run_begun<
 }
 
 /// Runs the machine of a configuration, each processor in a thread of its own, until it is at rest
-/// after all ticks and the outside events of a file, or its history is full, and answers which. Then writes the history
+/// after all ticks and the outside events of a file, or its history is full, or the file that stops it is there, and
+/// answers which. Then writes the history
 /// to a file, and prints the report. No file that is read is written over: if LOG has the name of CONFIG or
 /// EVENTS, nothing is read or written. If it has that of a service's program, nothing is run or written. While it runs,
 /// its threads show `progress` how many records the history has.
 pub fn run<
-    T: Threads + Wait + Clock + Sync,
+    T: Threads + Wait + Clock + Files + Sync,
     R: Reader + Drop,
     F: FileWriter + Drop,
     W: Write + Drop,
@@ -327,10 +358,13 @@ pub fn run<
     wanted: RunWanted<'_>,
     progress: &mut P,
 ) -> Result<RunEnding, Failure>
+where
+    T::File: Send,
+    T::Dir: Send,
     ensures done { (qs : List Asked) × (ws : List Written)
         × (R.asked channels.new.reader ≡ R.asked channels.old.reader ++ qs)
         × (F.written channels.new.files ≡ F.written channels.old.files ++ ws)
-        × Runs (P.was_shown progress.old) wanted.entry.config.now (option_map (λ s. s.now) wanted.entry.events)
+        × Runs (P.was_shown progress.old) (is_some wanted.entry.stop) wanted.entry.config.now (option_map (λ s. s.now) wanted.entry.events)
         wanted.entry.log.now wanted.entry.ticks qs ws
         (λ text. Appends (W.contents channels.old.out) (W.contents channels.new.out) text) result }
     ensures shown { P.shown progress.new ≡ P.shown progress.old }

@@ -26,7 +26,7 @@ never h = absurd cc
 -- ---- a service's file
 
 pub program_refused : (line : ServiceLine) (name b slice : List ℕ) (e : FileError) → name ≡ line.file → slice ≡ b → ReadsFile (refusal_of slice) slice (Err e)
-    → IsLineRefused line (file_given name b) (problem_of_refusal e)
+    → IsLineRefused line (file_given name b) (problem_of_refusal b e)
 program_refused line name b slice e same of h =
     inr (b, e, ap (λ (n : List ℕ). file_given n b) same, subst (λ (t : List ℕ). ReadsFile (refusal_of t) t (Err e)) of h, refl)
 

@@ -70,7 +70,7 @@ abbrev pub IsLineRefused : ServiceLine → Asked → Option FileProblem → Type
 IsLineRefused line q p =
     IsFileMissed line.file q p
     ⊎ ((bytes : List ℕ) × (e : FileError) × (q ≡ file_given line.file bytes)
-    × ReadsFile (refusal_of bytes) bytes (Err e) × (p ≡ problem_of_refusal e))
+    × ReadsFile (refusal_of bytes) bytes (Err e) × (p ≡ problem_of_refusal bytes e))
 
 -- each line's file was asked for, in order
 abbrev pub AreServicesRead : List ServiceLine → List Asked → List Service → Type 0

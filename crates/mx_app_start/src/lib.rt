@@ -27,6 +27,7 @@ mod replacing;
 mod runtime;
 mod setup;
 mod starting;
+mod stop_sign;
 mod typed_lines;
 mod writer;
 
@@ -42,5 +43,6 @@ pub use reader::Reader;
 pub use runtime::{RuntimeFiles, RuntimeWriter};
 pub use setup::{config_of, setup_of, text_of};
 pub use starting::{Started, start};
+pub use stop_sign::{StopFile, StopSign};
 pub use typed_lines::{InputLines, LineReader};
 pub use writer::FileWriter;

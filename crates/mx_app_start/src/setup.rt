@@ -53,7 +53,7 @@ fn service_of<R: Reader>(
     };
     let program = match read(alloc, bytes.as_slice()) {
         Ok(program) => program,
-        Err(error) => return Err(FileProblem::of_refusal(error)),
+        Err(error) => return Err(FileProblem::of_refusal(error, bytes.as_slice())),
     };
     Ok(Service {
         name: line.name,

@@ -1,3 +1,4 @@
+pub mod PieceLemmas
 pub mod TurnedLemmas
 pub mod BlockLemmas
 pub mod ReadyLemmas

@@ -1,5 +1,5 @@
 -- Machines that make turns.
-use Rattle.std.proofs.Common.{◌≡◌, ◌≢◌, ◌∙◌, ◌+◌, ◌^◌, ◌≤◌, ◌<◌, ℕ, zero, suc, ◌++◌, false, List, [], ◌∷◌, length, Option, None, Result, Ok, Err, All, inl, inr, refl, ap, sym, subst, arith}
+use Rattle.std.proofs.Common.{◌≡◌, ◌≢◌, ◌∙◌, ◌+◌, ◌^◌, ◌≤◌, ◌<◌, ℕ, zero, suc, ◌++◌, Bool, false, List, [], ◌∷◌, length, Option, None, Result, Ok, Err, All, inl, inr, refl, ap, sym, subst, arith}
 use Rattle.std.specs.Io.KnownBytes.{Appends}
 use Rattle.std.specs.Prelude.{IsErrAnd}
 use Rattle.std.proofs.lemmas.List.{length-replicate}
@@ -35,7 +35,10 @@ use Rattle.mx_app_step.specs.Written.{Written, kept}
 use Rattle.mx_app_step.specs.declared.records.Replayed.{Replayed}
 use Rattle.mx_app_step.specs.declared.records.Replayed.TheVariants as replayed
 use Rattle.mx_walk.specs.declared.progress.Part.{Part}
-use Rattle.mx_app_turns.specs.Turned.{IsBegun, IsNotBegun, IsTurned, MakesTurns, ShowsTurns, coming}
+use Rattle.mx_turns.specs.declared.outside.OutsideLine.{OutsideLine}
+use Rattle.mx_turns.specs.declared.outside.OutsideLine.TheVariants.{Plain}
+use Rattle.mx_app_turns.specs.declared.turning.TurnsEnd.{TurnsEnd}
+use Rattle.mx_app_turns.specs.Turned.{IsBegun, IsNotBegun, IsTurned, IsTurnedTo, MakesTurns, ShowsTurns, coming}
 
 -- ---- a machine's turns
 
@@ -51,7 +54,7 @@ abbrev at_boot : World → BootAndHistory
 at_boot w = record { boot = w; history = [] }
 
 -- a machine that made the turns of a configuration
-pub turned : (c : Config) (vs : List Service) (bound : ℕ) (events : List Event) (m n : MachineState) (ending : Ending) → world_of m ≡ world_at_boot c vs → m.kernel ≡ at_boot (world_of m)
+pub turned : (c : Config) (vs : List Service) (bound : ℕ) (events : List OutsideLine) (m n : MachineState) (ending : Ending) → world_of m ≡ world_at_boot c vs → m.kernel ≡ at_boot (world_of m)
     → HasMade m (turns bound (world_of m) events).made n → ending ≡ (turns bound (world_of m) events).ending
     → AreAccepted n.kernel.boot (events_of_history n.kernel.history) → All (IsWritable (actors (replay n.kernel))) n.kernel.history → (replay n.kernel).records ≤ 2 ^ 20 → IsTurned c vs bound events n.kernel ending
 turned c vs bound events m n ending booted begun made ends accepted written room =
@@ -69,12 +72,12 @@ turned c vs bound events m n ending booted begun made ends accepted written room
     }
 
 -- the same, by what was read and asked for
-pub turned_at : (c : Config) (vs : List Service) (bound known : ℕ) (listed items : List Event) (ticks : ℕ) (m n : MachineState) (k : BootAndHistory) (ending : Ending) → bound ≡ known → listed ≡ items → k ≡ n.kernel
+pub turned_at : (c : Config) (vs : List Service) (bound known : ℕ) (listed items : List OutsideLine) (ticks : ℕ) (m n : MachineState) (k : BootAndHistory) (ending : Ending) → bound ≡ known → listed ≡ items → k ≡ n.kernel
     → world_of m ≡ world_at_boot c vs → m.kernel ≡ at_boot (world_of m) → HasMade m (turns bound (world_of m) (coming listed ticks)).made n → ending ≡ (turns bound (world_of m) (coming listed ticks)).ending
     → AreAccepted k.boot (events_of_history k.history) → All (IsWritable (actors (replay k))) k.history → (replay k).records ≤ 2 ^ 20 → IsTurned c vs known (coming items ticks) k ending
 turned_at c vs bound known listed items ticks m n k ending same_bound same_items same_kernel booted begun made ends accepted written room =
     subst (λ (x : BootAndHistory). IsTurned c vs known (coming items ticks) x ending) (sym same_kernel)
-    (subst (λ (l : List Event). IsTurned c vs known (coming l ticks) n.kernel ending) same_items
+    (subst (λ (l : List OutsideLine). IsTurned c vs known (coming l ticks) n.kernel ending) same_items
     (subst (λ (b : ℕ). IsTurned c vs b (coming listed ticks) n.kernel ending) same_bound
     (turned c vs bound (coming listed ticks) m n ending booted begun made ends
     (subst (λ (x : BootAndHistory). AreAccepted x.boot (events_of_history x.history)) same_kernel accepted)
@@ -82,14 +85,14 @@ turned_at c vs bound known listed items ticks m n k ending same_bound same_items
     (subst (λ (x : BootAndHistory). (replay x).records ≤ 2 ^ 20) same_kernel room))))
 
 -- what was shown of its turns, by what was read and asked for
-pub shows_at : (c : Config) (vs : List Service) (bound known log : ℕ) (listed items : List Event) (ticks : ℕ) (w : World) (before shown now : List Part) → bound ≡ known → log ≡ c.log → listed ≡ items → w ≡ world_at_boot c vs
+pub shows_at : (c : Config) (vs : List Service) (bound known log : ℕ) (listed items : List OutsideLine) (ticks : ℕ) (w : World) (before shown now : List Part) → bound ≡ known → log ≡ c.log → listed ≡ items → w ≡ world_at_boot c vs
     → shown ≡ before ++ turns_shown log bound w (coming listed ticks) → now ≡ shown → (ps : List Part) × (now ≡ before ++ ps) × ShowsTurns c vs known (coming items ticks) ps
 shows_at c vs bound known log listed items ticks w before shown now same_bound same_log same_items booted is cleared = (
   turns_shown c.log known (world_at_boot c vs) (coming items ticks),
   cleared ∙ is
       ∙ ap (λ n. before ++ turns_shown log n w (coming listed ticks)) same_bound
       ∙ ap (λ n. before ++ turns_shown n known w (coming listed ticks)) same_log
-      ∙ ap (λ (l : List Event). before ++ turns_shown c.log known w (coming l ticks)) same_items
+      ∙ ap (λ (l : List OutsideLine). before ++ turns_shown c.log known w (coming l ticks)) same_items
       ∙ ap (λ (u : World). before ++ turns_shown c.log known u (coming items ticks)) booted,
   refl,
 )
@@ -100,29 +103,29 @@ rules_at_boot : (c : Config) (vs : List Service) → (world_at_boot c vs).table.
 unfolding first_table
 rules_at_boot c vs = refl
 
-module _ (config : List ℕ) (file : Option (List ℕ)) (log : List ℕ) (ticks bound : ℕ) (qs : List Asked) (Prints : List ℕ → Type 0) where
-  pub not_begun : (f : Kind) (r : Result Ending Kind) → IsNotBegun config file qs f → Prints [] → IsErrAnd r (λ y. y ≡ f) → MakesTurns config file log ticks bound qs [] [] Prints r
+module _ (stops : Bool) (config : List ℕ) (file : Option (List ℕ)) (log : List ℕ) (ticks bound : ℕ) (qs : List Asked) (Prints : List ℕ → Type 0) where
+  pub not_begun : (f : Kind) (r : Result TurnsEnd Kind) → IsNotBegun config file qs f → Prints [] → IsErrAnd r (λ y. y ≡ f) → MakesTurns stops config file log ticks bound qs [] [] Prints r
   not_begun f (Ok u) why printed h = absurd h
   not_begun f (Err y) why printed h = inl (refl, refl, printed, subst (λ z. IsNotBegun config file qs z) (sym h) why)
 
   -- a program isn't written over
-  pub spared : (c : Config) (vs : List Service) (events : List Event) (f : Kind) (r : Result Ending Kind) → IsBegun config file qs c vs events → SparesProgram c log [] Prints f → IsErrAnd r (λ y. y ≡ f)
-      → MakesTurns config file log ticks bound qs [] [] Prints r
+  pub spared : (c : Config) (vs : List Service) (events : List OutsideLine) (f : Kind) (r : Result TurnsEnd Kind) → IsBegun config file qs c vs events → SparesProgram c log [] Prints f → IsErrAnd r (λ y. y ≡ f)
+      → MakesTurns stops config file log ticks bound qs [] [] Prints r
   spared c vs events f (Ok u) begun named h = absurd h
   spared c vs events f (Err y) begun named h = inr (inl (c, vs, events, begun, refl, subst (λ z. SparesProgram c log [] Prints z) (sym h) named))
 
-  module _ (c : Config) (vs : List Service) (events : List Event) (k : BootAndHistory) (ending : Ending) (ps : List Part) (begun : IsBegun config file qs c vs events) (other : names_program c log ≡ false) (made : IsTurned c vs bound (coming events ticks) k ending)
-      (shown : ShowsTurns c vs bound (coming events ticks) ps) where
+  module _ (c : Config) (vs : List Service) (events : List OutsideLine) (k : BootAndHistory) (end : TurnsEnd) (ps : List Part) (begun : IsBegun config file qs c vs events) (other : names_program c log ≡ false)
+      (made : IsTurnedTo stops c vs bound (coming events ticks) k end ps) where
     by_rules : text_kept k ≡ saved_text c.rules k.history
-    by_rules = ap (λ (r : Rules). saved_text r k.history) (ap (λ (w : World). w.table.rules) made.boot ∙ rules_at_boot c vs)
+    by_rules = ap (λ (r : Rules). saved_text r k.history) (ap (λ (w : World). w.table.rules) made.2.boot ∙ rules_at_boot c vs)
 
-    pub untold : (ws : List Written) (f : Kind) (r : Result Ending Kind) → IsUnreported log (text_kept k) ws Prints f → IsErrAnd r (λ y. y ≡ f) → MakesTurns config file log ticks bound qs ws ps Prints r
+    pub untold : (ws : List Written) (f : Kind) (r : Result TurnsEnd Kind) → IsUnreported log (text_kept k) ws Prints f → IsErrAnd r (λ y. y ≡ f) → MakesTurns stops config file log ticks bound qs ws ps Prints r
     untold ws f (Ok u) why h = absurd h
     untold ws f (Err y) why h =
-        inr (inr (c, vs, events, k, ending, begun, other, made, shown, subst (λ t. IsUnreported log t ws Prints y) by_rules (subst (λ z. IsUnreported log (text_kept k) ws Prints z) (sym h) why)))
+        inr (inr (c, vs, events, k, end, begun, other, made, subst (λ t. IsUnreported log t ws Prints y) by_rules (subst (λ z. IsUnreported log (text_kept k) ws Prints z) (sym h) why)))
 
-    pub written : Prints (report_text (replay k).table (replay k).services) → MakesTurns config file log ticks bound qs (kept log (text_kept k) ∷ []) ps Prints (Ok ending)
-    written printed = (c, vs, events, k, begun, other, made, shown, ap (λ t. kept log t ∷ []) by_rules, printed)
+    pub written : Prints (report_text (replay k).table (replay k).services) → MakesTurns stops config file log ticks bound qs (kept log (text_kept k) ∷ []) ps Prints (Ok end)
+    written printed = (c, vs, events, k, begun, other, made, ap (λ t. kept log t ∷ []) by_rules, printed)
 
 -- ---- its replay
 
@@ -145,14 +148,14 @@ printed_whole c vs k records replayed.Refused before after boot accepted same h 
 -- ---- the bound
 
 -- of lines, kills and ticks, and then ticks, at most the first may be refused
-few_refusable : (events : List Event) (ticks : ℕ) → refusable (coming events ticks) ≤ length events
+few_refusable : (events : List OutsideLine) (ticks : ℕ) → refusable (coming events ticks) ≤ length events
 few_refusable [] zero = omega arith
 few_refusable [] (suc n) = few_refusable [] n
-few_refusable (Tick ∷ xs) ticks = let rest = few_refusable xs ticks in omega (arith, rest)
+few_refusable (Plain Tick ∷ xs) ticks = let rest = few_refusable xs ticks in omega (arith, rest)
 few_refusable (x ∷ xs) ticks = let rest = few_refusable xs ticks in omega (arith, rest)
 
 -- turns don't end by the bound, if it is above what the history has room for and what may be refused
-pub not_by_bound : (c : Config) (vs : List Service) (bound : ℕ) (events : List Event) (ticks : ℕ) (k : BootAndHistory) (ending : Ending)
+pub not_by_bound : (c : Config) (vs : List Service) (bound : ℕ) (events : List OutsideLine) (ticks : ℕ) (k : BootAndHistory) (ending : Ending)
     → IsTurned c vs bound (coming events ticks) k ending → 2 ^ 20 + length events < bound → ending ≢ Turns
 not_by_bound c vs bound events ticks k ending made above ends =
     let w = world_at_boot c vs in

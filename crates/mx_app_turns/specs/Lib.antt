@@ -1,3 +1,5 @@
+pub mod Commented
+pub mod Named
 pub mod Events
 pub mod Turned
 pub mod FaultLines

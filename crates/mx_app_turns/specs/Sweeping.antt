@@ -1,7 +1,6 @@
 -- What `mx sweep` reads, prints and writes (our own).
 use Rattle.std.specs.Prelude.{◌≡◌, ◌≤◌, ◌⊎◌, ◌+◌, ◌-◌, ◌==◌, if◌then◌else◌, ℕ, Bool, true, false, List, [], ◌∷◌, ◌++◌, length, min, is_some, Option, Some, None, Result, Ok, Err}
 use Rattle.mx_text.specs.Lines.{lines}
-use Rattle.mx_boot.specs.Reading.{AreLinesRead, TellsUnread}
 use Rattle.mx_machine.specs.Boot.{world_at_boot}
 use Rattle.mx_machine.specs.declared.events.Refusal.{Refusal}
 use Rattle.mx_machine.specs.declared.history.Record.{Record}
@@ -31,6 +30,7 @@ use Rattle.mx_app_turns.specs.declared.blocks.Total.{Total}
 use Rattle.mx_app_turns.specs.declared.sweeping.Swept.{Swept}
 use Rattle.mx_app_turns.specs.declared.sweeping.Swept.TheVariants.{Alike, Differs, Nothing, Refused}
 use Rattle.mx_app_turns.specs.declared.nothing_tested.Untested.{Untested}
+use Rattle.mx_app_turns.specs.Commented.{AreSaid, TellsUnsaid}
 use Rattle.mx_app_turns.specs.FaultLines.{fault_line}
 use Rattle.mx_app_turns.specs.Untested.{untested_by}
 
@@ -42,7 +42,7 @@ abbrev pub IsBegun : List ℕ → List ℕ → List ℕ → List Asked → Confi
 IsBegun config log fault qs c vs records said =
     (before : List Asked) × (q : Asked) × (text : List ℕ) × (qs ≡ before ++ q ∷ [])
     × IsStart IsSaved config log before c vs records
-    × IsTextGiven fault q text × AreLinesRead fault_line (lines text) said
+    × IsTextGiven fault q text × AreSaid (fault_line c.lines) (lines text) said
 
 -- the first fault of these files: no machine was started; or the fault's file is missed or no text, or a line of it
 -- says nothing
@@ -52,7 +52,8 @@ IsNotBegun config log fault qs f =
     ⊎ ((before : List Asked) × (q : Asked) × (c : Config) × (vs : List Service) × (records : List Record)
     × (qs ≡ before ++ q ∷ [])
     × IsStart IsSaved config log before c vs records
-    × (IsNoTextGiven Fault fault q f ⊎ IsTextFaulty (λ text e. TellsUnread fault_line (lines text) e) Fault fault q f))
+    × (IsNoTextGiven Fault fault q f
+    ⊎ IsTextFaulty (λ text e. TellsUnsaid (fault_line c.lines) (lines text) e) Fault fault q f))
 
 -- the program of a service would be written over
 abbrev pub saves_program : Config → Option (List ℕ) → Bool

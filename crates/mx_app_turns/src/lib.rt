@@ -5,20 +5,23 @@
 #![tactic(auto)]
 
 mod blocks;
+mod commented;
 mod event_files;
 mod fault_files;
+mod named;
 mod nothing_tested;
 mod sweeping;
 mod turning;
 mod turns_laws;
 
 pub use blocks::Total;
-pub use event_files::{OutsideEvents, outside_event_of, outside_events};
+pub use commented::read_commented;
+pub use event_files::{OutsideEvents, outside_events, outside_line_of};
 pub use fault_files::fault_lines;
 pub use nothing_tested::Untested;
 pub use sweeping::{
     Begun, SweepNames, SweepPlan, SweepWanted, Swept, begin_sweep, how_ended, jobs_of, range_of,
     sweep, told_shown,
 };
-pub use turning::{TurnsNames, TurnsWanted, turns};
+pub use turning::{TurnsEnd, TurnsNames, TurnsWanted, turns};
 pub use turns_laws::{bound_is_not_met, turns_again};

@@ -4,7 +4,6 @@ ghost use Rattle.std.specs.Prelude.{◌≡◌, ◌<◌, ◌≤◌, ◌+◌, ◌-
 ghost use Rattle.std.specs.Io.KnownBytes.{Appends};
 ghost use Rattle.std.specs.List.{flat_map};
 ghost use Rattle.std.specs.Str.{bytes_eq};
-ghost use Rattle.mx_boot.specs.Reading.{AreLinesRead, TellsUnread};
 ghost use Rattle.mx_app_start.specs.Log.{lines_above};
 ghost use Rattle.mx_app_start.specs.Programs.{over_program};
 ghost use Rattle.mx_machine.specs.Boot.{world_at_boot};
@@ -21,6 +20,7 @@ ghost use Rattle.mx_app_step.specs.Setup.{IsNoTextGiven, IsTextFaulty, IsTextGiv
 ghost use Rattle.mx_app_step.specs.Written.{Written};
 ghost use Rattle.mx_text.specs.Lines.{lines};
 ghost use Rattle.mx_walk.specs.declared.progress.Part.{Part as Parts};
+ghost use Rattle.mx_app_turns.specs.Commented.{AreSaid, TellsUnsaid};
 ghost use Rattle.mx_app_turns.specs.FaultLines.{fault_line};
 ghost use Rattle.mx_app_turns.specs.declared.sweeping.Swept.TheVariants as swept;
 ghost use Rattle.mx_app_turns.specs.Blocks.{block_text, positions_of, total_text};
@@ -90,18 +90,23 @@ pub struct Begun {
     pub fault: Vec<FaultLine>,
 }
 
-/// Reads the lines of the fault's file.
-fn fault_of<R: Reader>(alloc: Global, reader: &mut R, name: &str) -> Result<Vec<FaultLine>, Failure>
+/// Reads the lines of the fault's file, for the machine of a configuration.
+fn fault_of<R: Reader>(
+    alloc: Global,
+    reader: &mut R,
+    name: &str,
+    config: &Config,
+) -> Result<Vec<FaultLine>, Failure>
     ensures read { IfOk result (λ said. (q : Asked) × (text : List ℕ)
         × (R.asked reader.new ≡ R.asked reader.old ++ q ∷ []) × IsTextGiven name.now q text
-        × AreLinesRead fault_line (lines text) said.items) }
+        × AreSaid (fault_line config.now.lines) (lines text) said.items) }
     ensures fault { IfErr result (λ f. (q : Asked)
         × (R.asked reader.new ≡ R.asked reader.old ++ q ∷ []) × (IsNoTextGiven About.Fault name.now q f
-        ⊎ IsTextFaulty (λ text e. TellsUnread fault_line (lines text) e)
+        ⊎ IsTextFaulty (λ text e. TellsUnsaid (fault_line config.now.lines) (lines text) e)
         About.Fault name.now q f)) }
 {
     let text = text_of(alloc, reader, name, About::Fault)?;
-    match fault_lines(alloc, text.as_str()) {
+    match fault_lines(alloc, text.as_str(), config) {
         Ok(fault) => Ok(fault),
         Err(error) => Err(Failure::misstated(error, About::Fault, text)),
     }
@@ -125,7 +130,7 @@ pub fn begin_sweep<R: Reader>(
         × IsNotBegun names.entry.config.now names.entry.log.now names.entry.fault.now qs f) }
 {
     let started = start::<History, R>(alloc, reader, names.config, names.log)?;
-    let fault = fault_of(alloc, reader, names.fault)?;
+    let fault = fault_of(alloc, reader, names.fault, &started.config)?;
     Ok(Begun { started, fault })
 }
 

@@ -1,5 +1,5 @@
 -- Loops of calls, call by call.
-use Rattle.std.proofs.Common.{◌≡◌, ◌∙◌, ℕ, zero, suc, nat_lt, Bool, true, false, if◌then◌else◌, inl, inr, ◌+◌, ◌-◌, ◌<◌, ◌≤◌, ◌≢◌, List, [], ◌∷◌, ◌++◌, length, map, Some, None, Result, Ok, Err, IsOk, IsErr, IfOk, IfErr, refl, sym, ap, subst, arith, append_assoc}
+use Rattle.std.proofs.Common.{◌≡◌, ◌∙◌, ℕ, zero, suc, nat_lt, not, Bool, true, false, if◌then◌else◌, inl, inr, ◌+◌, ◌-◌, ◌<◌, ◌≤◌, ◌≢◌, List, [], ◌∷◌, ◌++◌, length, map, Some, None, Result, Ok, Err, IsOk, IsErr, IfOk, IfErr, refl, sym, ap, subst, arith, append_assoc}
 use Rattle.std.proofs.lemmas.List.{append-nil}
 use Rattle.mx_machine.specs.declared.events.Answer.{Answer}
 use Rattle.mx_machine.specs.declared.events.Event.{Event}
@@ -15,13 +15,13 @@ use Rattle.mx_machine.specs.World.{World, free_records}
 use Rattle.mx_loan.proofs.Fronts.{prefix_self, prefix_trans}
 use Rattle.mx_cpus.specs.Seats.{SeatView, LoanView, back_record, record_of, take_record}
 use Rattle.mx_cpus.specs.Calls.{Follows, IsAnsweredCall, IsGiveCall, IsRefusedCall, IsRestCall, IsTakeCall}
-use Rattle.mx_cpus.specs.Gates.{GateCall, asked_call, seen_call}
+use Rattle.mx_cpus.specs.Gates.{GateCall, asked_call, seen_call, stops_call}
 use Rattle.mx_cpus.specs.declared.locked.HowFar.{HowFar}
 use Rattle.mx_cpus.specs.declared.side.FreeSide.{FreeSide}
 use Rattle.mx_cpus.specs.declared.progress.Progress.{Progress}
 use Rattle.mx_cpus.specs.declared.progress.Progress.TheVariants.{GoesOn, Full}
 use Rattle.mx_cpus.specs.Progresses.{IsRoundTo, IsSweepTo}
-use Rattle.mx_cpus.specs.Courses.{AreRounds, AreTried, AreTurns, IsAsked, IsLastRound, IsLastTurn, IsOneMore, IsOneMoreBy, IsProcessorRun, IsRespawnerRun, IsRound, IsRoundAsked, IsRoundToFull, IsSweepToFull, IsTurn, IsTicked, IsTickToFull, IsTried, IsWait, slots, turn_number}
+use Rattle.mx_cpus.specs.Courses.{AreRounds, AreTried, AreTurns, IsAsked, IsLastRound, IsLastTurn, IsOneMore, IsOneMoreBy, IsProcessorRun, IsRespawnerRun, IsRound, IsRoundAsked, IsRoundToFull, IsSweepToFull, IsTurn, IsTurnTo, IsTicked, IsTickToFull, IsTried, IsWait, slots, turn_number}
 use Rattle.mx_cpus.specs.Loops.{AreTicksAndRespawns, HasMadeTurns, HasTickedAndRespawned, ticks_among, turns_of}
 
 pub follows_self : (s : SeatView) → s.mine ≡ part_of s.seen s.actor → Follows s s
@@ -103,7 +103,7 @@ module _ (boot : World) (WasCalled : GateCall → Type 0) where
       let u = more.1 in
       let before = turns_made s own empty so_many m u more.2 in
       elim more.3 [
-        | inl turn ↦ turn_more boot s u turn.1.taken t turn.1.lent turn.1.back before turn.1.takes turn.1.gives
+        | inl turn ↦ turn_more boot s u turn.1.0.taken t turn.1.0.lent turn.1.0.back before turn.1.0.takes turn.1.0.gives
         | inr wait ↦ turns_waited s u t true before wait.1
       ]
 
@@ -113,7 +113,10 @@ module _ (boot : World) (WasCalled : GateCall → Type 0) where
       let before = turns_made s own empty run.so_many run.turns run.last run.course in
       elim run.ends [
         | inl full ↦ turns_refused boot s run.last t events.Take LogFull before full
-        | inr wait ↦ turns_waited s run.last t false before wait
+        | inr other ↦ elim other [
+          | inl wait ↦ turns_waited s run.last t false before wait
+          | inr turn ↦ turn_more boot s run.last turn.0.taken t turn.0.lent turn.0.back before turn.0.takes turn.0.gives
+        ]
       ]
 
   -- the number of a turn, and the next one's
@@ -133,7 +136,7 @@ pub record TurnsSoFar (boot : World) (WasCalled : GateCall → Type 0) (s t : Se
 module _ (boot : World) (WasCalled : GateCall → Type 0) (s t v : SeatView) (x y : FreeSide) (so_far : TurnsSoFar boot WasCalled s t x) where
   one_made : (m : ℕ) → IsOneMore boot WasCalled so_far.turns t m v → HasMadeTurns s v
   one_made m more = elim more [
-    | inl turn ↦ turn_more boot s t turn.1.taken v turn.1.lent turn.1.back so_far.made turn.1.takes turn.1.gives
+    | inl turn ↦ turn_more boot s t turn.1.0.taken v turn.1.0.lent turn.1.0.back so_far.made turn.1.0.takes turn.1.0.gives
     | inr wait ↦ turns_waited boot WasCalled s t v true so_far.made wait.1
   ]
 
@@ -152,22 +155,28 @@ module _ (boot : World) (WasCalled : GateCall → Type 0) (s t v : SeatView) (x 
       }
 
   -- a full history ends it, and so does the gate
-  pub turns_end : IsLastTurn boot WasCalled t v → IsProcessorRun boot WasCalled s v
-  turns_end last = record {
+  pub turns_end : ((n : ℕ) → x.turn ≡ turn_number n → IsLastTurn boot WasCalled n t v) → IsProcessorRun boot WasCalled s v
+  turns_end last_by = record {
     so_many = so_far.so_many;
     turns = so_far.turns;
     last = t;
     course = so_far.course;
-    ends = last;
+    ends = last_by so_far.turns so_far.turn;
   }
 
 -- the side of an actor after one turn more
 abbrev pub IsCounted : FreeSide → FreeSide → Type 0
 IsCounted x y = (y.actor ≡ x.actor) × (y.turn ≡ turn_number (x.turn + 1)) × (y.goes_on ≡ true)
 
--- a turn was made, by how many came before it
-pub one_turn : (boot : World) (WasCalled : GateCall → Type 0) (s t : SeatView) (k m n : ℕ) → ((i : ℕ) → k ≡ turn_number i → IsTurn boot WasCalled i s t) → m ≡ turn_number (k + 1) → k ≡ turn_number n → IsOneMoreBy boot WasCalled n s t m
-one_turn boot WasCalled s t k m n turn_by next number = (n + 1, inl (refl, turn_by n number), next_turn boot WasCalled n k m number next)
+-- a turn was made, by how many came before it, and the gate was asked after it
+module _ (boot : World) (WasCalled : GateCall → Type 0) (s t : SeatView) (x y z : FreeSide) (turn_by : (i : ℕ) → x.turn ≡ turn_number i → IsTurn boot WasCalled i s t) (counted : IsCounted x y) (own : x.actor ≡ s.actor)
+    (called : WasCalled (stops_call y.actor (not z.goes_on))) (n : ℕ) (number : x.turn ≡ turn_number n) where
+  pub turn_to : (answer : Bool) → z.goes_on ≡ answer → IsTurnTo boot WasCalled n s t (not answer)
+  turn_to answer is = (turn_by n number, subst (λ (b : Bool). WasCalled (stops_call s.actor (not b))) is (subst (λ a. WasCalled (stops_call a (not z.goes_on))) (counted.0 ∙ own) called))
+
+  -- and the loop goes on
+  pub one_turn : z.goes_on ≡ true → z.turn ≡ y.turn → IsOneMoreBy boot WasCalled n s t z.turn
+  one_turn on same = (n + 1, inl (refl, turn_to true on), same ∙ next_turn boot WasCalled n x.turn y.turn number counted.1)
 
 -- the gate was asked after a refusal
 pub wait_by : (boot : World) (WasCalled : GateCall → Type 0) (s u t : SeatView) (r : Refusal) (answer goes_on : Bool) → IsRefusedCall boot s u events.Take r → r ≢ LogFull → IsAsked boot WasCalled true u t answer → answer ≡ goes_on → IsWait boot WasCalled s t goes_on

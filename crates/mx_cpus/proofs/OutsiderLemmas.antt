@@ -1,5 +1,5 @@
 -- What the outsider's calls leave, call by call.
-use Rattle.std.proofs.Common.{◌≡◌, ◌∙◌, ℕ, zero, suc, Bool, true, false, ◌⊎◌, length, get_or, take, drop, inl, inr, ◌+◌, ◌-◌, ◌<◌, ◌≤◌, List, [], ◌∷◌, ◌++◌, map, Some, refl, sym, ap, subst, arith, append_assoc}
+use Rattle.std.proofs.Common.{◌≡◌, ◌∙◌, ℕ, zero, suc, Bool, true, false, ◌⊎◌, length, get_or, take, drop, inl, inr, ◌+◌, ◌-◌, ◌<◌, ◌≤◌, List, [], ◌∷◌, ◌++◌, map, refl, sym, ap, subst, arith, append_assoc}
 use Rattle.std.proofs.lemmas.List.{append-nil, take_more, take-append-drop}
 use Rattle.mx_machine.specs.declared.events.Answer.{Answer}
 use Rattle.mx_machine.specs.declared.events.Event.{Event}
@@ -7,6 +7,7 @@ use Rattle.mx_machine.specs.declared.events.Event.TheVariants as events
 use Rattle.mx_machine.specs.declared.events.Refusal.{Refusal}
 use Rattle.mx_machine.specs.declared.events.Refusal.TheVariants.{LogFull}
 use Rattle.mx_machine.specs.declared.history.Recorded.{Recorded}
+use Rattle.mx_machine.specs.declared.history.Recorded.TheVariants as recorded
 use Rattle.mx_machine.specs.declared.history.Record.{Record}
 use Rattle.mx_machine.specs.History.{part_of}
 use Rattle.mx_machine.specs.KernelState.{recorded_as}
@@ -18,11 +19,11 @@ use Rattle.mx_cpus.specs.declared.calling.CallEnd.TheVariants.{Made, Full, Stopp
 use Rattle.mx_cpus.specs.declared.locked.HowFar.{HowFar}
 use Rattle.mx_cpus.specs.declared.side.FreeSide.{FreeSide}
 use Rattle.mx_cpus.specs.Seats.{SeatView, record_of}
-use Rattle.mx_cpus.specs.Calls.{Follows, IsAnsweredCall, IsRefusedCall, IsRestCall}
+use Rattle.mx_cpus.specs.Calls.{Follows, IsAnsweredCall, IsKillCall, IsRefusedCall, IsRestCall, world_after}
 use Rattle.mx_cpus.specs.CallEnds.{IsCallTo, goes_on_after}
 use Rattle.mx_cpus.specs.Courses.{IsAsked, IsTriedEvent}
 use Rattle.mx_cpus.specs.Gates.{GateCall, asked_call, seen_call}
-use Rattle.mx_cpus.specs.Outsiders.{AreAsked, AreLooks, AreMade, AreSomeOf, HasBrokenOff, HasMadeAll, HasMadeCalls, IsAskedToEnd, IsEarly, IsEnough, IsLast, IsLook, IsMade, IsOutsiderRun, IsStopped, IsWaited, IsWaiting, event_of_call, is_resting}
+use Rattle.mx_cpus.specs.Outsiders.{AreAsked, AreLooks, AreMade, AreSomeOf, HasBrokenOff, HasMadeAll, HasMadeCalls, IsAskedToEnd, IsEarly, IsEnough, IsLast, IsLook, IsMade, IsOutsiderRun, IsStopped, IsWaited, IsTriedKill, IsWaiting, MayRecord, is_resting}
 use Rattle.mx_cpus.proofs.LoopLemmas.{follows_self, follows_trans, map_both, seen_by}
 
 -- ---- records
@@ -66,19 +67,35 @@ only_saw : (xs : List OutsideCall) (s t : SeatView) → OnlySaw s t → HasMadeC
 only_saw xs s t h = record { follows = h.follows; held = h.held; events = []; only = none_of xs; mine = h.mine ∙ sym (append-nil s.mine) }
 
 -- the event of a call was accepted
-call_answered : (boot : World) (c : OutsideCall) (e : Event) (s t : SeatView) (x : Answer) → event_of_call c ≡ Some e → IsAnsweredCall boot s t e x → HasMadeCalls (c ∷ []) s t
+call_answered : (boot : World) (c : OutsideCall) (e : Event) (s t : SeatView) (x : Answer) → MayRecord c (recorded_as e) → IsAnsweredCall boot s t e x → HasMadeCalls (c ∷ []) s t
 call_answered boot c e s t x is h = record {
   follows = h.follows;
   held = h.held;
   events = recorded_as e ∷ [];
-  only = inl ((e, is, refl), tt);
+  only = inl (is, tt);
   mine = h.mine;
 }
 
-call_tried : (boot : World) (c : OutsideCall) (e : Event) (s t : SeatView) → event_of_call c ≡ Some e → IsTriedEvent boot e s t → HasMadeCalls (c ∷ []) s t
+call_tried : (boot : World) (c : OutsideCall) (e : Event) (s t : SeatView) → MayRecord c (recorded_as e) → IsTriedEvent boot e s t → HasMadeCalls (c ∷ []) s t
 call_tried boot c e s t is h = elim h [
   | inl done ↦ call_answered boot c e s t done.0 is done.1
   | inr other ↦ only_saw (c ∷ []) s t (saw_refused boot s t e other.0 other.2)
+]
+
+-- a kill in a slot was accepted
+kill_answered : (boot : World) (slot e : ℕ) (s t : SeatView) (x : Answer) → IsKillCall boot slot s t e x → HasMadeCalls (calls.KillSlot slot ∷ []) s t
+kill_answered boot slot e s t x h = record {
+  follows = h.follows;
+  held = h.held;
+  events = recorded.Kill e ∷ [];
+  only = inl (((world_after boot h.before).table, ap recorded.Kill h.answered.1), tt);
+  mine = h.mine;
+}
+
+kill_tried : (boot : World) (slot : ℕ) (s t : SeatView) → IsTriedKill boot slot s t → HasMadeCalls (calls.KillSlot slot ∷ []) s t
+kill_tried boot slot s t h = elim h [
+  | inl done ↦ kill_answered boot slot done.0 s t done.1 done.2
+  | inr other ↦ only_saw (calls.KillSlot slot ∷ []) s t (saw_refused boot s t (events.Kill other.0) other.1 other.3.0)
 ]
 
 -- some calls after others
@@ -185,12 +202,16 @@ module _ (boot : World) (WasCalled : GateCall → Type 0) where
   call_made : (x : OutsideCall) (s t : SeatView) → IsMade boot WasCalled x s t → HasMadeCalls (x ∷ []) s t
   call_made (calls.Line l) s t h = call_tried boot (calls.Line l) (events.Line l) s t refl h
   call_made (calls.Kill e) s t h = call_tried boot (calls.Kill e) (events.Kill e) s t refl h
+  call_made (calls.KillSlot slot) s t h = kill_tried boot slot s t h
+  call_made (calls.Respawn slot) s t h = call_tried boot (calls.Respawn slot) (events.Respawn slot) s t refl h
   call_made calls.Tick s t h = call_tried boot calls.Tick events.Tick s t refl h
   call_made (calls.Wait n) s t h = only_saw (calls.Wait n ∷ []) s t (saw_waiting n s t (IsEnough boot n) h)
 
   saw_last : (x : OutsideCall) (s t : SeatView) → IsLast boot WasCalled x s t → OnlySaw s t
   saw_last (calls.Line l) s t h = saw_refused boot s t (events.Line l) LogFull h
   saw_last (calls.Kill e) s t h = saw_refused boot s t (events.Kill e) LogFull h
+  saw_last (calls.KillSlot slot) s t h = saw_refused boot s t (events.Kill h.0) LogFull h.1.0
+  saw_last (calls.Respawn slot) s t h = saw_refused boot s t (events.Respawn slot) LogFull h
   saw_last calls.Tick s t h = saw_refused boot s t events.Tick LogFull h
   saw_last (calls.Wait n) s t h = saw_waiting n s t (λ first last. IsEarly boot WasCalled n first last false) h
 

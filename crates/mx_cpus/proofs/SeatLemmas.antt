@@ -10,6 +10,7 @@ use Rattle.mx_machine.specs.declared.history.Record.{Record}
 use Rattle.mx_machine.specs.declared.history.Recorded.{Recorded}
 use Rattle.mx_machine.specs.declared.history.Recorded.TheVariants as recorded
 use Rattle.mx_machine.specs.declared.holding.Out.{Out}
+use Rattle.mx_machine.specs.KernelState.{recorded_as}
 use Rattle.mx_machine.specs.History.{AreAccepted, BootAndHistory, events_of, part_of, replay, events_of_history, with_record, world_after_events}
 use Rattle.mx_machine.specs.Move.{world_after_event, event_answer, event_refusal, move, with_held}
 use Rattle.mx_machine.specs.Rest.{at_rest}
@@ -19,7 +20,7 @@ use Rattle.mx_machine.proofs.ReplayLemmas.{last_accepted}
 use Rattle.mx_loan.proofs.Fronts.{prefix_trans}
 use Rattle.mx_loan.specs.Seats.{DeskView, SeatView, LoanView, IsSeatOf, back_record, desk_after_back, desk_after_event, desk_after_take, new_loan, record_of, take_record, seat_after_back, seat_after_event, seat_after_take, seat_seeing}
 use Rattle.mx_spool.specs.Written.{console_of_history}
-use Rattle.mx_cpus.specs.Calls.{EndsDead, Follows, IsAcceptedCall, IsLentAt, IsRefusedCall, IsRestCall, IsAcceptedHistory, desk_beside, event_of, is_dead, outs_of, slot_of, steps_of, world_after}
+use Rattle.mx_cpus.specs.Calls.{EndsDead, Follows, IsAcceptedCall, IsAnsweredCall, IsAnsweredHere, IsKillCall, IsLentAt, IsRefusedCall, IsRefusedKill, IsRestCall, IsAcceptedHistory, desk_beside, endpoint_now, event_of, is_dead, outs_of, slot_of, steps_of, world_after}
 use Rattle.mx_cpus.proofs.WorldLemmas.{back_outs, moved_by}
 
 -- the seat after its own record, with the kernel as it was
@@ -187,3 +188,34 @@ world_seen boot z k d s t is desk shown = ap (λ w. world_after w k.history) is 
 
 pub console_seen : (boot : World) (z : TableId) (k : BootAndHistory) (d : DeskView) (s t : SeatView) → k.boot ≡ boot → d ≡ desk_beside z k → t ≡ seat_seeing s d.history → console_of_history k.boot k.history ≡ console_of_history boot t.seen
 console_seen boot z k d s t is desk shown = ap (λ w. console_of_history w k.history) is ∙ ap (console_of_history boot) (history_seen z k d s t desk shown)
+
+-- ---- a call at a world that is known
+
+-- what is known of the answer, by what else is known of it
+answered_as : (boot : World) (s t : SeatView) (e : Recorded) (holding : Option Out) (P Q : World → Answer → Type 0) → ((w : World) (x : Answer) → P w x → Q w x) → IsAcceptedCall boot s t e holding P → IsAcceptedCall boot s t e holding Q
+answered_as boot s t e holding P Q weaker h = record {
+  follows = h.follows;
+  history = h.history;
+  mine = h.mine;
+  held = h.held;
+  before = h.before;
+  ends = h.ends;
+  later = h.later;
+  allowed = h.allowed;
+  answer = h.answer;
+  moves = h.moves;
+  answered = weaker (world_after boot h.before) h.answer h.answered;
+}
+
+-- it was made at some world
+pub answered_once : (boot here : World) (s t : SeatView) (e : Event) (x : Answer) → IsAnsweredHere boot here s t e x → IsAnsweredCall boot s t e x
+answered_once boot here s t e x h = answered_as boot s t (recorded_as e) s.held (λ w answer. (answer ≡ x) × (w ≡ here)) (λ w answer. answer ≡ x) (λ w answer made. made.0) h
+
+-- a kill of the process that a slot had there
+pub kill_once : (boot here : World) (slot e : ℕ) (s t : SeatView) (x : Answer) → e ≡ endpoint_now here.table slot → IsAnsweredHere boot here s t (events.Kill e) x → IsKillCall boot slot s t e x
+kill_once boot here slot e s t x is h =
+    answered_as boot s t (recorded.Kill e) s.held (λ w answer. (answer ≡ x) × (w ≡ here)) (λ w answer. (answer ≡ x) × (e ≡ endpoint_now w.table slot))
+    (λ w answer made. (made.0, is ∙ ap (λ (u : World). endpoint_now u.table slot) (sym made.1))) h
+
+pub kill_refused_once : (boot here : World) (slot e : ℕ) (s t : SeatView) (r : Refusal) → e ≡ endpoint_now here.table slot → IsRefusedCall boot s t (events.Kill e) r × (world_after boot t.seen ≡ here) → IsRefusedKill boot slot s t e r
+kill_refused_once boot here slot e s t r is h = (h.0, is ∙ ap (λ (u : World). endpoint_now u.table slot) (sym h.1))

@@ -7,7 +7,7 @@ use Rattle.mx_cpus.specs.Seats.{SeatView}
 use Rattle.mx_cpus.specs.Calls.{IsRefusedCall}
 use Rattle.mx_cpus.specs.Courses.{IsTriedEvent}
 use Rattle.mx_cpus.specs.Gates.{GateCall}
-use Rattle.mx_cpus.specs.Outsiders.{IsLast, IsMade, IsStopped, IsWaited}
+use Rattle.mx_cpus.specs.Outsiders.{IsFullKill, IsLast, IsMade, IsStopped, IsTriedKill, IsWaited}
 use Rattle.mx_cpus.specs.declared.outside.OutsideCall.{OutsideCall}
 use Rattle.mx_cpus.specs.declared.calling.CallEnd.{CallEnd}
 use Rattle.mx_cpus.specs.declared.calling.CallEnd.TheVariants.{Made, Full, Stopped}
@@ -16,6 +16,11 @@ abbrev pub IsEventTo : World → Event → SeatView → SeatView → CallEnd →
 IsEventTo boot e s t Made = IsTriedEvent boot e s t
 IsEventTo boot e s t Full = IsRefusedCall boot s t e LogFull
 IsEventTo boot e s t Stopped = ⊥
+
+abbrev pub IsKillTo : World → ℕ → SeatView → SeatView → CallEnd → Type 0
+IsKillTo boot slot s t Made = IsTriedKill boot slot s t
+IsKillTo boot slot s t Full = IsFullKill boot slot s t
+IsKillTo boot slot s t Stopped = ⊥
 
 abbrev pub IsWaitTo : World → (GateCall → Type 0) → ℕ → SeatView → SeatView → CallEnd → Type 0
 IsWaitTo boot WasCalled n s t Made = IsWaited boot WasCalled n s t

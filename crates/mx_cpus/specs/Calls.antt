@@ -1,11 +1,11 @@
 -- What a call of the shared machine does to the caller's seat.
-use Rattle.std.specs.Prelude.{◌≡◌, ◌&&◌, ℕ, nat_lt, Bool, false, List, [], ◌∷◌, ◌++◌, length, map, Option, Some, None, Ok, replicate}
+use Rattle.std.specs.Prelude.{◌≡◌, ◌&&◌, ℕ, nat_lt, Bool, false, List, [], ◌∷◌, ◌++◌, length, map, Option, Some, None, Ok, replicate, if◌then◌else◌}
 use Rattle.std.specs.Option.{option_map}
 use mathlib.Core.List.{IsPrefix}
 use Rattle.atomic_table.specs.Seated.{TableId}
 use Rattle.mx_proc.specs.declared.windows.Rules.TheVariants.{Lenient}
 use Rattle.mx_proc.specs.States.{is_down}
-use Rattle.mx_proc.specs.TableState.{process_at}
+use Rattle.mx_proc.specs.TableState.{TableState, endpoint_of, process_at}
 use Rattle.mx_machine.specs.declared.events.Answer.{Answer}
 use Rattle.mx_machine.specs.declared.events.Answer.TheVariants.{Returned}
 use Rattle.mx_machine.specs.declared.events.Event.{Event}
@@ -120,6 +120,25 @@ pub record IsRefusedCall (boot : World) (s t : SeatView) (e : Event) (r : Refusa
 -- an event that any actor may do was accepted and answered
 abbrev pub IsAnsweredCall : World → SeatView → SeatView → Event → Answer → Type 0
 IsAnsweredCall boot s t e x = IsAcceptedCall boot s t (recorded_as e) s.held (λ w answer. answer ≡ x)
+
+-- it was made at this world
+abbrev pub IsAnsweredHere : World → World → SeatView → SeatView → Event → Answer → Type 0
+IsAnsweredHere boot here s t e x =
+    IsAcceptedCall boot s t (recorded_as e) s.held (λ w answer. (answer ≡ x) × (w ≡ here))
+
+-- the endpoint of the process that a slot has; a number that is no slot's is its own, and names nobody
+abbrev pub endpoint_now : TableState → ℕ → ℕ
+endpoint_now t slot = if nat_lt slot (length t.slots) then endpoint_of t slot else slot
+
+-- A KILL IN A SLOT was accepted and answered: of the process that the slot had right before it
+abbrev pub IsKillCall : World → ℕ → SeatView → SeatView → ℕ → Answer → Type 0
+IsKillCall boot slot s t e x =
+    IsAcceptedCall boot s t (recorded.Kill e) s.held (λ w answer. (answer ≡ x) × (e ≡ endpoint_now w.table slot))
+
+-- it was refused: the kill of the process that the slot has then
+abbrev pub IsRefusedKill : World → ℕ → SeatView → SeatView → ℕ → Refusal → Type 0
+IsRefusedKill boot slot s t e r =
+    IsRefusedCall boot s t (events.Kill e) r × (e ≡ endpoint_now (world_after boot t.seen).table slot)
 
 -- the loan is the actor's, has made no step yet, and is what the table lends there
 pub record IsLentAt (w : World) (a : ℕ) (l : LoanView) : Type 0 where

@@ -9,7 +9,7 @@ use Rattle.mx_machine.specs.Held.{held_run}
 use Rattle.mx_machine.specs.World.{World}
 use Rattle.mx_cpus.specs.Seats.{SeatView, LoanView}
 use Rattle.mx_cpus.specs.Calls.{IsAnsweredCall, IsGiveCall, IsRefusedCall, IsRestCall, IsTakeCall}
-use Rattle.mx_cpus.specs.Gates.{GateCall, held_call, given_call, asked_call, ended_call, seen_call}
+use Rattle.mx_cpus.specs.Gates.{GateCall, held_call, given_call, asked_call, ended_call, seen_call, stops_call}
 
 -- ---- a question
 
@@ -53,18 +53,25 @@ pub record IsWait (boot : World) (WasCalled : GateCall → Type 0) (s t : SeatVi
   pub other : refusal ≢ LogFull
   pub asks : IsAsked boot WasCalled true seat t goes_on
 
--- one thing more in a processor's loop, after n turns: a turn; or a wait, after which the loop went on
+-- a turn, after which the gate was asked whether it stops the loop
+abbrev pub IsTurnTo : World → (GateCall → Type 0) → ℕ → SeatView → SeatView → Bool → Type 0
+IsTurnTo boot WasCalled n s t stops = IsTurn boot WasCalled n s t × WasCalled (stops_call s.actor stops)
+
+-- one thing more in a processor's loop, after n turns: a turn or a wait, after which the loop went on
 abbrev pub IsOneMore : World → (GateCall → Type 0) → ℕ → SeatView → ℕ → SeatView → Type 0
 IsOneMore boot WasCalled n s m t =
-    ((m ≡ n + 1) × IsTurn boot WasCalled n s t) ⊎ ((m ≡ n) × IsWait boot WasCalled s t true)
+    ((m ≡ n + 1) × IsTurnTo boot WasCalled n s t false) ⊎ ((m ≡ n) × IsWait boot WasCalled s t true)
 
 -- the same, by the number that the next turn has
 abbrev pub IsOneMoreBy : World → (GateCall → Type 0) → ℕ → SeatView → SeatView → ℕ → Type 0
 IsOneMoreBy boot WasCalled n s t next = (m : ℕ) × IsOneMore boot WasCalled n s m t × (next ≡ turn_number m)
 
--- what ends a processor's loop: a take is refused for a full history, or the gate ends it
-abbrev pub IsLastTurn : World → (GateCall → Type 0) → SeatView → SeatView → Type 0
-IsLastTurn boot WasCalled s t = IsRefusedCall boot s t events.Take LogFull ⊎ IsWait boot WasCalled s t false
+-- what ends a processor's loop, after n turns: a take is refused for a full history, or the gate ends it in a wait or
+-- after a turn
+abbrev pub IsLastTurn : World → (GateCall → Type 0) → ℕ → SeatView → SeatView → Type 0
+IsLastTurn boot WasCalled n s t =
+    IsRefusedCall boot s t events.Take LogFull
+    ⊎ (IsWait boot WasCalled s t false ⊎ IsTurnTo boot WasCalled n s t true)
 
 -- a processor's loop so far, from the seat s on: so many turns and waits in a row, of which n are turns, led to the
 -- seat t
@@ -80,7 +87,7 @@ pub record IsProcessorRun (boot : World) (WasCalled : GateCall → Type 0) (s t 
   pub turns : ℕ
   pub last : SeatView
   pub course : AreTurns boot WasCalled s so_many turns last
-  pub ends : IsLastTurn boot WasCalled last t
+  pub ends : IsLastTurn boot WasCalled turns last t
 
 -- ---- the respawner
 

@@ -1,10 +1,11 @@
 -- What the second other actor does: the calls of a list, in order. And which loop each actor has.
-use Rattle.std.specs.Prelude.{◌≡◌, ◌<◌, ◌≤◌, ◌-◌, ◌⊎◌, ◌==◌, ◌&&◌, if◌then◌else◌, ℕ, zero, suc, Bool, true, false, List, [], ◌∷◌, ◌++◌, length, map, nat_lt, not, Option, Some, None}
-use Rattle.mx_machine.specs.declared.events.Event.{Event}
+use Rattle.std.specs.Prelude.{◌≡◌, ◌≢◌, ◌<◌, ◌≤◌, ◌-◌, ◌⊎◌, ◌==◌, ◌&&◌, if◌then◌else◌, ℕ, zero, suc, Bool, true, false, List, [], ◌∷◌, ◌++◌, length, map, nat_lt, not, Option, Some, None}
+use Rattle.mx_machine.specs.declared.events.Answer.{Answer}
 use Rattle.mx_machine.specs.declared.events.Event.TheVariants as events
+use Rattle.mx_machine.specs.declared.events.Refusal.{Refusal}
 use Rattle.mx_machine.specs.declared.events.Refusal.TheVariants.{LogFull}
 use Rattle.mx_machine.specs.declared.history.Recorded.{Recorded}
-use Rattle.mx_machine.specs.KernelState.{recorded_as}
+use Rattle.mx_machine.specs.declared.history.Recorded.TheVariants as recorded
 use Rattle.mx_machine.specs.Rest.{at_rest}
 use Rattle.mx_machine.specs.World.{World}
 use Rattle.mx_cpus.specs.declared.outside.OutsideCall.{OutsideCall}
@@ -12,7 +13,8 @@ use Rattle.mx_cpus.specs.declared.outside.OutsideCall.TheVariants as calls
 use Rattle.mx_cpus.specs.declared.outside.Role.{Role}
 use Rattle.mx_cpus.specs.declared.outside.Role.TheVariants as roles
 use Rattle.mx_cpus.specs.Seats.{SeatView, record_of}
-use Rattle.mx_cpus.specs.Calls.{Follows, IsRefusedCall, IsRestCall, world_after}
+use Rattle.mx_cpus.specs.Calls.{Follows, IsKillCall, IsRefusedCall, IsRefusedKill, IsRestCall, endpoint_now, world_after}
+use Rattle.mx_proc.specs.TableState.{TableState}
 use Rattle.mx_cpus.specs.Courses.{IsAsked, IsProcessorRun, IsRespawnerRun, IsTriedEvent}
 use Rattle.mx_cpus.specs.Gates.{GateCall, asked_call, ended_call, seen_call}
 use Rattle.mx_cpus.specs.Loops.{HasMadeTurns, HasTickedAndRespawned}
@@ -67,25 +69,32 @@ IsStopped boot WasCalled n s t =
 
 -- ---- a call
 
--- the event of a call, which a wait hasn't
-abbrev pub event_of_call : OutsideCall → Option Event
-event_of_call (calls.Line l) = Some (events.Line l)
-event_of_call (calls.Kill e) = Some (events.Kill e)
-event_of_call calls.Tick = Some events.Tick
-event_of_call (calls.Wait n) = None
+-- a kill in a slot was accepted, or refused, and not for a full history
+abbrev pub IsTriedKill : World → ℕ → SeatView → SeatView → Type 0
+IsTriedKill boot slot s t =
+    ((e : ℕ) × (x : Answer) × IsKillCall boot slot s t e x)
+    ⊎ ((e : ℕ) × (r : Refusal) × (r ≢ LogFull) × IsRefusedKill boot slot s t e r)
+
+-- it found the history full
+abbrev pub IsFullKill : World → ℕ → SeatView → SeatView → Type 0
+IsFullKill boot slot s t = (e : ℕ) × IsRefusedKill boot slot s t e LogFull
 
 -- A CALL: its event was accepted, or refused, and not for a full history; or its wait ended
 abbrev pub IsMade : World → (GateCall → Type 0) → OutsideCall → SeatView → SeatView → Type 0
 IsMade boot WasCalled (calls.Line l) s t = IsTriedEvent boot (events.Line l) s t
 IsMade boot WasCalled (calls.Kill e) s t = IsTriedEvent boot (events.Kill e) s t
+IsMade boot WasCalled (calls.KillSlot slot) s t = IsTriedKill boot slot s t
 IsMade boot WasCalled calls.Tick s t = IsTriedEvent boot events.Tick s t
+IsMade boot WasCalled (calls.Respawn slot) s t = IsTriedEvent boot (events.Respawn slot) s t
 IsMade boot WasCalled (calls.Wait n) s t = IsWaited boot WasCalled n s t
 
 -- a call that ends the loop: its event found the history full; or the gate ended the loop while it waited
 abbrev pub IsLast : World → (GateCall → Type 0) → OutsideCall → SeatView → SeatView → Type 0
 IsLast boot WasCalled (calls.Line l) s t = IsRefusedCall boot s t (events.Line l) LogFull
 IsLast boot WasCalled (calls.Kill e) s t = IsRefusedCall boot s t (events.Kill e) LogFull
+IsLast boot WasCalled (calls.KillSlot slot) s t = IsFullKill boot slot s t
 IsLast boot WasCalled calls.Tick s t = IsRefusedCall boot s t events.Tick LogFull
+IsLast boot WasCalled (calls.Respawn slot) s t = IsRefusedCall boot s t (events.Respawn slot) LogFull
 IsLast boot WasCalled (calls.Wait n) s t = IsStopped boot WasCalled n s t
 
 -- ---- a loop
@@ -133,12 +142,21 @@ abbrev pub IsOutsiderRunTo : World → (GateCall → Type 0) → List OutsideCal
 IsOutsiderRunTo boot WasCalled xs s t true = HasMadeAll boot WasCalled xs s t
 IsOutsiderRunTo boot WasCalled xs s t false = HasBrokenOff boot WasCalled xs s t
 
+-- what a call may record: its event, which a wait hasn't; a kill in a slot is one of the process that a table has there
+abbrev pub MayRecord : OutsideCall → Recorded → Type 0
+MayRecord (calls.Line l) e = e ≡ recorded.Line l
+MayRecord (calls.Kill endpoint) e = e ≡ recorded.Kill endpoint
+MayRecord (calls.KillSlot slot) e = (t : TableState) × (e ≡ recorded.Kill (endpoint_now t slot))
+MayRecord calls.Tick e = e ≡ recorded.Tick
+MayRecord (calls.Respawn slot) e = e ≡ recorded.Respawn slot
+MayRecord (calls.Wait n) e = ⊥
+
 -- records of some of these calls' events, each at most once, in the calls' order
 abbrev pub AreSomeOf : List OutsideCall → List Recorded → Type 0
 AreSomeOf xs [] = Unit {0}
 AreSomeOf [] (e ∷ es) = ⊥
 AreSomeOf (x ∷ xs) (e ∷ es) =
-    (((y : Event) × (event_of_call x ≡ Some y) × (e ≡ recorded_as y)) × AreSomeOf xs es) ⊎ AreSomeOf xs (e ∷ es)
+    (MayRecord x e × AreSomeOf xs es) ⊎ AreSomeOf xs (e ∷ es)
 
 -- The outsider's loop took the seat s and gave the seat t: it holds what it held, and its own records are longer by
 -- those of some of its calls' events, in their order, and by nothing else.

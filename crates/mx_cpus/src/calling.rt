@@ -2,7 +2,7 @@
 
 ghost use Rattle.std.specs.Prelude.{◌≡◌, ℕ, true, false, IfNone, IfSome, length};
 ghost use Rattle.mx_machine.specs.KernelState.{is_for_all};
-ghost use Rattle.mx_cpus.specs.CallEnds.{IsCallTo, IsEventTo, IsWaitTo, goes_on_after};
+ghost use Rattle.mx_cpus.specs.CallEnds.{IsCallTo, IsEventTo, IsKillTo, IsWaitTo, goes_on_after};
 ghost use Rattle.mx_cpus.specs.Calls.{IsRestCall};
 ghost use Rattle.mx_cpus.specs.Gates.{asked_call, due_call, seen_call, unwatched};
 ghost use Rattle.mx_cpus.specs.declared.outside.OutsideCall.TheVariants as outside_calls;
@@ -13,6 +13,7 @@ use crate::outside::OutsideCall;
 use crate::side::{FreeSide, LoopContext};
 use crate::{ActorSeat, HowFar, Naming, Shared};
 use mx_machine::{Event, Refusal};
+use mx_proc::Slot;
 use std::sync::Wait;
 
 /// How a call of the outsider ended, by which its loop goes on or ends.
@@ -41,6 +42,24 @@ fn make_event<M: Naming, G: WatchingGate, R: Wait>(
     match answer {
         Err(Refusal::LogFull) => (seat, side, CallEnd::Full),
         // A refused event changes nothing, and the next one may be accepted.
+        _ => (seat, side, CallEnd::Made),
+    }
+}
+
+/// A kill of the process that a slot has. If it is refused, and not for a full history, the loop goes on.
+fn make_kill<M: Naming, G: WatchingGate, R: Wait>(
+    context: &LoopContext<'_, M, G, R>,
+    seat: ActorSeat,
+    side: FreeSide,
+    slot: Slot,
+) -> (ActorSeat, FreeSide, CallEnd)
+    requires table { seat.table ≡ M.table }
+    ensures made { IsKillTo M.boot slot seat result.0 result.2 }
+    ensures side { result.1 ≡ side }
+{
+    let (seat, answer) = context.shared.kill_slot(context.rt, seat, slot);
+    match answer {
+        Err(Refusal::LogFull) => (seat, side, CallEnd::Full),
         _ => (seat, side, CallEnd::Made),
     }
 }
@@ -120,6 +139,8 @@ fn make_call<M: Naming, G: WatchingGate, R: Wait>(
         seat result.0 result.2 }
     ensures killed { (endpoint : ℕ) → call ≡ outside_calls.Kill endpoint
         → G.was_called context.now.door.gate.now (due_call seat.actor) }
+    ensures killed_in { (slot : ℕ) → call ≡ outside_calls.KillSlot slot
+        → G.was_called context.now.door.gate.now (due_call seat.actor) }
     ensures actor { result.1.actor ≡ seat.actor }
     ensures goes_on { result.1.goes_on ≡ goes_on_after result.2 }
 {
@@ -131,7 +152,13 @@ fn make_call<M: Naming, G: WatchingGate, R: Wait>(
             side.report_kill(&context.door);
             (seat, side, end)
         }
+        OutsideCall::KillSlot(slot) => {
+            let (seat, side, end) = make_kill(context, seat, side, slot);
+            side.report_kill(&context.door);
+            (seat, side, end)
+        }
         OutsideCall::Tick => make_event(context, seat, side, Event::Tick),
+        OutsideCall::Respawn(slot) => make_event(context, seat, side, Event::Respawn(slot)),
         OutsideCall::Wait(records) => wait_for(context, seat, side, records),
     }
 }

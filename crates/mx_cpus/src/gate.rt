@@ -30,7 +30,7 @@ pub trait Gate {
 
 /// A gate that the actors also show how far the machine is, and whether their own work is done.
 pub trait WatchingGate {
-    ghost use Rattle.mx_cpus.specs.Gates.{GateCall, held_call, given_call, due_call, asked_call, ended_call, seen_call};
+    ghost use Rattle.mx_cpus.specs.Gates.{GateCall, held_call, given_call, due_call, asked_call, ended_call, seen_call, stops_call};
 
     /// Which calls were made. A call promises this of itself when it returns.
     ghost was_called: { Self → GateCall → Type 0 } = { λ _ _. Unit {0} };
@@ -57,6 +57,10 @@ pub trait WatchingGate {
     fn goes_on(&self, actor: u8, far: HowFar, is_done: bool) -> bool
         ensures { was_called self.now
             (asked_call actor far.records far.at_rest is_done result) };
+
+    /// Whether a processor's loop is stopped after a turn.
+    fn stops(&self, cpu: u8) -> bool
+        ensures { was_called self.now (stops_call cpu result) };
 
     /// An actor's loop has ended, or it never began, since not each loop could have a thread.
     fn ended(&self, actor: u8)
@@ -88,6 +92,10 @@ impl<'g, G: Gate> WatchingGate for Unwatched<'g, G> {
 
     fn goes_on(&self, actor: u8, far: HowFar, _is_done: bool) -> bool {
         self.gate.again(actor, far.at_rest)
+    }
+
+    fn stops(&self, _cpu: u8) -> bool {
+        false
     }
 
     fn ended(&self, actor: u8) {

@@ -1,10 +1,10 @@
 //! The kernel with its desk and its spool, as they lie under the lock.
 
-ghost use Rattle.std.specs.Prelude.{◌≡◌, ◌≤◌, true, IfOk, IfErr, drop, length, take, vec_capacity};
+ghost use Rattle.std.specs.Prelude.{◌≡◌, ◌≤◌, ℕ, true, IfOk, IfErr, drop, length, take, vec_capacity};
 ghost use Rattle.mx_machine.specs.declared.events.Event.TheVariants as events;
 ghost use Rattle.mx_machine.specs.KernelState.{is_for_all};
 ghost use Rattle.mx_machine.specs.History.{replay};
-ghost use Rattle.mx_cpus.specs.Calls.{EndsDead, Follows, IsAnsweredCall, IsGiveCall, IsLoanOf, IsLocked};
+ghost use Rattle.mx_cpus.specs.Calls.{EndsDead, Follows, IsAnsweredCall, IsAnsweredHere, IsGiveCall, IsKillCall, IsLoanOf, IsLocked, IsRefusedKill, endpoint_now};
 ghost use Rattle.mx_cpus.specs.Calls.{IsRefusedCall, IsRestCall, IsSameSeat, IsTakeCall, StandsIn, is_dead, world_after};
 ghost use Rattle.mx_keyboard.specs.Keyboard.{seen_of};
 ghost use Rattle.mx_spool.specs.Written.{console_of_history};
@@ -64,6 +64,18 @@ fn is_dead(kernel: &Kernel, slot: Option<Slot>) -> bool
             let table = kernel.table();
             slot < table.slot_count() && table.process(slot).state.is_down()
         }
+    }
+}
+
+/// The endpoint of the process that a slot has. A number that is no slot's is its own: it names nobody.
+fn endpoint_now(kernel: &Kernel, slot: Slot) -> u32
+    ensures { result ≡ endpoint_now (replay kernel.now).table slot }
+{
+    let table = kernel.table();
+    if slot < table.slot_count() {
+        table.endpoint(slot)
+    } else {
+        u32::from(slot)
     }
 }
 
@@ -214,12 +226,35 @@ impl<M: Naming> Locked<M> {
         (seat, Given { records, has_died })
     }
 
+    /// An actor kills the process that a slot has: it is found and killed under one lock.
+    pub fn kill_slot(&mut self, seat: ActorSeat, slot: Slot) -> (ActorSeat, Result<Answer, Refusal>)
+        requires table { seat.table ≡ M.table }
+        ensures ok { IfOk result.1 (λ x. (e : ℕ) × IsKillCall M.boot slot seat result.0 e x) }
+        ensures err { IfErr result.1 (λ r. (e : ℕ)
+            × IsRefusedKill M.boot slot seat result.0 e r) }
+    {
+        let endpoint = endpoint_now(&self.kernel, slot);
+        self.event_here(seat, Event::Kill(endpoint))
+    }
+
     /// An actor raises a line, lets the clock tick, kills a process or respawns a slot.
     pub fn event(&mut self, seat: ActorSeat, event: Event) -> (ActorSeat, Result<Answer, Refusal>)
         requires table { seat.table ≡ M.table }
         requires event { is_for_all event ≡ true }
         ensures ok { IfOk result.1 (λ x. IsAnsweredCall M.boot seat result.0 event x) }
         ensures err { IfErr result.1 (λ r. IsRefusedCall M.boot seat result.0 event r) }
+    {
+        self.event_here(seat, event)
+    }
+
+    /// An actor makes an event that any actor may make, at the world that the kernel is in.
+    fn event_here(&mut self, seat: ActorSeat, event: Event) -> (ActorSeat, Result<Answer, Refusal>)
+        requires table { seat.table ≡ M.table }
+        requires event { is_for_all event ≡ true }
+        ensures ok { IfOk result.1 (λ x.
+            IsAnsweredHere M.boot (replay self.old) seat result.0 event x) }
+        ensures err { IfErr result.1 (λ r. IsRefusedCall M.boot seat result.0 event r
+            × (world_after M.boot result.0.seen ≡ replay self.old)) }
     {
         // The seat sees the history first, also if the event is refused.
         let seat = self.desk.note(seat);

@@ -48,8 +48,8 @@ fn make_turn<M: Naming, G: WatchingGate, R: Wait>(
     }
 }
 
-/// A turn, or a question to the gate if its take is refused. Answers whether the loop goes on; it doesn't at a full
-/// history, of which the gate isn't asked.
+/// A turn, and a question to the gate whether it stops the loop; or another one if its take is refused. Answers whether
+/// the loop goes on; it doesn't at a full history, of which the gate isn't asked.
 fn turn_or_wait<M: Naming, G: WatchingGate, R: Wait>(
     context: &LoopContext<'_, M, G, R>,
     seat: ActorSeat,
@@ -61,14 +61,18 @@ fn turn_or_wait<M: Naming, G: WatchingGate, R: Wait>(
     ensures more { result.2 ≡ true → (n : ℕ) → side.turn ≡ turn_number n
         → IsOneMoreBy M.boot (G.was_called context.now.door.gate.now)
         n seat result.0 result.1.turn }
-    ensures ends { result.2 ≡ false → IsLastTurn M.boot (G.was_called context.now.door.gate.now)
-        seat result.0 }
+    ensures ends { result.2 ≡ false → (n : ℕ) → side.turn ≡ turn_number n
+        → IsLastTurn M.boot (G.was_called context.now.door.gate.now) n seat result.0 }
     ensures actor { result.1.actor ≡ side.actor }
     ensures goes_on { result.2 ≡ true → result.1.goes_on ≡ true }
 {
     let (seat, side, made) = make_turn(context, seat, side);
     match made {
-        Ok(()) => (seat, side, true),
+        Ok(()) => {
+            let side = side.ask_stop(&context.door);
+            let goes_on = side.goes_on();
+            (seat, side, goes_on)
+        }
         Err(Refusal::LogFull) => (seat, side, false),
         Err(_) => {
             let (seat, side) = context.ask(seat, side, true);

@@ -3,6 +3,8 @@
 ghost use Rattle.std.specs.Prelude.{◌≡◌};
 ghost use Rattle.mx_cpus.specs.Outsiders.{role_of};
 
+use mx_proc::Slot;
+
 /// A call that the second other actor makes: an outside event, or a wait.
 #[derive(Clone, Copy, Debug, PartialEq, Eq)]
 pub enum OutsideCall {
@@ -10,8 +12,12 @@ pub enum OutsideCall {
     Line(u32),
     /// It kills the process of this endpoint.
     Kill(u32),
+    /// It kills the process that this slot has then.
+    KillSlot(Slot),
     /// It lets the clock tick.
     Tick,
+    /// It puts a new process into this slot, if the slot's process is dead.
+    Respawn(u32),
     /// It waits until the history has so many records more, or the machine is at rest.
     Wait(u32),
 }

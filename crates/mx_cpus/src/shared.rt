@@ -1,15 +1,16 @@
 //! The machine that threads share, and its calls under the lock.
 
-ghost use Rattle.std.specs.Prelude.{◌≡◌, ◌≤◌, true, IfOk, IfErr, All, drop, length, take, vec_capacity};
+ghost use Rattle.std.specs.Prelude.{◌≡◌, ◌≤◌, ℕ, true, IfOk, IfErr, All, drop, length, take, vec_capacity};
 ghost use Rattle.mx_machine.specs.declared.events.Event.TheVariants as events;
 ghost use Rattle.mx_machine.specs.KernelState.{is_for_all};
-ghost use Rattle.mx_cpus.specs.Calls.{EndsDead, IsAnsweredCall, IsGiveCall, IsLoanOf, IsRefusedCall};
+ghost use Rattle.mx_cpus.specs.Calls.{EndsDead, IsAnsweredCall, IsGiveCall, IsKillCall, IsLoanOf, IsRefusedCall, IsRefusedKill};
 ghost use Rattle.mx_cpus.specs.Calls.{IsRestCall, IsTakeCall, IsAcceptedHistory, StandsIn, world_after};
 ghost use Rattle.mx_keyboard.specs.Keyboard.{seen_of};
 ghost use Rattle.mx_spool.specs.Written.{console_of_history};
 
 use crate::{ActorSeat, Given, HowFar, Kernel, Loan, Locked, Naming, Sighting};
 use mx_machine::{Answer, Event, Refusal};
+use mx_proc::Slot;
 use std::sync::{Mutex, Wait};
 
 /// The machine that threads share: a kernel under a lock. Each call takes its actor's seat and
@@ -135,6 +136,21 @@ impl<M: Naming> Shared<M> {
             IsRefusedCall M.boot seat result.0 (events.Kill endpoint) r) }
     {
         self.lock.lock(rt).event(seat, Event::Kill(endpoint))
+    }
+
+    /// An actor kills the process that a slot has: it is found and killed under one lock.
+    pub fn kill_slot(
+        &self,
+        rt: &impl Wait,
+        seat: ActorSeat,
+        slot: Slot,
+    ) -> (ActorSeat, Result<Answer, Refusal>)
+        requires table { seat.table ≡ M.table }
+        ensures ok { IfOk result.1 (λ x. (e : ℕ) × IsKillCall M.boot slot seat result.0 e x) }
+        ensures err { IfErr result.1 (λ r. (e : ℕ)
+            × IsRefusedKill M.boot slot seat result.0 e r) }
+    {
+        self.lock.lock(rt).kill_slot(seat, slot)
     }
 
     /// An actor puts a new process into a slot whose process is dead.

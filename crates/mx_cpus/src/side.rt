@@ -1,8 +1,8 @@
 //! An actor's side of the gate: which call a loop may make when. A loop has no other way to the gate.
 
-ghost use Rattle.std.specs.Prelude.{◌≡◌, ◌+◌, ◌-◌, ◌^◌, true, None, length, min};
+ghost use Rattle.std.specs.Prelude.{◌≡◌, ◌+◌, ◌-◌, ◌^◌, not, true, None, length, min};
 ghost use Rattle.mx_cpus.specs.Courses.{IsAsked};
-ghost use Rattle.mx_cpus.specs.Gates.{held_call, given_call, due_call, asked_call, ended_call, seen_call};
+ghost use Rattle.mx_cpus.specs.Gates.{held_call, given_call, due_call, asked_call, ended_call, seen_call, stops_call};
 
 use crate::gate::WatchingGate;
 use crate::{ActorSeat, Given, HowFar, Loan, Naming, Shared};
@@ -133,6 +133,25 @@ impl FreeSide {
             actor,
             turn,
             goes_on,
+        }
+    }
+
+    /// Asks the gate after a turn whether it stops the loop.
+    pub(crate) fn ask_stop<G: WatchingGate>(self, door: &Door<'_, G>) -> FreeSide
+        requires goes_on { self.goes_on ≡ true }
+        ensures called { G.was_called door.now.gate.now (stops_call self.actor (not result.goes_on)) }
+        ensures side { (result.actor ≡ self.actor) × (result.turn ≡ self.turn) }
+    {
+        let FreeSide {
+            actor,
+            turn,
+            goes_on: _,
+        } = self;
+        let stops = door.gate.stops(actor);
+        FreeSide {
+            actor,
+            turn,
+            goes_on: !stops,
         }
     }
 

@@ -18,7 +18,8 @@ pub enum Which {
 
 /// What follows a word, if a text begins with it.
 pub(crate) fn after<'a>(word: &[u8], text: &'a [u8]) -> Option<&'a [u8]>
-    ensures { MatchOption result (after word.now text.now ≡ None) (λ rest. after word.now text.now ≡ Some rest.now) }
+    ensures { MatchOption result (after word.now text.now ≡ None)
+        (λ rest. after word.now text.now ≡ Some rest.now) }
 {
     let rest = text.strip_prefix(word)?;
     Some(rest)

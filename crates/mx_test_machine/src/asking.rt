@@ -109,21 +109,22 @@ const NOTES: &[(PrintedText, Option<u8>, &str)] = &[
         "mx: turns\n",
     ),
     (
-        PrintedText::Report(DrivenEnding::Turns(Ending::Full)),
-        Some(b'\n'),
-        "mx: full\n",
-    ),
-    (
         PrintedText::Report(DrivenEnding::Run(RunEnding::Rest)),
         Some(b'\n'),
         "mx: rest\n",
     ),
-    (
-        PrintedText::Report(DrivenEnding::Run(RunEnding::Full)),
-        Some(b'4'),
-        "mx: full\n",
-    ),
     (PrintedText::Other, None, ""),
+];
+
+/// How turns or a run ended before their time, and the line that each reader gets.
+const CUT_SHORT: &[(DrivenEnding, &str)] = &[
+    (DrivenEnding::Turns(Ending::Full), "mx: full\n"),
+    (DrivenEnding::Run(RunEnding::Full), "mx: full\n"),
+    (DrivenEnding::Run(RunEnding::Stopped), "mx: stopped\n"),
+    (
+        DrivenEnding::Interrupted,
+        "mx: interrupted: LOG has what was done until then\n",
+    ),
 ];
 
 /// What standard error gets of a note.
@@ -131,10 +132,10 @@ fn text_of(alloc: Global, note: Note) -> Result<String, AllocError> {
     format!(in alloc; "{note}")
 }
 
-/// A reader at a terminal is helped on standard error, and nobody else is; but each is told of a run that was stopped.
+/// A reader at a terminal is helped on standard error, and nobody else is; but each is told of a run or of turns that
+/// were stopped or have filled their history.
 #[test]
 fn notes(rt: HostRuntime) -> Result<(), Fail> {
-    let stopped = PrintedText::Report(DrivenEnding::Run(RunEnding::Stopped));
     for out in [false, true] {
         let shown = Terminals {
             input: false,
@@ -152,10 +153,13 @@ fn notes(rt: HostRuntime) -> Result<(), Fail> {
             let said = text_of(rt.alloc(), hidden.note(*printed, *last))?;
             assert!(rt; said.is_empty());
         }
-        let said = text_of(rt.alloc(), shown.note(stopped, Some(b'\n')))?;
-        assert!(rt; said.as_str() == "mx: stopped\n");
-        let said = text_of(rt.alloc(), hidden.note(stopped, Some(b'\n')))?;
-        assert!(rt; said.as_str() == "mx: stopped\n");
+        for (ending, note) in CUT_SHORT {
+            for terminals in [shown, hidden] {
+                let note_of = terminals.note(PrintedText::Report(*ending), Some(b'\n'));
+                let said = text_of(rt.alloc(), note_of)?;
+                assert!(rt; said.as_str() == *note);
+            }
+        }
     }
     Ok(())
 }

@@ -13,6 +13,7 @@ use std::fmt::Write as _;
 use std::io;
 use std::io::Write;
 use std::process::Abort;
+use std::rt::Files;
 use std::sync::Wait;
 use std::test::Fail;
 use std::thread::Threads;
@@ -80,13 +81,17 @@ fn memory_io(alloc: Global, refusal: Option<io::ErrorKind>) -> MemoryIo {
 }
 
 /// Performs words, and answers the status and the lines of a failure.
-fn perform<R: Threads + Wait + Clock + Sync>(
+fn perform<R: Threads + Wait + Clock + Files + Sync>(
     rt: &R,
     alloc: Global,
     work: &mut MemoryIo,
     words: &'static [&'static str],
     shows: bool,
-) -> (u8, String) {
+) -> (u8, String)
+where
+    R::File: Send,
+    R::Dir: Send,
+{
     let mut answer = String::new(alloc);
     match perform_words(rt, alloc, words, work, shows) {
         Ok(done) => (done.status, answer),
@@ -122,7 +127,11 @@ struct Done {
     file: Option<(&'static str, &'static [u8])>,
 }
 
-fn is_done<R: Threads + Wait + Clock + Sync>(rt: &R, alloc: Global, row: &Done) -> bool {
+fn is_done<R: Threads + Wait + Clock + Files + Sync>(rt: &R, alloc: Global, row: &Done) -> bool
+where
+    R::File: Send,
+    R::Dir: Send,
+{
     let mut work = memory_io(alloc, None);
     let (status, answer) = perform(rt, alloc, &mut work, row.words, false);
     status == row.status
@@ -132,13 +141,17 @@ fn is_done<R: Threads + Wait + Clock + Sync>(rt: &R, alloc: Global, row: &Done) 
 }
 
 /// Whether words fail with nothing printed or written if what takes bytes refuses each write in this way.
-fn is_refused<R: Threads + Wait + Clock + Sync>(
+fn is_refused<R: Threads + Wait + Clock + Files + Sync>(
     rt: &R,
     alloc: Global,
     row: &Done,
     refusal: io::ErrorKind,
     wanted: (u8, &str),
-) -> bool {
+) -> bool
+where
+    R::File: Send,
+    R::Dir: Send,
+{
     let mut work = memory_io(alloc, Some(refusal));
     let (status, answer) = perform(rt, alloc, &mut work, row.words, false);
     (status, answer.as_str()) == wanted
@@ -207,7 +220,11 @@ struct Turned {
 }
 
 /// Whether the turns or the run that words ask for end so.
-fn is_ended<R: Threads + Wait + Clock + Sync>(rt: &R, alloc: Global, row: &Turned) -> bool {
+fn is_ended<R: Threads + Wait + Clock + Files + Sync>(rt: &R, alloc: Global, row: &Turned) -> bool
+where
+    R::File: Send,
+    R::Dir: Send,
+{
     let mut work = memory_io(alloc, None);
     match perform_words(rt, alloc, row.words, &mut work, false) {
         Ok(done) => done.ending == Some(row.ending),
@@ -298,7 +315,7 @@ fn terminals_explained(rt: HostRuntime) {
         let mut work = memory_io(rt.alloc(), None);
         let (status, answer) = perform(&rt, rt.alloc(), &mut work, words, *shows);
         let wanted = if *is_explained {
-            "mx: 80 File\nmx: FILE nothing: wanted a file that can be read\n"
+            "mx: 80 File\nmx: FILE nothing: wanted a file that can be read: it isn't there\n"
         } else {
             "mx: 80 File\n"
         };

@@ -10,6 +10,7 @@ use mx_boot::{Over, save};
 use mx_machine::{Event, Machine};
 use std::alloc::Global;
 use std::process::Abort;
+use std::rt::Files;
 use std::sync::Wait;
 use std::test::Fail;
 use std::thread::Threads;
@@ -29,12 +30,16 @@ const FAULTED: &str = "0 a 0 down fault 13 7 1\nuptime 0\nconsole 0\n";
 
 /// Whether a request fails exactly if standard output has no room for its text, and prints what it has
 /// room for.
-fn is_printed<R: Threads + Wait + Clock + Sync>(
+fn is_printed<R: Threads + Wait + Clock + Files + Sync>(
     rt: &R,
     alloc: Global,
     row: &Row,
     room: usize,
-) -> bool {
+) -> bool
+where
+    R::File: Send,
+    R::Dir: Send,
+{
     let mut io = CommandIo {
         channels: Channels {
             reader: reader(),
@@ -59,14 +64,30 @@ fn is_printed<R: Threads + Wait + Clock + Sync>(
     is_answered && io.channels.out.bytes.as_slice() == &text[..room.min(text.len())]
 }
 
-fn print_in_each_room<R: Threads + Wait + Clock + Sync + Abort>(rt: &R, alloc: Global, row: &Row) {
+fn print_in_each_room<R: Threads + Wait + Clock + Files + Sync + Abort>(
+    rt: &R,
+    alloc: Global,
+    row: &Row,
+)
+where
+    R::File: Send,
+    R::Dir: Send,
+{
     let name = row.name;
     for room in 0..row.printed.len() + 2 {
         assert!(rt; is_printed(rt, alloc, row, room), "{name}, room {room}");
     }
 }
 
-fn all_printed<R: Threads + Wait + Clock + Sync + Abort>(rt: &R, alloc: Global, rows: &[Row]) {
+fn all_printed<R: Threads + Wait + Clock + Files + Sync + Abort>(
+    rt: &R,
+    alloc: Global,
+    rows: &[Row],
+)
+where
+    R::File: Send,
+    R::Dir: Send,
+{
     for row in rows {
         print_in_each_room(rt, alloc, row);
     }
@@ -164,6 +185,7 @@ static MACHINES: &[Row] = &[
             log: "new",
             ticks: 0,
             events: None,
+            stop: None,
         },
         printed: FAULTED,
     },

@@ -19,6 +19,8 @@ pub enum GateCall {
     Seen { actor: u8, records: usize },
     /// A question with whether the actor's own work is done.
     Asked { actor: u8, is_done: bool },
+    /// A question after a turn whether the processor's loop is stopped.
+    Stops(u8),
 }
 
 /// A call as a number: which kind of call, then a number below 100, then the actor.
@@ -31,23 +33,36 @@ fn number_of(call: GateCall) -> u64 {
         GateCall::Seen { actor, records } => (5, actor, records.min(99) as u64),
         GateCall::Due(actor) => (7, actor, 0),
         GateCall::Asked { actor, is_done } => (6, actor, u64::from(is_done)),
+        GateCall::Stops(cpu) => (8, cpu, 0),
     };
     kind.min(9) * 100_000 + number.min(99) * 1000 + u64::from(actor)
 }
 
-/// A gate that answers a number of questions with yes, and then no.
+/// A gate that answers a number of questions with yes, and then no. It stops each processor after its turn, or none.
 #[derive(Drop)]
 pub struct NotingGate {
     yes: u32,
+    stops: bool,
     questions: AtomicU32,
     made: AtomicU32,
     calls: [AtomicU64; NOTED],
 }
 
 impl NotingGate {
+    /// A gate that stops no processor.
     pub fn new(yes: u32) -> NotingGate {
+        NotingGate::with(yes, false)
+    }
+
+    /// A gate that stops each processor after its turn.
+    pub fn stopping(yes: u32) -> NotingGate {
+        NotingGate::with(yes, true)
+    }
+
+    fn with(yes: u32, stops: bool) -> NotingGate {
         NotingGate {
             yes,
+            stops,
             questions: AtomicU32::new(0),
             made: AtomicU32::new(0),
             calls: array::from_fn(|_| AtomicU64::new(0)),
@@ -125,6 +140,11 @@ impl WatchingGate for NotingGate {
     fn goes_on(&self, actor: u8, _far: HowFar, is_done: bool) -> bool {
         self.note(GateCall::Asked { actor, is_done });
         self.questions.fetch_add(1, Ordering::SeqCst) < self.yes
+    }
+
+    fn stops(&self, cpu: u8) -> bool {
+        self.note(GateCall::Stops(cpu));
+        self.stops
     }
 
     fn ended(&self, actor: u8) {

@@ -501,9 +501,15 @@ fn has_deaths(gate: &NotingGate, services: u32, is_called: bool) -> bool {
     by_processors == services && gate.count(GateCall::Due(3)) == u32::from(is_called)
 }
 
+/// How often the gate was asked whether it stops a processor.
+fn stops_asked(gate: &NotingGate) -> u32 {
+    gate.count(GateCall::Stops(0))
+        .saturating_add(gate.count(GateCall::Stops(1)))
+}
+
 /// The end of each loop is reported once, and that of no actor that has no loop. The second other actor has one if
 /// there are calls for it to make, and then it makes them. Each service faults in its second turn, and that is reported
-/// too.
+/// too. After each turn the gate is asked whether it stops the loop.
 #[test]
 fn ends_are_told(rt: HostRuntime) -> Result<(), Fail> {
     for (others, calls) in [(1, CALLS), (2, &[]), (2, CALLS), (4, &[]), (4, CALLS)] {
@@ -524,6 +530,26 @@ fn ends_are_told(rt: HostRuntime) -> Result<(), Fail> {
         );
         assert!(rt; has_ends(&gate, is_called), "{others} others");
         assert!(rt; has_deaths(&gate, 2, is_called), "{others} others");
+        assert!(rt; stops_asked(&gate) == 4, "{others} others");
     }
+    Ok(())
+}
+
+/// A processor that the gate stops makes one turn.
+#[test]
+fn stopped_after_a_turn(rt: HostRuntime) -> Result<(), Fail> {
+    let wanted = Wanted {
+        services: 2,
+        cpus: 1,
+        others: 1,
+        log: 64,
+        restarts: 0,
+    };
+    let (blank, seats) = booted(rt.alloc(), wanted)?;
+    let gate = NotingGate::stopping(20);
+    let kernel = drive_to_end::<Brand, _>(&rt, blank, seats, &gate, &[]);
+    assert!(rt; kernel.is_some());
+    assert!(rt; gate.count(FIRST) == 1 && gate.count(SECOND) == 0);
+    assert!(rt; stops_asked(&gate) == 1);
     Ok(())
 }

@@ -200,7 +200,7 @@ fn questions_of_a_run(rt: HostRuntime) -> Result<(), Fail> {
             ticks: 3,
             calls: row.outside,
         };
-        let plan = RunPlan::new(2, outside, LOG);
+        let plan = RunPlan::new(2, outside, LOG, None);
         let progress = NoProgress::new();
         let gate = RunGate::new(&rt, &progress, plan);
         let fault = first_other(&gate, row.calls);
@@ -233,7 +233,7 @@ fn parts_of_a_run(rt: HostRuntime) {
         ticks: 0,
         calls: &[],
     };
-    let plan = RunPlan::new(2, outside, LOG);
+    let plan = RunPlan::new(2, outside, LOG, None);
     let progress = Sums {
         parts: AtomicUsize::new(0),
         done: AtomicUsize::new(0),
@@ -257,7 +257,7 @@ fn no_wait_after_the_end(rt: HostRuntime) {
         ticks: 0,
         calls: &[],
     };
-    let plan = RunPlan::new(2, outside, LOG);
+    let plan = RunPlan::new(2, outside, LOG, None);
     let progress = NoProgress::new();
     let gate = RunGate::new(&rt, &progress, plan);
     gate.due(0);

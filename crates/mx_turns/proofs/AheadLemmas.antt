@@ -1,5 +1,5 @@
 -- Positions that are tried ahead.
-use Rattle.std.proofs.Common.{◌≡◌, ◌∙◌, ◌<◌, ◌≤◌, ◌+◌, ◌-◌, ◌*◌, ◌/◌, ◌++◌, ℕ, zero, suc, All, IfOk, List, [], ◌∷◌, Result, Ok, Err, length, length-append, refl, ap, arith, subst, sym}
+use Rattle.std.proofs.Common.{◌≡◌, ◌∙◌, ◌<◌, ◌≤◌, ◌+◌, ◌-◌, ◌*◌, ◌/◌, ◌++◌, ℕ, zero, suc, All, IfOk, List, [], ◌∷◌, Result, Ok, Err, length, length-append, ap, arith, subst, sym}
 use Rattle.std.proofs.Math.Nat.{div-mul-le_self, mul-add, mul-le-mul_left, mul-one}
 use Rattle.std.proofs.lemmas.List.Elements.{All-append, All-push, All-weaker}
 use Rattle.mx_machine.specs.World.{World}

@@ -2,15 +2,15 @@
 use Rattle.std.proofs.Common.{◌≡◌, ◌∙◌, ◌<◌, ◌≤◌, ◌+◌, ◌-◌, ℕ, suc, ◌++◌, true, false, true≢false, List, [], ◌∷◌, Option, Some, None, is_some, drop, take, get_or, length, length-append, refl, ap, arith, sym}
 use Rattle.std.proofs.Math.Seq.{drop-append_seam, drop-cons}
 use Rattle.std.proofs.lemmas.List.{take-append-drop}
-use Rattle.mx_machine.specs.declared.events.Event.{Event}
 use Rattle.mx_machine.specs.declared.history.Record.{Record}
 use Rattle.mx_turns.specs.declared.coming.Coming.{Coming}
 use Rattle.mx_turns.specs.declared.faulted_run.Place.{Place}
+use Rattle.mx_turns.specs.declared.outside.OutsideLine.{OutsideLine}
 use Rattle.mx_turns.specs.Sweep.{coming, outside_event, with_first}
 use Rattle.mx_turns.specs.Swept.{IsAlong, IsComing, IsPlace}
 use Rattle.mx_turns.proofs.AlongLemmas.{taken_on}
 
-first_append : (o : Option Event) (xs ys : List Event) → with_first o (xs ++ ys) ≡ with_first o xs ++ ys
+first_append : (o : Option OutsideLine) (xs ys : List OutsideLine) → with_first o (xs ++ ys) ≡ with_first o xs ++ ys
 first_append None xs ys = refl
 first_append (Some e) xs ys = refl
 
@@ -20,16 +20,16 @@ coming_append (x ∷ xs) ys = ap (with_first (outside_event x.event)) (coming_ap
 
 -- ---- one record more
 
-first_some : (o : Option Event) (xs : List Event) → is_some o ≡ true → length (with_first o xs) ≡ 1 + length xs
+first_some : (o : Option OutsideLine) (xs : List OutsideLine) → is_some o ≡ true → length (with_first o xs) ≡ 1 + length xs
 first_some None xs h = absurd (true≢false (sym h))
 first_some (Some e) xs h = let one : length (e ∷ xs) ≡ 1 + length xs = omega arith in one
 
-first_none : (o : Option Event) (xs : List Event) → is_some o ≡ false → length (with_first o xs) ≡ length xs
+first_none : (o : Option OutsideLine) (xs : List OutsideLine) → is_some o ≡ false → length (with_first o xs) ≡ length xs
 first_none None xs h = refl
 first_none (Some e) xs h = absurd (true≢false h)
 
 module _ (records : List Record) (i : ℕ) (d : Record) (h : i < length records) where
-  abbrev here : Option Event
+  abbrev here : Option OutsideLine
   here = outside_event (get_or records i d).event
 
   next : length (coming (drop i records)) ≡ length (with_first here (coming (drop (i + 1) records)))

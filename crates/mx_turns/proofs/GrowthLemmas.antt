@@ -1,9 +1,8 @@
 -- Turns make records: each that isn't the last makes one, or uses up a line or a kill.
-use Rattle.std.proofs.Common.{◌≡◌, ◌≢◌, ◌∙◌, ◌⊎◌, ◌≤◌, ◌<◌, ℕ, zero, suc, ◌+◌, ◌-◌, ◌++◌, ◌||◌, ◌&&◌, ◌==◌, not, nat_lt, Bool, true, false, List, [], ◌∷◌, cond, drop, length, map, Option, Some, None, is_none, slice_get, slice_index_or, inl, inr, refl, ap, sym, subst, arith, true≢false}
-use Rattle.std.specs.List.{flat_map, range_with_len}
+use Rattle.std.proofs.Common.{◌≡◌, ◌≢◌, ◌∙◌, ◌⊎◌, ◌≤◌, ◌<◌, ℕ, zero, suc, ◌+◌, ◌++◌, ◌||◌, ◌&&◌, ◌==◌, not, nat_lt, Bool, true, false, List, [], ◌∷◌, cond, drop, length, map, Option, Some, None, is_none, slice_get, slice_index_or, inl, inr, refl, ap, sym, subst, arith, true≢false}
+use Rattle.std.specs.List.{range_with_len}
 use Rattle.std.proofs.lemmas.Bool.{cases_lt, lt-ltb}
 use Rattle.mx_machine.specs.CallRefusals.{owner_of}
-use Rattle.mx_machine.specs.Proc.Endpoints.{is_alive}
 use Rattle.mx_machine.specs.Proc.declared.process.Process.{Process}
 use Rattle.mx_machine.specs.Proc.Queues.{first_ready}
 use Rattle.mx_machine.specs.Proc.States.{is_down}
@@ -13,17 +12,18 @@ use Rattle.mx_machine.specs.Service.{Service}
 use Rattle.mx_machine.specs.declared.events.Event.{Event}
 use Rattle.mx_machine.specs.declared.events.Event.TheVariants.{Step, Take, Back, Line, Tick, Kill, Respawn}
 use Rattle.mx_machine.specs.declared.events.Refusal.{Refusal}
-use Rattle.mx_machine.specs.declared.events.Refusal.TheVariants.{AtStop, CpuBusy, CpuEmpty, LogFull, NotDown, Worn}
+use Rattle.mx_machine.specs.declared.events.Refusal.TheVariants.{CpuBusy, CpuEmpty, LogFull, NotDown, Worn}
 use Rattle.mx_machine.specs.Held.{held_run}
 use Rattle.mx_machine.specs.History.{world_after_events}
-use Rattle.mx_machine.specs.Move.{back_refusal, event_refusal, if_full, kill_refusal, line_refusal, respawn_refusal, step_refusal, take_refusal, world_after_back, world_after_event, world_after_line, world_after_respawn, world_after_step, world_after_take}
+use Rattle.mx_machine.specs.Move.{back_refusal, event_refusal, if_full, line_refusal, respawn_refusal, take_refusal, world_after_back, world_after_event, world_after_line, world_after_respawn, world_after_step, world_after_take}
 use Rattle.mx_machine.specs.Rest.{at_rest, down_are_worn}
 use Rattle.mx_machine.specs.Steps.{steps_of}
 use Rattle.mx_machine.specs.World.{World, HeldProcess, free_records, held_by, out_count}
 use Rattle.mx_machine.proofs.ReplayLemmas.{after_append}
-use Rattle.mx_turns.specs.declared.turns.Ending.{Ending}
 use Rattle.mx_turns.specs.declared.turns.Ending.TheVariants.{Rest, Turns, Full}
-use Rattle.mx_turns.specs.Turns.{Course, Offered, is_over, most_steps, offered, offered_first, outside, refusable, respawns, run_of, runs, takes, then_offered, then_turns, turn, turns, world_after}
+use Rattle.mx_turns.specs.declared.outside.OutsideLine.{OutsideLine}
+use Rattle.mx_turns.specs.declared.outside.OutsideLine.TheVariants.{Plain}
+use Rattle.mx_turns.specs.Turns.{Course, Offered, is_over, most_steps, next_now, offered, offered_first, outside, refusable, respawns, run_of, runs, takes, then_offered, turn, turns, world_after}
 use Rattle.mx_turns.proofs.OfferLemmas.{Offers, empty_offered, offered_more, runs_more, steps_offered}
 use Rattle.mx_turns.proofs.MadeLemmas.{back_not_full}
 use Rattle.mx_turns.proofs.RoundLemmas.{refusal_of_back, still_held}
@@ -310,7 +310,7 @@ ran_or_none w (suc n) =
 
 -- ---- a turn
 
-module _ (w : World) (next : Option Event) where
+module _ (w : World) (next : Option OutsideLine) where
   abbrev taken : Offered
   taken = offered w (takes (length w.cpus))
 
@@ -318,7 +318,7 @@ module _ (w : World) (next : Option Event) where
   ran = then_offered w taken (runs (length w.cpus))
 
   abbrev others : Offers
-  others = outside (length w.cpus) next ++ respawns (length w.cpus) (length w.services)
+  others = outside (length w.cpus) (next_now w.table next) ++ respawns (length w.cpus) (length w.services)
 
   -- after the takes, and after the runs
   abbrev at_takes : World
@@ -377,7 +377,7 @@ refused_rest w some take empty respawn =
 -- a turn without an outside event makes a record, if the machine isn't at rest
 turn_more : (w : World) → 0 < length w.cpus → (turn w None).full ≡ false → at_rest w ≡ false → w.records < (world_after w (turn w None)).records
 turn_more w some h busy =
-    let none : Option Event = None in
+    let none : Option OutsideLine = None in
     let cpus = length w.cpus in
     let u = at_takes w none in
     let v = at_runs w none in
@@ -411,10 +411,10 @@ tick_taken w a refused = by (nat_lt (free_records w) 1) refused.1
     by true e = refused.2 cc
     by false e = cc
 
-tick_more : (w : World) → (turn w (Some Tick)).full ≡ false → w.records < (world_after w (turn w (Some Tick))).records
+tick_more : (w : World) → (turn w (Some (Plain Tick))).full ≡ false → w.records < (world_after w (turn w (Some (Plain Tick)))).records
 tick_more w h =
     let cpus = length w.cpus in
-    let next : Option Event = Some Tick in
+    let next : Option OutsideLine = Some (Plain Tick) in
     let u = at_takes w next in
     let v = at_runs w next in
     let taken_on = no_less_after w (taken w next).made in
@@ -426,22 +426,22 @@ tick_more w h =
     ])
 
 -- a turn makes a record, or uses up an event that may be refused
-turn_uses : (w : World) (coming : List Event) → 0 < length w.cpus → is_over w coming ≡ false → (turn w (slice_get coming 0)).full ≡ false
+turn_uses : (w : World) (coming : List OutsideLine) → 0 < length w.cpus → is_over w coming ≡ false → (turn w (slice_get coming 0)).full ≡ false
     → suc (w.records + refusable (drop 1 coming)) ≤ (world_after w (turn w (slice_get coming 0))).records + refusable coming
 turn_uses w [] some busy h = let more = turn_more w some h busy in omega (arith, more)
-turn_uses w (Tick ∷ xs) some busy h = let more = tick_more w h in omega (arith, more)
+turn_uses w (Plain Tick ∷ xs) some busy h = let more = tick_more w h in omega (arith, more)
 turn_uses w (x ∷ xs) some busy h = let on = no_less_after w (turn w (Some x)).made in omega (arith, on)
 
 -- ---- turns
 
 -- a turn, and n turns after it, by whether all is over before it, and whether it meets a full history
-abbrev course_by : ℕ → World → List Event → Bool → Bool → Course
+abbrev course_by : ℕ → World → List OutsideLine → Bool → Bool → Course
 course_by n w coming over full =
     let t = turn w (slice_get coming 0) in
     let later = turns n (world_after w t) (drop 1 coming) in
     cond over (record { made = []; ending = Rest }) (cond full (record { made = t.made; ending = Full }) (record { made = t.made ++ later.made; ending = later.ending }))
 
-few_by : (n : ℕ) (w : World) (coming : List Event) → 0 < length w.cpus
+few_by : (n : ℕ) (w : World) (coming : List OutsideLine) → 0 < length w.cpus
     → (let u = world_after w (turn w (slice_get coming 0)) in let later = turns n u (drop 1 coming) in
     later.ending ≡ Turns → n + u.records ≤ (world_after_events u later.made).records + refusable (drop 1 coming))
     → (over full : Bool) → is_over w coming ≡ over → (turn w (slice_get coming 0)).full ≡ full → (course_by n w coming over full).ending ≡ Turns
@@ -459,7 +459,7 @@ few_by n w coming some rest false false o f e =
 -- as many turns as were asked for are at most as many as the records that they make, and the events that may be refused
 -- Each turn makes a record, or uses up a line or a kill. So turns that end since `n` are made are at most as many as
 -- the records that they make, and as the lines and kills that are to come.
-pub turns_are_few : (n : ℕ) (w : World) (coming : List Event) → 0 < length w.cpus → (turns n w coming).ending ≡ Turns
+pub turns_are_few : (n : ℕ) (w : World) (coming : List OutsideLine) → 0 < length w.cpus → (turns n w coming).ending ≡ Turns
     → n + w.records ≤ (world_after_events w (turns n w coming).made).records + refusable coming
 turns_are_few zero w coming some h = omega arith
 turns_are_few (suc n) w coming some h =

@@ -1,6 +1,7 @@
 pub mod OfferLemmas
 pub mod MadeLemmas
 pub mod TurnLemmas
+pub mod OutsideLemmas
 pub mod LawLemmas
 pub mod RoundLemmas
 pub mod GrowthLemmas

@@ -1,8 +1,8 @@
 -- What a machine has made.
-use Rattle.std.proofs.Common.{◌≡◌, ◌∙◌, cond, not, slice_get, ℕ, suc, zero, ◌++◌, Bool, true, false, List, [], ◌∷◌, length, Option, Some, None, Result, Ok, Err, IfErr, OnOk, replicate, refl, ap, sym, subst}
+use Rattle.std.proofs.Common.{◌≡◌, ◌∙◌, cond, not, slice_get, ℕ, suc, zero, ◌++◌, Bool, true, false, List, [], ◌∷◌, Option, Some, None, Result, Ok, Err, IfErr, OnOk, refl, ap, sym, subst}
 use Rattle.mx_machine.specs.declared.events.Answer.{Answer}
 use Rattle.mx_machine.specs.declared.events.Event.{Event}
-use Rattle.mx_machine.specs.declared.events.Event.TheVariants.{Step, Back, Respawn}
+use Rattle.mx_machine.specs.declared.events.Event.TheVariants.{Back, Respawn}
 use Rattle.mx_machine.specs.declared.events.Refusal.{Refusal}
 use Rattle.mx_machine.specs.declared.events.Refusal.TheVariants.{LogFull, CpuEmpty, NotDown, Worn}
 use Rattle.mx_machine.specs.History.{AreAccepted, BootAndHistory, world_after_events}
@@ -18,7 +18,7 @@ use Rattle.mx_machine.specs.World.{World, HeldProcess, free_records, held_by}
 use Rattle.mx_machine.proofs.ReplayLemmas.{accepted_append, after_append}
 use Rattle.mx_machine.specs.Machine.{HasWorked, MachineState, kept_after, kept_along, record_of, with_records, world_of}
 use Rattle.mx_turns.specs.Made.{HasMade, HasOffered, is_full}
-use Rattle.mx_turns.specs.Turns.{Offered, most_steps, offered, offered_first, outside, respawns, then_offered}
+use Rattle.mx_turns.specs.Turns.{Offered, most_steps, offered, offered_first, then_offered}
 use Rattle.mx_turns.proofs.OfferLemmas.{Offers, empty_offered, offered_full, offered_more, steps_offered}
 
 -- ---- one event

@@ -1,5 +1,5 @@
 -- What comes of offers.
-use Rattle.std.proofs.Common.{◌≡◌, ◌∙◌, ℕ, zero, suc, ◌+◌, ◌-◌, ◌<◌, ◌≤◌, ◌++◌, ◌||◌, nat_le, min, Bool, true, false, List, [], ◌∷◌, map, take, drop, length, cond, replicate, Option, Some, None, get_or, slice_set, inl, inr, refl, ap, sym, subst, arith, append_assoc, get_or-set_same}
+use Rattle.std.proofs.Common.{◌≡◌, ◌∙◌, ℕ, zero, suc, ◌+◌, ◌-◌, ◌<◌, ◌≤◌, ◌++◌, ◌||◌, nat_le, min, true, false, List, [], ◌∷◌, map, drop, cond, Option, Some, None, inl, inr, refl, ap, sym, arith, append_assoc, get_or-set_same}
 use Rattle.std.specs.List.{flat_map, range_with_len}
 use Rattle.std.proofs.lemmas.Bool.{cases_Bool, cases_lt, le-leb}
 use Rattle.std.proofs.lemmas.List.{take-append-drop}
@@ -12,12 +12,11 @@ use Rattle.mx_machine.specs.Run.{run_of, run_end_from}
 use Rattle.mx_machine.specs.Stop.{Stop}
 use Rattle.mx_machine.specs.Stop.TheVariants as stop
 use Rattle.mx_machine.specs.declared.events.Event.{Event}
-use Rattle.mx_machine.specs.declared.events.Event.TheVariants.{Step, Take, Back, Respawn}
+use Rattle.mx_machine.specs.declared.events.Event.TheVariants.{Step, Take, Respawn}
 use Rattle.mx_machine.specs.declared.events.Refusal.{Refusal}
 use Rattle.mx_machine.specs.declared.events.Refusal.TheVariants.{LogFull, AtStop, CpuEmpty}
 use Rattle.mx_machine.specs.declared.holding.Out.{Out}
 use Rattle.mx_machine.specs.Held.{held_run, run_by_stop, out_after_step}
-use Rattle.mx_machine.specs.History.{world_after_events}
 use Rattle.mx_machine.specs.Move.{at_stop, is_stop, event_refusal, step_refusal, world_after_event, world_after_step, with_held}
 use Rattle.mx_machine.specs.Steps.{steps_of}
 use Rattle.mx_machine.specs.World.{World, HeldProcess, held_by}

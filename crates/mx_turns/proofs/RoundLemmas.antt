@@ -1,5 +1,5 @@
 -- A turn of one processor.
-use Rattle.std.proofs.Common.{◌≡◌, ◌∙◌, ◌≤◌, ◌<◌, ℕ, zero, suc, ◌+◌, ◌++◌, ◌||◌, not, nat_lt, Bool, true, false, List, [], ◌∷◌, cond, length, map, Option, Some, None, slice_get, refl, ap, sym, arith, get_or-set_same}
+use Rattle.std.proofs.Common.{◌≡◌, ◌∙◌, ◌≤◌, ℕ, zero, suc, ◌+◌, ◌++◌, ◌||◌, not, nat_lt, Bool, true, false, [], ◌∷◌, cond, length, map, Option, Some, None, slice_get, refl, ap, arith, get_or-set_same}
 use Rattle.std.specs.List.{range_with_len}
 use Rattle.std.proofs.lemmas.Bool.{le-ltb}
 use Rattle.std.proofs.lemmas.List.{append-nil}
@@ -10,7 +10,7 @@ use Rattle.mx_machine.specs.Proc.TableState.{process_at}
 use Rattle.mx_machine.specs.Respawn.{is_worn}
 use Rattle.mx_machine.specs.Service.{Service}
 use Rattle.mx_machine.specs.declared.events.Event.{Event}
-use Rattle.mx_machine.specs.declared.events.Event.TheVariants.{Step, Take, Back, Respawn}
+use Rattle.mx_machine.specs.declared.events.Event.TheVariants.{Take, Back, Respawn}
 use Rattle.mx_machine.specs.declared.events.Refusal.{Refusal}
 use Rattle.mx_machine.specs.declared.events.Refusal.TheVariants.{CpuBusy, LogFull, NotDown, Worn}
 use Rattle.mx_machine.specs.Held.{held_run, out_after_step}

@@ -19,6 +19,7 @@ use Rattle.mx_print_answers.specs.declared.said.Said.{Said}
 use Rattle.mx_print_answers.specs.declared.said.Said.TheVariants.{Refused}
 use Rattle.mx_machine.specs.declared.events.Refusal.TheVariants.{NoProcess}
 use Rattle.mx_turns.specs.Made.{HasMade}
+use Rattle.mx_turns.specs.declared.outside.OutsideLine.{OutsideLine}
 use Rattle.mx_turns.specs.Turns.{turns}
 use Rattle.mx_machine.proofs.ActorLemmas.{actors_after_events}
 use Rattle.mx_turns.proofs.MadeLemmas.{kept_boot, same_boot}
@@ -128,7 +129,7 @@ alone_still boot w v xs booted is h =
 -- ---- a run, from its parts
 
 -- from a machine on: the fault's lines, and then turns
-pub run_done : (n known : ℕ) (other : ℕ) (rest : List Event) (fault : List FaultLine) (m0 m1 m2 : MachineState) (evs : List Event) (course : Course)
+pub run_done : (n known : ℕ) (other : ℕ) (rest : List OutsideLine) (fault : List FaultLine) (m0 m1 m2 : MachineState) (evs : List OutsideLine) (course : Course)
     → n ≡ known → evs ≡ rest → course.said.items ≡ (faults_made (world_of m0) other fault).0 → world_of m1 ≡ (faults_made (world_of m0) other fault).1
     → m1.kernel ≡ faults_kept m0.kernel (world_of m0) other fault
     → HasMade m1 (turns n (world_of m1) evs).made m2 → course.ending ≡ (turns n (world_of m1) evs).ending
@@ -137,7 +138,7 @@ run_done n known other rest fault m0 m1 m2 evs done bound come said world kernel
     let v = (faults_made (world_of m0) other fault).1 in
     let kept = faults_kept m0.kernel (world_of m0) other fault in
     let course : turns n (world_of m1) evs ≡ turns known v rest =
-    ap (λ b. turns b (world_of m1) evs) bound ∙ ap (λ (u : World). turns known u evs) world ∙ ap (λ (es : List Event). turns known v es) come in
+    ap (λ b. turns b (world_of m1) evs) bound ∙ ap (λ (u : World). turns known u evs) world ∙ ap (λ (es : List OutsideLine). turns known v es) come in
     record {
       said = said;
       ending = ends ∙ ap (λ c. c.ending) course;
@@ -148,9 +149,9 @@ run_done n known other rest fault m0 m1 m2 evs done bound come said world kernel
     }
 
 -- the same run, by another kernel and world, and other events
-pub run_same : (k l : BootAndHistory) (w v : World) (other : ℕ) (rest below : List Event) (n : ℕ) (fault : List FaultLine) → k ≡ l → w ≡ v → rest ≡ below → run_from k w other rest n fault ≡ run_from l v other below n fault
+pub run_same : (k l : BootAndHistory) (w v : World) (other : ℕ) (rest below : List OutsideLine) (n : ℕ) (fault : List FaultLine) → k ≡ l → w ≡ v → rest ≡ below → run_from k w other rest n fault ≡ run_from l v other below n fault
 run_same k l w v other rest below n fault kernel world left =
-    ap (λ (x : BootAndHistory). run_from x w other rest n fault) kernel ∙ ap (λ (u : World). run_from l u other rest n fault) world ∙ ap (λ (es : List Event). run_from l v other es n fault) left
+    ap (λ (x : BootAndHistory). run_from x w other rest n fault) kernel ∙ ap (λ (u : World). run_from l u other rest n fault) world ∙ ap (λ (es : List OutsideLine). run_from l v other es n fault) left
 
 -- ---- a fault's line, by the script's line that it is
 

@@ -1,11 +1,10 @@
 -- What is shown of turns in a row.
-use Rattle.std.proofs.Common.{◌≡◌, ◌∙◌, ℕ, zero, suc, ◌+◌, ◌-◌, ◌<◌, ◌≤◌, ◌++◌, ◌&&◌, Bool, true, false, List, [], ◌∷◌, cond, drop, length, map, Option, Some, None, is_none, slice_get, refl, ap, sym, subst, arith, append_assoc}
+use Rattle.std.proofs.Common.{◌≡◌, ◌∙◌, ℕ, zero, suc, ◌+◌, ◌-◌, ◌<◌, ◌≤◌, ◌++◌, ◌&&◌, Bool, true, false, List, [], ◌∷◌, cond, length, map, Option, Some, None, is_none, slice_get, refl, ap, sym, subst, arith, append_assoc}
 use Rattle.std.specs.Prelude.{filter}
 use Rattle.std.specs.List.{range_with_len}
 use Rattle.std.proofs.lemmas.List.{append-nil, map-append}
 use Rattle.std.proofs.lemmas.List.Elements.{filter-append}
 use Rattle.mx_machine.specs.Agrees.{IsBoot}
-use Rattle.mx_machine.specs.declared.events.Event.{Event}
 use Rattle.mx_machine.specs.declared.events.Event.TheVariants.{Step, Take, Back, Line, Tick, Kill, Respawn}
 use Rattle.mx_machine.specs.declared.history.Record.{Record}
 use Rattle.mx_machine.specs.declared.history.Recorded.{Recorded}
@@ -17,9 +16,10 @@ use Rattle.mx_machine.specs.Rest.{at_rest}
 use Rattle.mx_machine.specs.World.{World, HeldProcess, held_by}
 use Rattle.mx_machine.proofs.ReplayLemmas.{after_append}
 use Rattle.mx_walk.specs.declared.progress.Part.{Part}
-use Rattle.mx_turns.specs.Made.{HasMade, HasOffered}
+use Rattle.mx_turns.specs.Made.{HasOffered}
 use Rattle.mx_turns.specs.Shown.{goes_on, goes_on_after, part_after, part_of, turns_shown}
-use Rattle.mx_turns.specs.Turns.{Course, turn, turns}
+use Rattle.mx_turns.specs.declared.outside.OutsideLine.{OutsideLine}
+use Rattle.mx_turns.specs.Turns.{turn}
 use Rattle.mx_turns.proofs.GrowthLemmas.{one_more}
 use Rattle.mx_turns.proofs.OfferLemmas.{Offers, range_more}
 use Rattle.mx_turns.proofs.TurnLemmas.{StandsAfter, ended_full, ended_over, going_on}
@@ -75,9 +75,9 @@ part_now log m k n same boot accepted many =
 
 -- ---- what is shown, turn by turn
 
-module _ (log : ℕ) (w : World) (coming : List Event) where
+module _ (log : ℕ) (w : World) (coming : List OutsideLine) where
   -- what is shown of the turn after the first k, by whether it is made
-  abbrev if_made : Bool → ℕ → List Part
+  abbrev pub if_made : Bool → ℕ → List Part
   if_made b k = cond b (part_after log w coming k ∷ []) []
 
   by_made : (b : Bool) (k : ℕ) → goes_on_after w coming k ≡ b → map (part_after log w coming) (filter (goes_on_after w coming) (k ∷ [])) ≡ if_made b k
@@ -87,7 +87,7 @@ module _ (log : ℕ) (w : World) (coming : List Event) where
       by true = refl
       by false = refl
 
-  shown_more : (b : Bool) (k : ℕ) → goes_on_after w coming k ≡ b → turns_shown log (k + 1) w coming ≡ turns_shown log k w coming ++ if_made b k
+  pub shown_more : (b : Bool) (k : ℕ) → goes_on_after w coming k ≡ b → turns_shown log (k + 1) w coming ≡ turns_shown log k w coming ++ if_made b k
   shown_more b k e =
       let all = range_with_len 0 k in
       let z : 0 + k ≡ k = omega arith in
@@ -110,10 +110,10 @@ module _ (log : ℕ) (w : World) (coming : List Event) where
       ap (λ k. turns_shown log k w coming) e ∙ shown_no_more made (bound - made) still
 
 -- nothing is shown of no turns
-pub none_shown : (log : ℕ) (w : World) (coming : List Event) (before : List Part) → before ≡ before ++ turns_shown log 0 w coming
+pub none_shown : (log : ℕ) (w : World) (coming : List OutsideLine) (before : List Part) → before ≡ before ++ turns_shown log 0 w coming
 none_shown log w coming before = sym (append-nil before)
 
-module _ (log : ℕ) (m : MachineState) (coming : List Event) (made : ℕ) (n : MachineState) (s : StandsAfter m coming made n) where
+module _ (log : ℕ) (m : MachineState) (coming : List OutsideLine) (made : ℕ) (n : MachineState) (s : StandsAfter m coming made n) where
   -- what a turn more shows
   pub turn_shown : (p : MachineState) (full : Bool) (before now then : List Part) (x : Part) → (is_none (slice_get coming made) && at_rest (world_of n)) ≡ false → HasOffered n (turn (world_of n) (slice_get coming made)) full p
       → now ≡ before ++ turns_shown log made (world_of m) coming → x ≡ part_of log (world_of p) → then ≡ now ++ x ∷ [] → then ≡ before ++ turns_shown log (made + 1) (world_of m) coming

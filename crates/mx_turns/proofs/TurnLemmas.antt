@@ -8,7 +8,7 @@ use Rattle.mx_machine.specs.CallRefusals.{owner_of}
 use Rattle.mx_machine.specs.declared.events.Event.{Event}
 use Rattle.mx_machine.specs.declared.events.Event.TheVariants.{Step, Take, Back, Line, Tick, Kill, Respawn}
 use Rattle.mx_machine.specs.History.{replay, world_after_events}
-use Rattle.mx_machine.specs.Move.{world_after_back, world_after_event, world_after_line, world_after_respawn, world_after_step, world_after_take, held_at_take, world_with_record, table_after_sending_out}
+use Rattle.mx_machine.specs.Move.{world_after_back, world_after_event, world_after_line, world_after_respawn, world_after_step, world_after_take}
 use Rattle.mx_machine.specs.Rest.{at_rest, down_are_worn}
 use Rattle.mx_machine.specs.World.{World, HeldProcess, actors, held_by}
 use Rattle.mx_machine.specs.Machine.{MachineState, world_of}
@@ -17,7 +17,8 @@ use Rattle.mx_machine.proofs.MachineLemmas.{held_now-count, held_now-length}
 use Rattle.mx_turns.specs.declared.turns.Ending.{Ending}
 use Rattle.mx_turns.specs.declared.turns.Ending.TheVariants.{Rest, Turns, Full}
 use Rattle.mx_turns.specs.Made.{HasMade, HasOffered}
-use Rattle.mx_turns.specs.Turns.{Course, Offered, is_over, joined, offered, outside, respawns, runs, takes, then_offered, then_turns, turn, turns, world_after}
+use Rattle.mx_turns.specs.declared.outside.OutsideLine.{OutsideLine}
+use Rattle.mx_turns.specs.Turns.{Course, Offered, joined, next_now, offered, outside, respawns, runs, takes, then_offered, then_turns, turn, turns, world_after}
 use Rattle.mx_turns.proofs.OfferLemmas.{Offers}
 use Rattle.mx_turns.proofs.MadeLemmas.{none_made, then_done, then_made}
 
@@ -88,16 +89,16 @@ taken_of m = offered (world_of m) (takes (length (world_of m).cpus))
 abbrev ran_of : MachineState → Offered
 ran_of m = then_offered (world_of m) (taken_of m) (runs (length (world_of m).cpus))
 
-abbrev others_of : MachineState → Option Event → Offers
-others_of m next = outside (length (world_of m).cpus) next ++ respawns (length (world_of m).cpus) (length (world_of m).services)
+abbrev others_of : MachineState → Option OutsideLine → Offers
+others_of m next = outside (length (world_of m).cpus) (next_now (world_of m).table next) ++ respawns (length (world_of m).cpus) (length (world_of m).services)
 
 -- the history was too full for a take
-pub turn_full : (m n p : MachineState) (next : Option Event) → HasOffered m (taken_of m) true n → HasOffered n (offered (world_of n) (runs (length (world_of m).cpus))) false p → HasOffered m (turn (world_of m) next) true p
+pub turn_full : (m n p : MachineState) (next : Option OutsideLine) → HasOffered m (taken_of m) true n → HasOffered n (offered (world_of n) (runs (length (world_of m).cpus))) false p → HasOffered m (turn (world_of m) next) true p
 turn_full m n p next t r =
     let ran : HasOffered m (ran_of m) false p = then_done m n p (taken_of m) (runs (length (world_of m).cpus)) false t.made r in
     subst (λ b. HasOffered m (cond b (record (ran_of m) { full = true }) (then_offered (world_of m) (ran_of m) (others_of m next))) true p) (sym t.full) (record { made = ran.made; full = refl })
 
-pub turn_done : (m n p q : MachineState) (next : Option Event) (full : Bool) → HasOffered m (taken_of m) false n → HasOffered n (offered (world_of n) (runs (length (world_of m).cpus))) false p
+pub turn_done : (m n p q : MachineState) (next : Option OutsideLine) (full : Bool) → HasOffered m (taken_of m) false n → HasOffered n (offered (world_of n) (runs (length (world_of m).cpus))) false p
     → HasOffered p (offered (world_of p) (others_of m next)) full q → HasOffered m (turn (world_of m) next) full q
 turn_done m n p q next full t r o =
     let ran : HasOffered m (ran_of m) false p = then_done m n p (taken_of m) (runs (length (world_of m).cpus)) false t.made r in
@@ -107,13 +108,13 @@ turn_done m n p q next full t r o =
 -- ---- turns
 
 -- a machine that was m is n after `made` of its turns, and goes on with those that are left, however many are wanted
-abbrev pub StandsAfter : MachineState → List Event → ℕ → MachineState → Type 0
+abbrev pub StandsAfter : MachineState → List OutsideLine → ℕ → MachineState → Type 0
 StandsAfter m coming made n = (xs : Offers) × HasMade m xs n × ((bound : ℕ) → made ≤ bound → turns bound (world_of m) coming ≡ joined xs (turns (bound - made) (world_of n) (drop made coming)))
 
-pub stands_first : (m : MachineState) (coming : List Event) → StandsAfter m coming 0 m
+pub stands_first : (m : MachineState) (coming : List OutsideLine) → StandsAfter m coming 0 m
 stands_first m coming = ([], none_made m, (λ bound le. let all : bound ≡ bound - 0 = omega arith in ap (λ n. turns n (world_of m) coming) all))
 
-get_drop : (coming : List Event) (n : ℕ) → slice_get (drop n coming) 0 ≡ slice_get coming n
+get_drop : (coming : List OutsideLine) (n : ℕ) → slice_get (drop n coming) 0 ≡ slice_get coming n
 get_drop [] zero = refl
 get_drop [] (suc n) = refl
 get_drop (x ∷ xs) zero = refl
@@ -124,28 +125,28 @@ nil_after [] = refl
 nil_after (x ∷ xs) = ap (λ l. x ∷ l) (nil_after xs)
 
 -- what comes of the next turn and of those after it, by whether all is over
-abbrev by_over : Bool → ℕ → ℕ → World → List Event → Course
+abbrev by_over : Bool → ℕ → ℕ → World → List OutsideLine → Course
 by_over over bound made u coming =
     let t = turn u (slice_get coming made) in
     cond over (record { made = []; ending = Rest }) (then_turns t (turns (bound - (made + 1)) (world_after u t) (drop (made + 1) coming)))
 
-next_course : (bound made : ℕ) (u : World) (coming : List Event) → made < bound → turns (bound - made) u (drop made coming) ≡ by_over (is_none (slice_get coming made) && at_rest u) bound made u coming
+next_course : (bound made : ℕ) (u : World) (coming : List OutsideLine) → made < bound → turns (bound - made) u (drop made coming) ≡ by_over (is_none (slice_get coming made) && at_rest u) bound made u coming
 next_course bound made u coming b =
     let left : bound - made ≡ suc (bound - (made + 1)) = omega (arith, b) in
     ap (λ n. turns n u (drop made coming)) left
-    ∙ ap (λ (x : Option Event). cond (is_none x && at_rest u) (let z : Course = record { made = []; ending = Rest } in z) (then_turns (turn u x) (turns (bound - (made + 1)) (world_after u (turn u x)) (drop 1 (drop made coming))))) (get_drop coming made)
+    ∙ ap (λ (x : Option OutsideLine). cond (is_none x && at_rest u) (let z : Course = record { made = []; ending = Rest } in z) (then_turns (turn u x) (turns (bound - (made + 1)) (world_after u (turn u x)) (drop 1 (drop made coming))))) (get_drop coming made)
     ∙ ap (λ l. let t = turn u (slice_get coming made) in cond (is_none (slice_get coming made) && at_rest u) (let z : Course = record { made = []; ending = Rest } in z) (then_turns t (turns (bound - (made + 1)) (world_after u t) l))) (drop-drop 1 made coming)
 
 -- What is to be shown of the machine after its turns.
-pub record IsAfterTurns (bound : ℕ) (m : MachineState) (coming : List Event) (n : MachineState) (how : Ending) : Type 0 where
+pub record IsAfterTurns (bound : ℕ) (m : MachineState) (coming : List OutsideLine) (n : MachineState) (how : Ending) : Type 0 where
   pub made : HasMade m (turns bound (world_of m) coming).made n
   pub ending : how ≡ (turns bound (world_of m) coming).ending
 
 -- what was made, and how it ended
-ended : (bound : ℕ) (m : MachineState) (coming : List Event) (n : MachineState) (xs : Offers) (ending : Ending) → HasMade m xs n → turns bound (world_of m) coming ≡ record { made = xs; ending = ending } → IsAfterTurns bound m coming n ending
+ended : (bound : ℕ) (m : MachineState) (coming : List OutsideLine) (n : MachineState) (xs : Offers) (ending : Ending) → HasMade m xs n → turns bound (world_of m) coming ≡ record { made = xs; ending = ending } → IsAfterTurns bound m coming n ending
 ended bound m coming n xs ending h e = record { made = subst (λ (c : Course). HasMade m c.made n) (sym e) h; ending = ap (λ (c : Course). c.ending) (sym e) }
 
-module _ (m : MachineState) (coming : List Event) (made : ℕ) (n : MachineState) (s : StandsAfter m coming made n) where
+module _ (m : MachineState) (coming : List OutsideLine) (made : ℕ) (n : MachineState) (s : StandsAfter m coming made n) where
   -- the turns made, if no more are wanted
   made_so_far : (over : Bool) → (is_none (slice_get coming made) && at_rest (world_of n)) ≡ over → turns made (world_of m) coming ≡ record { made = s.0; ending = cond over Rest Turns }
   made_so_far over o =
@@ -153,7 +154,7 @@ module _ (m : MachineState) (coming : List Event) (made : ℕ) (n : MachineState
       let none : made - made ≡ 0 = omega arith in
       s.2 made le
       ∙ ap (λ k. joined s.0 (turns k (world_of n) (drop made coming))) none
-      ∙ ap (λ (x : Option Event). joined s.0 (let z : Course = record { made = []; ending = cond (is_none x && at_rest (world_of n)) Rest Turns } in z)) (get_drop coming made)
+      ∙ ap (λ (x : Option OutsideLine). joined s.0 (let z : Course = record { made = []; ending = cond (is_none x && at_rest (world_of n)) Rest Turns } in z)) (get_drop coming made)
       ∙ ap (λ b. joined s.0 (let z : Course = record { made = []; ending = cond b Rest Turns } in z)) o
       ∙ ap (λ (l : Offers). let z : Course = record { made = l; ending = cond over Rest Turns } in z) (nil_after s.0)
 

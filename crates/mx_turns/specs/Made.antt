@@ -9,8 +9,9 @@ use Rattle.mx_machine.specs.History.{AreAccepted, world_after_events}
 use Rattle.mx_machine.specs.Move.{moves}
 use Rattle.mx_machine.specs.Machine.{MachineState, kept_along, world_of}
 use Rattle.mx_turns.specs.declared.outside.Outside.{Outside}
-use Rattle.mx_turns.specs.declared.turns.Ending.{Ending}
-use Rattle.mx_turns.specs.Turns.{Course, Offered}
+use Rattle.mx_turns.specs.declared.outside.OutsideLine.{OutsideLine}
+use Rattle.mx_turns.specs.declared.outside.OutsideLine.TheVariants.{Plain}
+use Rattle.mx_turns.specs.Turns.{Offered}
 
 -- From m the machine made these events, each of which was accepted, and became n; its history is longer by their
 -- records.
@@ -30,6 +31,6 @@ abbrev pub is_full : Result Answer Refusal → Bool
 is_full (Err LogFull) = true
 is_full _ = false
 
--- the outside events to come: those of the list, and then the ticks
-abbrev pub outside_events : Outside → List Event
-outside_events o = o.events.now ++ replicate o.ticks Tick
+-- what is to come from outside: the lines of the list, and then the ticks
+abbrev pub outside_events : Outside → List OutsideLine
+outside_events o = o.events.now ++ replicate o.ticks (Plain Tick)

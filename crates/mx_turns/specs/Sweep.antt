@@ -4,7 +4,6 @@ use Rattle.std.specs.Fmt.{decimal}
 use Rattle.std.specs.List.{flat_map}
 use Rattle.std.specs.Str.{bytes_eq}
 use Rattle.mx_app_step.specs.Kept.{kept_of}
-use Rattle.mx_machine.specs.declared.events.Event.{Event}
 use Rattle.mx_machine.specs.declared.events.Event.TheVariants as events
 use Rattle.mx_machine.specs.declared.history.Record.{Record}
 use Rattle.mx_machine.specs.declared.history.Recorded.{Recorded}
@@ -19,6 +18,8 @@ use Rattle.mx_print_report.specs.declared.doing.Naming.{Naming}
 use Rattle.mx_print_report.specs.declared.doing.Naming.TheVariants.{Endpoints, Slots}
 use Rattle.mx_print_report.specs.Report.{process_words}
 use Rattle.mx_text.specs.Lines.{lines}
+use Rattle.mx_turns.specs.declared.outside.OutsideLine.{OutsideLine}
+use Rattle.mx_turns.specs.declared.outside.OutsideLine.TheVariants.{Plain}
 use Rattle.mx_turns.specs.declared.turns.Ending.{Ending}
 use Rattle.mx_turns.specs.Endings.{ending_word}
 use Rattle.mx_turns.specs.Turns.{turns}
@@ -28,17 +29,17 @@ use Rattle.mx_turns.specs.Faults.{faults_kept, faults_made}
 -- ---- outside events
 
 -- the outside event of a record: a line or a tick
-abbrev pub outside_event : Recorded → Option Event
-outside_event (recorded.Line l) = Some (events.Line l)
-outside_event recorded.Tick = Some events.Tick
+abbrev pub outside_event : Recorded → Option OutsideLine
+outside_event (recorded.Line l) = Some (Plain (events.Line l))
+outside_event recorded.Tick = Some (Plain events.Tick)
 outside_event _ = None
 
-abbrev pub with_first : Option Event → List Event → List Event
+abbrev pub with_first : Option OutsideLine → List OutsideLine → List OutsideLine
 with_first (Some e) es = e ∷ es
 with_first None es = es
 
 -- those of records, in order
-abbrev pub coming : List Record → List Event
+abbrev pub coming : List Record → List OutsideLine
 coming [] = []
 coming (x ∷ xs) = with_first (outside_event x.event) (coming xs)
 
@@ -54,7 +55,7 @@ pub record Run : Type 0 where
 
 -- A RUN ON FROM A KERNEL AND A WORLD: the fault's lines, in which `other` is the actor of those that name none; then at
 -- most n turns, with these outside events to come
-abbrev pub run_from : BootAndHistory → World → ℕ → List Event → ℕ → List FaultLine → Run
+abbrev pub run_from : BootAndHistory → World → ℕ → List OutsideLine → ℕ → List FaultLine → Run
 run_from kernel world other events n fault =
     let faulted = faults_made world other fault in
     let course = turns n faulted.1 events in

@@ -1,20 +1,22 @@
 -- Turns: one thread drives a whole machine, always in the same order (our own).
-use Rattle.std.specs.Prelude.{ℕ, zero, suc, ◌≡◌, ◌-◌, ◌^◌, ◌&&◌, ◌||◌, not, Bool, true, false, List, [], ◌∷◌, ◌++◌, drop, length, map, Option, Some, None, is_none, slice_get, if◌then◌else◌}
+use Rattle.std.specs.Prelude.{ℕ, zero, suc, ◌≡◌, ◌-◌, ◌^◌, ◌&&◌, ◌||◌, not, Bool, true, false, List, [], ◌∷◌, ◌++◌, drop, length, map, Option, Some, None, is_none, nat_lt, slice_get, if◌then◌else◌}
 use Rattle.std.specs.List.{flat_map, range_with_len}
 use Rattle.mx_machine.specs.declared.events.Event.{Event}
-use Rattle.mx_machine.specs.declared.events.Event.TheVariants.{Take, Back, Respawn, Tick}
+use Rattle.mx_machine.specs.declared.events.Event.TheVariants.{Take, Back, Kill, Respawn, Tick}
 use Rattle.mx_machine.specs.declared.events.Refusal.{Refusal}
 use Rattle.mx_machine.specs.declared.events.Refusal.TheVariants.{LogFull}
 use Rattle.mx_machine.specs.History.{world_after_events}
 use Rattle.mx_machine.specs.Held.{held_run}
 use Rattle.mx_machine.specs.Move.{event_refusal, held_at_take, world_after_event}
 use Rattle.mx_machine.specs.Proc.States.{is_down}
-use Rattle.mx_machine.specs.Proc.TableState.{process_at}
+use Rattle.mx_machine.specs.Proc.TableState.{TableState, endpoint_of, process_at}
 use Rattle.mx_machine.specs.Respawn.{is_worn}
 use Rattle.mx_machine.specs.Rest.{at_rest}
 use Rattle.mx_machine.specs.Service.{Service}
 use Rattle.mx_machine.specs.Steps.{steps_of}
 use Rattle.mx_machine.specs.World.{World}
+use Rattle.mx_turns.specs.declared.outside.OutsideLine.{OutsideLine}
+use Rattle.mx_turns.specs.declared.outside.OutsideLine.TheVariants.{Plain, KillSlot}
 use Rattle.mx_turns.specs.declared.turns.Ending.{Ending}
 use Rattle.mx_turns.specs.declared.turns.Ending.TheVariants.{Rest, Turns, Full}
 
@@ -64,6 +66,21 @@ run_of c = steps_of c most_steps ++ (c, Back) ∷ []
 abbrev pub runs : ℕ → List (ℕ × Event)
 runs cpus = flat_map run_of (range_with_len 0 cpus)
 
+-- ---- what comes from outside
+
+-- the endpoint of the process that a slot has now; a number that is no slot's is its own, and names nobody
+abbrev pub endpoint_now : TableState → ℕ → ℕ
+endpoint_now t s = if nat_lt s (length t.slots) then endpoint_of t s else s
+
+-- the event that it is now: a kill of a slot is one of the slot's process
+abbrev pub event_now : TableState → OutsideLine → Event
+event_now t (Plain e) = e
+event_now t (KillSlot s) = Kill (endpoint_now t s)
+
+abbrev pub next_now : TableState → Option OutsideLine → Option Event
+next_now t None = None
+next_now t (Some l) = Some (event_now t l)
+
 -- then the actor `other` makes the next outside event, if one is to come
 abbrev pub outside : ℕ → Option Event → List (ℕ × Event)
 outside other None = []
@@ -73,15 +90,16 @@ outside other (Some e) = (other, e) ∷ []
 abbrev pub respawns : ℕ → ℕ → List (ℕ × Event)
 respawns other slots = map (λ s. let x : ℕ × Event = (other, Respawn s) in x) (range_with_len 0 slots)
 
--- A TURN, by the outside event that is next: the takes, the runs, and the rest. After a take that was refused for a
--- full history the rest isn't offered
-abbrev pub turn : World → Option Event → Offered
+-- A TURN, by what is next from outside: the takes, the runs, and the rest. After a take that was refused for a full
+-- history the rest isn't offered. The process of a slot that is to be killed is that which it has when the turn begins,
+-- since none gets a new one before
+abbrev pub turn : World → Option OutsideLine → Offered
 turn w next =
     let cpus = length w.cpus in
     let taken = offered w (takes cpus) in
     let ran = then_offered w taken (runs cpus) in
     if taken.full then record ran { full = true }
-    else then_offered w ran (outside cpus next ++ respawns cpus (length w.services))
+    else then_offered w ran (outside cpus (next_now w.table next) ++ respawns cpus (length w.services))
 
 -- ---- turns
 
@@ -97,11 +115,11 @@ then_turns t later =
     else record { made = t.made ++ later.made; ending = later.ending }
 
 -- nothing is left to do: no outside event is to come, and the machine is at rest
-abbrev pub is_over : World → List Event → Bool
+abbrev pub is_over : World → List OutsideLine → Bool
 is_over w xs = is_none (slice_get xs 0) && at_rest w
 
 -- AT MOST n TURNS from world w on, with the outside events xs to come, one in each turn
-abbrev pub turns : ℕ → World → List Event → Course
+abbrev pub turns : ℕ → World → List OutsideLine → Course
 turns zero w xs = record { made = []; ending = if is_over w xs then Rest else Turns }
 turns (suc n) w xs =
     if is_over w xs then record { made = []; ending = Rest }
@@ -111,10 +129,10 @@ turns (suc n) w xs =
 abbrev pub joined : List (ℕ × Event) → Course → Course
 joined made later = record { made = made ++ later.made; ending = later.ending }
 
--- how many of these events may be refused, and so make no record: all but the ticks
-abbrev pub refusable : List Event → ℕ
+-- how many of these may be refused, and so make no record: all but the ticks
+abbrev pub refusable : List OutsideLine → ℕ
 refusable [] = 0
-refusable (Tick ∷ xs) = refusable xs
+refusable (Plain Tick ∷ xs) = refusable xs
 refusable (x ∷ xs) = suc (refusable xs)
 
 -- ---- a turn of one processor

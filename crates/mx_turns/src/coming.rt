@@ -3,22 +3,23 @@
 ghost use Rattle.std.specs.Prelude.{◌≡◌, ◌≤◌, ◌+◌, ◌++◌, drop, IfOk, length};
 ghost use Rattle.mx_turns.specs.Sweep.{coming, outside_event};
 
+use crate::outside::OutsideLine;
 use mx_machine::{Event, Record, Recorded};
 use std::alloc::{AllocError, Global};
 
 /// The outside event that a record has, if it is a line or a tick.
-fn outside_event(event: Recorded) -> Option<Event>
+fn outside_event(event: Recorded) -> Option<OutsideLine>
     ensures { result ≡ outside_event event }
 {
     match event {
-        Recorded::Line(line) => Some(Event::Line(line)),
-        Recorded::Tick => Some(Event::Tick),
+        Recorded::Line(line) => Some(OutsideLine::Plain(Event::Line(line))),
+        Recorded::Tick => Some(OutsideLine::Plain(Event::Tick)),
         _ => None,
     }
 }
 
 /// The lines and the ticks of records, in order.
-fn coming_of(alloc: Global, records: &[Record]) -> Result<Vec<Event>, AllocError>
+fn coming_of(alloc: Global, records: &[Record]) -> Result<Vec<OutsideLine>, AllocError>
     ensures { IfOk result (λ events. events.items ≡ coming records.now) }
 {
     let mut events = Vec::new(alloc);
@@ -33,7 +34,7 @@ fn coming_of(alloc: Global, records: &[Record]) -> Result<Vec<Event>, AllocError
 /// The lines and the ticks of a history, listed once, and how many of them are past at a position.
 #[derive(Drop)]
 pub struct Coming {
-    pub all: Vec<Event>,
+    pub all: Vec<OutsideLine>,
     pub past: usize,
 }
 
@@ -61,7 +62,7 @@ impl Coming {
     }
 
     /// Those that aren't past.
-    pub(crate) fn left(&self) -> &[Event]
+    pub(crate) fn left(&self) -> &[OutsideLine]
         requires { self.now.past ≤ length self.now.all.items }
         ensures { result.now ≡ drop self.now.past self.now.all.items }
     {

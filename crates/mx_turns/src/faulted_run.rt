@@ -8,9 +8,10 @@ ghost use Rattle.mx_turns.specs.Sweep.{run_from, run_of};
 ghost use Rattle.mx_turns.specs.Swept.{ArePartsOf, HasRun, IsPlace, IsSwept};
 
 use crate::faults::{FaultLine, perform_fault_line};
+use crate::outside::OutsideLine;
 use crate::{Ending, Outside, make_turns};
 use mx_app_start::NoProgress;
-use mx_machine::{Checkpoint, Config, Event, Machine, Record, Service};
+use mx_machine::{Checkpoint, Config, Machine, Record, Service};
 use mx_print_answers::Said;
 use mx_word::NoMemory;
 use std::alloc::{AllocError, Global};
@@ -72,7 +73,7 @@ fn run_on(
     alloc: Global,
     machine: &mut Machine,
     sweep: Sweep<'_>,
-    events: &[Event],
+    events: &[OutsideLine],
 ) -> Result<Course, AllocError>
     requires other { sweep.other < actors (world_of machine.old) }
     requires alone { length (world_of machine.old).cpus < actors (world_of machine.old) }
@@ -96,7 +97,7 @@ pub(crate) struct Place<'a> {
     pub position: usize,
     pub along: &'a Machine,
     pub checkpoint: &'a Checkpoint,
-    pub events: &'a [Event],
+    pub events: &'a [OutsideLine],
 }
 
 /// What a machine is made with again: its services, and the first records of its history.

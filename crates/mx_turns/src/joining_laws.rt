@@ -1,18 +1,18 @@
 //! Laws of turns.
 
 ghost use Rattle.std.specs.Prelude.{◌≡◌, ◌≤◌, ℕ, ◌+◌, List, None, Some, [], drop, false, length, true};
-ghost use Rattle.mx_machine.specs.declared.events.Event.{Event};
 ghost use Rattle.mx_machine.specs.History.{world_after_events};
 ghost use Rattle.mx_machine.specs.Proc.Queues.{first_ready};
 ghost use Rattle.mx_machine.specs.Rest.{at_rest};
 ghost use Rattle.mx_machine.specs.World.{World, free_records, held_by};
 ghost use Rattle.mx_turns.specs.Turns.{NoneToRespawn, joined, round, turn, turns};
+ghost use Rattle.mx_turns.specs.declared.outside.OutsideLine.{OutsideLine};
 ghost use Rattle.mx_turns.specs.declared.turns.Ending.TheVariants as endings;
 
 /// Law: if `a` turns are made and end for no other reason, then those and `b` more, with the outside events
 /// that are left, are `a + b` turns.
 pub fn turns_join()
-    ensures { (a b : ℕ) (w : World) (coming : List Event)
+    ensures { (a b : ℕ) (w : World) (coming : List OutsideLine)
         → (turns a w coming).ending ≡ endings.Turns
         → turns (a + b) w coming ≡ joined (turns a w coming).made
         (turns b (world_after_events w (turns a w coming).made) (drop a coming)) }

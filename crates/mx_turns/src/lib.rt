@@ -35,7 +35,7 @@ pub use coming::Coming;
 pub use faulted_run::{Range, Sweep};
 pub use faults::FaultLine;
 pub use joining_laws::{rest_is_still, turn_of_one, turns_join};
-pub use outside::Outside;
+pub use outside::{Outside, OutsideLine};
 pub use pairs::Pair;
 pub use trials::{Findings, Trial, trial_at};
 pub use turns::{Ending, make_turns};

@@ -10,8 +10,8 @@ ghost use Rattle.mx_turns.specs.Shown.{part_of, turns_shown};
 ghost use Rattle.mx_turns.specs.Turns.{turn, turns};
 
 use crate::offers::{offer_others, offer_runs, offer_takes};
-use crate::outside::Outside;
-use mx_machine::{Event, Machine};
+use crate::outside::{Outside, OutsideLine, next_now};
+use mx_machine::Machine;
 use mx_walk::{Part, Progress};
 
 /// How turns end.
@@ -39,7 +39,7 @@ impl Ending {
 }
 
 /// Whether nothing is left to do: no outside event is to come, and the machine is at rest.
-fn is_over(machine: &Machine, next: Option<Event>) -> bool
+fn is_over(machine: &Machine, next: Option<OutsideLine>) -> bool
     ensures { result ≡ (is_none next && at_rest (world_of machine.now)) }
 {
     next.is_none() && machine.kernel().at_rest()
@@ -48,20 +48,22 @@ fn is_over(machine: &Machine, next: Option<Event>) -> bool
 /// One turn: each processor takes a process, if one is ready; each runs what it holds up to its stop, and
 /// brings it back; then the outside event is made, and each slot that is down and not worn gets a new
 /// process. Answers whether the history is full.
-fn make_turn(machine: &mut Machine, next: Option<Event>) -> bool
+fn make_turn(machine: &mut Machine, next: Option<OutsideLine>) -> bool
     requires { length (world_of machine.old).cpus < actors (world_of machine.old) }
     ensures { HasOffered machine.old (turn (world_of machine.old) next) result machine.new }
 {
     machine.sound();
     let cpus = machine.kernel().cpus();
     let slots = u32::from(machine.kernel().table().slot_count());
+    // No slot gets a new process before it, so whom it kills is known now.
+    let event = next_now(machine, next);
     let is_full = offer_takes(machine, cpus);
     // After a full history too: each take has kept room for its return.
     offer_runs(machine, cpus);
     if is_full {
         return true;
     }
-    offer_others(machine, cpus, next, slots)
+    offer_others(machine, cpus, event, slots)
 }
 
 /// How many records a machine's history has, of so many that it may have.

@@ -6,3 +6,4 @@ pub mod Rings
 pub mod Judged
 pub mod PlaceLemmas
 pub mod NoteLemmas
+pub mod AfterLemmas

@@ -9,8 +9,6 @@ use Rattle.mx_app_step.proofs.RecordLemmas.{after_both}
 use Rattle.mx_app_step.specs.Traces.{transition_of}
 use Rattle.mx_app_start.specs.Config.{Config}
 use Rattle.mx_app_start.specs.Service.{Service}
-use Rattle.mx_app_step.specs.Records.{refused_record_line}
-use Rattle.mx_app_start.specs.Log.{lines_above}
 use Rattle.mx_machine.specs.declared.events.Refusal.{Refusal}
 use Rattle.mx_machine.specs.Boot.{world_at_boot}
 use Rattle.mx_why.specs.Seeing.{end_of}
@@ -22,6 +20,7 @@ use Rattle.mx_why.specs.declared.telling.Told.TheVariants.{Whole, Refused}
 use Rattle.mx_why.specs.Marks.{is_marked}
 use Rattle.mx_why.specs.FailedCalls.{counted_in, failed_calls, failed_from}
 use Rattle.mx_why.specs.Noting.{notes_from, notes_of, notes_of_records}
+use Rattle.mx_why.specs.RefusedRecords.{refused_record_text}
 
 notes_more : (w : World) (n k : ℕ) (xs : List Record) (x : Record) → k ≡ n + length xs
     → notes_from w n (xs ++ x ∷ []) ≡ notes_from w n xs ++ notes_of (transition_of (world_after_events w (events_of_history xs)) k x)
@@ -107,6 +106,6 @@ lines_printed Prints c w u records ns slice cs calls count marked same alike man
       (subst (λ (ms : List Note). Prints (lines_text c (end_of u) ms calls count)) (same ∙ noted) h))),
 )
 
-pub refusal_printed : (Prints : List ℕ → Type 0) (c : Config) (w u : World) (records : List Record) (ns : List Note) (cs : List FailedCall) (n line : ℕ) (r : Refusal) → line ≡ lines_above w.table.rules + n
-    → IsNoted w u records (Some (n, r)) ns cs → Prints (refused_record_line line r) → IsWhyPrinted w records c Refused Prints
-refusal_printed Prints c w u records ns cs n line r is refused h = (n, r, refused, subst (λ k. Prints (refused_record_line k r)) is h)
+pub refusal_printed : (Prints : List ℕ → Type 0) (c : Config) (w u : World) (records : List Record) (ns : List Note) (cs : List FailedCall) (n : ℕ) (r : Refusal)
+    → IsNoted w u records (Some (n, r)) ns cs → Prints (refused_record_text records n r) → IsWhyPrinted w records c Refused Prints
+refusal_printed Prints c w u records ns cs n r refused h = (n, r, refused, h)

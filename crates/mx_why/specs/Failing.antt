@@ -1,6 +1,6 @@
 -- A CALL THAT IS REFUSED in a record, in words: the call, its result and why, as a trace has them;
 -- and where it was made (our own). A trap's result is in EAX, a kernel call's is the type of its reply.
-use Rattle.std.specs.Prelude.{ℕ, ◌-◌, ◌==◌, ◌&&◌, not, nat_lt, if◌then◌else◌, Bool, false, List, [], ◌++◌, codes, length, take, Option, Some, None, slice_get, slice_index}
+use Rattle.std.specs.Prelude.{ℕ, ◌-◌, ◌==◌, ◌&&◌, not, nat_lt, if◌then◌else◌, List, [], ◌++◌, codes, length, take, Option, Some, None, slice_get, slice_index}
 use Rattle.mx_insn_words.specs.Numbers.{eight_digits}
 use Rattle.mx_look.specs.Calls.{asks_kernel, kernel_call}
 use Rattle.mx_look.specs.Code.{place_text_if}

@@ -14,5 +14,8 @@ pub mod Busy
 pub mod FailedLines
 pub mod Unfit
 pub mod UnfitLines
+pub mod Checking
+pub mod RefusedRecords
 pub mod Marks
 pub mod Telling
+pub mod AfterRun

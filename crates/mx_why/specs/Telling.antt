@@ -1,8 +1,7 @@
 -- WHAT IS TOLD of a saved history (our own).
-use Rattle.std.specs.Prelude.{◌≡◌, ℕ, ◌+◌, ◌==◌, if◌then◌else◌, Bool, true, false, List, [], ◌++◌, length, Option, Some, None}
+use Rattle.std.specs.Prelude.{◌≡◌, ℕ, ◌==◌, if◌then◌else◌, Bool, true, false, List, [], ◌++◌, length, Option, Some, None}
 use Rattle.mx_app_start.specs.Failure.{PrintsFront}
-use Rattle.mx_app_start.specs.Log.{lines_above}
-use Rattle.mx_app_step.specs.Records.{IsRefusedAt, refused_record_line}
+use Rattle.mx_app_step.specs.Records.{IsRefusedAt}
 use Rattle.mx_machine.specs.declared.config.Config.{Config}
 use Rattle.mx_machine.specs.declared.events.Refusal.{Refusal}
 use Rattle.mx_machine.specs.declared.history.Record.{Record}
@@ -21,6 +20,7 @@ use Rattle.mx_why.specs.FailedLines.{failed_lines}
 use Rattle.mx_why.specs.Lines.{idle_text, waits_text}
 use Rattle.mx_why.specs.Marks.{is_marked}
 use Rattle.mx_why.specs.Noting.{notes_of_records}
+use Rattle.mx_why.specs.RefusedRecords.{refused_record_text}
 use Rattle.mx_why.specs.Seeing.{end_of}
 use Rattle.mx_why.specs.Unfit.{unfit}
 use Rattle.mx_why.specs.UnfitLines.{unfit_lines}
@@ -61,8 +61,7 @@ abbrev pub IsWhyPrinted : World → List Record → Config → Told → (List �
 IsWhyPrinted w records c (told.Whole marked) Prints =
     AreAccepted w (events_of_history records) × (marked ≡ why_marked w records c) × Prints (why_text w records c)
 IsWhyPrinted w records c told.Refused Prints =
-    (n : ℕ) × (r : Refusal) × IsRefusedAt w records n r
-    × Prints (refused_record_line (lines_above w.table.rules + n) r)
+    (n : ℕ) × (r : Refusal) × IsRefusedAt w records n r × Prints (refused_record_text records n r)
 
 -- a front of it is printed
 abbrev pub IsWhyBegun : World → List Record → Config → (List ℕ → Type 0) → Type 0

@@ -1,7 +1,7 @@
 -- WHAT CAN'T WORK BY A CONFIGURATION ALONE: bits of masks that mean nothing; masks that want a trap which another mask
 -- doesn't allow; and questions that nobody may answer (our own). What the services' programs do isn't asked, but
 -- whether they have an instruction at all.
-use Rattle.std.specs.Prelude.{ℕ, ◌==◌, ◌&&◌, ◌||◌, not, nat_lt, if◌then◌else◌, Bool, true, false, List, [], ◌∷◌, ◌++◌, bit_and, length, Option, Some, None, slice_get}
+use Rattle.std.specs.Prelude.{ℕ, ◌==◌, ◌&&◌, ◌||◌, not, nat_lt, if◌then◌else◌, Bool, List, [], ◌∷◌, ◌++◌, bit_and, length, Option, Some, None, slice_get}
 use Rattle.std.specs.List.{flat_map, range_with_len, list_any}
 use Rattle.mx_word.specs.Bits.{has_bit}
 use Rattle.mx_machine.specs.declared.config.Config.{Config}

@@ -6,7 +6,6 @@ use Rattle.mx_insn_words.specs.Numbers.{hexadecimal}
 use Rattle.mx_machine.specs.declared.config.Config.{Config}
 use Rattle.mx_machine.specs.declared.config.ServiceLine.{ServiceLine}
 use Rattle.mx_print_report.specs.Words.{name_bytes}
-use Rattle.mx_proc.specs.declared.process.Masks.{Masks}
 use Rattle.mx_why.specs.declared.unfit.Lack.{Lack}
 use Rattle.mx_why.specs.declared.unfit.Lack.TheVariants.{StrayTraps, StrayCalls, CallsAlone, SendsAlone, NoCode, Towards}
 use Rattle.mx_why.specs.declared.unfit.Pair.{Pair}

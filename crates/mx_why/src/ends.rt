@@ -218,7 +218,7 @@ fn push_open(out: &mut Vec<u8>, end: &End, records: usize) -> Result<(), AllocEr
 
 /// Appends how a history ended.
 #[tactic(auto, unfolding(crate::specs::Endings::ending_by))]
-fn push_ending_by(
+pub(crate) fn push_ending_by(
     out: &mut Vec<u8>,
     end: &End,
     records: usize,
@@ -332,7 +332,12 @@ fn push_death_line(
 
 /// Appends the line of deaths.
 #[tactic(auto, unfolding(crate::specs::Endings::death_text))]
-fn push_death(out: &mut Vec<u8>, end: &End, notes: &[Note], death: Death) -> Result<(), AllocError>
+pub(crate) fn push_death(
+    out: &mut Vec<u8>,
+    end: &End,
+    notes: &[Note],
+    death: Death,
+) -> Result<(), AllocError>
     ensures { OnOk result (out.new.items ≡ out.old.items ++ death_text end.now notes.now death) }
 {
     match notes.get(death.note) {

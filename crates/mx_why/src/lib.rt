@@ -9,7 +9,9 @@
 //! alike. The lines are made of all these.
 #![tactic(auto)]
 
+mod after_run;
 mod busy;
+mod checking;
 mod deaths;
 mod ends;
 mod failed_calls;
@@ -22,6 +24,7 @@ mod notes;
 mod noting;
 mod place;
 mod reasons;
+mod refused_record;
 mod seats;
 mod seeing;
 mod telling;
@@ -30,7 +33,9 @@ mod unfit_lines;
 mod verdicts;
 mod waiting;
 
+pub use after_run::{HistoryNames, line_after_run};
 pub use busy::{Pace, busy_of};
+pub use checking::check;
 pub use deaths::{Death, deaths_of};
 pub use ends::{Ending, Unfinished};
 pub use failed_calls::FailedCall;

@@ -38,7 +38,7 @@ fn has_busy(end: &End, notes: &[Note]) -> bool
 }
 
 /// Whether this is a death by a fault.
-fn is_faulted(deed: Deed) -> bool
+pub(crate) fn is_faulted(deed: Deed) -> bool
     ensures { result ≡ is_faulted deed }
 {
     matches!(deed, Deed::Faulted)

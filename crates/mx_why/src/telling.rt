@@ -33,16 +33,15 @@ use crate::lines::{push_idle, push_waits};
 use crate::marks::is_marked;
 use crate::notes::Note;
 use crate::noting::push_notes;
+use crate::refused_record::print_refused_record;
 use crate::seats::End;
 use crate::seeing::end_of;
 use crate::unfit::unfit_by;
 use crate::unfit_lines::push_unfit_lines;
 use crate::verdicts::verdicts_on;
 use mx_app_step::{
-    Failure, History, Reader, first_records, look_record, print_refusal, print_text,
-    resting_transition, start,
+    Failure, History, Reader, first_records, look_record, print_text, resting_transition, start,
 };
-use mx_boot::lines_above;
 use mx_machine::{Config, Machine, Record, Refusal};
 use std::alloc::{AllocError, Global};
 use std::io::Write;
@@ -58,7 +57,7 @@ pub enum Told {
 
 /// Makes records, takes their notes, and counts the calls that they refuse, up to the first that is refused. Answers the number of this
 /// one, the first having the number 1, and why.
-fn note_records(
+pub(crate) fn note_records(
     machine: &mut Machine,
     records: &[Record],
     notes: &mut Vec<Note>,
@@ -117,7 +116,11 @@ fn push_death_lines(
 }
 
 /// Appends the lines of those that compute without a call.
-fn push_busy_lines(out: &mut Vec<u8>, end: &End, notes: &[Note]) -> Result<(), AllocError>
+pub(crate) fn push_busy_lines(
+    out: &mut Vec<u8>,
+    end: &End,
+    notes: &[Note],
+) -> Result<(), AllocError>
     ensures { OnOk result (out.new.items ≡ out.old.items
         ++ busy_lines end.now (busy end.now notes.now)) }
 {
@@ -126,7 +129,7 @@ fn push_busy_lines(out: &mut Vec<u8>, end: &End, notes: &[Note]) -> Result<(), A
 }
 
 /// Appends the lines of what can't work by the configuration alone.
-fn push_lacking_lines(
+pub(crate) fn push_lacking_lines(
     out: &mut Vec<u8>,
     alloc: Global,
     config: &Config,
@@ -209,8 +212,7 @@ fn print_lines<W: Write>(
     Ok(marked)
 }
 
-/// Makes records and prints the lines. At an event that is refused it prints the number of the
-/// record's line and the refusal.
+/// Makes records and prints the lines. At an event that is refused it prints which record it is of, and the refusal.
 fn print_history<W: Write>(
     alloc: Global,
     config: &Config,
@@ -228,7 +230,6 @@ fn print_history<W: Write>(
         IsWhyPrinted (world_of machine.old) records.now config.now told (λ text.
         Appends (W.contents out.old) (W.contents out.new) text)) }
 {
-    let above = lines_above(machine.rules());
     let mut notes = Vec::new(alloc);
     let mut calls = Vec::new(alloc);
     match note_records(machine, records, &mut notes, &mut calls)? {
@@ -239,15 +240,14 @@ fn print_history<W: Write>(
             Ok(Told::Whole(marked))
         }
         Some((number, refusal)) => {
-            print_refusal(alloc, above + number, refusal, out)?;
+            print_refused_record(alloc, records, number, refusal, out)?;
             Ok(Told::Refused)
         }
     }
 }
 
 /// Starts the machine of a saved history, makes its records (of more than 4,294,967,295 the first), and
-/// prints what became of it. At an event that is refused it prints the number of the record's line and
-/// the refusal. Before a failure a front of this is printed; nothing, if no machine is started.
+/// prints what became of it. At an event that is refused it prints which record it is of, and the refusal. Before a failure a front of this is printed; nothing, if no machine is started.
 pub fn why<R: Reader, W: Write>(
     alloc: Global,
     reader: &mut R,

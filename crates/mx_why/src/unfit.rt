@@ -120,7 +120,12 @@ fn may_receive(masks: &Masks) -> bool
 }
 
 /// Appends what can't work, if it is so.
-fn push_if(found: &mut Vec<Unfit>, is_so: bool, slot: u32, lack: Lack) -> Result<(), AllocError>
+pub(crate) fn push_if(
+    found: &mut Vec<Unfit>,
+    is_so: bool,
+    slot: u32,
+    lack: Lack,
+) -> Result<(), AllocError>
     ensures { OnOk result (found.new.items ≡ found.old.items ++ if_so is_so slot lack) }
 {
     if is_so {
@@ -289,7 +294,7 @@ fn push_unfit_at(
 }
 
 /// Appends the masks of a configuration that can't work.
-fn push_unfit_masks(found: &mut Vec<Unfit>, config: &Config) -> Result<(), AllocError>
+pub(crate) fn push_unfit_masks(found: &mut Vec<Unfit>, config: &Config) -> Result<(), AllocError>
     ensures { OnOk result (found.new.items ≡ found.old.items ++ unfit_masks config.now) }
 {
     let rules = config.rules;

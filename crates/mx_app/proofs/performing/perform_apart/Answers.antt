@@ -1,9 +1,10 @@
-use Rattle.std.proofs.Common.{◌∙◌, ap, nat_lt, Option, refl}
+use Rattle.std.proofs.Common.{◌∙◌, ap, is_some, nat_lt, Option, refl}
 use Rattle.std.specs.Prelude.{option_map}
 use Rattle.mx_app_command.specs.declared.command_line.CommandRequest.TheVariants.{Step}
 use Rattle.mx_app_program.specs.One.{IsPrinted}
 use Rattle.mx_app_program.specs.Shown.{IsListingOf, IsShown}
-use Rattle.mx_app.proofs.Doing.{as_asked, as_known, as_typed, assembled, debugs, draws, explains, lived, looks, pages, replays, runs, saved, shows, steps, swept, swept_pages, talked, traces, turned, whys}
+use Rattle.mx_app.specs.Requests.{done_after_run}
+use Rattle.mx_app.proofs.Doing.{as_asked, as_known, as_typed, assembled, checks, debugs, draws, explains, lived, looks, pages, replays, runs, saved, shows, steps, swept, swept_pages, talked, traces, turned, whys}
 use Rattle.mx_app.proofs.performing.perform_apart.Goals as goal
 
 pub returns-in-One-clause-done : goal.returns-in-One-clause-done
@@ -30,6 +31,12 @@ returns-in-Explain-clause-done g c =
     (as_known _ _ _ _ _ _ _ _ c.in-Explain.is
     (explains _ _ _ c.in-Explain.config.now _ _ c.explain_named.result c.done_after_work-in-Explain.result c.explain_named.ensures c.done_after_work-in-Explain.ensures))
 
+pub returns-in-Check-clause-done : goal.returns-in-Check-clause-done
+returns-in-Check-clause-done g c =
+    as_asked (g.P.SharedProgress.was_shown c.args.io.now.progress) c.args.io.now.asks _ _ _ _ _ _ c.args.request
+    (as_known _ _ _ _ _ _ _ _ c.in-Check.is
+    (checks _ _ _ c.in-Check.config.now _ _ c.check.result c.done_after_check.result c.check.ensures c.done_after_check.ensures))
+
 pub returns-in-None-clause-done : goal.returns-in-None-clause-done
 returns-in-None-clause-done g c =
     as_asked (g.P.SharedProgress.was_shown c.args.io.now.progress) c.args.io.now.asks _ _ _ _ _ _ c.args.request
@@ -51,12 +58,12 @@ returns-in-Db-clause-done g c =
 pub returns-in-Run-clause-done : goal.returns-in-Run-clause-done
 returns-in-Run-clause-done g c =
     as_typed (g.P.SharedProgress.was_shown c.args.io.now.progress) _ _ _ _ _ _ _ _ _ _ _ _ _ _ _ _ _ c.in-Run.is
-    (runs (g.P.SharedProgress.was_shown c.args.io.now.progress) _ _ _ _ _ _ c.in-Run.config.now c.in-Run.log.now (option_map (λ s. s.now) c.in-Run.events) c.in-Run.ticks _ _ c.run.result c.done_after_run.result c.run.ensures.done c.run.ensures.shown c.done_after_run.ensures)
+    (runs (g.P.SharedProgress.was_shown c.args.io.now.progress) (is_some c.in-Run.stop) _ _ _ _ _ _ c.in-Run.config.now c.in-Run.log.now (option_map (λ s. s.now) c.in-Run.events) c.in-Run.ticks _ _ c.run-done.result c.done_after_run.result c.run-done.ensures.done c.run-done.ensures.shown (c.done_after_run.ensures ∙ ap (λ b. done_after_run b c.run-done.result) c.is_some.ensures))
 
 pub returns-in-Turns-clause-done : goal.returns-in-Turns-clause-done
 returns-in-Turns-clause-done g c =
     as_typed (g.P.SharedProgress.was_shown c.args.io.now.progress) _ _ _ _ _ _ _ _ _ _ _ _ _ _ _ _ _ c.in-Turns.is
-    (turned _ _ _ _ _ _ c.in-Turns.config.now c.in-Turns.log.now (option_map (λ s. s.now) c.in-Turns.events) c.in-Turns.ticks c.in-Turns.bound _ _ c.turns.result c.done_after_turns.result c.turns.ensures c.done_after_turns.ensures)
+    (turned (is_some c.new-sign.result.name) (is_some c.in-Turns.stop) _ _ _ _ _ _ c.in-Turns.config.now c.in-Turns.log.now (option_map (λ s. s.now) c.in-Turns.events) c.in-Turns.ticks c.in-Turns.bound _ _ c.turns.result c.done_after_turns.result c.turns.ensures (ap is_some c.new-sign.ensures) c.done_after_turns.ensures)
 
 pub returns-in-Live-clause-done : goal.returns-in-Live-clause-done
 returns-in-Live-clause-done g c =

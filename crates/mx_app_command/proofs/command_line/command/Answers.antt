@@ -8,7 +8,7 @@ use Rattle.clap.specs.declared.parser.matches.ArgMatches.TheViews.{out-ArgMatche
 use Rattle.mx_app_command.specs.declared.command_line.Mistake.{Mistake}
 use Rattle.mx_app_command.specs.declared.command_line.Mistake.TheVariants.{Grammar, TicksAndEvents, LiveWithCourse, NotLive, NoFault}
 use Rattle.mx_app_command.specs.Mistakes.{IsMistake, IsOutOfMemory, has_both, has_course, lacks_fault, lacks_live, mistake_given, mistake_in}
-use Rattle.mx_app_command.specs.Words.{Asks, AsksBy, AsksForForce, AsksForSilence, AsksForSums, AsksToExplain, IsAsked, IsFlag, MayHaveText, is_on, mx_grammar}
+use Rattle.mx_app_command.specs.Words.{Asks, AsksBy, AsksForForce, AsksForSilence, AsksForSums, AsksToBeStrict, AsksToExplain, IsAsked, IsFlag, MayHaveText, is_on, mx_grammar}
 use Rattle.mx_app_command.proofs.AskedWords.{words_asked}
 use Rattle.mx_app_command.proofs.command_line.command.Goals as goal
 
@@ -140,6 +140,16 @@ returns-clause-force c =
     let rows_same = rows_is c.in_ok-matches.matches (asked.0, asked.1) entered c.in-Some.name.now rows c.in-Some.ensures.name c.in-Some.ensures.rows in
     let by : c.is_on.result ≡ is_on (codes "force") asked.1 = subst (λ (r : List Row). c.is_on.result ≡ is_on (codes "force") r) rows_same c.is_on.ensures in
     subst (AsksForForce c.is_on.result) (sym asked.2) by
+
+pub returns-clause-strict : goal.returns-clause-strict
+returns-clause-strict c =
+    let words : List Text = map (λ s. s.now) c.args.words.now in
+    let asked = words_asked words c.in_ok-matches.ensures.kinds in
+    let entered : subcommand_rows_of c.in_ok-matches.matches ≡ Some (asked.0, asked.1) = (c.in_ok-matches.ensures.matches refl).1 ∙ asked.2 in
+    let rows = rows_of (found_of c.in-Some.found.now) in
+    let rows_same = rows_is c.in_ok-matches.matches (asked.0, asked.1) entered c.in-Some.name.now rows c.in-Some.ensures.name c.in-Some.ensures.rows in
+    let by : c.is_on-in-Some.result ≡ is_on (codes "strict") asked.1 = subst (λ (r : List Row). c.is_on-in-Some.result ≡ is_on (codes "strict") r) rows_same c.is_on-in-Some.ensures in
+    subst (AsksToBeStrict c.is_on-in-Some.result) (sym asked.2) by
 
 pub returns-in-Some-mistake_of-clause-passes : goal.returns-in-Some-mistake_of-clause-passes
 returns-in-Some-mistake_of-clause-passes c =

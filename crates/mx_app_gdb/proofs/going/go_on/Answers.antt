@@ -1,11 +1,10 @@
-use Rattle.std.proofs.Common.{◌≡◌, ◌∙◌, ◌<◌, Option, Some, None, ap, refl, subst, sym}
-use Rattle.std.proofs.lemmas.Result.{IfOk-weaker}
+use Rattle.std.proofs.Common.{◌<◌, Option, subst, sym}
 use Rattle.mx_walk.specs.declared.positions.Position.{Position}
-use Rattle.mx_walk.specs.Positions.{IsBefore, IsPosition, IsUpTo}
+use Rattle.mx_walk.specs.Positions.{IsPosition, IsUpTo}
 use Rattle.mx_walk.specs.Walks.{Walk}
-use Rattle.mx_walk.proofs.Next.{above_trans, up_to_of}
+use Rattle.mx_walk.proofs.Next.{up_to_of}
 use Rattle.mx_app_gdb.specs.declared.halts.Halted.{Halted}
-use Rattle.mx_app_gdb.specs.Moves.{IsHaltFrom, at}
+use Rattle.mx_app_gdb.specs.Moves.{IsHaltFrom}
 use Rattle.mx_app_gdb.proofs.Grown.{grown_trans}
 use Rattle.mx_app_gdb.proofs.HaltedOn.{OnWay, events_to, fewer, left_of, on_more}
 use Rattle.mx_app_gdb.proofs.SteppedOn.{ComesTo, any_moving, comes_made, comes_on, halt_law, none_of}

@@ -1,4 +1,4 @@
-use Rattle.std.proofs.Common.{◌≡◌, ◌∙◌, ℕ, Some, ap, subst, sym}
+use Rattle.std.proofs.Common.{◌∙◌, ℕ, Some, ap, subst, sym}
 use Rattle.std.specs.Prelude.{unwrap_or}
 use Rattle.mx_machine.specs.declared.events.Event.{Event}
 use Rattle.mx_machine.specs.Machine.{world_of}

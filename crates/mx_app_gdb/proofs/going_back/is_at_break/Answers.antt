@@ -1,4 +1,4 @@
-use Rattle.std.proofs.Common.{◌≡◌, ◌∙◌, ◌&&◌, ap, not, sym}
+use Rattle.std.proofs.Common.{◌∙◌, ◌&&◌, ap, not, sym}
 use Rattle.mx_machine.specs.Move.{at_stop}
 use Rattle.mx_machine.specs.World.{HeldProcess}
 use Rattle.mx_app_gdb.proofs.Stepped.{at_any}

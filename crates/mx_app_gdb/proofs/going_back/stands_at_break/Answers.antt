@@ -1,4 +1,4 @@
-use Rattle.std.proofs.Common.{◌≡◌, ◌∙◌, Option, ap, map, sym}
+use Rattle.std.proofs.Common.{◌∙◌, Option, ap, map, sym}
 use Rattle.mx_machine.specs.Machine.{world_of}
 use Rattle.mx_machine.specs.World.{HeldProcess, held_by}
 use Rattle.mx_walk.specs.Stopping.{stands_at_any}

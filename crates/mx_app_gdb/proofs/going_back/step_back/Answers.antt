@@ -1,10 +1,7 @@
-use Rattle.std.proofs.Common.{◌≡◌, ◌∙◌, ℕ, Some, ap, subst, sym}
-use Rattle.std.specs.Prelude.{unwrap_or}
-use Rattle.mx_machine.specs.declared.events.Event.{Event}
+use Rattle.std.proofs.Common.{subst}
 use Rattle.mx_machine.specs.Machine.{world_of}
 use Rattle.mx_walk.specs.declared.positions.Position.{Position}
-use Rattle.mx_walk.specs.Positions.{IsPosition, IsUpTo}
-use Rattle.mx_walk.specs.Walks.{Walk}
+use Rattle.mx_walk.specs.Positions.{IsPosition}
 use Rattle.mx_app_gdb.proofs.Behind.{step_found, step_nowhere}
 use Rattle.mx_app_gdb.proofs.Grown.{grown_either}
 use Rattle.mx_app_gdb.proofs.going_back.step_back.Goals as goal

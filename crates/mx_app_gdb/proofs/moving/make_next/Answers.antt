@@ -1,10 +1,9 @@
-use Rattle.std.proofs.Common.{◌≡◌, ◌∙◌, ℕ, [], None, Some, append-nil, ap, subst, sym}
+use Rattle.std.proofs.Common.{◌∙◌, ℕ, [], append-nil, ap, subst, sym}
 use Rattle.mx_machine.specs.declared.events.Event.{Event}
 use Rattle.mx_walk.specs.declared.positions.Position.{Position}
-use Rattle.mx_walk.specs.Positions.{IsBefore, IsPosition, next_position}
+use Rattle.mx_walk.specs.Positions.{IsBefore, IsPosition}
 use Rattle.mx_walk.specs.Walks.{Walk}
 use Rattle.mx_walk.proofs.Next.{above_its_next}
-use Rattle.mx_app_gdb.specs.Halts.{IsUnchanged}
 use Rattle.mx_app_gdb.proofs.HaltedOn.{made_is, made_next}
 use Rattle.mx_app_gdb.proofs.RightAfter.{none_halts}
 use Rattle.mx_app_gdb.proofs.moving.make_next.Goals as goal

@@ -1,9 +1,8 @@
-use Rattle.std.proofs.Common.{◌≡◌, ◌∙◌, ap, refl, subst, sym}
+use Rattle.std.proofs.Common.{◌∙◌, ap, refl, subst}
 use Rattle.std.specs.Prelude.{unwrap_or}
 use Rattle.mx_walk.specs.declared.positions.Position.{Position}
 use Rattle.mx_walk.specs.Positions.{IsPosition, IsUpTo}
 use Rattle.mx_app_gdb.proofs.HaltedOn.{after_event, halts_before, halts_nowhere, told_as, told_by}
-use Rattle.mx_app_gdb.proofs.RightAfter.{none_halts}
 use Rattle.mx_app_gdb.proofs.moving.search_on.Goals as goal
 
 pub returns-in-Before-clause-searched : goal.returns-in-Before-clause-searched

@@ -1,10 +1,7 @@
-use Rattle.std.proofs.Common.{◌≡◌, ◌∙◌, ◌<◌, Option, Some, None, ap, refl, subst, sym}
+use Rattle.std.proofs.Common.{◌∙◌, subst, sym}
 use Rattle.std.proofs.lemmas.Result.{IfOk-weaker}
 use Rattle.mx_walk.specs.declared.positions.Position.{Position}
-use Rattle.mx_walk.specs.Positions.{IsBefore, IsPosition, IsUpTo}
-use Rattle.mx_walk.specs.Walks.{Walk}
-use Rattle.mx_walk.proofs.Next.{above_trans, up_to_of}
-use Rattle.mx_app_gdb.specs.declared.halts.Halted.{Halted}
+use Rattle.mx_walk.specs.Positions.{IsPosition}
 use Rattle.mx_app_gdb.proofs.SteppedOn.{come_made, come_on}
 use Rattle.mx_app_gdb.proofs.stepping.go_to_step.Goals as goal
 

@@ -1,4 +1,3 @@
-use Rattle.std.proofs.Common.{◌≡◌}
 use Rattle.mx_walk.specs.Parts.{HasGrown}
 use Rattle.mx_walk.specs.Positions.{IsPosition, IsUpTo}
 use Rattle.mx_app_gdb.proofs.HaltedOn.{events_to, left_of}

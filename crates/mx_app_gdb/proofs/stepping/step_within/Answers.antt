@@ -1,7 +1,6 @@
-use Rattle.std.proofs.Common.{◌≡◌, ◌∙◌, ◌<◌, Option, Some, None, ap, refl, subst, sym}
+use Rattle.std.proofs.Common.{◌∙◌, Option, subst, sym}
 use Rattle.mx_walk.specs.declared.positions.Position.{Position}
-use Rattle.mx_walk.specs.Positions.{IsBefore, IsPosition, IsUpTo}
-use Rattle.mx_walk.specs.Walks.{Walk}
+use Rattle.mx_walk.specs.Positions.{IsPosition, IsUpTo}
 use Rattle.mx_walk.proofs.Along.{up_trans}
 use Rattle.mx_walk.proofs.Next.{above_trans}
 use Rattle.mx_app_gdb.specs.declared.halts.Halted.{Halted}

@@ -1,6 +1,6 @@
 use Rattle.std.proofs.Common.{ℕ, IfOk, Vec, Global, ap, refl, subst, sym}
 use Rattle.mx_app_look.specs.declared.request.Request.{Request}
-use Rattle.mx_app_look.specs.declared.request.Request.TheVariants.{Back, Continue, Forward, GoTo, Reverse, Step, StepBack, Until}
+use Rattle.mx_app_look.specs.declared.request.Request.TheVariants.{Back, Continue, Forward, GoTo, Reverse, Step, StepBack, Until, UntilBack}
 use Rattle.mx_app_look.specs.declared.sight.Sight.{Sight}
 use Rattle.mx_walk.specs.declared.positions.Position.{Position}
 use Rattle.mx_walk.specs.Walks.{shown_to}
@@ -47,6 +47,9 @@ returns-in-Continue-clause-shown g c = asked_shown c.go_on.result c.args.sight c
 pub returns-in-Reverse-clause-shown : goal.returns-in-Reverse-clause-shown
 returns-in-Reverse-clause-shown g c = asked_shown c.go_back.result c.args.sight c.args.request.now Reverse (g.P.Progress.shown c.args.progress.now) (g.P.Progress.shown c.go_back.new.progress) c.in-Reverse.is c.go_back.ensures.shown
 
+pub returns-in-UntilBack-clause-shown : goal.returns-in-UntilBack-clause-shown
+returns-in-UntilBack-clause-shown g c = asked_shown c.go_until_back.result c.args.sight c.args.request.now (UntilBack c.in-UntilBack.happening) (g.P.Progress.shown c.args.progress.now) (g.P.Progress.shown c.go_until_back.new.progress) c.in-UntilBack.is c.go_until_back.ensures.shown
+
 pub returns-in-Forward-clause-made : goal.returns-in-Forward-clause-made
 returns-in-Forward-clause-made g c =
     let s = c.args.sight in
@@ -92,3 +95,8 @@ pub returns-in-Reverse-clause-made : goal.returns-in-Reverse-clause-made
 returns-in-Reverse-clause-made g c =
     let s = c.args.sight in
     subst (λ (q : Request). IfOk c.go_back.result (λ (r : Sight × Vec ℕ Global). IsMade s q r.0 r.1.items)) (sym c.in-Reverse.is) c.go_back.ensures.halted
+
+pub returns-in-UntilBack-clause-made : goal.returns-in-UntilBack-clause-made
+returns-in-UntilBack-clause-made g c =
+    let s = c.args.sight in
+    subst (λ (q : Request). IfOk c.go_until_back.result (λ (r : Sight × Vec ℕ Global). IsMade s q r.0 r.1.items)) (sym c.in-UntilBack.is) c.go_until_back.ensures.gone

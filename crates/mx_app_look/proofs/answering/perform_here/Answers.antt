@@ -3,7 +3,8 @@ use Rattle.mx_app_look.specs.declared.request.Request.TheVariants.{Help, Message
 use Rattle.mx_print_answers.specs.Messages.{delivery_lines}
 use Rattle.mx_walk.specs.Walks.{world_here}
 use Rattle.mx_app_look.specs.Before.{why_text}
-use Rattle.mx_app_look.specs.Answers.{help_text, processes_text}
+use Rattle.mx_app_look.specs.Answers.{processes_text}
+use Rattle.mx_app_look.specs.Verbs.{help_text}
 use Rattle.mx_app_look.specs.Places.{place_text}
 use Rattle.mx_app_look.specs.Seeking.{point_made, point_text}
 use Rattle.mx_app_look.specs.Showing.{query_text}
@@ -45,13 +46,13 @@ pub returns-in-Show-clause-grown : goal.returns-in-Show-clause-grown
 returns-in-Show-clause-grown g c = err_always c.show.result _ (grown_none _)
 
 pub returns-in-Help-clause-shown : goal.returns-in-Help-clause-shown
-returns-in-Help-clause-shown g c = stayed_shown c.say.result c.args.sight c.args.request.now (Help) (g.P.Progress.shown c.args.progress.now) c.in-Help.is refl
+returns-in-Help-clause-shown g c = stayed_shown c.show_help.result c.args.sight c.args.request.now (Help) (g.P.Progress.shown c.args.progress.now) c.in-Help.is refl
 
 pub returns-in-Help-clause-grown : goal.returns-in-Help-clause-grown
-returns-in-Help-clause-grown g c = err_always c.say.result _ (grown_none _)
+returns-in-Help-clause-grown g c = err_always c.show_help.result _ (grown_none _)
 
 pub returns-in-Nothing-clause-shown : goal.returns-in-Nothing-clause-shown
-returns-in-Nothing-clause-shown g c = nothing_shown c.say-in-Nothing.result c.args.sight c.args.request.now (g.P.Progress.shown c.args.progress.now) c.in-Nothing.is
+returns-in-Nothing-clause-shown g c = nothing_shown c.say.result c.args.sight c.args.request.now (g.P.Progress.shown c.args.progress.now) c.in-Nothing.is
 
 pub returns-in-Where-clause-made : goal.returns-in-Where-clause-made
 returns-in-Where-clause-made g c =
@@ -88,4 +89,4 @@ returns-in-Point-clause-made g c =
 pub returns-in-Help-clause-made : goal.returns-in-Help-clause-made
 returns-in-Help-clause-made g c =
     let s = c.args.sight in
-    made_as c.say.result s c.args.request.now Help s help_text c.in-Help.is (λ v t e h. (e, h)) c.say.ensures.same c.say.ensures.text
+    made_as c.show_help.result s c.args.request.now Help s help_text c.in-Help.is (λ v t e h. (e, h)) c.show_help.ensures.same c.show_help.ensures.text

@@ -5,6 +5,7 @@ use Rattle.mx_walk.specs.declared.positions.Position.{Position}
 use Rattle.mx_walk.specs.Positions.{IsPosition, IsUpTo, next_event, next_position}
 use Rattle.mx_walk.specs.Walks.{Walk}
 use Rattle.mx_walk.proofs.Next.{is_position_too}
+use Rattle.mx_app_look.specs.Marks.{is_looked_for}
 use Rattle.mx_app_look.specs.Shows.{return_shown}
 use Rattle.mx_app_look.proofs.Coming.{last_halt, next_is_early, no_last_halt, some_below}
 use Rattle.mx_app_look.proofs.Halted.{both_hold}
@@ -24,7 +25,7 @@ returns-then-not-found-clause-halt g c =
 pub returns-then-not-found-clause-shown : goal.returns-then-not-found-clause-shown
 returns-then-not-found-clause-shown g c =
     let n = c.in_ok-walker.ensures.nowhere c.if-not-found.true in
-    ok_always c.meet_nothing.result _ (none_before c.args.walker c.args.points.now c.in_ok-walker.walker.here (g.P.Progress.shown c.args.progress.now) (g.P.Progress.shown c.seek_back.new.progress) n.0 n.1 c.in_ok-walker.ensures.shown)
+    ok_always c.meet_nothing.result _ (none_before c.args.walker (is_looked_for c.args.points.now) c.in_ok-walker.walker.here (g.P.Progress.shown c.args.progress.now) (g.P.Progress.shown c.seek_back.new.progress) n.0 n.1 c.in_ok-walker.ensures.shown)
 
 pub returns-then-not-found-clause-grown : goal.returns-then-not-found-clause-grown
 returns-then-not-found-clause-grown g c = err_always c.meet_nothing.result _ (grown_by _ _ _ c.in_ok-walker.ensures.shown)
@@ -91,7 +92,7 @@ returns-clause-shown g c =
     let now = g.P.Progress.shown c.seek_back.new.progress in
     let after = g.P.Progress.shown c.see_changes.new.progress in
     ok_weaker c.see_changes.result _ _ (λ (shown : after ≡ now ++ return_shown j j.here c.in-Some.next.position).
-    back_shown k s j c.in-Some.next.position (g.P.Progress.shown c.args.progress.now) now after c.in_ok-walker.ensures.same position (c.in_ok-walker.ensures.found c.if-not-found.false) there c.in_ok-walker.ensures.shown shown) c.see_changes.ensures.shown
+    back_shown k (is_looked_for s) j c.in-Some.next.position (g.P.Progress.shown c.args.progress.now) now after c.in_ok-walker.ensures.same position (c.in_ok-walker.ensures.found c.if-not-found.false) there c.in_ok-walker.ensures.shown shown) c.see_changes.ensures.shown
 
 pub returns-in_err-walker-clause-grown : goal.returns-in_err-walker-clause-grown
 returns-in_err-walker-clause-grown g c = err_always c.from_residual.result _ c.in_err-walker.ensures.grown

@@ -13,9 +13,9 @@ returns-in_err-text-clause-fault g c =
 pub returns-in-Err-clause-fault : goal.returns-in-Err-clause-fault
 returns-in-Err-clause-fault g c =
     let t = c.in_ok-text.ensures.text in
-    (t.0, t.1, calls_unread c.args.name.now (string_bytes c.in_ok-text.text) c.as_str.result.now t.0 c.args.others c.in-Err.error c.misstated.result c.as_str.ensures.value t.2 c.in-Err.ensures.unread c.misstated.ensures)
+    (t.0, t.1, calls_unread c.args.name.now (string_bytes c.in_ok-text.text) c.as_str.result.now t.0 c.args.config.now c.in-Err.error c.misstated.result c.as_str.ensures.value t.2 c.in-Err.ensures.unread c.misstated.ensures)
 
 pub returns-in-Ok-clause-calls : goal.returns-in-Ok-clause-calls
 returns-in-Ok-clause-calls g c =
     let t = c.in_ok-text.ensures.text in
-    (t.0, t.1, calls_given c.args.name.now (string_bytes c.in_ok-text.text) c.as_str.result.now t.0 c.args.others c.in-Ok.calls.items c.as_str.ensures.value t.2 c.in-Ok.ensures.read)
+    (t.0, t.1, calls_given c.args.name.now (string_bytes c.in_ok-text.text) c.as_str.result.now t.0 c.args.config.now c.in-Ok.calls.items c.as_str.ensures.value t.2 c.in-Ok.ensures.read)

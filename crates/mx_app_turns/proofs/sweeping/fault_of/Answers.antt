@@ -2,7 +2,7 @@ use Rattle.std.proofs.Common.{inl, inr, subst}
 use Rattle.std.proofs.lemmas.Result.{err_from_is_err_and}
 use Rattle.std.specs.Prelude.{string_bytes}
 use Rattle.mx_text.specs.Lines.{lines}
-use Rattle.mx_boot.specs.Reading.{AreLinesRead, TellsUnread}
+use Rattle.mx_app_turns.specs.Commented.{AreSaid, TellsUnsaid}
 use Rattle.mx_app_turns.specs.FaultLines.{fault_line}
 use Rattle.mx_app_turns.proofs.sweeping.fault_of.Goals as goal
 
@@ -17,10 +17,10 @@ returns-in-Err-clause-fault g c =
     let t = c.in_ok-text.ensures.text in (
       t.0,
       t.1,
-      inr (string_bytes c.in_ok-text.text, c.in-Err.error, t.2, subst (λ x. TellsUnread fault_line (lines x) c.in-Err.error) c.as_str.ensures.value c.in-Err.ensures.unread, c.misstated.ensures),
+      inr (string_bytes c.in_ok-text.text, c.in-Err.error, t.2, subst (λ x. TellsUnsaid (fault_line c.args.config.now.lines) (lines x) c.in-Err.error) c.as_str.ensures.value c.in-Err.ensures.unread, c.misstated.ensures),
     )
 
 pub returns-in-Ok-clause-read : goal.returns-in-Ok-clause-read
 returns-in-Ok-clause-read g c =
     let t = c.in_ok-text.ensures.text in
-    (t.0, string_bytes c.in_ok-text.text, t.1, t.2, subst (λ x. AreLinesRead fault_line (lines x) c.in-Ok.fault.items) c.as_str.ensures.value c.in-Ok.ensures.read)
+    (t.0, string_bytes c.in_ok-text.text, t.1, t.2, subst (λ x. AreSaid (fault_line c.args.config.now.lines) (lines x) c.in-Ok.fault.items) c.as_str.ensures.value c.in-Ok.ensures.read)

@@ -1,4 +1,4 @@
-use Rattle.std.proofs.Common.{◌≡◌, ◌+◌, ◌∷◌, [], All, ap, arith, length, length-append, subst, sym}
+use Rattle.std.proofs.Common.{◌∷◌, [], All, ap, arith, length, length-append, subst, sym}
 use Rattle.std.proofs.lemmas.List.Elements.{All-push}
 use Rattle.mx_turns.specs.Ahead.{IsBefore}
 use Rattle.mx_turns.proofs.ahead.pairs_at_boot.Goals as goal

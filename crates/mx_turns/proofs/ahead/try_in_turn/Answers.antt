@@ -1,4 +1,4 @@
-use Rattle.std.proofs.Common.{◌≡◌, ◌∙◌, ◌+◌, ◌∷◌, [], ap, arith, length, length-append, subst, sym}
+use Rattle.std.proofs.Common.{◌≡◌, ◌∷◌, [], ap, arith, length, length-append, subst, sym}
 use Rattle.mx_machine.specs.World.{World}
 use Rattle.mx_turns.specs.Ahead.{AreTold, IsAfter}
 use Rattle.mx_turns.specs.declared.ahead.Told.{Told}

@@ -1,4 +1,4 @@
-use Rattle.std.proofs.Common.{◌∙◌, ◌<◌, length, subst, sym}
+use Rattle.std.proofs.Common.{◌<◌, length, subst, sym}
 use Rattle.std.proofs.lemmas.List.{append-nil}
 use Rattle.mx_app_step.specs.Machine.{world_of}
 use Rattle.mx_machine.specs.World.{actors}

@@ -1,4 +1,4 @@
-use Rattle.std.proofs.Common.{◌≡◌, ◌++◌, [], ◌∷◌, Bool, Option, false, refl, subst, sym}
+use Rattle.std.proofs.Common.{◌++◌, [], ◌∷◌, Bool, Option, false, refl, subst, sym}
 use Rattle.mx_machine.specs.declared.events.Event.{Event}
 use Rattle.mx_machine.specs.Machine.{world_of}
 use Rattle.mx_turns.specs.Made.{HasOffered}

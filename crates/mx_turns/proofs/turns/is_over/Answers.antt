@@ -1,13 +1,13 @@
 use Rattle.std.proofs.Common.{◌≡◌, ◌∙◌, ◌&&◌, not, Bool, true, false, Option, Some, None, is_none, is_some, ap, sym}
-use Rattle.mx_machine.specs.declared.events.Event.{Event}
 use Rattle.mx_machine.specs.History.{BootAndHistory}
 use Rattle.mx_machine.specs.History.{replay}
 use Rattle.mx_machine.specs.Rest.{at_rest}
 use Rattle.mx_machine.specs.Machine.{world_of}
+use Rattle.mx_turns.specs.declared.outside.OutsideLine.{OutsideLine}
 use Rattle.mx_turns.proofs.TurnLemmas.{rest_now}
 use Rattle.mx_turns.proofs.turns.is_over.Goals as goal
 
-none_there : (o : Option Event) (r a y : Bool) → is_some o ≡ not r → r ≡ true → y ≡ a → y ≡ (is_none o && a)
+none_there : (o : Option OutsideLine) (r a y : Bool) → is_some o ≡ not r → r ≡ true → y ≡ a → y ≡ (is_none o && a)
 none_there None r a y e t h = h
 none_there (Some x) r a y e t h = let z : true ≡ false = e ∙ ap not t in cc
 

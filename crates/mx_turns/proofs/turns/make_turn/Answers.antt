@@ -1,9 +1,10 @@
-use Rattle.std.proofs.Common.{◌≡◌, ◌∙◌, ◌++◌, ℕ, Bool, true, false, length, ap, subst, sym, arith}
+use Rattle.std.proofs.Common.{◌≡◌, ◌∙◌, ◌++◌, ℕ, Bool, Option, true, false, length, ap, subst, sym, arith}
+use Rattle.mx_machine.specs.declared.events.Event.{Event}
 use Rattle.mx_machine.specs.Proc.TableState.{TableState}
 use Rattle.mx_machine.specs.History.{BootAndHistory, replay}
 use Rattle.mx_machine.specs.Machine.{world_of}
 use Rattle.mx_turns.specs.Made.{HasOffered}
-use Rattle.mx_turns.specs.Turns.{offered, outside, respawns, runs, takes}
+use Rattle.mx_turns.specs.Turns.{next_now, offered, outside, respawns, runs, takes}
 use Rattle.mx_turns.proofs.TurnLemmas.{cpus_now, slots_now, turn_done, turn_full}
 use Rattle.mx_turns.proofs.turns.make_turn.Goals as goal
 
@@ -37,5 +38,7 @@ returns c =
     let taken = subst (λ (b : Bool). HasOffered m (offered (world_of m) (takes c.cpus-cpus.result)) b n) c.if-is_full.false c.offer_takes-is_full.ensures.offered in
     turn_done m n p q c.args.next full (subst (λ (k : ℕ). HasOffered m (offered (world_of m) (takes k)) false n) cpus taken)
     (subst (λ (k : ℕ). HasOffered n (offered (world_of n) (runs k)) false p) cpus c.offer_runs.ensures.offered)
-    (subst (λ (j : ℕ). HasOffered p (offered (world_of p) (outside (length (world_of m).cpus) c.args.next ++ respawns (length (world_of m).cpus) j)) full q) slots
-    (subst (λ (k : ℕ). HasOffered p (offered (world_of p) (outside k c.args.next ++ respawns k c.from-slots.result)) full q) cpus c.offer_others.ensures.offered))
+    (subst (λ (j : ℕ). HasOffered p (offered (world_of p) (outside (length (world_of m).cpus) (next_now (world_of m).table c.args.next) ++ respawns (length (world_of m).cpus) j)) full q) slots
+    (subst (λ (k : ℕ). HasOffered p (offered (world_of p) (outside k (next_now (world_of m).table c.args.next) ++ respawns k c.from-slots.result)) full q) cpus
+    (subst (λ (x : Option Event). HasOffered p (offered (world_of p) (outside c.cpus-cpus.result x ++ respawns c.cpus-cpus.result c.from-slots.result)) full q) c.next_now-event.ensures
+    c.offer_others.ensures.offered)))

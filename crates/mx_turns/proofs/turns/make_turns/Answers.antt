@@ -1,18 +1,18 @@
 use Rattle.std.proofs.Common.{◌≡◌, ◌∙◌, ◌≤◌, ◌&&◌, Bool, Option, true, false, is_none, slice_get, ap, arith, subst, sym}
-use Rattle.mx_machine.specs.declared.events.Event.{Event}
 use Rattle.mx_machine.specs.Rest.{at_rest}
 use Rattle.mx_machine.specs.Machine.{MachineState, world_of}
 use Rattle.mx_turns.specs.Made.{HasOffered, outside_events}
+use Rattle.mx_turns.specs.declared.outside.OutsideLine.{OutsideLine}
 use Rattle.mx_turns.specs.Turns.{turn}
 use Rattle.mx_turns.proofs.ShownLemmas.{full_shown, none_shown, over_shown, turn_shown}
 use Rattle.mx_turns.proofs.TurnLemmas.{other_stays, stands_first, stands_full, stands_last, stands_next, stands_over}
 use Rattle.mx_turns.proofs.turns.make_turns.Goals as goal
 
-over_by : (next known : Option Event) (n : MachineState) (r b : Bool) → next ≡ known → r ≡ (is_none next && at_rest (world_of n)) → r ≡ b → (is_none known && at_rest (world_of n)) ≡ b
-over_by next known n r b e h is = ap (λ (x : Option Event). is_none x && at_rest (world_of n)) (sym e) ∙ sym h ∙ is
+over_by : (next known : Option OutsideLine) (n : MachineState) (r b : Bool) → next ≡ known → r ≡ (is_none next && at_rest (world_of n)) → r ≡ b → (is_none known && at_rest (world_of n)) ≡ b
+over_by next known n r b e h is = ap (λ (x : Option OutsideLine). is_none x && at_rest (world_of n)) (sym e) ∙ sym h ∙ is
 
-turned_by : (n p : MachineState) (next known : Option Event) (r b : Bool) → next ≡ known → HasOffered n (turn (world_of n) next) r p → r ≡ b → HasOffered n (turn (world_of n) known) b p
-turned_by n p next known r b e h is = subst (λ (x : Option Event). HasOffered n (turn (world_of n) x) b p) e (subst (λ (y : Bool). HasOffered n (turn (world_of n) next) y p) is h)
+turned_by : (n p : MachineState) (next known : Option OutsideLine) (r b : Bool) → next ≡ known → HasOffered n (turn (world_of n) next) r p → r ≡ b → HasOffered n (turn (world_of n) known) b p
+turned_by n p next known r b e h is = subst (λ (x : Option OutsideLine). HasOffered n (turn (world_of n) x) b p) e (subst (λ (y : Bool). HasOffered n (turn (world_of n) next) y p) is h)
 
 pub loop-made-init : goal.loop-made-init
 loop-made-init g c =

@@ -2,7 +2,7 @@ use Rattle.std.proofs.Common.{◌≡◌, ◌++◌, List, ℕ, codes}
 use Rattle.std.specs.Fmt.{decimal}
 use Rattle.mx_why.specs.Busy.{computes_text, pace_line}
 use Rattle.mx_why.specs.Reasons.{slot_text}
-use Rattle.mx_why.proofs.Pieces.{extended, joined, joined_is, last_joined}
+use Rattle.mx_why.proofs.Pieces.{extended, joined, last_joined}
 use Rattle.mx_why.proofs.busy.push_pace.Goals as goal
 
 pub returns : goal.returns

@@ -1,8 +1,7 @@
-use Rattle.std.proofs.Common.{◌≡◌, ◌+◌, List, ℕ, Option, inl, inr, length, refl, rules, subst}
+use Rattle.std.proofs.Common.{List, ℕ, Option, inl, inr, length, refl, subst}
 use Rattle.std.proofs.KnownBytes.{Appends-nil}
 use Rattle.std.specs.Io.KnownBytes.{Appends}
 use Rattle.mx_app_start.specs.Failure.{PrintsFront}
-use Rattle.mx_app_start.specs.Log.{lines_above}
 use Rattle.mx_app_start.specs.Machine.{world_of}
 use Rattle.mx_app_step.proofs.FrontLemmas.{err_always}
 use Rattle.mx_machine.specs.declared.events.Refusal.{Refusal}
@@ -41,18 +40,17 @@ returns-in-None-clause-printed g c =
     lines_printed (λ (t : List ℕ). Appends (g.W.Write.contents c.args.out.now) (g.W.Write.contents c.print_lines.new.out) t) c.args.config.now w u c.args.records.now ns c.as_slice-noted.result.now cs c.as_slice-counted.result.now (length c.args.records.now) _
     c.as_slice-noted.ensures.value c.as_slice-counted.ensures.value refl noted c.in_ok-marked-in-None.ensures.marked c.in_ok-marked-in-None.ensures.bytes
 
-pub returns-in_err-print_refusal-in-Some-clause-begun : goal.returns-in_err-print_refusal-in-Some-clause-begun
-returns-in_err-print_refusal-in-Some-clause-begun g c =
+pub returns-in_err-print_refused_record-in-Some-clause-begun : goal.returns-in_err-print_refused_record-in-Some-clause-begun
+returns-in_err-print_refused_record-in-Some-clause-begun g c =
     let w = world_of c.args.machine.now in
     let u = world_of c.note_records.new.machine in
     let ns = c.note_records.new.notes.items in
     let cs = c.note_records.new.calls.items in
     let n = c.in-Some.number in
-    let front : List ℕ → Type 0 = λ text. PrintsFront (λ t. Appends (g.W.Write.contents c.args.out.now) (g.W.Write.contents c.print_refusal.new.out) t) text in
+    let front : List ℕ → Type 0 = λ text. PrintsFront (λ t. Appends (g.W.Write.contents c.args.out.now) (g.W.Write.contents c.print_refused_record.new.out) t) text in
     let noted = subst (λ (o : Option (ℕ × Refusal)). IsNoted w u c.args.records.now o ns cs) c.in-Some.is c.in_ok-note_records.ensures.noted in
-    let line : c.lines_above-above.result + n ≡ lines_above w.table.rules + n = search rules in
-    err_always c.from_residual-in_err-print_refusal-in-Some.result _
-    (inr (Refused, refusal_printed front c.args.config.now w u c.args.records.now ns cs n (c.lines_above-above.result + n) c.in-Some.refusal line noted c.in_err-print_refusal-in-Some.ensures.front))
+    err_always c.from_residual-in_err-print_refused_record-in-Some.result _
+    (inr (Refused, refusal_printed front c.args.config.now w u c.args.records.now ns cs n c.in-Some.refusal noted c.in_err-print_refused_record-in-Some.ensures.front))
 
 pub returns-clause-printed : goal.returns-clause-printed
 returns-clause-printed g c =
@@ -62,6 +60,4 @@ returns-clause-printed g c =
     let cs = c.note_records.new.calls.items in
     let n = c.in-Some.number in
     let noted = subst (λ (o : Option (ℕ × Refusal)). IsNoted w u c.args.records.now o ns cs) c.in-Some.is c.in_ok-note_records.ensures.noted in
-    let line : c.lines_above-above.result + n ≡ lines_above w.table.rules + n = search rules in
-    refusal_printed (λ (t : List ℕ). Appends (g.W.Write.contents c.args.out.now) (g.W.Write.contents c.print_refusal.new.out) t) c.args.config.now w u c.args.records.now ns cs n (c.lines_above-above.result + n) c.in-Some.refusal
-    line noted c.in_ok-print_refusal-in-Some.ensures.bytes
+    refusal_printed (λ (t : List ℕ). Appends (g.W.Write.contents c.args.out.now) (g.W.Write.contents c.print_refused_record.new.out) t) c.args.config.now w u c.args.records.now ns cs n c.in-Some.refusal noted c.in_ok-print_refused_record-in-Some.ensures.bytes

@@ -1,6 +1,6 @@
 use Rattle.std.proofs.Common.{◌≡◌, ◌++◌, List, ℕ, codes}
 use Rattle.mx_why.specs.UnfitLines.{asks_text, name_of}
-use Rattle.mx_why.proofs.Pieces.{extended, joined, joined_is, last_joined}
+use Rattle.mx_why.proofs.Pieces.{joined, last_joined}
 use Rattle.mx_why.proofs.unfit_lines.push_asks.Goals as goal
 
 pub returns : goal.returns

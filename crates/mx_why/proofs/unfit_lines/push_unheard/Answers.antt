@@ -1,7 +1,7 @@
 use Rattle.std.proofs.Common.{◌≡◌, ◌++◌, List, ℕ, codes}
 use Rattle.mx_insn_words.specs.Numbers.{hexadecimal}
 use Rattle.mx_why.specs.UnfitLines.{name_of, unheard_text}
-use Rattle.mx_why.proofs.Pieces.{extended, joined, joined_is, last_joined}
+use Rattle.mx_why.proofs.Pieces.{extended, joined, last_joined}
 use Rattle.mx_why.proofs.unfit_lines.push_unheard.Goals as goal
 
 pub returns : goal.returns

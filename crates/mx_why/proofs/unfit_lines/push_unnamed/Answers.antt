@@ -3,7 +3,7 @@ use Rattle.std.specs.Fmt.{decimal}
 use Rattle.mx_insn_words.specs.Numbers.{hexadecimal}
 use Rattle.mx_why.specs.Reasons.{bit_text}
 use Rattle.mx_why.specs.UnfitLines.{asks_text, unnamed_text}
-use Rattle.mx_why.proofs.Pieces.{extended, joined, joined_is, last_joined}
+use Rattle.mx_why.proofs.Pieces.{extended, joined, last_joined}
 use Rattle.mx_why.proofs.unfit_lines.push_unnamed.Goals as goal
 
 pub returns : goal.returns

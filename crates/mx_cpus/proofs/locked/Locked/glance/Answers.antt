@@ -1,4 +1,4 @@
-use Rattle.std.proofs.Common.{◌≡◌, ◌∙◌, List, ℕ, ap, drop, take, vec_capacity}
+use Rattle.std.proofs.Common.{◌∙◌, List, ℕ, ap, drop, take, vec_capacity}
 use Rattle.mx_keyboard.specs.Keyboard.{seen_of}
 use Rattle.mx_machine.specs.World.{World}
 use Rattle.mx_proc.specs.TableState.{TableState}

@@ -1,0 +1,57 @@
+-- What standard error gets after a command that made a history (our own).
+use Rattle.std.specs.Prelude.{◌≡◌, ℕ, ◌==◌, ◌&&◌, ◌||◌, not, if◌then◌else◌, Bool, true, false, List, [], Option, Some, None, Result, Ok, Err, Vec, option_map, take}
+use Rattle.std.specs.declared.alloc.Global.{Global}
+use Rattle.mx_app_command.specs.declared.command_line.CommandRequest.{CommandRequest}
+use Rattle.mx_app_command.specs.declared.command_line.CommandRequest.TheVariants as requests
+use Rattle.mx_app_failure.specs.declared.failure.Failure.{Failure as Kind}
+use Rattle.mx_app_db.specs.Asked.{Asked}
+use Rattle.mx_app_db.specs.Config.{Config}
+use Rattle.mx_app_db.specs.Course.{IsSaved, TellsSaved}
+use Rattle.mx_app_db.specs.Service.{Service}
+use Rattle.mx_app_db.specs.Setup.{IsStart}
+use Rattle.mx_app_db.specs.Telling.{IsTold}
+use Rattle.mx_machine.specs.declared.history.Record.{Record}
+use Rattle.mx_machine.specs.Boot.{world_at_boot}
+use Rattle.mx_app.specs.declared.ending.DrivenEnding.{DrivenEnding}
+use Rattle.mx_app.specs.declared.ending.DrivenEnding.TheVariants.{Interrupted, Run}
+use Rattle.mx_app_run.specs.declared.run_by_threads.RunEnding.TheVariants as runs
+use Rattle.mx_why.specs.AfterRun.{IsToldOf}
+use Rattle.mx_why.specs.declared.after_run.HistoryNames.{HistoryNames}
+
+-- it was stopped
+abbrev pub is_stopped : Option DrivenEnding → Bool
+is_stopped (Some (Run runs.Stopped)) = true
+is_stopped (Some Interrupted) = true
+is_stopped ending = false
+
+-- it is told if the history has a mark: at a terminal, or if a mark is an error
+abbrev pub wants_marks : Option DrivenEnding → Bool → Bool → Bool
+wants_marks ending shows strict = not (is_stopped ending) && (shows || strict)
+
+-- THE STATUS after a command: 1 in place of 0, if a mark is an error and there is one
+abbrev pub status_after : ℕ → Bool → Bool → ℕ
+status_after status strict marked = if (status == 0) && (strict && marked) then 1 else status
+
+-- the names of a configuration and of a history
+abbrev pub names_of : HistoryNames → List ℕ × List ℕ
+names_of n = (n.config.now, n.log.now)
+
+-- the history that a request makes
+abbrev pub made_by : CommandRequest → Option (List ℕ × List ℕ)
+made_by (requests.Step config script (Some log) numbered) = Some (config.now, log.now)
+made_by (requests.Run config log ticks events stop) = Some (config.now, log.now)
+made_by (requests.Turns config log ticks events bound stop) = Some (config.now, log.now)
+made_by r = None
+
+-- what is told of the history in these files, if the files are as a start wants them
+abbrev pub TellsOf : List ℕ → List ℕ → List Asked → Result (Option (Vec ℕ Global)) Kind → Type 0
+TellsOf config log qs (Ok line) =
+    (c : Config) × (vs : List Service) × (records : List Record) × IsStart IsSaved config log qs c vs records
+    × IsToldOf (world_at_boot c vs) (take 4294967295 records) c config log (option_map (λ l. l.items) line)
+TellsOf config log qs (Err f) = IsTold IsSaved TellsSaved config log qs f
+
+-- WHAT IS TOLD AFTER A COMMAND: nothing is read, if it makes no history
+abbrev pub TellsAfter :
+    Option (List ℕ × List ℕ) → List Asked → Result (Option (Vec ℕ Global)) Kind → Type 0
+TellsAfter None qs r = (qs ≡ []) × (r ≡ Ok None)
+TellsAfter (Some names) qs r = TellsOf names.0 names.1 qs r

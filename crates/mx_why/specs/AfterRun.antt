@@ -1,0 +1,92 @@
+-- WHAT IS TOLD AFTER A RUN: how it ended, and the first line with a mark (our own).
+use Rattle.std.specs.Prelude.{◌≡◌, ◌⊎◌, ℕ, ◌-◌, ◌==◌, nat_le, if◌then◌else◌, Bool, true, false, List, [], ◌++◌, codes, count_by, length, position, take, Option, Some, None, slice_get}
+use Rattle.std.specs.Fmt.{decimal}
+use Rattle.std.specs.List.{flat_map}
+use Rattle.mx_app_step.specs.Records.{IsRefusedAt}
+use Rattle.mx_machine.specs.declared.config.Config.{Config}
+use Rattle.mx_machine.specs.declared.events.Refusal.{Refusal}
+use Rattle.mx_machine.specs.declared.history.Record.{Record}
+use Rattle.mx_machine.specs.History.{AreAccepted, events_of_history}
+use Rattle.mx_machine.specs.World.{World}
+use Rattle.mx_why.specs.declared.deaths.Death.{Death}
+use Rattle.mx_why.specs.declared.notes.Note.{Note}
+use Rattle.mx_why.specs.declared.seats.End.{End}
+use Rattle.mx_why.specs.Busy.{busy, busy_lines}
+use Rattle.mx_why.specs.Deaths.{deaths}
+use Rattle.mx_why.specs.Endings.{death_text, ending, ending_by}
+use Rattle.mx_why.specs.Lines.{idle_text, waits_text}
+use Rattle.mx_why.specs.Marks.{is_faulted, is_marked}
+use Rattle.mx_why.specs.Noting.{notes_of_records}
+use Rattle.mx_why.specs.Telling.{end_after}
+use Rattle.mx_why.specs.Unfit.{unfit}
+use Rattle.mx_why.specs.UnfitLines.{unfit_lines}
+use Rattle.mx_why.specs.Verdicts.{verdicts}
+
+-- ---- the lines with a mark, but for the first
+
+abbrev pub is_fault_note : Option Note → Bool
+is_fault_note None = false
+is_fault_note (Some n) = is_faulted n.deed
+
+-- deaths are by a fault
+abbrev pub is_fault : List Note → Death → Bool
+is_fault ns d = is_fault_note (slice_get ns d.note)
+
+abbrev pub fault_line : End → List Note → Death → List ℕ
+fault_line e ns d = if is_fault ns d then death_text e ns d else []
+
+unfoldable pub fault_lines : End → List Note → List ℕ
+fault_lines e ns = flat_map (fault_line e ns) (deaths ns)
+
+unfoldable pub idle_if_at_rest : End → List Note → List ℕ
+idle_if_at_rest e ns = if e.at_rest then idle_text e ns else []
+
+unfoldable pub marked_lines : Config → End → List Note → List ℕ
+marked_lines c e ns =
+    waits_text e ns (verdicts e) true ++ busy_lines e (busy e ns) ++ fault_lines e ns ++ idle_if_at_rest e ns
+    ++ unfit_lines c (unfit c e)
+
+-- of a machine that has done nothing there are none
+unfoldable pub marked_if_any : Config → End → List Note → ℕ → List ℕ
+marked_if_any c e ns n = if n == 0 then [] else marked_lines c e ns
+
+-- ---- the line
+
+abbrev pub up_to : List ℕ → Option ℕ → List ℕ
+up_to text None = text
+up_to text (Some i) = take i text
+
+-- the first line of a text, without its end
+abbrev pub first_line : List ℕ → List ℕ
+first_line text = up_to text (position (λ b. b == 10) text)
+
+-- the words that show all
+unfoldable pub command_text : List ℕ → List ℕ → List ℕ
+command_text config log = codes " more: mx why " ++ config ++ codes " " ++ log
+
+-- how many lines more than one there are, and how to see them
+unfoldable pub more_text : ℕ → List ℕ → List ℕ → List ℕ
+more_text k config log =
+    if nat_le k 1 then [] else codes "; " ++ decimal (k - 1) ++ command_text config log
+
+unfoldable pub told_marks : List ℕ → List ℕ → List ℕ → List ℕ
+told_marks lines config log =
+    if length lines == 0 then [] else
+    codes "; " ++ first_line lines ++ more_text (count_by (λ b. b == 10) lines) config log
+
+-- by the lines with a mark, of a history of n records
+unfoldable pub line_after : Config → End → List ℕ → ℕ → List ℕ → List ℕ → List ℕ
+line_after c e lines n config log =
+    codes "mx: " ++ ending_by e n c.log (ending e n c.log) ++ told_marks lines config log ++ codes "\n"
+
+-- WHAT IS TOLD OF A HISTORY of n records: nothing, if it has no mark
+unfoldable pub line_if_marked : Config → End → List Note → ℕ → List ℕ → List ℕ → Option (List ℕ)
+line_if_marked c e ns n config log =
+    if is_marked c e ns n then Some (line_after c e (marked_if_any c e ns n) n config log) else None
+
+-- WHAT IS TOLD OF RECORDS, by the names of their files: of a history of which one is refused nothing
+abbrev pub IsToldOf : World → List Record → Config → List ℕ → List ℕ → Option (List ℕ) → Type 0
+IsToldOf w records c config log line =
+    (AreAccepted w (events_of_history records)
+    × (line ≡ line_if_marked c (end_after w records) (notes_of_records w records) (length records) config log))
+    ⊎ ((n : ℕ) × (r : Refusal) × IsRefusedAt w records n r × (line ≡ None))

@@ -1,0 +1,323 @@
+//! What is told after a run: how it ended, and the first line of `mx why` that has a mark.
+
+ghost use Rattle.std.specs.Prelude.{◌≡◌, ◌<◌, ◌^◌, ◌++◌, ◌==◌, List, All, IfErr, IfOk, OnOk, count_by, length, option_map, position, take, true};
+ghost use Rattle.std.specs.List.{flat_map};
+ghost use Rattle.mx_app_start.specs.Machine.{world_of};
+ghost use Rattle.mx_app_start.specs.Asked.{Asked};
+ghost use Rattle.mx_app_start.specs.Config.{Config};
+ghost use Rattle.mx_app_start.specs.Course.{IsSaved, TellsSaved};
+ghost use Rattle.mx_app_start.specs.Failure.{IsWanting};
+ghost use Rattle.mx_app_start.specs.Service.{Service};
+ghost use Rattle.mx_app_start.specs.Setup.{IsStart};
+ghost use Rattle.mx_app_start.specs.Telling.{IsTold};
+ghost use Rattle.mx_machine.specs.declared.history.Record.{Record as Noted};
+ghost use Rattle.mx_machine.specs.Boot.{world_at_boot};
+ghost use Rattle.mx_machine.specs.World.{actors};
+ghost use Rattle.mx_why.specs.AfterRun.{IsToldOf, command_text, fault_line, fault_lines, first_line, idle_if_at_rest, is_fault, line_after, line_if_marked, marked_if_any, marked_lines, more_text, told_marks};
+ghost use Rattle.mx_why.specs.Deaths.{deaths};
+ghost use Rattle.mx_why.specs.Lines.{waits_text};
+ghost use Rattle.mx_why.specs.Seeing.{end_of};
+ghost use Rattle.mx_why.specs.Verdicts.{verdicts};
+
+use crate::deaths::{Death, deaths_of};
+use crate::ends::{ending_of, push_death, push_ending_by};
+use crate::lines::{push_idle, push_waits};
+use crate::marks::{is_faulted, is_marked};
+use crate::notes::Note;
+use crate::seats::End;
+use crate::seeing::end_of;
+use crate::telling::{note_records, push_busy_lines, push_lacking_lines};
+use crate::verdicts::verdicts_on;
+use mx_app_step::{Failure, History, Reader, first_records, start};
+use mx_machine::{Config, Machine, Record};
+use mx_print_report::push_long;
+use std::alloc::{AllocError, Global};
+
+/// The files of a run: what `mx why` is called with.
+#[derive(Clone, Copy)]
+pub struct HistoryNames<'a> {
+    pub config: &'a str,
+    pub log: &'a str,
+}
+
+/// Whether a death is by a fault.
+fn is_fault(notes: &[Note], death: &Death) -> bool
+    ensures { result ≡ is_fault notes.now death.now }
+{
+    match notes.get(death.note) {
+        Some(note) => is_faulted(note.deed),
+        None => false,
+    }
+}
+
+/// Appends the line of deaths, if they are by a fault.
+fn push_fault(out: &mut Vec<u8>, end: &End, notes: &[Note], death: Death) -> Result<(), AllocError>
+    ensures { OnOk result (out.new.items ≡ out.old.items ++ fault_line end.now notes.now death) }
+{
+    if is_fault(notes, &death) {
+        push_death(out, end, notes, death)
+    } else {
+        Ok(())
+    }
+}
+
+/// Appends the lines of those deaths that are by a fault.
+fn push_each_fault(
+    out: &mut Vec<u8>,
+    end: &End,
+    notes: &[Note],
+    deaths: &[Death],
+) -> Result<(), AllocError>
+    ensures { OnOk result (out.new.items ≡ out.old.items
+        ++ flat_map (fault_line end.now notes.now) deaths.now) }
+{
+    for death in deaths {
+        push_fault(out, end, notes, *death)?;
+    }
+    Ok(())
+}
+
+/// Appends the lines of the deaths by faults.
+#[tactic(auto, unfolding(crate::specs::AfterRun::fault_lines))]
+fn push_faults(
+    out: &mut Vec<u8>,
+    alloc: Global,
+    end: &End,
+    notes: &[Note],
+) -> Result<(), AllocError>
+    ensures { OnOk result (out.new.items ≡ out.old.items ++ fault_lines end.now notes.now) }
+{
+    let found = deaths_of(alloc, notes)?;
+    push_each_fault(out, end, notes, found.as_slice())
+}
+
+/// Appends the lines of those that never go on.
+fn push_never(out: &mut Vec<u8>, alloc: Global, end: &End, notes: &[Note]) -> Result<(), AllocError>
+    ensures { OnOk result (out.new.items ≡ out.old.items
+        ++ waits_text end.now notes.now (verdicts end.now) true) }
+{
+    let said = verdicts_on(alloc, end)?;
+    push_waits(out, end, notes, &said, true)
+}
+
+/// Appends the lines of those that never ran, at rest.
+#[tactic(auto, unfolding(crate::specs::AfterRun::idle_if_at_rest))]
+fn push_idle_at_rest(out: &mut Vec<u8>, end: &End, notes: &[Note]) -> Result<(), AllocError>
+    ensures { OnOk result (out.new.items ≡ out.old.items ++ idle_if_at_rest end.now notes.now) }
+{
+    if end.at_rest {
+        push_idle(out, end, notes)
+    } else {
+        Ok(())
+    }
+}
+
+/// Appends the lines that have a mark, but for the first.
+#[tactic(auto, unfolding(crate::specs::AfterRun::marked_lines))]
+fn push_marked_lines(
+    out: &mut Vec<u8>,
+    alloc: Global,
+    config: &Config,
+    end: &End,
+    notes: &[Note],
+) -> Result<(), AllocError>
+    ensures { OnOk result (out.new.items ≡ out.old.items
+        ++ marked_lines config.now end.now notes.now) }
+{
+    push_never(out, alloc, end, notes)?;
+    push_busy_lines(out, end, notes)?;
+    push_faults(out, alloc, end, notes)?;
+    push_idle_at_rest(out, end, notes)?;
+    push_lacking_lines(out, alloc, config, end)
+}
+
+/// The lines that have a mark, but for the first: of a machine that has done nothing none.
+#[tactic(auto, unfolding(crate::specs::AfterRun::marked_if_any))]
+fn marked_lines(
+    alloc: Global,
+    config: &Config,
+    end: &End,
+    notes: &[Note],
+    records: usize,
+) -> Result<Vec<u8>, AllocError>
+    ensures { IfOk result (λ lines. lines.items
+        ≡ marked_if_any config.now end.now notes.now records) }
+{
+    let mut lines = Vec::new(alloc);
+    if records == 0 {
+        return Ok(lines);
+    }
+    push_marked_lines(&mut lines, alloc, config, end, notes)?;
+    Ok(lines)
+}
+
+/// Whether a byte ends a line.
+fn ends_line(byte: u8) -> bool
+    ensures { result ≡ byte == 10 }
+{
+    byte == b'\n'
+}
+
+/// Where the first line of a text ends.
+fn line_end(text: &[u8]) -> Option<usize>
+    ensures { result ≡ position (λ b. b == 10) text.now }
+{
+    text.iter().position(|byte| ends_line(*byte))
+}
+
+/// The first line of a text, without its end.
+fn first_line(text: &[u8]) -> &[u8]
+    ensures { result.now ≡ first_line text.now }
+{
+    match line_end(text) {
+        Some(end) => &text[..end],
+        None => text,
+    }
+}
+
+/// How many lines a text has.
+fn count_lines(text: &[u8]) -> usize
+    ensures { result ≡ count_by (λ b. b == 10) text.now }
+{
+    text.iter().filter(|byte| ends_line(**byte)).count()
+}
+
+/// Appends the words that show all lines.
+#[tactic(auto, unfolding(crate::specs::AfterRun::command_text))]
+fn push_command(out: &mut Vec<u8>, names: HistoryNames<'_>) -> Result<(), AllocError>
+    ensures { OnOk result (out.new.items ≡ out.old.items
+        ++ command_text names.entry.config.now names.entry.log.now) }
+{
+    out.extend_from_slice(b" more: mx why ")?;
+    out.extend_from_slice(names.config.as_bytes())?;
+    out.extend_from_slice(b" ")?;
+    out.extend_from_slice(names.log.as_bytes())
+}
+
+/// Appends how many lines more there are, and how to see them.
+#[tactic(auto, unfolding(crate::specs::AfterRun::more_text))]
+fn push_more(out: &mut Vec<u8>, count: usize, names: HistoryNames<'_>) -> Result<(), AllocError>
+    ensures { OnOk result (out.new.items ≡ out.old.items
+        ++ more_text count names.entry.config.now names.entry.log.now) }
+{
+    if count <= 1 {
+        return Ok(());
+    }
+    out.extend_from_slice(b"; ")?;
+    push_long(out, (count - 1) as u64)?;
+    push_command(out, names)
+}
+
+/// Appends the first of some lines, and how many lines more there are.
+#[tactic(auto, unfolding(crate::specs::AfterRun::told_marks))]
+fn push_marks(out: &mut Vec<u8>, lines: &[u8], names: HistoryNames<'_>) -> Result<(), AllocError>
+    ensures { OnOk result (out.new.items ≡ out.old.items
+        ++ told_marks lines.now names.entry.config.now names.entry.log.now) }
+{
+    if lines.is_empty() {
+        return Ok(());
+    }
+    out.extend_from_slice(b"; ")?;
+    out.extend_from_slice(first_line(lines))?;
+    push_more(out, count_lines(lines), names)
+}
+
+/// Appends what is told of a history of so many records that has a mark: how it ended, the first line with a mark
+/// but for that, and how many lines more there are.
+#[tactic(auto, unfolding(crate::specs::AfterRun::line_after))]
+fn push_line_after(
+    out: &mut Vec<u8>,
+    config: &Config,
+    end: &End,
+    lines: &[u8],
+    records: usize,
+    names: HistoryNames<'_>,
+) -> Result<(), AllocError>
+    ensures { OnOk result (out.new.items ≡ out.old.items
+        ++ line_after config.now end.now lines.now records names.entry.config.now
+        names.entry.log.now) }
+{
+    out.extend_from_slice(b"mx: ")?;
+    push_ending_by(
+        out,
+        end,
+        records,
+        config.log,
+        ending_of(end, records, config.log),
+    )?;
+    push_marks(out, lines, names)?;
+    out.extend_from_slice(b"\n")
+}
+
+/// What is told of a history of so many records, if it has a mark.
+fn line_if_marked(
+    alloc: Global,
+    config: &Config,
+    machine: &Machine,
+    notes: &[Note],
+    records: usize,
+    names: HistoryNames<'_>,
+) -> Result<Option<Vec<u8>>, AllocError>
+    ensures { IfOk result (λ line. option_map (λ l. l.items) line
+        ≡ line_if_marked config.now (end_of (world_of machine.now)) notes.now records
+        names.entry.config.now names.entry.log.now) }
+{
+    let end = end_of(machine);
+    if !is_marked(alloc, config, &end, notes, records)? {
+        return Ok(None);
+    }
+    let lines = marked_lines(alloc, config, &end, notes, records)?;
+    let mut line = Vec::new(alloc);
+    push_line_after(&mut line, config, &end, lines.as_slice(), records, names)?;
+    Ok(Some(line))
+}
+
+/// Makes records, and answers what is told of them.
+fn line_of(
+    alloc: Global,
+    config: &Config,
+    machine: &mut Machine,
+    records: &[Record],
+    names: HistoryNames<'_>,
+) -> Result<Option<Vec<u8>>, AllocError>
+    requires few { length records.now < 2 ^ 32 }
+    requires actors { All (λ (x : Noted). x.actor < actors (world_of machine.old)) records.now }
+    ensures { IfOk result (λ line. IsToldOf (world_of machine.old) records.now config.now
+        names.entry.config.now names.entry.log.now (option_map (λ l. l.items) line)) }
+{
+    let mut notes = Vec::new(alloc);
+    let mut calls = Vec::new(alloc);
+    match note_records(machine, records, &mut notes, &mut calls)? {
+        None => line_if_marked(
+            alloc,
+            config,
+            machine,
+            notes.as_slice(),
+            records.len(),
+            names,
+        ),
+        Some(_) => Ok(None),
+    }
+}
+
+/// Starts the machine of a saved history, makes its records (of more than 4,294,967,295 the first), and answers
+/// what is told of them after a run: a line, if they have a mark.
+pub fn line_after_run<R: Reader>(
+    alloc: Global,
+    reader: &mut R,
+    names: HistoryNames<'_>,
+) -> Result<Option<Vec<u8>>, Failure>
+    ensures told { IfOk result (λ line. (qs : List Asked) × (c : Config) × (vs : List Service)
+        × (records : List Noted) × (R.asked reader.new ≡ R.asked reader.old ++ qs)
+        × IsStart IsSaved names.entry.config.now names.entry.log.now qs c vs records
+        × IsToldOf (world_at_boot c vs) (take 4294967295 records) c names.entry.config.now
+        names.entry.log.now (option_map (λ l. l.items) line)) }
+    ensures fault { IfErr result (λ f. (qs : List Asked)
+        × (R.asked reader.new ≡ R.asked reader.old ++ qs)
+        × IsTold IsSaved TellsSaved names.entry.config.now names.entry.log.now qs f) }
+{
+    let mut started = start::<History, R>(alloc, reader, names.config, names.log)?;
+    let records = first_records(started.lines.as_slice(), u32::MAX);
+    let line = line_of(alloc, &started.config, &mut started.machine, records, names)?;
+    Ok(line)
+}
