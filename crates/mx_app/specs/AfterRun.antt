@@ -1,6 +1,5 @@
 -- What standard error gets after a command that made a history (our own).
-use Rattle.std.specs.Prelude.{◌≡◌, ℕ, ◌==◌, ◌&&◌, ◌||◌, not, if◌then◌else◌, Bool, true, false, List, [], Option, Some, None, Result, Ok, Err, Vec, option_map, take}
-use Rattle.std.specs.declared.alloc.Global.{Global}
+use Rattle.std.specs.Prelude.{◌≡◌, ℕ, ◌==◌, ◌&&◌, ◌||◌, not, if◌then◌else◌, Bool, true, false, List, [], ◌++◌, codes, Option, Some, None, Result, Ok, Err, take}
 use Rattle.mx_app_command.specs.declared.command_line.CommandRequest.{CommandRequest}
 use Rattle.mx_app_command.specs.declared.command_line.CommandRequest.TheVariants as requests
 use Rattle.mx_app_failure.specs.declared.failure.Failure.{Failure as Kind}
@@ -12,10 +11,13 @@ use Rattle.mx_app_db.specs.Setup.{IsStart}
 use Rattle.mx_app_db.specs.Telling.{IsTold}
 use Rattle.mx_machine.specs.declared.history.Record.{Record}
 use Rattle.mx_machine.specs.Boot.{world_at_boot}
+use Rattle.mx_app.specs.Ending.{driven_word}
 use Rattle.mx_app.specs.declared.ending.DrivenEnding.{DrivenEnding}
 use Rattle.mx_app.specs.declared.ending.DrivenEnding.TheVariants.{Interrupted, Run}
 use Rattle.mx_app_run.specs.declared.run_by_threads.RunEnding.TheVariants as runs
-use Rattle.mx_why.specs.AfterRun.{IsToldOf}
+use Rattle.mx_why.specs.AfterRun.{IsToldWithin}
+use Rattle.mx_why.specs.declared.after_run.AfterRun.{AfterRun}
+use Rattle.mx_why.specs.declared.after_run.AfterRun.TheVariants as after
 use Rattle.mx_why.specs.declared.after_run.HistoryNames.{HistoryNames}
 
 -- it was stopped
@@ -43,15 +45,20 @@ made_by (requests.Run config log ticks events stop) = Some (config.now, log.now)
 made_by (requests.Turns config log ticks events bound stop) = Some (config.now, log.now)
 made_by r = None
 
+-- THE LINE of a history of which nothing is known: how the turns or the run ended, and what tells more
+abbrev pub unknown_line : Option DrivenEnding → Option (List ℕ × List ℕ) → Option (List ℕ)
+unknown_line (Some ending) (Some names) =
+    Some (codes "mx: " ++ driven_word ending ++ codes "; more: mx why " ++ names.0 ++ codes " " ++ names.1 ++ codes "\n")
+unknown_line ending names = None
+
 -- what is told of the history in these files, if the files are as a start wants them
-abbrev pub TellsOf : List ℕ → List ℕ → List Asked → Result (Option (Vec ℕ Global)) Kind → Type 0
-TellsOf config log qs (Ok line) =
+abbrev pub TellsOf : Bool → List ℕ → List ℕ → List Asked → Result AfterRun Kind → Type 0
+TellsOf strict config log qs (Ok told) =
     (c : Config) × (vs : List Service) × (records : List Record) × IsStart IsSaved config log qs c vs records
-    × IsToldOf (world_at_boot c vs) (take 4294967295 records) c config log (option_map (λ l. l.items) line)
-TellsOf config log qs (Err f) = IsTold IsSaved TellsSaved config log qs f
+    × IsToldWithin strict (world_at_boot c vs) (take 4294967295 records) c config log told
+TellsOf strict config log qs (Err f) = IsTold IsSaved TellsSaved config log qs f
 
 -- WHAT IS TOLD AFTER A COMMAND: nothing is read, if it makes no history
-abbrev pub TellsAfter :
-    Option (List ℕ × List ℕ) → List Asked → Result (Option (Vec ℕ Global)) Kind → Type 0
-TellsAfter None qs r = (qs ≡ []) × (r ≡ Ok None)
-TellsAfter (Some names) qs r = TellsOf names.0 names.1 qs r
+abbrev pub TellsAfter : Bool → Option (List ℕ × List ℕ) → List Asked → Result AfterRun Kind → Type 0
+TellsAfter strict None qs r = (qs ≡ []) × (r ≡ Ok after.Nothing)
+TellsAfter strict (Some names) qs r = TellsOf strict names.0 names.1 qs r

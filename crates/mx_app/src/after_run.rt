@@ -1,16 +1,16 @@
 //! What standard error gets after a command that made a history, if that has a mark.
 
-ghost use Rattle.std.specs.Prelude.{◌≡◌, ◌++◌, List, option_map};
+ghost use Rattle.std.specs.Prelude.{◌≡◌, ◌++◌, IfOk, List, option_map, string_bytes};
 ghost use Rattle.mx_app_db.specs.Asked.{Asked};
-ghost use Rattle.mx_app.specs.AfterRun.{TellsAfter, is_stopped, made_by, names_of, status_after, wants_marks};
+ghost use Rattle.mx_app.specs.AfterRun.{TellsAfter, is_stopped, made_by, names_of, status_after, unknown_line, wants_marks};
 
 use crate::ending::DrivenEnding;
 use mx_app_command::CommandRequest;
 use mx_app_failure::Failure;
 use mx_app_run::RunEnding;
 use mx_app_start::Reader;
-use mx_why::{HistoryNames, line_after_run};
-use std::alloc::Global;
+use mx_why::{AfterRun, HistoryNames, line_after_run};
+use std::alloc::{AllocError, Global};
 
 /// Whether turns or a run were stopped.
 fn is_stopped(ending: Option<DrivenEnding>) -> bool
@@ -23,7 +23,7 @@ fn is_stopped(ending: Option<DrivenEnding>) -> bool
 }
 
 /// Whether it is told if a history has a mark: where standard error shows it to somebody, or if a mark is an error;
-/// not if the run was stopped. The history is run again for it, which takes some time if it is long.
+/// not if the run was stopped.
 pub fn wants_marks(ending: Option<DrivenEnding>, shows: bool, strict: bool) -> bool
     ensures { result ≡ wants_marks ending shows strict }
 {
@@ -58,17 +58,38 @@ fn made_by(request: CommandRequest<'_>) -> Option<HistoryNames<'_>>
 }
 
 /// What is told of the history that a request has made, if it makes one and that has a mark: how it ended, the
-/// first line with a mark, and how many more there are.
-pub fn line_after<R: Reader>(
+/// first line with a mark, and how many more there are. The history is run again for it. A long one is only if a mark is
+/// an error: nobody waits for what wasn't asked for.
+pub fn told_after<R: Reader>(
     alloc: Global,
     reader: &mut R,
     request: CommandRequest<'_>,
-) -> Result<Option<Vec<u8>>, Failure>
+    strict: bool,
+) -> Result<AfterRun, Failure>
     ensures { (qs : List Asked) × (R.asked reader.new ≡ R.asked reader.old ++ qs)
-        × TellsAfter (made_by request.entry) qs result }
+        × TellsAfter strict (made_by request.entry) qs result }
 {
     match made_by(request) {
-        Some(names) => line_after_run(alloc, reader, names),
-        None => Ok(None),
+        Some(names) => line_after_run(alloc, reader, names, strict),
+        None => Ok(AfterRun::Nothing),
+    }
+}
+
+/// What is told of a history that isn't run again: how the turns or the run ended, and what tells more.
+pub fn unknown_line(
+    alloc: Global,
+    request: CommandRequest<'_>,
+    ending: Option<DrivenEnding>,
+) -> Result<Option<String>, AllocError>
+    ensures { IfOk result (λ line. option_map string_bytes line
+        ≡ unknown_line ending (made_by request.entry)) }
+{
+    match (made_by(request), ending) {
+        (Some(HistoryNames { config, log }), Some(ending)) => {
+            let word = ending.word();
+            let line = format!(in alloc; "mx: {word}; more: mx why {config} {log}\n")?;
+            Ok(Some(line))
+        }
+        _ => Ok(None),
     }
 }

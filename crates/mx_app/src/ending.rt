@@ -21,7 +21,7 @@ pub enum DrivenEnding {
 
 impl DrivenEnding {
     /// The word that says it. A run's is that of turns that end so.
-    fn word(self) -> &'static str
+    pub(crate) fn word(self) -> &'static str
         ensures { result.now ≡ driven_word self }
     {
         match self {

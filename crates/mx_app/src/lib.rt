@@ -15,7 +15,7 @@ mod program;
 mod sparing;
 mod summing;
 
-pub use after_run::{line_after, status_after, wants_marks};
+pub use after_run::{status_after, told_after, unknown_line, wants_marks};
 pub use asking::texts_asked;
 pub use command_io::CommandIo;
 pub use command_status::perform_words;

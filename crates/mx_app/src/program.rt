@@ -4,7 +4,7 @@ ghost use Rattle.std.specs.Prelude.{◌≡◌, ◌⊎◌, Err, IfErr, MatchResul
 ghost use Rattle.std.specs.IoError.{error_kind};
 ghost use Rattle.mx_app.specs.Words.{words_failure_of};
 
-use crate::after_run::{line_after, status_after, wants_marks};
+use crate::after_run::{status_after, told_after, unknown_line, wants_marks};
 use crate::asking::{begin_with, texts_asked};
 use crate::command_io::CommandIo;
 use crate::command_status::perform_words;
@@ -16,6 +16,7 @@ use mx_app_failure::Failure;
 use mx_app_live::Seat;
 use mx_app_start::{Channels, InputLines, Reader, RuntimeFiles, RuntimeProgress, RuntimeWriter};
 use mx_walk::Progress;
+use mx_why::AfterRun;
 use std::alloc::Global;
 use std::io::IsTerminal;
 use std::rt::{Env, Files};
@@ -64,13 +65,14 @@ fn printed_text(words: &[&str], done: Done) -> PrintedText {
 /// What a command that is done tells of the history that it has made.
 #[derive(Drop)]
 struct Marks {
-    /// The line of standard error, if the history has a mark.
+    /// The line of standard error, if the history has a mark, or if that isn't known.
     line: Option<String>,
     /// Whether a mark is an error.
     strict: bool,
 }
 
-/// The line of the history that a request has made, if it has a mark and somebody wants to know it.
+/// The line of the history that a request has made, if it has a mark and somebody wants to know it, or if it is so long
+/// that this isn't known.
 fn marked_line<R: Reader>(
     alloc: Global,
     reader: &mut R,
@@ -81,8 +83,12 @@ fn marked_line<R: Reader>(
     if !wants_marks(done.ending, terminals.err, line.strict) {
         return None;
     }
-    match line_after(alloc, reader, line.request) {
-        Ok(Some(text)) => String::from_utf8(text).ok(),
+    match told_after(alloc, reader, line.request, line.strict) {
+        Ok(AfterRun::Line(text)) => String::from_utf8(text).ok(),
+        Ok(AfterRun::Unknown) => match unknown_line(alloc, line.request, done.ending) {
+            Ok(line) => line,
+            Err(_) => None,
+        },
         _ => None,
     }
 }

@@ -1,16 +1,19 @@
 -- What is told of records after a run.
 use Rattle.std.proofs.Common.{◌≡◌, ◌∙◌, ℕ, Bool, true, false, List, Option, None, Some, ap, inl, inr, length, refl, subst, sym, take}
-use Rattle.std.specs.Prelude.{if◌then◌else◌}
+use Rattle.std.specs.Prelude.{◌&&◌, Vec, if◌then◌else◌, not, option_map}
+use Rattle.std.specs.declared.alloc.Global.{Global}
 use Rattle.mx_app_start.specs.Config.{Config}
 use Rattle.mx_app_start.specs.Service.{Service}
 use Rattle.mx_machine.specs.declared.events.Refusal.{Refusal}
 use Rattle.mx_machine.specs.declared.history.Record.{Record}
 use Rattle.mx_machine.specs.Boot.{world_at_boot}
 use Rattle.mx_machine.specs.World.{World}
+use Rattle.mx_why.specs.declared.after_run.AfterRun.{AfterRun}
+use Rattle.mx_why.specs.declared.after_run.AfterRun.TheVariants as after
 use Rattle.mx_why.specs.declared.failed_calls.FailedCall.{FailedCall}
 use Rattle.mx_why.specs.declared.notes.Note.{Note}
 use Rattle.mx_why.specs.declared.seats.End.{End}
-use Rattle.mx_why.specs.AfterRun.{IsToldOf, line_after, line_if_marked, marked_if_any}
+use Rattle.mx_why.specs.AfterRun.{IsToldOf, IsToldWithin, are_many, line_after, line_if_marked, marked_if_any}
 use Rattle.mx_why.specs.Marks.{is_marked}
 use Rattle.mx_why.specs.Noting.{notes_of_records}
 use Rattle.mx_why.specs.Seeing.{end_of}
@@ -26,12 +29,23 @@ told_marked c w u records ns slice cs count config log line same many (accepted,
       ∙ ap (λ (v : World). line_if_marked c (end_of v) (notes_of_records w records) (length records) config log) world,
 )
 
-pub told_started : (c d : Config) (vs : List Service) (records slice : List Record) (w : World) (config log : List ℕ) (line : Option (List ℕ))
-    → slice ≡ take 4294967295 records → w ≡ world_at_boot c vs → d ≡ c → IsToldOf w slice d config log line
-    → IsToldOf (world_at_boot c vs) (take 4294967295 records) c config log line
-told_started c d vs records slice w config log line same e is h =
-    subst (λ (b : Config). IsToldOf (world_at_boot c vs) (take 4294967295 records) b config log line) is
-    (subst (λ (v : World). IsToldOf v (take 4294967295 records) d config log line) e (subst (λ (rs : List Record). IsToldOf w rs d config log line) same h))
+-- what is told of some records, by the line of all
+pub within_line : (all : Bool) (w : World) (records : List Record) (c : Config) (config log : List ℕ) (line : Vec ℕ Global) (o : Option (Vec ℕ Global))
+    → (not all && are_many records) ≡ false → o ≡ Some line → IsToldOf w records c config log (option_map (λ l. l.items) o)
+    → IsToldWithin all w records c config log (after.Line line)
+within_line all w records c config log line o few is told = (few, subst (λ (x : Option (Vec ℕ Global)). IsToldOf w records c config log (option_map (λ l. l.items) x)) is told)
+
+pub within_none : (all : Bool) (w : World) (records : List Record) (c : Config) (config log : List ℕ) (o : Option (Vec ℕ Global))
+    → (not all && are_many records) ≡ false → o ≡ None → IsToldOf w records c config log (option_map (λ l. l.items) o)
+    → IsToldWithin all w records c config log after.Nothing
+within_none all w records c config log o few is told = (few, subst (λ (x : Option (Vec ℕ Global)). IsToldOf w records c config log (option_map (λ l. l.items) x)) is told)
+
+pub told_started : (all : Bool) (c d : Config) (vs : List Service) (records slice : List Record) (w : World) (config log : List ℕ) (told : AfterRun)
+    → slice ≡ take 4294967295 records → w ≡ world_at_boot c vs → d ≡ c → IsToldWithin all w slice d config log told
+    → IsToldWithin all (world_at_boot c vs) (take 4294967295 records) c config log told
+told_started all c d vs records slice w config log told same e is h =
+    subst (λ (b : Config). IsToldWithin all (world_at_boot c vs) (take 4294967295 records) b config log told) is
+    (subst (λ (v : World). IsToldWithin all v (take 4294967295 records) d config log told) e (subst (λ (rs : List Record). IsToldWithin all w rs d config log told) same h))
 
 pub told_refused : (c : Config) (w u : World) (records : List Record) (ns : List Note) (cs : List FailedCall) (p : ℕ × Refusal) (config log : List ℕ)
     → IsNoted w u records (Some p) ns cs → IsToldOf w records c config log None

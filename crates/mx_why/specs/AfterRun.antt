@@ -1,13 +1,17 @@
 -- WHAT IS TOLD AFTER A RUN: how it ended, and the first line with a mark (our own).
-use Rattle.std.specs.Prelude.{◌≡◌, ◌⊎◌, ℕ, ◌-◌, ◌==◌, nat_le, if◌then◌else◌, Bool, true, false, List, [], ◌++◌, codes, count_by, length, position, take, Option, Some, None, slice_get}
+use Rattle.std.specs.Prelude.{◌≡◌, ◌⊎◌, ℕ, ◌-◌, ◌==◌, ◌&&◌, ◌||◌, not, nat_le, nat_lt, if◌then◌else◌, Bool, true, false, List, [], ◌++◌, codes, count_by, length, position, take, Option, Some, None, slice_get}
 use Rattle.std.specs.Fmt.{decimal}
-use Rattle.std.specs.List.{flat_map}
+use Rattle.std.specs.List.{flat_map, sum_by}
 use Rattle.mx_app_step.specs.Records.{IsRefusedAt}
 use Rattle.mx_machine.specs.declared.config.Config.{Config}
 use Rattle.mx_machine.specs.declared.events.Refusal.{Refusal}
 use Rattle.mx_machine.specs.declared.history.Record.{Record}
+use Rattle.mx_machine.specs.declared.history.Recorded.{Recorded}
+use Rattle.mx_machine.specs.declared.history.Recorded.TheVariants as recorded
 use Rattle.mx_machine.specs.History.{AreAccepted, events_of_history}
 use Rattle.mx_machine.specs.World.{World}
+use Rattle.mx_why.specs.declared.after_run.AfterRun.{AfterRun}
+use Rattle.mx_why.specs.declared.after_run.AfterRun.TheVariants as after
 use Rattle.mx_why.specs.declared.deaths.Death.{Death}
 use Rattle.mx_why.specs.declared.notes.Note.{Note}
 use Rattle.mx_why.specs.declared.seats.End.{End}
@@ -90,3 +94,22 @@ IsToldOf w records c config log line =
     (AreAccepted w (events_of_history records)
     × (line ≡ line_if_marked c (end_after w records) (notes_of_records w records) (length records) config log))
     ⊎ ((n : ℕ) × (r : Refusal) × IsRefusedAt w records n r × (line ≡ None))
+
+-- ---- histories that aren't run again unasked
+
+-- the steps that a record brings back
+abbrev pub steps_of : Recorded → ℕ
+steps_of (recorded.Back n) = n
+steps_of r = 0
+
+-- so many records, or records of so many steps, that it takes long to make them again
+abbrev pub are_many : List Record → Bool
+are_many records = nat_lt 20000 (length records) || nat_lt 10000000 (sum_by (λ (x : Record). steps_of x.event) records)
+
+-- WHAT IS TOLD OF A HISTORY: of many records nothing is known, unless all are to be made
+abbrev pub IsToldWithin : Bool → World → List Record → Config → List ℕ → List ℕ → AfterRun → Type 0
+IsToldWithin all w records c config log after.Unknown = (not all && are_many records) ≡ true
+IsToldWithin all w records c config log after.Nothing =
+    ((not all && are_many records) ≡ false) × IsToldOf w records c config log None
+IsToldWithin all w records c config log (after.Line line) =
+    ((not all && are_many records) ≡ false) × IsToldOf w records c config log (Some line.items)

@@ -1,7 +1,7 @@
 //! What is told after a run: how it ended, and the first line of `mx why` that has a mark.
 
-ghost use Rattle.std.specs.Prelude.{◌≡◌, ◌<◌, ◌^◌, ◌++◌, ◌==◌, List, All, IfErr, IfOk, OnOk, count_by, length, option_map, position, take, true};
-ghost use Rattle.std.specs.List.{flat_map};
+ghost use Rattle.std.specs.Prelude.{◌≡◌, ◌<◌, ◌^◌, ◌++◌, ◌==◌, ◌&&◌, List, All, IfErr, IfOk, OnOk, count_by, length, not, option_map, position, take, true};
+ghost use Rattle.std.specs.List.{flat_map, sum_by};
 ghost use Rattle.mx_app_start.specs.Machine.{world_of};
 ghost use Rattle.mx_app_start.specs.Asked.{Asked};
 ghost use Rattle.mx_app_start.specs.Config.{Config};
@@ -13,7 +13,7 @@ ghost use Rattle.mx_app_start.specs.Telling.{IsTold};
 ghost use Rattle.mx_machine.specs.declared.history.Record.{Record as Noted};
 ghost use Rattle.mx_machine.specs.Boot.{world_at_boot};
 ghost use Rattle.mx_machine.specs.World.{actors};
-ghost use Rattle.mx_why.specs.AfterRun.{IsToldOf, command_text, fault_line, fault_lines, first_line, idle_if_at_rest, is_fault, line_after, line_if_marked, marked_if_any, marked_lines, more_text, told_marks};
+ghost use Rattle.mx_why.specs.AfterRun.{IsToldOf, IsToldWithin, are_many, command_text, fault_line, fault_lines, first_line, idle_if_at_rest, is_fault, line_after, line_if_marked, marked_if_any, marked_lines, more_text, steps_of, told_marks};
 ghost use Rattle.mx_why.specs.Deaths.{deaths};
 ghost use Rattle.mx_why.specs.Lines.{waits_text};
 ghost use Rattle.mx_why.specs.Seeing.{end_of};
@@ -29,7 +29,7 @@ use crate::seeing::end_of;
 use crate::telling::{note_records, push_busy_lines, push_lacking_lines};
 use crate::verdicts::verdicts_on;
 use mx_app_step::{Failure, History, Reader, first_records, start};
-use mx_machine::{Config, Machine, Record};
+use mx_machine::{Config, Machine, Record, Recorded};
 use mx_print_report::push_long;
 use std::alloc::{AllocError, Global};
 
@@ -38,6 +38,51 @@ use std::alloc::{AllocError, Global};
 pub struct HistoryNames<'a> {
     pub config: &'a str,
     pub log: &'a str,
+}
+
+/// What is told after a run.
+#[derive(Drop)]
+pub enum AfterRun {
+    /// Nothing: its history has no mark, or one of its records is refused.
+    Nothing,
+    /// The line of a history with a mark.
+    Line(Vec<u8>),
+    /// Nothing is known: it takes long to make so many records and steps again.
+    Unknown,
+}
+
+/// How many records are made again without being asked: by the proved program they take a few hundredths of a second.
+const MOST_RECORDS: usize = 20_000;
+
+/// How many steps of these.
+const MOST_STEPS: u128 = 10_000_000;
+
+/// How many steps a record brings back.
+fn steps_of(event: Recorded) -> u32
+    ensures { result ≡ steps_of event }
+{
+    match event {
+        Recorded::Back(steps) => steps,
+        _ => 0,
+    }
+}
+
+/// How many steps records bring back.
+fn steps_in(records: &[Record]) -> u128
+    ensures { result ≡ sum_by (λ (x : Noted). steps_of x.event) records.now }
+{
+    let mut steps = 0;
+    for record in records {
+        steps += u128::from(steps_of(record.event));
+    }
+    steps
+}
+
+/// Whether it takes long to make records again.
+fn are_many(records: &[Record]) -> bool
+    ensures { result ≡ are_many records.now }
+{
+    records.len() > MOST_RECORDS || steps_in(records) > MOST_STEPS
 }
 
 /// Whether a death is by a fault.
@@ -300,24 +345,62 @@ fn line_of(
     }
 }
 
-/// Starts the machine of a saved history, makes its records (of more than 4,294,967,295 the first), and answers
-/// what is told of them after a run: a line, if they have a mark.
+/// Whether records aren't made again: they are many, and not all are to be made.
+fn are_left_out(records: &[Record], all: bool) -> bool
+    ensures { result ≡ (not all && are_many records.now) }
+{
+    !all && are_many(records)
+}
+
+/// Makes records, unless they are left out, and answers what is told of them.
+fn told_within(
+    alloc: Global,
+    config: &Config,
+    machine: &mut Machine,
+    records: &[Record],
+    names: HistoryNames<'_>,
+    all: bool,
+) -> Result<AfterRun, AllocError>
+    requires few { length records.now < 2 ^ 32 }
+    requires actors { All (λ (x : Noted). x.actor < actors (world_of machine.old)) records.now }
+    ensures { IfOk result (λ told. IsToldWithin all (world_of machine.old) records.now config.now
+        names.entry.config.now names.entry.log.now told) }
+{
+    if are_left_out(records, all) {
+        return Ok(AfterRun::Unknown);
+    }
+    match line_of(alloc, config, machine, records, names)? {
+        Some(line) => Ok(AfterRun::Line(line)),
+        None => Ok(AfterRun::Nothing),
+    }
+}
+
+/// Starts the machine of a saved history, makes its records (of more than 4,294,967,295 the first; of many none, unless
+/// all are to be made), and answers what is told of them after a run: a line, if they have a mark.
 pub fn line_after_run<R: Reader>(
     alloc: Global,
     reader: &mut R,
     names: HistoryNames<'_>,
-) -> Result<Option<Vec<u8>>, Failure>
-    ensures told { IfOk result (λ line. (qs : List Asked) × (c : Config) × (vs : List Service)
+    all: bool,
+) -> Result<AfterRun, Failure>
+    ensures told { IfOk result (λ told. (qs : List Asked) × (c : Config) × (vs : List Service)
         × (records : List Noted) × (R.asked reader.new ≡ R.asked reader.old ++ qs)
         × IsStart IsSaved names.entry.config.now names.entry.log.now qs c vs records
-        × IsToldOf (world_at_boot c vs) (take 4294967295 records) c names.entry.config.now
-        names.entry.log.now (option_map (λ l. l.items) line)) }
+        × IsToldWithin all (world_at_boot c vs) (take 4294967295 records) c names.entry.config.now
+        names.entry.log.now told) }
     ensures fault { IfErr result (λ f. (qs : List Asked)
         × (R.asked reader.new ≡ R.asked reader.old ++ qs)
         × IsTold IsSaved TellsSaved names.entry.config.now names.entry.log.now qs f) }
 {
     let mut started = start::<History, R>(alloc, reader, names.config, names.log)?;
     let records = first_records(started.lines.as_slice(), u32::MAX);
-    let line = line_of(alloc, &started.config, &mut started.machine, records, names)?;
-    Ok(line)
+    let told = told_within(
+        alloc,
+        &started.config,
+        &mut started.machine,
+        records,
+        names,
+        all,
+    )?;
+    Ok(told)
 }

@@ -33,7 +33,7 @@ mod unfit_lines;
 mod verdicts;
 mod waiting;
 
-pub use after_run::{HistoryNames, line_after_run};
+pub use after_run::{AfterRun, HistoryNames, line_after_run};
 pub use busy::{Pace, busy_of};
 pub use checking::check;
 pub use deaths::{Death, deaths_of};

@@ -14,15 +14,15 @@ returns-in_err-started-clause-fault g c =
     let h = c.in_err-started.ensures.fault in
     rw (p.1, p.2) (h.0, h.1, inl h.2)
 
-pub line_of-requires-clause-actors : goal.line_of-requires-clause-actors
-line_of-requires-clause-actors g c =
+pub told_within-requires-clause-actors : goal.told_within-requires-clause-actors
+told_within-requires-clause-actors g c =
     let s = c.in_ok-started.ensures.started in
     let whole = saved_by_actors c.args.names.config.now c.args.names.log.now s.0 s.1 s.2 c.in_ok-started.started.lines.items c.as_slice.result.now (world_of c.in_ok-started.started.machine) c.as_slice.ensures.value s.5 s.4 in
     front_by_actors (λ (x : Record). x.actor < actors (world_of c.in_ok-started.started.machine)) c.as_slice.result.now c.first_records-records.result.now 4294967295 c.first_records-records.ensures.first whole
 
-pub returns-in_err-line-clause-fault : goal.returns-in_err-line-clause-fault
-returns-in_err-line-clause-fault g c =
-    let p = err_from_is_err_and c.from_residual-in_err-line.result c.from_residual-in_err-line.ensures.1 in
+pub returns-in_err-told-clause-fault : goal.returns-in_err-told-clause-fault
+returns-in_err-told-clause-fault g c =
+    let p = err_from_is_err_and c.from_residual-in_err-told.result c.from_residual-in_err-told.ensures.1 in
     let s = c.in_ok-started.ensures.started in
     rw (p.1, p.2) (s.0, s.3, inr (s.1, s.2, c.in_ok-started.started.lines.items, s.4, inr refl))
 
@@ -35,6 +35,6 @@ returns-clause-told g c =
       c.in_ok-started.started.lines.items,
       s.3,
       s.4,
-      told_started s.1 _ s.2 c.in_ok-started.started.lines.items c.first_records-records.result.now (world_of c.in_ok-started.started.machine) c.args.names.config.now c.args.names.log.now _
-          (c.first_records-records.ensures.first ∙ ap (λ (rs : List Record). take 4294967295 rs) c.as_slice.ensures.value) s.5 s.7 c.in_ok-line.ensures,
+      told_started c.args.all s.1 _ s.2 c.in_ok-started.started.lines.items c.first_records-records.result.now (world_of c.in_ok-started.started.machine) c.args.names.config.now c.args.names.log.now _
+          (c.first_records-records.ensures.first ∙ ap (λ (rs : List Record). take 4294967295 rs) c.as_slice.ensures.value) s.5 s.7 c.in_ok-told.ensures,
     )
