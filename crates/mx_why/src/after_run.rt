@@ -58,10 +58,10 @@ const MOST_RECORDS: usize = 20_000;
 const MOST_STEPS: u128 = 10_000_000;
 
 /// How many steps a record brings back.
-fn steps_of(record: &Record) -> u32
-    ensures { result ≡ steps_of record.now.event }
+fn steps_of(event: Recorded) -> u32
+    ensures { result ≡ steps_of event }
 {
-    match record.event {
+    match event {
         Recorded::Back(steps) => steps,
         _ => 0,
     }
@@ -73,7 +73,7 @@ fn steps_in(records: &[Record]) -> u128
 {
     let mut steps = 0;
     for record in records {
-        steps += u128::from(steps_of(record));
+        steps += u128::from(steps_of(record.event));
     }
     steps
 }
