@@ -10,7 +10,9 @@
 #include <stddef.h>
 #include <stdint.h>
 
-/* A message: 36 bytes. The kernel writes m_source when the message is delivered. */
+/* A message: 36 bytes. The kernel writes m_source when the message is delivered. An address in it is one of
+ * the sender's memory, where no other process reads or writes: sys_vircopy copies from there and to there.
+ */
 typedef struct {
     int32_t m_source;           /* who sent it: an endpoint */
     int32_t m_type;             /* what is asked, or how it went */
