@@ -387,8 +387,10 @@ tell_names() {
         folder=$(dirname "$file") stem=${file%.out}
         made=$folder/out/$(basename "$stem").gdb
         [ ! -e "$made" ] || continue
-        if [ -f "$stem.c" ]; then echo "mx: gdb takes ${made#./} in place of $file: make" >&2
-        elif [ -f "$stem.s" ]; then echo "mx: gdb takes ${made#./} in place of $file: $names $stem.s" >&2; fi
+        makes=''
+        if [ -f "$stem.c" ]; then makes=$(making "$folder")
+        elif [ -f "$stem.s" ]; then makes="$names $stem.s"; fi
+        [ -z "$makes" ] || echo "mx: gdb takes ${made#./} in place of $file: $makes" >&2
     done
 }
 
@@ -496,7 +498,8 @@ run_live() {
 wait_for_child() {
     while :; do
         woken=''
-        wait "$child"
+        # A shell may say on standard error that a program was killed.
+        wait "$child" 2>/dev/null
         status=$?
         [ -n "$woken" ] || break
     done
