@@ -287,6 +287,45 @@ tell_text() {
     fi
 }
 
+# Prints the lines of a text in which a comment stands after something else, and has a few words: LINE:COMMENT, the first 20.
+short_comments() {
+    awk '
+        { gsub(/"[^"]*"/, ""); at = index($0, ";"); code = substr($0, 1, at - 1); comment = substr($0, at + 1) }
+        at && code ~ /[^ \t]/ && comment ~ /^[ \t]*[a-z]/ && split(comment, words) < 9 {
+            print NR ":" comment
+            if (++count == 20) exit
+        }' "$1"
+}
+
+# Says of a text that a comment of it is a statement for the assembler too: so the ; was to stand between statements.
+tell_comments() {
+    tried=$(mktemp -d) || return 0
+    short_comments "$1" | while IFS=: read -r line comment; do
+        printf '%s\n' "$comment" >"$tried/text"
+        ask_program as "$tried/text" "$tried/file" || continue
+        echo "mx: $1 line $line: what stands after ; is a comment, and this one is a statement: wanted one statement a line" >&2
+        break
+    done
+    rm -r "$tried"
+}
+
+# Says of the text of an `as` what is none of its statements, though it looks as one.
+tell_statements() {
+    { [ "$1" = as ] && text=$(nth_word 1 "$@") && [ -f "$text" ] && ! is_program "$text"; } || return 0
+    line=$(awk '/^[ \t]*[#%][ \t]*(define|include|ifn?def|macro)/ { print NR; exit }' "$text")
+    [ -z "$line" ] || echo "mx: $text line $line: there is no preprocessor: wanted numbers in place of names, and one file" >&2
+    tell_comments "$text"
+}
+
+# Says of the configuration of these words that a comment in it begins otherwise.
+tell_comment_sign() {
+    case $1 in one | as | dis | nm) return 0 ;; esac
+    config=$(nth_word 1 "$@")
+    [ -f "$config" ] || return 0
+    line=$(awk '/^ *(;|\/\/|--)/ { print NR; exit }' "$config")
+    [ -z "$line" ] || echo "mx: $config line $line: wanted # before a comment" >&2
+}
+
 # Says of an `explain` of a code or its name what it means, as the tables of $reference have it.
 tell_code() {
     { [ "$1" = explain ] && [ -f "$reference" ]; } || return 0
@@ -411,6 +450,8 @@ tell_words() {
     case " $* " in *' --no-explain '*) ;; *) tell_names "$@" ;; esac
     [ -n "$(explains_words "$@")" ] || return 0
     tell_text "$@"
+    tell_statements "$@"
+    tell_comment_sign "$@"
     tell_code "$@"
     tell_machine "$@"
     tell_history "$@"
