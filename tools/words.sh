@@ -384,7 +384,7 @@ tell_older() {
         ! is_checked_out "$stem.c" "$1" || return 0
         text=$stem.c
         ! makes=$(making "$(dirname "$1")") || makes=": $makes"
-    elif [ -f "$stem.s" ] && [ "$stem.s" -nt "$1" ]; then
+    elif [ ! -f "$stem.c" ] && [ -f "$stem.s" ] && [ "$stem.s" -nt "$1" ]; then
         ! is_made_of "$stem.s" "$1" || return 0
         text=$stem.s makes=": mx as $stem.s $1"
     else
@@ -494,7 +494,7 @@ end_session() {
         asked=$now
     elif [ $((now - asked)) -gt 1 ]; then
         echo "mx: interrupted, and no history is written" >&2
-        kill -KILL "$child" 2>/dev/null && killed=yes
+        kill -KILL "${child-}" 2>/dev/null && killed=yes
     fi
     [ -e "$stop" ] || : >"$stop"
     [ -z "$feeder" ] || kill "$feeder" 2>/dev/null

@@ -10,13 +10,11 @@
 #include <stddef.h>
 #include <stdint.h>
 
-/* A message: 36 bytes. The kernel writes m_source when the message is delivered. An address in it is one of
- * the sender's memory, where no other process reads or writes: sys_vircopy copies from there and to there.
- */
+/* A message: 36 bytes. The kernel writes m_source when the message is delivered. */
 typedef struct {
     int32_t m_source;           /* who sent it: an endpoint */
     int32_t m_type;             /* what is asked, or how it went */
-    int32_t p[7];               /* the payload: p[0] to p[6] */
+    int32_t p[7];               /* p[0] to p[6]; an address is one of the sender's memory: sys_vircopy */
 } message;
 
 _Static_assert(sizeof(message) == 36, "a message is 36 bytes");
