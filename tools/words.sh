@@ -230,12 +230,8 @@ tell_slot() {
     [ "$1" = gdb ] || return 0
     name=$(value_of --slot "$@")
     case $name in '' | *[!0-9A-Za-z_]*) return 0 ;; *[!0-9]*) ;; *) return 0 ;; esac
-    config=''
-    for word in "$@"; do
-        if [ "$word" != gdb ] && [ -z "$config" ] && [ -f "$word" ]; then config=$word; fi
-    done
-    slot=''
-    [ -z "$config" ] || slot=$(awk -v name="$name" '
+    config=$(nth_word 1 "$@") slot=''
+    [ ! -f "$config" ] || slot=$(awk -v name="$name" '
         { sub(/#.*/, "") } $1 == "service" { if ($2 == name) { print slot + 0; exit } slot++ }' "$config")
     echo "mx: --slot: wanted a slot's number${slot:+: $name is slot $slot}" >&2
 }
@@ -250,16 +246,10 @@ tell_range() {
         echo "mx: no record is shown: --from $from is after --to $to" >&2
         return
     fi
-    log='' command=$1
-    for word in "$@"; do
-        # Of the words that are files, LOG is the second.
-        if [ "$word" != "$command" ] && [ -f "$word" ]; then log="$log $word"; fi
-    done
-    # shellcheck disable=SC2086
-    set -- $log
-    [ $# -ge 2 ] || return 0
-    records=$(grep -c '^[0-9]' "$2")
-    [ "$from" -le "$records" ] 2>/dev/null || echo "mx: no record is shown: --from $from is after the end: $2 has $records" >&2
+    log=$(nth_word 2 "$@")
+    [ -f "$log" ] || return 0
+    records=$(grep -c '^[0-9]' "$log")
+    [ "$from" -le "$records" ] 2>/dev/null || echo "mx: no record is shown: --from $from is after the end: $log has $records" >&2
 }
 
 # Says that a run is over before it begins, if the file that stops it is there.
@@ -302,7 +292,7 @@ tell_comments() {
     tried=$(mktemp -d) || return 0
     short_comments "$1" | while IFS=: read -r line comment; do
         printf '%s\n' "$comment" >"$tried/text"
-        ask_program as "$tried/text" "$tried/file" || continue
+        ask_program as "$tried/text" "$tried/file" </dev/null || continue
         echo "mx: $1 line $line: what stands after ; is a comment, and this one is a statement: wanted one statement a line" >&2
         break
     done
@@ -352,11 +342,11 @@ is_checked_out() {
         git ls-files --error-unmatch -- "$text" "$file" && git diff --quiet HEAD -- "$text" "$file") >/dev/null 2>&1
 }
 
-# Whether a program is what the assembler makes of a text.
+# Whether a program is what the assembler makes of a text; also if there is no assembler yet.
 is_made_of() {
     made=$(mktemp) || return 0
-    ask_program as "$1" "$made" --force
-    cmp -s "$made" "$2"
+    ask_program as "$1" "$made" --force </dev/null
+    [ $? -gt 9 ] || cmp -s "$made" "$2"
     same=$?
     rm -f "$made"
     return $same
@@ -403,14 +393,12 @@ tell_machine() {
     done
 }
 
-# Says that a history goes nowhere, or into a file named -.
-tell_history() {
-    log=''
+# Says that a history goes into a file named -.
+tell_log() {
     case $1 in
-        step)
-            log=$(value_of --save "$@")
-            { [ -n "$log" ] || [ -z "$(nth_word 2 "$@")" ]; } || echo "mx: the history isn't saved: --save LOG" >&2 ;;
+        step) log=$(value_of --save "$@") ;;
         run | turns) log=$(nth_word 2 "$@") ;;
+        *) return 0 ;;
     esac
     [ "$log" != - ] || echo "mx: LOG -: this is a file's name; standard output is /dev/stdout" >&2
 }
@@ -454,7 +442,7 @@ tell_words() {
     tell_comment_sign "$@"
     tell_code "$@"
     tell_machine "$@"
-    tell_history "$@"
+    tell_log "$@"
     case $* in *-*) ;; *) return 0 ;; esac
     tell_option "$@"
     tell_slot "$@"
@@ -568,4 +556,17 @@ run_stoppable() {
     (trap '' INT TERM HUP; start_program "$@") <&3 3<&- &
     child=$!
     wait_for_child
+}
+
+# Whether these words are those of a `step` whose history goes nowhere, and that is to be told.
+is_unsaved() {
+    case " $* " in *' --help '* | *' -h '*) return 1 ;; esac
+    [ "${1-}" = step ] && [ -z "$(value_of --save "$@")" ] && [ -n "$(explains_words "$@")" ]
+}
+
+# Makes a step of these words, by start_program of the script that calls it, and says that its history goes nowhere. The
+# status is the program's.
+run_unsaved() {
+    (start_program "$@") || return
+    echo "mx: the history isn't saved: --save LOG" >&2
 }
