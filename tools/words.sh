@@ -536,6 +536,20 @@ wait_for_child() {
     return "$status"
 }
 
+# Whether a history is as short as those of which the program itself says what went wrong.
+is_short() {
+    [ -f "$1" ] && awk '$2 == "back" { steps += $3 } END { exit NR > 20000 || steps > 10000000 }' "$1"
+}
+
+# Says of a history that was just made which calls no right machine makes were refused in it: by a mask, to nobody, or since
+# there is no such call. Others are refused by what happens, as if the other process dies.
+tell_refused() {
+    { [ -f "$1" ] && is_short "$2"; } || return 0
+    ask_program why "$1" "$2" | awk -v asking="mx why $1 $2" '
+        /^refused: .*: -10[347] / { if (!count++) first = $0 }
+        END { if (count) print "mx: " first "; " (count > 1 ? count - 1 " more: " : "") asking }' >&2
+}
+
 # Whether these words are those of a run or of turns, in which nobody types.
 can_stop() {
     case ${1-} in run | turns) ;; *) return 1 ;; esac
@@ -556,17 +570,24 @@ run_stoppable() {
     (trap '' INT TERM HUP; start_program "$@") <&3 3<&- &
     child=$!
     wait_for_child
+    if [ "$status" = 0 ] && [ -n "$(explains_words "$@")" ]; then tell_refused "$(nth_word 1 "$@")" "$(nth_word 2 "$@")"; fi
+    return "$status"
 }
 
-# Whether these words are those of a `step` whose history goes nowhere, and that is to be told.
-is_unsaved() {
+# Whether these words are those of a `step` of which something is to be told afterwards.
+is_told_after() {
     case " $* " in *' --help '* | *' -h '*) return 1 ;; esac
-    [ "${1-}" = step ] && [ -z "$(value_of --save "$@")" ] && [ -n "$(explains_words "$@")" ]
+    [ "${1-}" = step ] && [ -n "$(explains_words "$@")" ]
 }
 
-# Makes a step of these words, by start_program of the script that calls it, and says that its history goes nowhere. The
-# status is the program's.
-run_unsaved() {
+# Makes a step of these words, by start_program of the script that calls it, and says that its history goes nowhere, or
+# what was refused in it. The status is the program's.
+run_told() {
     (start_program "$@") || return
-    echo "mx: the history isn't saved: --save LOG" >&2
+    log=$(value_of --save "$@")
+    if [ -n "$log" ]; then
+        tell_refused "$(nth_word 1 "$@")" "$log"
+    else
+        echo "mx: the history isn't saved: --save LOG" >&2
+    fi
 }
