@@ -249,7 +249,8 @@ tell_range() {
     log=$(nth_word 2 "$@")
     [ -f "$log" ] || return 0
     records=$(grep -c '^[0-9]' "$log")
-    [ "$from" -le "$records" ] 2>/dev/null || echo "mx: no record is shown: --from $from is after the end: $log has $records" >&2
+    [ "$from" -le "$records" ] 2>/dev/null ||
+        echo "mx: no record is shown: --from $from is after the end: $log has $records" >&2
 }
 
 # Says that a run is over before it begins, if the file that stops it is there.
@@ -542,12 +543,22 @@ is_short() {
 }
 
 # Says of a history that was just made which calls no right machine makes were refused in it: by a mask, to nobody, or since
-# there is no such call. Others are refused by what happens, as if the other process dies.
-tell_refused() {
+# there is no such call. Others are refused by what happens, as if the other process dies. If the clock could have ticked,
+# says who waits for it too: tell_history CONFIG LOG TICKS, where TICKS is what would make it tick.
+tell_history() {
     { [ -f "$1" ] && is_short "$2"; } || return 0
-    ask_program why "$1" "$2" | awk -v asking="mx why $1 $2" '
+    ask_program why "$1" "$2" | awk -v asking="mx why $1 $2" -v ticks="$3" '
         /^refused: .*: -10[347] / { if (!count++) first = $0 }
-        END { if (count) print "mx: " first "; " (count > 1 ? count - 1 " more: " : "") asking }' >&2
+        /^waits: .* from CLOCK .* alarm is due / { alarm = $0 }
+        END {
+            if (count) print "mx: " first "; " (count > 1 ? count - 1 " more: " : "") asking
+            if (alarm && ticks) print "mx: " alarm "; the clock made no tick: " ticks
+        }' >&2
+}
+
+# The option that makes the clock tick, if these words have none.
+missing_ticks() {
+    [ -n "$(value_of --ticks "$@")$(value_of --events "$@")" ] || echo "--ticks T"
 }
 
 # Whether these words are those of a run or of turns, in which nobody types.
@@ -570,7 +581,9 @@ run_stoppable() {
     (trap '' INT TERM HUP; start_program "$@") <&3 3<&- &
     child=$!
     wait_for_child
-    if [ "$status" = 0 ] && [ -n "$(explains_words "$@")" ]; then tell_refused "$(nth_word 1 "$@")" "$(nth_word 2 "$@")"; fi
+    if [ "$status" = 0 ] && [ -n "$(explains_words "$@")" ]; then
+        tell_history "$(nth_word 1 "$@")" "$(nth_word 2 "$@")" "$(missing_ticks "$@")"
+    fi
     return "$status"
 }
 
@@ -586,7 +599,7 @@ run_told() {
     (start_program "$@") || return
     log=$(value_of --save "$@")
     if [ -n "$log" ]; then
-        tell_refused "$(nth_word 1 "$@")" "$log"
+        tell_history "$(nth_word 1 "$@")" "$log" ''
     else
         echo "mx: the history isn't saved: --save LOG" >&2
     fi
