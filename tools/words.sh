@@ -154,6 +154,7 @@ refuse_typing() {
     for word in "$@"; do
         case $word in -h | --help) return 0 ;; esac
     done
+    [ -n "$(nth_word 2 "$@")" ] || set -- gdb CONFIG LOG
     echo "mx: standard input: wanted gdb: in gdb type target remote | mx $*; people take mx look" >&2
     exit 2
 }
