@@ -557,6 +557,14 @@ tell_history() {
         }' >&2
 }
 
+# Says of a history that was just made that what is on the console can't be seen, if that is so of all its bytes.
+tell_console() {
+    { [ -f "$1" ] && is_short "$2"; } || return 0
+    ask_program replay "$1" "$2" | LC_ALL=C sed '1,/^console [0-9]*$/d' | LC_ALL=C tr -d ' \t\n\r' | od -An -v -tx1 | awk '
+        { for (at = 1; at <= NF; at++) { bytes = bytes " " $at; if ("" $at > "20" && $at != "7f") is_seen = 1 } }
+        END { if (bytes && !is_seen) print "mx: nothing on the console can be seen: its bytes are" substr(bytes, 1, 48) }' >&2
+}
+
 # The option that makes the clock tick, if these words have none.
 missing_ticks() {
     [ -n "$(value_of --ticks "$@")$(value_of --events "$@")" ] || echo "--ticks T"
@@ -584,6 +592,7 @@ run_stoppable() {
     wait_for_child
     if [ "$status" = 0 ] && [ -n "$(explains_words "$@")" ]; then
         tell_history "$(nth_word 1 "$@")" "$(nth_word 2 "$@")" "$(missing_ticks "$@")"
+        tell_console "$(nth_word 1 "$@")" "$(nth_word 2 "$@")"
     fi
     return "$status"
 }
