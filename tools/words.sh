@@ -573,6 +573,8 @@ missing_ticks() {
 # Whether these words are those of a run or of turns, in which nobody types.
 can_stop() {
     case ${1-} in run | turns) ;; *) return 1 ;; esac
+    # A mistake in the words is told by the program, of the words as they were typed.
+    [ -n "$(nth_word 2 "$@")" ] || return 1
     ! is_live "$@"
 }
 
