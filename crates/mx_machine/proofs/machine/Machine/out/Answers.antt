@@ -13,7 +13,7 @@ returns-in-Some c =
     let k = c.self.inside.kernel in
     let os = c.self.inside.outs in
     let below : c.args.cpu < length os = omega (arith, c.self.invariant.places) in
-    let at = any_default os c.args.cpu None c.index-self-cpu.result below ∙ c.in-Some.is in
+    let at = any_default os c.args.cpu None c.index-self-cpu.result below ∙ c.in-Some.ensures in
     let l = lends k os c.args.cpu c.in-Some.out c.self.invariant at in
     subst (λ (m : MachineState). (x : HeldProcess) × held_by (world_of m) c.args.cpu ≡ Some x × c.in-Some.out ≡ x.out) c.self.view_is
     (record l.lent { out = c.in-Some.out }, held-now k os c.args.cpu l.lent c.in-Some.out l.is at, refl)
@@ -23,4 +23,4 @@ returns-in-None c =
     let os = c.self.inside.outs in
     let below : c.args.cpu < length os = omega (arith, c.self.invariant.places) in
     subst (λ (m : MachineState). held_by (world_of m) c.args.cpu ≡ None) c.self.view_is
-    (lends_none c.self.inside.kernel os c.args.cpu c.self.invariant (any_default os c.args.cpu None c.index-self-cpu.result below ∙ c.in-None.is))
+    (lends_none c.self.inside.kernel os c.args.cpu c.self.invariant (any_default os c.args.cpu None c.index-self-cpu.result below ∙ c.in-None.ensures))
