@@ -1,7 +1,7 @@
 """small.py SOURCE TREE OUT: compiles a small program over a tree's crates without proof."""
 import sys,os,shutil,subprocess,importlib.machinery,importlib.util
 sys.dont_write_bytecode=True
-TOP="/work/w/low3"
+TOP="/work/w/low4"
 sys.path[:0]=[f"{TOP}/checks/lib",f"{TOP}/bench/lib",f"{TOP}/tools"]
 l=importlib.machinery.SourceFileLoader("unproved",f"{TOP}/bench/unproved_program"); u=importlib.util.module_from_spec(importlib.util.spec_from_loader("unproved",l)); l.exec_module(u)
 import builder,trial_module

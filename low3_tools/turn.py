@@ -1,6 +1,6 @@
 import sys,os,subprocess,tempfile
 sys.dont_write_bytecode=True
-TOP="/work/w/low3"
+TOP="/work/w/low4"
 sys.path[:0]=[f"{TOP}/checks/lib",f"{TOP}/bench/lib"]
 import callgrind, asking_machine
 program=os.path.abspath(sys.argv[1]); N=int(sys.argv[2]) if len(sys.argv)>2 else 3000

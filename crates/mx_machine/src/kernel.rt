@@ -176,7 +176,7 @@ impl Kernel {
         self.back_from(cpu, &mut out)
     }
 
-    /// As `back`, from a place in which a blank image is left.
+    /// As `back`, from a place, which stays.
     pub(crate) fn back_from(&mut self, cpu: u8, out: &mut Out) -> u32
         requires { (l : HeldProcess) × (held_by (replay self.old) cpu ≡ Some l)
             × IsBack l.out out.old }

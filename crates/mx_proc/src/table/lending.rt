@@ -29,6 +29,18 @@ fn move_image(alloc: Global, from: &mut Image, to: &mut Image)
     to.code = mem::replace(&mut from.code, Code::Shared);
 }
 
+/// Exchanges two images, part by part too. Nothing is dropped.
+fn swap_images(one: &mut Image, other: &mut Image)
+    ensures one { one.new ≡ other.old }
+    ensures other { other.new ≡ one.old }
+{
+    mem::swap(&mut one.regs, &mut other.regs);
+    mem::swap(&mut one.eip, &mut other.eip);
+    mem::swap(&mut one.flags, &mut other.flags);
+    mem::swap(&mut one.memory, &mut other.memory);
+    mem::swap(&mut one.code, &mut other.code);
+}
+
 impl Table {
     /// Takes a process's image out of the table, for a processor. The process's state is `Out` after that.
     /// Takes no memory.
@@ -71,19 +83,18 @@ impl Table {
         move_image(alloc, &mut process.image, place);
     }
 
-    /// As `take_home`, from a place in which a blank image is left.
+    /// As `take_home`, from a place in which the image is left that the process had in the table.
     pub fn take_home_from(&mut self, slot: Slot, place: &mut Image)
         requires slot { slot < length self.old.slots }
         requires out { is_out (process_at self.old slot).state ≡ true }
         ensures value { self.new ≡ table_after_move_home self.old slot place.old }
-        ensures place { place.new ≡ blank }
+        ensures place { place.new ≡ (process_at self.old slot).image }
         ensures frame { frame self.new
             ≡ frame_with_process (frame self.old) slot (process_at self.new slot) }
     {
-        let alloc = *self.slots.allocator();
         let process = &mut self.slots[slot as usize];
         process.state = State::Home;
-        move_image(alloc, place, &mut process.image);
+        swap_images(&mut process.image, place);
     }
 
     /// Counts steps of a process: takes them off its ticks, and adds them to its steps.

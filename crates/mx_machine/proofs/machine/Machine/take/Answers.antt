@@ -26,8 +26,8 @@ returns-in_err-budget-clause-moved c =
     let k = c.self.inside.kernel in
     let os = c.self.inside.outs in
     let below : c.args.cpu < length os = omega (arith, c.self.invariant.places) in
-    rw (p.1, p.2) (subst (λ (m : MachineState). move (world_of m) c.args.cpu Take ≡ (Err _, world_of (on c.take.new.kernel (slice_set os c.args.cpu c.take.new.self)))) c.self.view_is
-    (refused_take k c.take.new.kernel os c.args.cpu (get_or os c.args.cpu c.index-self-cpu.result) c.take.new.self _ (any_default os c.args.cpu None c.index-self-cpu.result below) c.in_err-budget.ensures.same c.in_err-budget.ensures.err))
+    rw (p.1, p.2) (subst (λ (m : MachineState). move (world_of m) c.args.cpu Take ≡ (Err c.in_err-budget.field-0.0, world_of (on c.take.new.kernel (slice_set os c.args.cpu c.take.new.self)))) c.self.view_is
+    (refused_take k c.take.new.kernel os c.args.cpu (get_or os c.args.cpu c.index-self-cpu.result) c.take.new.self c.in_err-budget.field-0.0 (any_default os c.args.cpu None c.index-self-cpu.result below) c.in_err-budget.ensures.same c.in_err-budget.ensures.err))
 
 pub returns-in_err-budget-clause-recorded : goal.returns-in_err-budget-clause-recorded
 returns-in_err-budget-clause-recorded c =
