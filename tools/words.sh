@@ -334,8 +334,8 @@ run_stoppable() {
     room=$(mktemp -d) || return 3
     stop=$(stop_named "$@")
     [ -n "$stop" ] || { stop=$room/stop; set -- "$@" --stop "$stop"; }
-    # What runs beside the shell has no input but what it is given.
-    exec 3<&0
+    # What runs beside the shell has no input but what it is given, if there is one.
+    if (: <&0) 2>/dev/null; then exec 3<&0; else exec 3</dev/null; fi
     trap leave_session EXIT
     trap end_session INT TERM HUP
     (trap '' INT TERM HUP; start_program "$@") <&3 3<&- &
@@ -345,7 +345,7 @@ run_stoppable() {
 
 # Whether a file begins as sums do: with the line of a configuration's.
 holds_sums() {
-    head -c 80 <"$1" | LC_ALL=C tr '\n!' '!.' | LC_ALL=C grep -Eq '^[0-9A-Fa-f]{64}  configuration!'
+    { head -c 80 <"$1"; } 2>/dev/null | LC_ALL=C tr '\n!' '!.' | LC_ALL=C grep -Eq '^[0-9A-Fa-f]{64}  configuration!'
 }
 
 # Whether a history has changed in any way since its sums were written, or got its name since then: changed_since LOG SUMS.
@@ -356,7 +356,7 @@ changed_since() {
 
 # Whether a machine's configuration and programs are regular files, which can be read once more.
 is_read_twice() (
-    files_read "$1" | while read -r file; do
+    files_read "$1" | while IFS= read -r file; do
         case $file in /dev/* | /proc/*) exit 1 ;; esac
         [ -f "$file" ] || exit 1
     done
