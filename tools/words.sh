@@ -335,7 +335,7 @@ run_stoppable() {
     stop=$(stop_named "$@")
     [ -n "$stop" ] || { stop=$room/stop; set -- "$@" --stop "$stop"; }
     # What runs beside the shell has no input but what it is given, if there is one.
-    if (: <&0) 2>/dev/null; then exec 3<&0; else exec 3</dev/null; fi
+    if [ -e /dev/fd/0 ]; then exec 3<&0; else exec 3</dev/null; fi
     trap leave_session EXIT
     trap end_session INT TERM HUP
     (trap '' INT TERM HUP; start_program "$@") <&3 3<&- &
