@@ -45,10 +45,23 @@ made_by (requests.Run config log ticks events stop) = Some (config.now, log.now)
 made_by (requests.Turns config log ticks events bound stop) = Some (config.now, log.now)
 made_by r = None
 
+-- a configuration and a history, as they are typed
+unfoldable pub pair_text : List ℕ → List ℕ → List ℕ
+pair_text config log = config ++ codes " " ++ log
+
+unfoldable pub ended_text : List ℕ → List ℕ
+ended_text word = codes "mx: " ++ word
+
+-- what tells more of a history
+unfoldable pub pointer_text : List ℕ → List ℕ → List ℕ
+pointer_text config log = codes "; more: mx why " ++ pair_text config log
+
+unfoldable pub unknown_text : List ℕ → List ℕ → List ℕ → List ℕ
+unknown_text word config log = ended_text word ++ pointer_text config log ++ codes "\n"
+
 -- THE LINE of a history of which nothing is known: how the turns or the run ended, and what tells more
 abbrev pub unknown_line : Option DrivenEnding → Option (List ℕ × List ℕ) → Option (List ℕ)
-unknown_line (Some ending) (Some names) =
-    Some (codes "mx: " ++ driven_word ending ++ codes "; more: mx why " ++ names.0 ++ codes " " ++ names.1 ++ codes "\n")
+unknown_line (Some ending) (Some names) = Some (unknown_text (driven_word ending) names.0 names.1)
 unknown_line ending names = None
 
 -- what is told of the history in these files, if the files are as a start wants them

@@ -1,8 +1,8 @@
 //! What standard error gets after a command that made a history, if that has a mark.
 
-ghost use Rattle.std.specs.Prelude.{◌≡◌, ◌++◌, IfOk, List, option_map, string_bytes};
+ghost use Rattle.std.specs.Prelude.{◌≡◌, ◌++◌, IfOk, List, OnOk, option_map};
 ghost use Rattle.mx_app_db.specs.Asked.{Asked};
-ghost use Rattle.mx_app.specs.AfterRun.{TellsAfter, is_stopped, made_by, names_of, status_after, unknown_line, wants_marks};
+ghost use Rattle.mx_app.specs.AfterRun.{TellsAfter, ended_text, is_stopped, made_by, names_of, pair_text, pointer_text, status_after, unknown_line, unknown_text, wants_marks};
 
 use crate::ending::DrivenEnding;
 use mx_app_command::CommandRequest;
@@ -75,19 +75,58 @@ pub fn told_after<R: Reader>(
     }
 }
 
+/// Appends the words of a configuration and a history.
+#[tactic(auto, unfolding(crate::specs::AfterRun::pair_text))]
+fn push_pair(out: &mut Vec<u8>, config: &str, log: &str) -> Result<(), AllocError>
+    ensures { OnOk result (out.new.items ≡ out.old.items ++ pair_text config.now log.now) }
+{
+    out.extend_from_slice(config.as_bytes())?;
+    out.extend_from_slice(b" ")?;
+    out.extend_from_slice(log.as_bytes())
+}
+
+/// Appends how turns or a run ended.
+#[tactic(auto, unfolding(crate::specs::AfterRun::ended_text))]
+fn push_ended(out: &mut Vec<u8>, word: &str) -> Result<(), AllocError>
+    ensures { OnOk result (out.new.items ≡ out.old.items ++ ended_text word.now) }
+{
+    out.extend_from_slice(b"mx: ")?;
+    out.extend_from_slice(word.as_bytes())
+}
+
+/// Appends what tells more of a history.
+#[tactic(auto, unfolding(crate::specs::AfterRun::pointer_text))]
+fn push_pointer(out: &mut Vec<u8>, config: &str, log: &str) -> Result<(), AllocError>
+    ensures { OnOk result (out.new.items ≡ out.old.items ++ pointer_text config.now log.now) }
+{
+    out.extend_from_slice(b"; more: mx why ")?;
+    push_pair(out, config, log)
+}
+
+/// Appends the line of a history that isn't run again.
+#[tactic(auto, unfolding(crate::specs::AfterRun::unknown_text))]
+fn push_unknown(out: &mut Vec<u8>, word: &str, config: &str, log: &str) -> Result<(), AllocError>
+    ensures { OnOk result (out.new.items
+        ≡ out.old.items ++ unknown_text word.now config.now log.now) }
+{
+    push_ended(out, word)?;
+    push_pointer(out, config, log)?;
+    out.extend_from_slice(b"\n")
+}
+
 /// What is told of a history that isn't run again: how the turns or the run ended, and what tells more.
 pub fn unknown_line(
     alloc: Global,
     request: CommandRequest<'_>,
     ending: Option<DrivenEnding>,
-) -> Result<Option<String>, AllocError>
-    ensures { IfOk result (λ line. option_map string_bytes line
+) -> Result<Option<Vec<u8>>, AllocError>
+    ensures { IfOk result (λ line. option_map (λ l. l.items) line
         ≡ unknown_line ending (made_by request.entry)) }
 {
     match (made_by(request), ending) {
         (Some(HistoryNames { config, log }), Some(ending)) => {
-            let word = ending.word();
-            let line = format!(in alloc; "mx: {word}; more: mx why {config} {log}\n")?;
+            let mut line = Vec::new(alloc);
+            push_unknown(&mut line, ending.word(), config, log)?;
             Ok(Some(line))
         }
         _ => Ok(None),
