@@ -2,6 +2,7 @@ pub mod Seats
 pub mod Seeing
 pub mod Waiting
 pub mod Verdicts
+pub mod Never
 pub mod Notes
 pub mod Noting
 pub mod Deaths

@@ -7,6 +7,10 @@
 //! known of it, and `verdict` answers. Since when it waits, and who died where, are in the history: a `Note` is taken of
 //! each change while its records are made again. Calls that are refused are counted then, since there may be many that are
 //! alike. The lines are made of all these.
+//!
+//! # Never
+//!
+//! Who is said never to go on doesn't, whatever comes but kills: a law (`never`), over the definition of what events do.
 #![tactic(auto)]
 
 mod after_run;
@@ -20,6 +24,7 @@ mod failing;
 mod hexadecimal;
 mod lines;
 mod marks;
+mod never;
 mod notes;
 mod noting;
 mod place;
@@ -39,6 +44,7 @@ pub use checking::check;
 pub use deaths::{Death, deaths_of};
 pub use ends::{Ending, Unfinished};
 pub use failed_calls::FailedCall;
+pub use never::{kernels_keep_waiting, never_holds};
 pub use notes::{Deed, Note, NoteText};
 pub use seats::{End, Seat};
 pub use telling::{Told, why};
