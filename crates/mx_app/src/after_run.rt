@@ -2,7 +2,8 @@
 
 ghost use Rattle.std.specs.Prelude.{◌≡◌, ◌++◌, IfOk, List, option_map, string_bytes};
 ghost use Rattle.mx_app_db.specs.Asked.{Asked};
-ghost use Rattle.mx_app.specs.AfterRun.{TellsAfter, is_stopped, made_by, names_of, status_after, unknown_line, wants_marks};
+ghost use Rattle.mx_why.specs.Begun.{names_of};
+ghost use Rattle.mx_app.specs.AfterRun.{TellsAfter, is_stopped, made_by, line_unknown, status_after, unknown_line, wants_marks};
 
 use crate::ending::DrivenEnding;
 use mx_app_command::CommandRequest;
@@ -50,9 +51,31 @@ fn made_by(request: CommandRequest<'_>) -> Option<HistoryNames<'_>>
             config,
             save: Some(log),
             ..
-        } => Some(HistoryNames { config, log }),
-        CommandRequest::Run { config, log, .. } => Some(HistoryNames { config, log }),
-        CommandRequest::Turns { config, log, .. } => Some(HistoryNames { config, log }),
+        } => Some(HistoryNames {
+            config,
+            log,
+            events: None,
+        }),
+        CommandRequest::Run {
+            config,
+            log,
+            events,
+            ..
+        } => Some(HistoryNames {
+            config,
+            log,
+            events,
+        }),
+        CommandRequest::Turns {
+            config,
+            log,
+            events,
+            ..
+        } => Some(HistoryNames {
+            config,
+            log,
+            events,
+        }),
         _ => None,
     }
 }
@@ -75,6 +98,24 @@ pub fn told_after<R: Reader>(
     }
 }
 
+/// The line of a history that isn't run again, with the words that name the file of outside events, if one is named.
+fn line_unknown(
+    alloc: Global,
+    ending: DrivenEnding,
+    names: HistoryNames<'_>,
+) -> Result<String, AllocError>
+    ensures { IfOk result (λ line. string_bytes line ≡ line_unknown ending (names_of names.entry)) }
+{
+    let HistoryNames { config, log, .. } = names;
+    let word = ending.word();
+    match names.events {
+        Some(events) => {
+            format!(in alloc; "mx: {word}; more: mx why {config} {log} --events {events}\n")
+        }
+        None => format!(in alloc; "mx: {word}; more: mx why {config} {log}\n"),
+    }
+}
+
 /// What is told of a history that isn't run again: how the turns or the run ended, and what tells more.
 pub fn unknown_line(
     alloc: Global,
@@ -85,11 +126,7 @@ pub fn unknown_line(
         ≡ unknown_line ending (made_by request.entry)) }
 {
     match (made_by(request), ending) {
-        (Some(HistoryNames { config, log }), Some(ending)) => {
-            let word = ending.word();
-            let line = format!(in alloc; "mx: {word}; more: mx why {config} {log}\n")?;
-            Ok(Some(line))
-        }
+        (Some(names), Some(ending)) => Ok(Some(line_unknown(alloc, ending, names)?)),
         _ => Ok(None),
     }
 }

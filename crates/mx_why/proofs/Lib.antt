@@ -7,3 +7,5 @@ pub mod Judged
 pub mod PlaceLemmas
 pub mod NoteLemmas
 pub mod AfterLemmas
+pub mod LostLemmas
+pub mod BegunLemmas

@@ -12,6 +12,9 @@ pub mod Lines
 pub mod Endings
 pub mod Busy
 pub mod FailedLines
+pub mod EventFiles
+pub mod Begun
+pub mod Outside
 pub mod Unfit
 pub mod UnfitLines
 pub mod Checking

@@ -1,5 +1,6 @@
 //! `mx why`: what became of a saved history. How it ended, who waits for ever and why, who waits for a line or an alarm,
-//! who computes without a call, who died, which calls were refused, who never ran, and what CONFIG alone says can't work.
+//! who computes without a call, who died, which calls and outside events were refused, who never ran, and what CONFIG
+//! alone says can't work.
 //!
 //! # From the end, and from notes
 //!
@@ -10,10 +11,12 @@
 #![tactic(auto)]
 
 mod after_run;
+mod begun;
 mod busy;
 mod checking;
 mod deaths;
 mod ends;
+mod event_files;
 mod failed_calls;
 mod failed_lines;
 mod failing;
@@ -22,6 +25,7 @@ mod lines;
 mod marks;
 mod notes;
 mod noting;
+mod outside;
 mod place;
 mod reasons;
 mod refused_record;
@@ -33,13 +37,15 @@ mod unfit_lines;
 mod verdicts;
 mod waiting;
 
-pub use after_run::{AfterRun, HistoryNames, line_after_run};
+pub use after_run::{AfterRun, line_after_run};
+pub use begun::HistoryNames;
 pub use busy::{Pace, busy_of};
 pub use checking::check;
 pub use deaths::{Death, deaths_of};
 pub use ends::{Ending, Unfinished};
 pub use failed_calls::FailedCall;
 pub use notes::{Deed, Note, NoteText};
+pub use outside::LostLine;
 pub use seats::{End, Seat};
 pub use telling::{Told, why};
 pub use unfit::{Lack, Pair, Unfit};

@@ -7,6 +7,7 @@ use crate::busy::{busy_of, count_busy};
 use crate::ends::{Ending, ending_of};
 use crate::lines::{count_idle, count_said};
 use crate::notes::{Deed, Note};
+use crate::outside::{LostLine, has_lost};
 use crate::seats::End;
 use crate::unfit::unfit_by;
 use crate::verdicts::verdicts_on;
@@ -75,9 +76,11 @@ pub(crate) fn is_marked(
     config: &Config,
     end: &End,
     notes: &[Note],
+    lost: &[LostLine],
     records: usize,
 ) -> Result<bool, AllocError>
-    ensures { IfOk result (λ marked. marked ≡ is_marked config.now end.now notes.now records) }
+    ensures { IfOk result (λ marked. marked
+        ≡ is_marked config.now end.now notes.now lost.now records) }
 {
     let never = has_never(alloc, end)?;
     let unfit = has_unfit(alloc, config, end)?;
@@ -86,6 +89,7 @@ pub(crate) fn is_marked(
             || never
             || has_busy(end, notes)
             || has_faulted(notes)
+            || has_lost(lost)
             || has_idle(end, notes)
             || unfit,
     )

@@ -3,6 +3,7 @@ use Rattle.std.specs.Prelude.{true}
 use Rattle.mx_why.specs.AfterRun.{fault_lines, idle_if_at_rest, marked_lines}
 use Rattle.mx_why.specs.Busy.{busy, busy_lines}
 use Rattle.mx_why.specs.Lines.{waits_text}
+use Rattle.mx_why.specs.Outside.{outside_text}
 use Rattle.mx_why.specs.Unfit.{unfit}
 use Rattle.mx_why.specs.UnfitLines.{unfit_lines}
 use Rattle.mx_why.specs.Verdicts.{verdicts}
@@ -18,6 +19,8 @@ returns c =
     let h1 : c.push_busy_lines.new.out.items ≡ c.args.out.now.items ++ a1 = joined c.args.out.now.items a0 (busy_lines c.args.end.now (busy c.args.end.now c.args.notes.now)) h0 c.in_ok-push_busy_lines.ensures in
     let a2 : List ℕ = a1 ++ (fault_lines c.args.end.now c.args.notes.now) in
     let h2 : c.push_faults.new.out.items ≡ c.args.out.now.items ++ a2 = joined c.args.out.now.items a1 (fault_lines c.args.end.now c.args.notes.now) h1 c.in_ok-push_faults.ensures in
-    let a3 : List ℕ = a2 ++ (idle_if_at_rest c.args.end.now c.args.notes.now) in
-    let h3 : c.push_idle_at_rest.new.out.items ≡ c.args.out.now.items ++ a3 = joined c.args.out.now.items a2 (idle_if_at_rest c.args.end.now c.args.notes.now) h2 c.in_ok-push_idle_at_rest.ensures in
-    last_joined c.push_lacking_lines.result c.args.out.now.items a3 (unfit_lines c.args.config.now (unfit c.args.config.now c.args.end.now)) c.push_idle_at_rest.new.out.items c.push_lacking_lines.new.out.items h3 c.push_lacking_lines.ensures
+    let a3 : List ℕ = a2 ++ (outside_text c.args.end.now c.args.lost.now) in
+    let h3 : c.push_outside.new.out.items ≡ c.args.out.now.items ++ a3 = joined c.args.out.now.items a2 (outside_text c.args.end.now c.args.lost.now) h2 c.in_ok-push_outside.ensures in
+    let a4 : List ℕ = a3 ++ (idle_if_at_rest c.args.end.now c.args.notes.now) in
+    let h4 : c.push_idle_at_rest.new.out.items ≡ c.args.out.now.items ++ a4 = joined c.args.out.now.items a3 (idle_if_at_rest c.args.end.now c.args.notes.now) h3 c.in_ok-push_idle_at_rest.ensures in
+    last_joined c.push_lacking_lines.result c.args.out.now.items a4 (unfit_lines c.args.config.now (unfit c.args.config.now c.args.end.now)) c.push_idle_at_rest.new.out.items c.push_lacking_lines.new.out.items h4 c.push_lacking_lines.ensures

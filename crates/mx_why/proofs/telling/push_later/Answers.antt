@@ -4,6 +4,7 @@ use Rattle.mx_why.specs.Deaths.{deaths}
 use Rattle.mx_why.specs.Endings.{deaths_text}
 use Rattle.mx_why.specs.FailedLines.{failed_lines}
 use Rattle.mx_why.specs.Lines.{idle_text, waits_text}
+use Rattle.mx_why.specs.Outside.{outside_text}
 use Rattle.mx_why.specs.Telling.{later_lines}
 use Rattle.mx_why.specs.Unfit.{unfit}
 use Rattle.mx_why.specs.UnfitLines.{unfit_lines}
@@ -22,6 +23,8 @@ returns c =
     let h2 : c.push_death_lines.new.out.items ≡ c.args.out.now.items ++ a2 = joined c.args.out.now.items a1 (deaths_text c.args.end.now c.args.notes.now (deaths c.args.notes.now)) h1 c.in_ok-push_death_lines.ensures in
     let a3 : List ℕ = a2 ++ (failed_lines c.args.end.now c.args.calls.now) in
     let h3 : c.push_failed_lines.new.out.items ≡ c.args.out.now.items ++ a3 = joined c.args.out.now.items a2 (failed_lines c.args.end.now c.args.calls.now) h2 c.in_ok-push_failed_lines.ensures in
-    let a4 : List ℕ = a3 ++ (idle_text c.args.end.now c.args.notes.now) in
-    let h4 : c.push_idle.new.out.items ≡ c.args.out.now.items ++ a4 = joined c.args.out.now.items a3 (idle_text c.args.end.now c.args.notes.now) h3 c.in_ok-push_idle.ensures in
-    last_joined c.push_lacking_lines.result c.args.out.now.items a4 (unfit_lines c.args.config.now (unfit c.args.config.now c.args.end.now)) c.push_idle.new.out.items c.push_lacking_lines.new.out.items h4 c.push_lacking_lines.ensures
+    let a4 : List ℕ = a3 ++ (outside_text c.args.end.now c.args.lost.now) in
+    let h4 : c.push_outside.new.out.items ≡ c.args.out.now.items ++ a4 = joined c.args.out.now.items a3 (outside_text c.args.end.now c.args.lost.now) h3 c.in_ok-push_outside.ensures in
+    let a5 : List ℕ = a4 ++ (idle_text c.args.end.now c.args.notes.now) in
+    let h5 : c.push_idle.new.out.items ≡ c.args.out.now.items ++ a5 = joined c.args.out.now.items a4 (idle_text c.args.end.now c.args.notes.now) h4 c.in_ok-push_idle.ensures in
+    last_joined c.push_lacking_lines.result c.args.out.now.items a5 (unfit_lines c.args.config.now (unfit c.args.config.now c.args.end.now)) c.push_idle.new.out.items c.push_lacking_lines.new.out.items h5 c.push_lacking_lines.ensures
