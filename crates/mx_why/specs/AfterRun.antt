@@ -28,6 +28,7 @@ use Rattle.mx_why.specs.Outside.{lost_lines, outside_text}
 use Rattle.mx_why.specs.Telling.{end_after}
 use Rattle.mx_why.specs.Unfit.{unfit}
 use Rattle.mx_why.specs.UnfitLines.{unfit_lines}
+use Rattle.mx_why.specs.Unheard.{unheard, unheard_lines}
 use Rattle.mx_why.specs.Verdicts.{verdicts}
 
 -- ---- the lines with a mark, but for the first
@@ -51,8 +52,8 @@ idle_if_at_rest e ns = if e.at_rest then idle_text e ns else []
 
 unfoldable pub marked_lines : Config → End → List Note → List LostLine → List ℕ
 marked_lines c e ns os =
-    waits_text e ns (verdicts e) true ++ busy_lines e (busy e ns) ++ fault_lines e ns ++ outside_text e os
-    ++ idle_if_at_rest e ns ++ unfit_lines c (unfit c e)
+    waits_text e ns (verdicts e) true ++ unheard_lines e ns (unheard e ns) ++ busy_lines e (busy e ns)
+    ++ fault_lines e ns ++ outside_text e os ++ idle_if_at_rest e ns ++ unfit_lines c (unfit c e)
 
 -- of a machine that has done nothing there are none
 unfoldable pub marked_if_any : Config → End → List Note → List LostLine → ℕ → List ℕ

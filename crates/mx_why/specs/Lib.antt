@@ -11,6 +11,7 @@ pub mod FailedCalls
 pub mod Lines
 pub mod Endings
 pub mod Busy
+pub mod Unheard
 pub mod FailedLines
 pub mod EventFiles
 pub mod Begun

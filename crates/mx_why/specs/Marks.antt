@@ -15,6 +15,7 @@ use Rattle.mx_why.specs.Endings.{ending}
 use Rattle.mx_why.specs.Lines.{is_idle, is_said}
 use Rattle.mx_why.specs.Outside.{has_lost}
 use Rattle.mx_why.specs.Unfit.{unfit}
+use Rattle.mx_why.specs.Unheard.{is_unheard, unheard}
 use Rattle.mx_why.specs.Verdicts.{verdicts}
 
 -- the history has no room, or it has nothing
@@ -27,6 +28,10 @@ is_marked_end Open = false
 -- somebody waits for ever
 unfoldable pub has_never : End → Bool
 has_never e = not (count_by (is_said (verdicts e) true) (range_with_len 0 32) == 0)
+
+-- somebody isn't heard
+unfoldable pub has_unheard : End → List Note → Bool
+has_unheard e ns = not (count_by (is_unheard (unheard e ns)) (range_with_len 0 32) == 0)
 
 -- somebody computes without a call
 unfoldable pub has_busy : End → List Note → Bool
@@ -52,4 +57,4 @@ has_unfit c e = not (length (unfit c e) == 0)
 unfoldable pub is_marked : Config → End → List Note → List LostLine → ℕ → Bool
 is_marked c e ns os n =
     is_marked_end (ending e n c.log)
-    || (has_never e || (has_busy e ns || (has_faulted ns || (has_lost os || (has_idle e ns || has_unfit c e)))))
+    || (has_never e || (has_unheard e ns || (has_busy e ns || (has_faulted ns || (has_lost os || (has_idle e ns || has_unfit c e))))))

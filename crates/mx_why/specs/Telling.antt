@@ -27,12 +27,14 @@ use Rattle.mx_why.specs.RefusedRecords.{refused_record_text}
 use Rattle.mx_why.specs.Seeing.{end_of}
 use Rattle.mx_why.specs.Unfit.{unfit}
 use Rattle.mx_why.specs.UnfitLines.{unfit_lines}
+use Rattle.mx_why.specs.Unheard.{unheard, unheard_lines}
 use Rattle.mx_why.specs.Verdicts.{verdicts}
 
 -- the lines but the first
 unfoldable pub later_lines : Config → End → List Note → List FailedCall → List LostLine → List ℕ
 later_lines c e ns cs os =
-    waits_text e ns (verdicts e) true ++ waits_text e ns (verdicts e) false ++ busy_lines e (busy e ns)
+    waits_text e ns (verdicts e) true ++ waits_text e ns (verdicts e) false ++ unheard_lines e ns (unheard e ns)
+    ++ busy_lines e (busy e ns)
     ++ deaths_text e ns (deaths ns) ++ failed_lines e cs ++ outside_text e os ++ idle_text e ns
     ++ unfit_lines c (unfit c e)
 

@@ -26,7 +26,7 @@ use crate::notes::Note;
 use crate::outside::{LostLine, lost_lines, push_outside};
 use crate::seats::End;
 use crate::seeing::end_of;
-use crate::telling::{note_records, push_busy_lines, push_lacking_lines};
+use crate::telling::{note_records, push_busy_lines, push_lacking_lines, push_unheard_lines};
 use crate::verdicts::verdicts_on;
 use mx_app_step::{Failure, Reader, first_records};
 use mx_machine::{Config, Machine, Record, Recorded};
@@ -165,6 +165,7 @@ fn push_marked_lines(
         ++ marked_lines config.now end.now notes.now lost.now) }
 {
     push_never(out, alloc, end, notes)?;
+    push_unheard_lines(out, end, notes)?;
     push_busy_lines(out, end, notes)?;
     push_faults(out, alloc, end, notes)?;
     push_outside(out, end, lost)?;

@@ -34,6 +34,7 @@ mod seeing;
 mod telling;
 mod unfit;
 mod unfit_lines;
+mod unheard;
 mod verdicts;
 mod waiting;
 
@@ -49,4 +50,5 @@ pub use outside::LostLine;
 pub use seats::{End, Seat};
 pub use telling::{Told, why};
 pub use unfit::{Lack, Pair, Unfit};
+pub use unheard::{Unheard, unheard_of};
 pub use verdicts::{Verdict, verdicts_on};

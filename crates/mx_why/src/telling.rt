@@ -21,6 +21,7 @@ ghost use Rattle.mx_why.specs.Seeing.{end_of};
 ghost use Rattle.mx_why.specs.Telling.{IsNoted, IsWhyBegun, IsWhyPrinted, later_lines, lines_text, told_marked, told_text};
 ghost use Rattle.mx_why.specs.Unfit.{unfit};
 ghost use Rattle.mx_why.specs.UnfitLines.{unfit_lines};
+ghost use Rattle.mx_why.specs.Unheard.{unheard, unheard_lines};
 ghost use Rattle.mx_why.specs.Verdicts.{verdicts};
 
 use crate::begun::{HistoryNames, begin};
@@ -39,6 +40,7 @@ use crate::seats::End;
 use crate::seeing::end_of;
 use crate::unfit::unfit_by;
 use crate::unfit_lines::push_unfit_lines;
+use crate::unheard::{push_unheard, unheard_of};
 use crate::verdicts::verdicts_on;
 use mx_app_step::{Failure, Reader, first_records, look_record, print_text, resting_transition};
 use mx_machine::{Config, Machine, Record, Refusal};
@@ -101,6 +103,19 @@ fn push_waiting_lines(
     push_waits(out, end, notes, &said, false)
 }
 
+/// Appends the lines of those that aren't heard.
+pub(crate) fn push_unheard_lines(
+    out: &mut Vec<u8>,
+    end: &End,
+    notes: &[Note],
+) -> Result<(), AllocError>
+    ensures { OnOk result (out.new.items ≡ out.old.items
+        ++ unheard_lines end.now notes.now (unheard end.now notes.now)) }
+{
+    let found = unheard_of(end, notes);
+    push_unheard(out, end, notes, &found)
+}
+
 /// Appends the lines of deaths.
 fn push_death_lines(
     out: &mut Vec<u8>,
@@ -157,6 +172,7 @@ fn push_later(
         ++ later_lines config.now end.now notes.now calls.now lost.now) }
 {
     push_waiting_lines(out, alloc, end, notes)?;
+    push_unheard_lines(out, end, notes)?;
     push_busy_lines(out, end, notes)?;
     push_death_lines(out, alloc, end, notes)?;
     push_failed_lines(out, end, calls)?;

@@ -15,10 +15,10 @@ returns-in-Err-clause-fault g c =
     let t = c.in_ok-text.ensures.text in (
       t.0,
       t.1,
-      inr (string_bytes c.in_ok-text.text, c.in-Err.error, t.2, subst (λ x. TellsNoEvents c.args.config.now.lines x c.in-Err.error) c.as_str.ensures.value c.in-Err.ensures.unread, c.misstated.ensures),
+      inr (string_bytes c.in_ok-text.text, c.in-Err.error, t.2, subst (λ x. TellsNoEvents c.args.config.now.lines x c.in-Err.error) c.as_bytes.ensures.value c.in-Err.ensures.unread, c.misstated.ensures),
     )
 
 pub returns-in-Ok-clause-read : goal.returns-in-Ok-clause-read
 returns-in-Ok-clause-read g c =
     let t = c.in_ok-text.ensures.text in
-    (t.0, t.1, string_bytes c.in_ok-text.text, t.2, subst (λ x. AreEventsSaid c.args.config.now.lines x c.in-Ok.said.items) c.as_str.ensures.value c.in-Ok.ensures.read)
+    (t.0, t.1, string_bytes c.in_ok-text.text, t.2, subst (λ x. AreEventsSaid c.args.config.now.lines x c.in-Ok.said.items) c.as_bytes.ensures.value c.in-Ok.ensures.read)
