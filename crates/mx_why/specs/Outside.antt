@@ -54,13 +54,21 @@ is_made l (Some x) = is_record_of l x.event
 abbrev pub lost_if : Bool → ℕ → OutsideLine → List LostLine
 lost_if refused n l = if refused then record { number = n; line = l } ∷ [] else []
 
--- the lines from number n on, after k of the records are found
+-- a line, which has number n, after k of the records are found
+abbrev pub lost_by : Bool → List Record → ℕ → ℕ → Option OutsideLine → List LostLine
+lost_by rest xs n k None = []
+lost_by rest xs n k (Some l) =
+    if is_made l (slice_get xs k) then [] else lost_if (rest || nat_lt k (length xs)) n l
+
+-- how many are found after it
+abbrev pub found_after : List Record → ℕ → Option OutsideLine → ℕ
+found_after xs k None = k
+found_after xs k (Some l) = if is_made l (slice_get xs k) then k + 1 else k
+
+-- the lines from number n on
 abbrev pub lost_from : Bool → List Record → ℕ → ℕ → List (Option OutsideLine) → List LostLine
 lost_from rest xs n k [] = []
-lost_from rest xs n k (None ∷ ls) = lost_from rest xs (n + 1) k ls
-lost_from rest xs n k (Some l ∷ ls) =
-    if is_made l (slice_get xs k) then lost_from rest xs (n + 1) (k + 1) ls else
-    lost_if (rest || nat_lt k (length xs)) n l ++ lost_from rest xs (n + 1) k ls
+lost_from rest xs n k (o ∷ os) = lost_by rest xs n k o ++ lost_from rest xs (n + 1) (found_after xs k o) os
 
 -- THE LINES THAT WERE REFUSED, of a file whose lines say this
 unfoldable pub lost_lines : Config → End → List Record → List (Option OutsideLine) → List LostLine

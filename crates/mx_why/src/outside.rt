@@ -1,7 +1,7 @@
 //! The outside events of a file that have no record in the history that was made with it.
 
-ghost use Rattle.std.specs.Prelude.{◌≡◌, ◌++◌, ◌||◌, IfOk, OnOk, filter, length, nat_lt, slice_get};
-ghost use Rattle.mx_why.specs.Outside.{event_text, has_caller, has_lost, is_made, is_of_file, is_record_of, is_sought, lost_from, lost_if, lost_lines, lost_text, more_lost_text, outside_text, records_of_file};
+ghost use Rattle.std.specs.Prelude.{◌≡◌, ◌<◌, ◌≤◌, ◌++◌, ◌||◌, IfOk, OnOk, Some, filter, length, nat_lt, slice_get};
+ghost use Rattle.mx_why.specs.Outside.{event_text, has_caller, has_lost, is_made, is_of_file, is_record_of, found_after, is_sought, lost_by, lost_from, lost_if, lost_lines, lost_text, more_lost_text, outside_text, records_of_file};
 
 use crate::reasons::push_verb;
 use crate::seats::End;
@@ -118,6 +118,51 @@ fn push_if_refused(
     Ok(())
 }
 
+/// Follows an event, whose line has a number, after so many of the records are found: appends its line, if it was
+/// refused, and answers how many are found then.
+fn follow_event(
+    lost: &mut Vec<LostLine>,
+    made: &[Record],
+    at_rest: bool,
+    number: usize,
+    found: usize,
+    line: OutsideLine,
+) -> Result<usize, AllocError>
+    requires { found < number }
+    ensures lost { OnOk result (lost.new.items ≡ lost.old.items
+        ++ lost_by at_rest made.now number found (Some line)) }
+    ensures found { IfOk result (λ now. now ≡ found_after made.now found (Some line)) }
+    ensures few { IfOk result (λ now. now ≤ number) }
+{
+    if is_made(line, made, found) {
+        return Ok(found + 1);
+    }
+    let refused = is_refused(at_rest, made, found);
+    push_if_refused(lost, refused, number, line)?;
+    Ok(found)
+}
+
+/// Follows what a line says.
+fn follow_line(
+    lost: &mut Vec<LostLine>,
+    made: &[Record],
+    at_rest: bool,
+    number: usize,
+    found: usize,
+    said: Option<OutsideLine>,
+) -> Result<usize, AllocError>
+    requires { found < number }
+    ensures lost { OnOk result (lost.new.items ≡ lost.old.items
+        ++ lost_by at_rest made.now number found said) }
+    ensures found { IfOk result (λ now. now ≡ found_after made.now found said) }
+    ensures few { IfOk result (λ now. now ≤ number) }
+{
+    match said {
+        Some(line) => follow_event(lost, made, at_rest, number, found, line),
+        None => Ok(found),
+    }
+}
+
 /// The lines that have none of these records, at rest or not.
 fn lost_among(
     alloc: Global,
@@ -130,14 +175,7 @@ fn lost_among(
     let mut lost = Vec::new(alloc);
     let mut found = 0;
     for (index, event) in said.iter().enumerate() {
-        if let Some(line) = *event {
-            if is_made(line, made, found) {
-                found += 1;
-            } else {
-                let refused = is_refused(at_rest, made, found);
-                push_if_refused(&mut lost, refused, index + 1, line)?;
-            }
-        }
+        found = follow_line(&mut lost, made, at_rest, index + 1, found, *event)?;
     }
     Ok(lost)
 }
