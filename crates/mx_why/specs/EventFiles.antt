@@ -1,5 +1,5 @@
 -- THE FILE OF OUTSIDE EVENTS with which a history was made, of `mx turns` or of `mx run`, line by line (our own).
-use Rattle.std.specs.Prelude.{◌≡◌, ◌⊎◌, ⊥, ℕ, if◌then◌else◌, List, [], ◌∷◌, codes, Option, Some, None}
+use Rattle.std.specs.Prelude.{◌≡◌, ◌⊎◌, ℕ, if◌then◌else◌, List, [], ◌∷◌, codes, Option, Some, None}
 use Rattle.std.specs.Str.{bytes_eq}
 use Rattle.mx_app_failure.specs.declared.failure.About.TheVariants.{Fault}
 use Rattle.mx_app_failure.specs.declared.failure.Failure.{Failure}

@@ -8,7 +8,7 @@ use Rattle.mx_why.proofs.after_run.steps_in.Goals as goal
 
 pub loop-record-preserved : goal.loop-record-preserved
 loop-record-preserved c =
-    let more = sum_by_more (λ (x : Record). steps_of x.event) c.args.records.now c.loop-record.record-index _ c.loop-record-test.true in
+    let more = sum_by_more (λ (x : Record). steps_of x.event) c.args.records.now c.loop-record.record-index c.record-item.result c.loop-record-test.true in
     record {
       made = omega (arith, c.loop-record.invariant.made, c.steps_of.ensures, more);
       few = omega (arith, c.loop-record.invariant.few);

@@ -21,4 +21,4 @@ returns-in-Err-clause-fault g c =
 pub returns-in-Ok-clause-read : goal.returns-in-Ok-clause-read
 returns-in-Ok-clause-read g c =
     let t = c.in_ok-text.ensures.text in
-    (t.0, t.1, string_bytes c.in_ok-text.text, t.2, subst (λ x. AreEventsSaid c.args.config.now.lines x c.in-Ok.said.items) c.as_bytes.ensures.value c.in-Ok.ensures.read)
+    (t.0, t.1, (string_bytes c.in_ok-text.text, t.2, subst (λ x. AreEventsSaid c.args.config.now.lines x c.in-Ok.said.items) c.as_bytes.ensures.value c.in-Ok.ensures.read))
