@@ -1,5 +1,5 @@
 -- The notes of records and the calls that they refuse, one record more.
-use Rattle.std.proofs.Common.{◌≡◌, ◌∙◌, ◌<◌, ◌≤◌, ℕ, Bool, ◌+◌, List, [], ◌∷◌, ◌++◌, length, take, get_or, append_assoc, Some, None, ap, sym, subst, arith}
+use Rattle.std.proofs.Common.{Option, ◌≡◌, ◌∙◌, ◌<◌, ◌≤◌, ℕ, Bool, ◌+◌, List, [], ◌∷◌, ◌++◌, length, take, get_or, append_assoc, Some, None, ap, sym, subst, arith}
 use Rattle.std.proofs.lemmas.List.{append-nil, take_more, take_all, length-take-le}
 use Rattle.mx_machine.specs.declared.history.Record.{Record}
 use Rattle.mx_machine.specs.History.{AreAccepted, world_after_events, events_of, events_of_history}
