@@ -14,7 +14,7 @@
 typedef struct {
     int32_t m_source;           /* who sent it: an endpoint */
     int32_t m_type;             /* what is asked, or how it went */
-    int32_t p[7];               /* the payload: p[0] to p[6] */
+    int32_t p[7];               /* p[0] to p[6]; an address is one of the sender's memory: sys_vircopy */
 } message;
 
 _Static_assert(sizeof(message) == 36, "a message is 36 bytes");

@@ -14,7 +14,7 @@ char *put_number(char *to, uint32_t number);
 /* Writes a text on the console register itself; the configuration must allow DEVIO. */
 void say(const char *text);
 
-/* Writes a number there in decimal. */
+/* Writes a number there in decimal. It has no sign: -1 is 4294967295. */
 void say_number(uint32_t number);
 
 #endif

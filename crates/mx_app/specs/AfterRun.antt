@@ -13,7 +13,7 @@ use Rattle.mx_app.specs.declared.ending.DrivenEnding.{DrivenEnding}
 use Rattle.mx_app.specs.declared.ending.DrivenEnding.TheVariants.{Interrupted, Run}
 use Rattle.mx_app_run.specs.declared.run_by_threads.RunEnding.TheVariants as runs
 use Rattle.mx_turns.specs.declared.outside.OutsideLine.{OutsideLine}
-use Rattle.mx_why.specs.AfterRun.{IsToldWithin}
+use Rattle.mx_why.specs.AfterRun.{IsToldWithin, command_text}
 use Rattle.mx_why.specs.Begun.{FileNames, IsBegun, IsUntold, file_names}
 use Rattle.mx_why.specs.declared.after_run.AfterRun.{AfterRun}
 use Rattle.mx_why.specs.declared.after_run.AfterRun.TheVariants as after
@@ -41,19 +41,19 @@ made_by (requests.Turns config log ticks events bound stop) =
     Some (file_names config.now log.now (option_map (λ s. s.now) events))
 made_by r = None
 
-abbrev pub line_with : DrivenEnding → FileNames → Option (List ℕ) → List ℕ
-line_with ending f None =
-    codes "mx: " ++ driven_word ending ++ codes "; more: mx why " ++ f.config ++ codes " " ++ f.log ++ codes "\n"
-line_with ending f (Some events) =
-    codes "mx: " ++ driven_word ending ++ codes "; more: mx why " ++ f.config ++ codes " " ++ f.log
-    ++ codes " --events " ++ events ++ codes "\n"
+unfoldable pub ended_text : List ℕ → List ℕ
+ended_text word = codes "mx: " ++ word
 
-abbrev pub line_unknown : DrivenEnding → FileNames → List ℕ
-line_unknown ending f = line_with ending f f.events
+-- what tells more of a history
+unfoldable pub pointer_text : FileNames → List ℕ
+pointer_text f = codes ";" ++ command_text f
+
+unfoldable pub unknown_text : List ℕ → FileNames → List ℕ
+unknown_text word f = ended_text word ++ pointer_text f ++ codes "\n"
 
 -- THE LINE of a history of which nothing is known: how the turns or the run ended, and what tells more
 abbrev pub unknown_line : Option DrivenEnding → Option FileNames → Option (List ℕ)
-unknown_line (Some ending) (Some names) = Some (line_unknown ending names)
+unknown_line (Some ending) (Some names) = Some (unknown_text (driven_word ending) names)
 unknown_line ending names = None
 
 -- what is told of the history in these files, if the files are as a start wants them

@@ -1,16 +1,16 @@
 //! What standard error gets after a command that made a history, if that has a mark.
 
-ghost use Rattle.std.specs.Prelude.{◌≡◌, ◌++◌, IfOk, List, option_map, string_bytes};
+ghost use Rattle.std.specs.Prelude.{◌≡◌, ◌++◌, IfOk, List, OnOk, option_map};
 ghost use Rattle.mx_app_db.specs.Asked.{Asked};
 ghost use Rattle.mx_why.specs.Begun.{names_of};
-ghost use Rattle.mx_app.specs.AfterRun.{TellsAfter, is_stopped, made_by, line_unknown, status_after, unknown_line, wants_marks};
+ghost use Rattle.mx_app.specs.AfterRun.{TellsAfter, ended_text, is_stopped, made_by, pointer_text, status_after, unknown_line, unknown_text, wants_marks};
 
 use crate::ending::DrivenEnding;
 use mx_app_command::CommandRequest;
 use mx_app_failure::Failure;
 use mx_app_run::RunEnding;
 use mx_app_start::Reader;
-use mx_why::{AfterRun, HistoryNames, line_after_run};
+use mx_why::{AfterRun, HistoryNames, line_after_run, push_command};
 use std::alloc::{AllocError, Global};
 
 /// Whether turns or a run were stopped.
@@ -98,22 +98,33 @@ pub fn told_after<R: Reader>(
     }
 }
 
-/// The line of a history that isn't run again, with the words that name the file of outside events, if one is named.
-fn line_unknown(
-    alloc: Global,
-    ending: DrivenEnding,
-    names: HistoryNames<'_>,
-) -> Result<String, AllocError>
-    ensures { IfOk result (λ line. string_bytes line ≡ line_unknown ending (names_of names.entry)) }
+/// Appends how turns or a run ended.
+#[tactic(auto, unfolding(crate::specs::AfterRun::ended_text))]
+fn push_ended(out: &mut Vec<u8>, word: &str) -> Result<(), AllocError>
+    ensures { OnOk result (out.new.items ≡ out.old.items ++ ended_text word.now) }
 {
-    let HistoryNames { config, log, .. } = names;
-    let word = ending.word();
-    match names.events {
-        Some(events) => {
-            format!(in alloc; "mx: {word}; more: mx why {config} {log} --events {events}\n")
-        }
-        None => format!(in alloc; "mx: {word}; more: mx why {config} {log}\n"),
-    }
+    out.extend_from_slice(b"mx: ")?;
+    out.extend_from_slice(word.as_bytes())
+}
+
+/// Appends what tells more of a history.
+#[tactic(auto, unfolding(crate::specs::AfterRun::pointer_text))]
+fn push_pointer(out: &mut Vec<u8>, names: HistoryNames<'_>) -> Result<(), AllocError>
+    ensures { OnOk result (out.new.items ≡ out.old.items ++ pointer_text (names_of names.entry)) }
+{
+    out.extend_from_slice(b";")?;
+    push_command(out, names)
+}
+
+/// Appends the line of a history that isn't run again.
+#[tactic(auto, unfolding(crate::specs::AfterRun::unknown_text))]
+fn push_unknown(out: &mut Vec<u8>, word: &str, names: HistoryNames<'_>) -> Result<(), AllocError>
+    ensures { OnOk result (out.new.items
+        ≡ out.old.items ++ unknown_text word.now (names_of names.entry)) }
+{
+    push_ended(out, word)?;
+    push_pointer(out, names)?;
+    out.extend_from_slice(b"\n")
 }
 
 /// What is told of a history that isn't run again: how the turns or the run ended, and what tells more.
@@ -121,12 +132,16 @@ pub fn unknown_line(
     alloc: Global,
     request: CommandRequest<'_>,
     ending: Option<DrivenEnding>,
-) -> Result<Option<String>, AllocError>
-    ensures { IfOk result (λ line. option_map string_bytes line
+) -> Result<Option<Vec<u8>>, AllocError>
+    ensures { IfOk result (λ line. option_map (λ l. l.items) line
         ≡ unknown_line ending (made_by request.entry)) }
 {
     match (made_by(request), ending) {
-        (Some(names), Some(ending)) => Ok(Some(line_unknown(alloc, ending, names)?)),
+        (Some(names), Some(ending)) => {
+            let mut line = Vec::new(alloc);
+            push_unknown(&mut line, ending.word(), names)?;
+            Ok(Some(line))
+        }
         _ => Ok(None),
     }
 }

@@ -86,8 +86,8 @@ fn marked_line<R: Reader>(
     match told_after(alloc, reader, line.request, line.strict) {
         Ok(AfterRun::Line(text)) => String::from_utf8(text).ok(),
         Ok(AfterRun::Unknown) => match unknown_line(alloc, line.request, done.ending) {
-            Ok(line) => line,
-            Err(_) => None,
+            Ok(Some(text)) => String::from_utf8(text).ok(),
+            _ => None,
         },
         _ => None,
     }

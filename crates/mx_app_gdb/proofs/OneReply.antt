@@ -1,5 +1,5 @@
 -- A request has one reply, and leaves one thing in hand: checkpoints don't matter, nor where names are kept.
-use Rattle.std.proofs.Common.{◌≡◌, ◌∙◌, ℕ, Bool, true, false, List, Option, Some, None, Vec, Global, [], is_some, map, cond, refl, ap, ap₂, sym, subst}
+use Rattle.std.proofs.Common.{◌≡◌, ◌∙◌, ◌||◌, ℕ, Bool, true, false, List, Option, Some, None, Vec, Global, [], is_some, map, cond, refl, ap, ap₂, sym, subst}
 use Rattle.hex.specs.Hex.{encode_lower}
 use Rattle.mx_rsp.specs.Replies.{stop_text}
 use Rattle.mx_rsp.specs.declared.fields.Which.{Which}
@@ -11,13 +11,14 @@ use Rattle.mx_rsp.specs.declared.request.Request.TheVariants as request
 use Rattle.mx_rsp.specs.declared.words.Word.{Word}
 use Rattle.mx_rsp.specs.declared.words.Word.TheVariants as word
 use Rattle.mx_walk.specs.Positions.{IsPosition}
+use Rattle.mx_walk.specs.Walks.{world_here}
 use Rattle.mx_app_look.specs.declared.points.Points.{Points}
 use Rattle.mx_app_look.specs.declared.request.Request.{Request as Line}
 use Rattle.mx_app_look.specs.declared.request.Request.TheVariants as line
 use Rattle.mx_app_look.specs.declared.sight.Sight.{Sight}
 use Rattle.mx_app_look.specs.Changes.{as_seen, seen_in}
 use Rattle.mx_app_look.specs.Places.{place_text}
-use Rattle.mx_app_look.specs.Requests.{request_of as line_of}
+use Rattle.mx_app_look.specs.Requests.{ends, request_of as line_of}
 use Rattle.mx_app_look.specs.Sessions.{IsAnsweredBy}
 use Rattle.mx_app_gdb.specs.declared.halts.Halts.{Halts}
 use Rattle.mx_app_gdb.specs.declared.replying.After.{After}
@@ -125,11 +126,15 @@ abbrev Told : Option Line → Bool → Sight → List ℕ → Sight → List ℕ
 Told q true s typed u text = (u ≡ s) × (text ≡ for_gdb_text)
 Told q false s typed u text = IsAnsweredBy s typed q u text
 
-as_told : (b : Bool) (s : Sight) (typed : List ℕ) (u : Sight) (text : List ℕ) → IsToldIf b s typed u text → Told (line_of typed) b s typed u text
+-- what a line asks for where one is
+abbrev asked : Sight → List ℕ → Option Line
+asked s typed = line_of (world_here s.walker).services typed
+
+as_told : (b : Bool) (s : Sight) (typed : List ℕ) (u : Sight) (text : List ℕ) → IsToldIf b s typed u text → Told (asked s typed) b s typed u text
 as_told true s typed u text t = t
 as_told false s typed u text t = t
 
-of_told : (b : Bool) (s : Sight) (typed : List ℕ) (u : Sight) (text : List ℕ) → Told (line_of typed) b s typed u text → IsToldIf b s typed u text
+of_told : (b : Bool) (s : Sight) (typed : List ℕ) (u : Sight) (text : List ℕ) → Told (asked s typed) b s typed u text → IsToldIf b s typed u text
 of_told true s typed u text t = t
 of_told false s typed u text t = t
 
@@ -146,13 +151,18 @@ told_plain (Some (line.Point p)) s typed u text a = (ap bare a.0, a.1)
 told_plain (Some line.Continue) s typed u text a = (ap bare a.0, a.1)
 told_plain (Some line.Reverse) s typed u text a = (ap bare a.0, a.1)
 told_plain (Some (line.Until h)) s typed u text a = (ap bare a.0, a.1)
+told_plain (Some (line.UntilBack h)) s typed u text a = (ap bare a.0, a.1)
 told_plain (Some line.Where) s typed u text a = (ap bare a.0, a.1)
 told_plain (Some line.Why) s typed u text a = (ap bare a.0, a.1)
 told_plain (Some line.Processes) s typed u text a = (ap bare a.0, a.1)
 told_plain (Some line.Messages) s typed u text a = (ap bare a.0, a.1)
 told_plain (Some (line.Show p)) s typed u text a = (ap bare a.0, a.1)
 told_plain (Some line.Help) s typed u text a = (ap bare a.0, a.1)
-told_plain (Some line.Quit) s typed u text a = (ap bare a.0, a.1)
+
+told_plain_if : (e : Bool) (q : Option Line) (s : Sight) (typed : List ℕ) (u : Sight) (text : List ℕ)
+    → Told q (e || is_for_gdb q) s typed u text → Told q (e || is_for_gdb q) (bare s) typed (bare u) text
+told_plain_if true q s typed u text a = (ap bare a.0, a.1)
+told_plain_if false q s typed u text a = told_plain q s typed u text a
 
 one_told : (q : Option Line) (s : Sight) (typed : List ℕ) (u w : Sight) (t r : List ℕ) → Told q (is_for_gdb q) s typed u t → Told q (is_for_gdb q) s typed w r → (u ≡ w) × (t ≡ r)
 one_told None s typed u w t r a b = (a.0 ∙ sym b.0, a.1 ∙ sym b.1)
@@ -166,24 +176,31 @@ one_told (Some (line.Point p)) s typed u w t r a b = (a.0 ∙ sym b.0, a.1 ∙ s
 one_told (Some line.Continue) s typed u w t r a b = (a.0 ∙ sym b.0, a.1 ∙ sym b.1)
 one_told (Some line.Reverse) s typed u w t r a b = (a.0 ∙ sym b.0, a.1 ∙ sym b.1)
 one_told (Some (line.Until h)) s typed u w t r a b = (a.0 ∙ sym b.0, a.1 ∙ sym b.1)
+one_told (Some (line.UntilBack h)) s typed u w t r a b = (a.0 ∙ sym b.0, a.1 ∙ sym b.1)
 one_told (Some line.Where) s typed u w t r a b = (a.0 ∙ sym b.0, a.1 ∙ sym b.1)
 one_told (Some line.Why) s typed u w t r a b = (a.0 ∙ sym b.0, a.1 ∙ sym b.1)
 one_told (Some line.Processes) s typed u w t r a b = (a.0 ∙ sym b.0, a.1 ∙ sym b.1)
 one_told (Some line.Messages) s typed u w t r a b = (a.0 ∙ sym b.0, a.1 ∙ sym b.1)
 one_told (Some (line.Show p)) s typed u w t r a b = (a.0 ∙ sym b.0, a.1 ∙ sym b.1)
 one_told (Some line.Help) s typed u w t r a b = (a.0 ∙ sym b.0, a.1 ∙ sym b.1)
-one_told (Some line.Quit) s typed u w t r a b = (a.0 ∙ sym b.0, a.1 ∙ sym b.1)
+
+one_told_if : (e : Bool) (q : Option Line) (s : Sight) (typed : List ℕ) (u w : Sight) (t r : List ℕ)
+    → Told q (e || is_for_gdb q) s typed u t → Told q (e || is_for_gdb q) s typed w r → (u ≡ w) × (t ≡ r)
+one_told_if true q s typed u w t r a b = (a.0 ∙ sym b.0, a.1 ∙ sym b.1)
+one_told_if false q s typed u w t r a b = one_told q s typed u w t r a b
 
 module _ (fs : Files) where
   consoled_plain : (s : Stub) (typed : List ℕ) (u : Stub) (t : List ℕ) → IsConsoled s typed u t → IsConsoled (plain fs s) typed (plain fs u) t
   consoled_plain s typed u t (e, told) =
-      let b = is_for_gdb (line_of typed) in
-      (ap (plain fs) e, of_told b (bare s.sight) typed (bare u.sight) t (told_plain (line_of typed) s.sight typed u.sight t (as_told b s.sight typed u.sight t told)))
+      let q = asked s.sight typed in
+      let b = ends typed || is_for_gdb q in
+      (ap (plain fs) e, of_told b (bare s.sight) typed (bare u.sight) t (told_plain_if (ends typed) q s.sight typed u.sight t (as_told b s.sight typed u.sight t told)))
 
 one_consoled : (z : Stub) (typed : List ℕ) (u w : Stub) (t r : List ℕ) → IsConsoled z typed u t → IsConsoled z typed w r → (u ≡ w) × (t ≡ r)
 one_consoled z typed u w t r (e, told) (i, too) =
-    let b = is_for_gdb (line_of typed) in
-    let both = one_told (line_of typed) z.sight typed u.sight w.sight t r (as_told b z.sight typed u.sight t told) (as_told b z.sight typed w.sight r too) in
+    let q = asked z.sight typed in
+    let b = ends typed || is_for_gdb q in
+    let both = one_told_if (ends typed) q z.sight typed u.sight w.sight t r (as_told b z.sight typed u.sight t told) (as_told b z.sight typed w.sight r too) in
     (e ∙ ap (λ (x : Sight). let y : Stub = record z { sight = x } in y) both.0 ∙ sym i, both.1)
 
 -- ---- processes

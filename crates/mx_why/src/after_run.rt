@@ -241,7 +241,7 @@ fn push_events(out: &mut Vec<u8>, events: Option<&str>) -> Result<(), AllocError
 
 /// Appends the words that show all lines.
 #[tactic(auto, unfolding(crate::specs::AfterRun::command_text))]
-fn push_command(out: &mut Vec<u8>, names: HistoryNames<'_>) -> Result<(), AllocError>
+pub fn push_command(out: &mut Vec<u8>, names: HistoryNames<'_>) -> Result<(), AllocError>
     ensures { OnOk result (out.new.items ≡ out.old.items ++ command_text (names_of names.entry)) }
 {
     out.extend_from_slice(b" more: mx why ")?;

@@ -38,7 +38,7 @@ mod unheard;
 mod verdicts;
 mod waiting;
 
-pub use after_run::{AfterRun, line_after_run};
+pub use after_run::{AfterRun, line_after_run, push_command};
 pub use begun::HistoryNames;
 pub use busy::{Pace, busy_of};
 pub use checking::check;
