@@ -146,12 +146,12 @@ gdb_shape =
     (required_text (codes "CONFIG") ∷ required_text (codes "LOG") ∷ number_after (codes "slot") (codes "S")
     ∷ sums_rule ∷ no_sums_rule ∷ [])
 
--- `why CONFIG LOG --strict --sums SUMS --no-sums`
+-- `why CONFIG LOG --events EVENTS --strict --sums SUMS --no-sums`
 abbrev pub why_shape : Shape
 why_shape =
     subcommand (codes "why")
-    (required_text (codes "CONFIG") ∷ required_text (codes "LOG") ∷ flag (codes "strict")
-    ∷ sums_rule ∷ no_sums_rule ∷ [])
+    (required_text (codes "CONFIG") ∷ required_text (codes "LOG") ∷ after_name (codes "events") (codes "EVENTS")
+    ∷ flag (codes "strict") ∷ sums_rule ∷ no_sums_rule ∷ [])
 
 -- one of the subcommands is wanted
 abbrev pub top_app : App
@@ -314,9 +314,9 @@ AsksBy (Look config log) name rows =
 AsksBy (Gdb config log slot) name rows =
     (name ≡ codes "gdb") × HasText (codes "CONFIG") rows config.now × HasText (codes "LOG") rows log.now
     × HasNumberIf (codes "S") rows slot
-AsksBy (Why config log strict) name rows =
+AsksBy (Why config log events strict) name rows =
     (name ≡ codes "why") × HasText (codes "CONFIG") rows config.now × HasText (codes "LOG") rows log.now
-    × IsFlag (codes "strict") rows strict
+    × MayHaveText (codes "EVENTS") rows (option_map (λ s. s.now) events) × IsFlag (codes "strict") rows strict
 AsksBy (Db config script) name rows =
     (name ≡ codes "db") × HasText (codes "CONFIG") rows config.now × HasText (codes "SCRIPT") rows script.now
 

@@ -162,10 +162,11 @@ pub enum CommandRequest<'a> {
         /// The only slot that gdb is to have.
         slot: Option<u32>,
     },
-    /// `why CONFIG LOG`, with `--strict` or without.
+    /// `why CONFIG LOG`, with `--events EVENTS` and `--strict` or without.
     Why {
         config: &'a str,
         log: &'a str,
+        events: Option<&'a str>,
         strict: bool,
     },
     /// `db CONFIG SCRIPT`.
@@ -504,10 +505,12 @@ fn reading_request<'a>(
     } else if name == "look" {
         CommandRequest::Look { config, log }
     } else if name == "why" {
+        let events = value_if_asked(matches, "EVENTS");
         let strict = flag_asked(matches, "strict");
         CommandRequest::Why {
             config,
             log,
+            events,
             strict,
         }
     } else {

@@ -228,6 +228,13 @@ const STRICT_RUN: CommandArgument<'static> = CommandArgument {
     form: ArgumentForm::Flag,
 };
 
+/// What happened from outside while a history was made.
+const EVENTS_WHY: CommandArgument<'static> = CommandArgument {
+    name: "EVENTS",
+    help: "The file of outside events that LOG was made with: tells which of its lines were refused",
+    form: ArgumentForm::After("events"),
+};
+
 /// Whether a mark is an error.
 const STRICT_WHY: CommandArgument<'static> = CommandArgument {
     name: "strict",
@@ -517,7 +524,7 @@ static HISTORY_COMMANDS: [Subcommand<'static>; 8] = [
     Subcommand {
         name: "why",
         help: "Says what became of a saved history: who waits for ever, who died, what was refused",
-        arguments: &[CONFIG, LOG, STRICT_WHY, SUMS, ANY_SUMS, EXPLAIN, SILENT],
+        arguments: &[CONFIG, LOG, EVENTS_WHY, STRICT_WHY, SUMS, ANY_SUMS, EXPLAIN, SILENT],
         example: Example::Why,
     },
     Subcommand {

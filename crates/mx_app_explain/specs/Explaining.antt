@@ -71,7 +71,7 @@ file_subject r about.Program = word_subject (Some (files_read r).first)
 file_subject r about.Source = word_subject (Some (files_read r).first)
 file_subject r about.Config = word_subject (Some (files_read r).first)
 file_subject r about.Course = word_subject (files_read r).course
-file_subject r about.Fault = word_subject (files_read r).fault
+file_subject r about.Fault = word_subject (files_read r).further
 file_subject r about.Written = word_subject (file_written r)
 file_subject r (about.Service name) = service_told (string_bytes name)
 
@@ -150,7 +150,7 @@ is_dash (Some w) = bytes_eq w.name (codes "-")
 -- the word of the command line that names a file which is read
 abbrev pub word_read : CommandRequest → About → Option FileWord
 word_read r about.Course = (files_read r).course
-word_read r about.Fault = (files_read r).fault
+word_read r about.Fault = (files_read r).further
 word_read r about.Written = None
 word_read r (about.Service name) = None
 word_read r a = Some (files_read r).first

@@ -142,7 +142,7 @@ fn word_read<'a>(request: CommandRequest<'a>, about: &About) -> Option<NamedWord
     match about {
         About::Program | About::Source | About::Config => Some(reads.first),
         About::Course => reads.course,
-        About::Fault => reads.fault,
+        About::Fault => reads.further,
         About::Written | About::Service(_) => None,
     }
 }

@@ -14,3 +14,5 @@ pub mod Closing
 pub mod Reaching
 pub mod Staying
 pub mod KernelStaying
+pub mod LostLemmas
+pub mod BegunLemmas
