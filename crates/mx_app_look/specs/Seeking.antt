@@ -11,7 +11,7 @@ use Rattle.mx_app_look.specs.declared.points.Points.{Points}
 use Rattle.mx_app_look.specs.Points.{points_text}
 use Rattle.mx_app_look.specs.declared.happening.Happening.{Happening}
 use Rattle.mx_app_look.specs.Searches.{IsLastHalt, IsLastHappened, IsNextHalt}
-use Rattle.mx_app_look.specs.Until.{has_slots, no_service}
+use Rattle.mx_app_look.specs.Until.{has_slots, no_service, type_note}
 use Rattle.mx_app_look.specs.declared.watches.Watch.{Watch as Watched}
 use Rattle.mx_app_look.specs.Watches.{watch_set}
 use Rattle.mx_print_answers.specs.Answers.{done_line}
@@ -108,7 +108,8 @@ IsGoneIf IsGone s u text = IsGoneBy (has_points s.points) IsGone s u text
 
 -- a search back for what happens, if each slot that it is about has a service; else one stays
 abbrev pub IsGoneUntilBackBy : Bool → Sight → Happening → Sight → List ℕ → Type 0
-IsGoneUntilBackBy true s h u text = (at : Position × List ℕ) × IsLastHappened s.walker h at × IsHalted s at u text
+IsGoneUntilBackBy true s h u text =
+    (at : Position × List ℕ) × IsLastHappened s.walker h at × IsHalted s (at.0, type_note s.walker h ++ at.1) u text
 IsGoneUntilBackBy false s h u text = (u ≡ s) × (text ≡ no_service)
 
 abbrev pub IsGoneUntilBack : Sight → Happening → Sight → List ℕ → Type 0

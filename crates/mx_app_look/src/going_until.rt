@@ -13,7 +13,7 @@ ghost use Rattle.mx_app_look.specs.Happenings.{is_happening};
 ghost use Rattle.mx_app_look.specs.Searches.{IsLastHappened, not_met};
 ghost use Rattle.mx_app_look.specs.Seeking.{IsGoneUntilBack};
 ghost use Rattle.mx_app_look.specs.Shows.{IsLastShown, IsShownIf};
-ghost use Rattle.mx_app_look.specs.Until.{has_service, has_slots, until_halt};
+ghost use Rattle.mx_app_look.specs.Until.{call_by_digits, has_service, has_slots, type_note, until_halt};
 
 use crate::asked_slot::slot_asked;
 use crate::happening::{Happening, happens};
@@ -23,13 +23,16 @@ use crate::sight::{Sight, say};
 use crate::world_texts::{Placed, push_record_after, see_record};
 use mx_app_failure::Failure;
 use mx_app_step::resting_transition;
-use mx_look::push_record;
+use mx_look::{push_record, request_name};
+use mx_print_report::push_decimal;
+use mx_proc::Rules;
 use mx_walk::{Progress, Walker};
 use mx_word::NoMemory;
-use std::alloc::Global;
+use std::alloc::{AllocError, Global};
 
 /// What a slot that isn't there is answered.
-const NO_SERVICE: &str = "refused 42 NoService\n";
+const NO_SERVICE: &str =
+    "refused 42 NoService: until [back] death SLOT, message FROM TO, error [SLOT] or SLOT TYPE\n";
 
 /// Whether a slot has a service.
 fn has_service(walker: &Walker, slot: u32) -> bool
@@ -51,6 +54,45 @@ fn has_slots(walker: &Walker, happening: Happening) -> bool
         Happening::Error(None) => true,
         Happening::Error(Some(slot)) => has_service(walker, slot),
     }
+}
+
+/// The type of the first kernel call, and the number that has its digits in decimal; and the last such number.
+const FIRST_TYPE: u32 = 0x600;
+const FIRST_DIGITS: u32 = 600;
+const LAST_DIGITS: u32 = 609;
+
+/// The name of the call whose type has these decimal digits, read in hexadecimal; empty if the rules have none.
+fn call_by_digits(rules: Rules, kind: u32) -> &'static [u8]
+    ensures { result.now ≡ call_by_digits rules kind }
+{
+    if kind < FIRST_DIGITS || kind > LAST_DIGITS {
+        return b"";
+    }
+    request_name(rules, kind - FIRST_DIGITS + FIRST_TYPE)
+}
+
+/// Appends that the type which is looked for is decimal, if its digits are those of a call's in hexadecimal.
+fn push_type_note(
+    out: &mut Vec<u8>,
+    walker: &Walker,
+    happening: Happening,
+) -> Result<(), AllocError>
+    ensures { OnOk result (out.new.items ≡ out.old.items ++ type_note walker.now happening) }
+{
+    let Happening::Call(_, kind) = happening else {
+        return Ok(());
+    };
+    let name = call_by_digits(walker.machine().rules(), kind);
+    if name.is_empty() {
+        return Ok(());
+    }
+    out.extend_from_slice(b"type ")?;
+    push_decimal(out, kind)?;
+    out.extend_from_slice(b" is decimal: ")?;
+    out.extend_from_slice(name)?;
+    out.extend_from_slice(b" is 0x")?;
+    push_decimal(out, kind)?;
+    out.extend_from_slice(b"\n")
 }
 
 /// Appends that nothing was met, and goes on to the last position.
@@ -123,6 +165,7 @@ fn go_on_to<P: Progress>(
     ensures grown { IfErr result (λ _. HasGrown (P.shown progress.old) (P.shown progress.new)) }
 {
     let mut text = Vec::new(alloc);
+    push_type_note(&mut text, &sight.walker, happening)?;
     let mut walker = go_on_until(alloc, sight.walker, happening, &mut text, progress)?;
     push_place(alloc, &mut text, &mut walker)?;
     Ok((Sight { walker, ..sight }, text))
@@ -219,6 +262,7 @@ pub(crate) fn go_until_back<P: Progress>(
         return say(alloc, sight, NO_SERVICE);
     }
     let mut text = Vec::new(alloc);
+    push_type_note(&mut text, &sight.walker, happening)?;
     let mut walker = go_back_until(alloc, sight.walker, happening, &mut text, progress)?;
     push_place(alloc, &mut text, &mut walker)?;
     Ok((Sight { walker, ..sight }, text))
