@@ -11,7 +11,7 @@ use Rattle.mx_app_look.specs.declared.sight.Sight.{Sight}
 use Rattle.mx_app_look.specs.Before.{why_text}
 use Rattle.mx_walk.specs.Moves.{back_from, can_go, forward_from, gone_to, position_asked, steps_back, steps_on}
 use Rattle.mx_app_look.specs.Places.{place_text}
-use Rattle.mx_app_look.specs.Seeking.{IsGoneBack, IsGoneIf, IsGoneOn, IsGoneUntilBack, point_made, point_text}
+use Rattle.mx_app_look.specs.Seeking.{IsGoneBack, IsGoneIf, IsGoneOn, IsGoneUntilBack, point_answer, point_made}
 use Rattle.mx_app_look.specs.Verbs.{help_text}
 use Rattle.mx_app_look.specs.Showing.{query_text}
 use Rattle.mx_app_look.specs.Until.{has_slots, no_service, type_note, until_halt}
@@ -77,7 +77,7 @@ request_text k _ = []
 -- what each leaves in hand, and what it prints
 abbrev pub IsMade : Sight → Request → Sight → List ℕ → Type 0
 IsMade s (Point p) u text =
-    (u ≡ record s { points = (point_made s p).1 }) × (text ≡ point_text (point_made s p).1 (point_made s p).0)
+    (u ≡ record s { points = (point_made s p).1 }) × (text ≡ point_answer s p)
 IsMade s Continue u text = IsGoneIf IsGoneOn s u text
 IsMade s Reverse u text = IsGoneIf IsGoneBack s u text
 IsMade s (UntilBack h) u text = IsGoneUntilBack s h u text

@@ -23,6 +23,7 @@ use Rattle.mx_walk.specs.Walks.{Walk, world_here}
 use Rattle.mx_app_look.specs.declared.sight.Sight.{Sight}
 use Rattle.mx_app_look.specs.Places.{place_text}
 use Rattle.mx_app_look.specs.Slots.{limit_in, slot_asked}
+use Rattle.mx_app_look.specs.Starts.{note_in}
 
 -- ---- breakpoints and watches
 
@@ -75,8 +76,18 @@ abbrev pub point_text : Points → Option (Result (Unit {0}) Refused) → List �
 point_text s (Some done) = done_line done
 point_text s None = points_text s
 
+-- and then, of a breakpoint that is set, that no instruction begins there
+abbrev pub break_note : Walk → PointRequest → Option (Result (Unit {0}) Refused) → List ℕ
+break_note k (Break slot at) (Some (Ok done)) = note_in (world_here k) at (slot_asked k (Some slot))
+break_note k r done = []
+
 abbrev pub point_made : Sight → PointRequest → Option (Result (Unit {0}) Refused) × Points
 point_made s r = points_after s.walker s.points r
+
+-- THE ANSWER to such a request
+abbrev pub point_answer : Sight → PointRequest → List ℕ
+point_answer s r =
+    point_text (point_made s r).1 (point_made s r).0 ++ break_note s.walker r (point_made s r).0
 
 -- ---- searches
 

@@ -6,7 +6,7 @@ ghost use Rattle.mx_walk.specs.declared.progress.Part.{Part as Parts};
 ghost use Rattle.mx_walk.specs.Parts.{HasGrown, walk_shown};
 ghost use Rattle.mx_walk.specs.Positions.{first};
 ghost use Rattle.mx_walk.specs.Seeking.{IsLastMarked, IsPassed};
-ghost use Rattle.mx_walk.specs.Walks.{shown_to};
+ghost use Rattle.mx_walk.specs.Walks.{shown_to, world_here};
 ghost use Rattle.mx_app_look.specs.declared.request.Request.TheVariants as requests;
 ghost use Rattle.mx_app_look.specs.Answers.{after, request_text, to_of};
 ghost use Rattle.mx_app_look.specs.Happenings.{is_happening};
@@ -58,8 +58,17 @@ fn has_slots(walker: &Walker, happening: Happening) -> bool
 
 /// The type of the first kernel call, and the number that has its digits in decimal; and the last such number.
 const FIRST_TYPE: u32 = 0x600;
+
 const FIRST_DIGITS: u32 = 600;
+
 const LAST_DIGITS: u32 = 609;
+
+/// The rules of the machine.
+fn rules_here(walker: &Walker) -> Rules
+    ensures { result ≡ (world_here walker.now).table.rules }
+{
+    walker.machine().rules()
+}
 
 /// The name of the call whose type has these decimal digits, read in hexadecimal; empty if the rules have none.
 fn call_by_digits(rules: Rules, kind: u32) -> &'static [u8]
@@ -82,7 +91,7 @@ fn push_type_note(
     let Happening::Call(_, kind) = happening else {
         return Ok(());
     };
-    let name = call_by_digits(walker.machine().rules(), kind);
+    let name = call_by_digits(rules_here(walker), kind);
     if name.is_empty() {
         return Ok(());
     }

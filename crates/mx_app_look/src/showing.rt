@@ -13,9 +13,7 @@ use mx_boot::{AddressWord, SymbolName};
 use mx_debug::DebugError;
 use mx_exec::Image;
 use mx_look::{push_code_lines, push_stack, push_variable, variable_named, variable_value};
-use mx_print_answers::{
-    Refused, image_in, push_memory_of, push_process, symbols_of,
-};
+use mx_print_answers::{Refused, image_in, push_memory_of, push_process, symbols_of};
 use mx_proc::Slot;
 use mx_walk::Walker;
 use std::alloc::{AllocError, Global};
@@ -57,7 +55,7 @@ fn symbols_in(walker: &Walker, slot: Slot) -> &[Symbol]
 }
 
 /// The process of a slot.
-fn image_here(walker: &Walker, slot: Slot) -> Option<&Image>
+pub(crate) fn image_here(walker: &Walker, slot: Slot) -> Option<&Image>
     ensures { option_map (λ m. m.now) result ≡ image_in (world_here walker.now) slot }
 {
     image_in(walker.machine(), slot)
