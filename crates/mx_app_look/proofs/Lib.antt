@@ -18,4 +18,4 @@ mod Making
 mod Since
 mod Happened
 mod Ranges
-mod Starts
+mod Parted

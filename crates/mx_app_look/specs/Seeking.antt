@@ -79,7 +79,7 @@ point_text s None = points_text s
 -- and then, of a breakpoint that is set, that no instruction begins there
 abbrev pub break_note : Walk → PointRequest → Option (Result (Unit {0}) Refused) → List ℕ
 break_note k (Break slot at) (Some (Ok done)) = note_in (world_here k) at (slot_asked k (Some slot))
-break_note k r done = []
+break_note k r _ = []
 
 abbrev pub point_made : Sight → PointRequest → Option (Result (Unit {0}) Refused) × Points
 point_made s r = points_after s.walker s.points r
