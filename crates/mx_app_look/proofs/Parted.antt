@@ -1,6 +1,6 @@
 -- One part more of a process's code.
-use Rattle.std.proofs.Common.{◌≡◌, ◌≢◌, ◌∙◌, ◌<◌, ◌+◌, ◌-◌, ◌==◌, ◌||◌, ℕ, zero, suc, true, false, Option, Some, None, ap, sym, arith}
-use Rattle.std.proofs.lemmas.Bool.{eq-eqb, ne_eqb}
+use Rattle.std.proofs.Common.{◌≡◌, ◌≢◌, ◌∙◌, ◌<◌, ◌+◌, ◌-◌, ◌||◌, ℕ, suc, Option, Some, ap, sym, arith}
+use Rattle.std.proofs.lemmas.Bool.{ne_eqb}
 use Rattle.mx_dis.specs.declared.part.Part.{Part}
 use Rattle.mx_dis.specs.Parting.{part_size}
 use Rattle.mx_exec.specs.declared.image.Image.{Image}
@@ -12,12 +12,7 @@ pub counts_down : (n i : ℕ) → i < n → n - i ≡ suc (n - (i + 1))
 counts_down n i lt = omega (arith, lt)
 
 module _ (m : Image) (at : ℕ) where
-  -- the first part begins there
-  pub found_part : (n from : ℕ) → from ≡ at → begins_part n m at from ≡ true
-  found_part zero from is = eq-eqb from at is
-  found_part (suc n) from is = ap (λ b. b || after_part (code_part m from) from (begins_part n m at)) (eq-eqb from at is)
-
-  -- it doesn't, and others follow
+  -- the first part doesn't begin there, and others follow
   pub one_part : (n k from size : ℕ) (p : Part) → k ≡ suc n → from ≢ at → code_part m from ≡ Some p → size ≡ part_size p
       → begins_part k m at from ≡ begins_part n m at (dword_sum from size)
   one_part n k from size p one isnt e s =
@@ -25,10 +20,3 @@ module _ (m : Image) (at : ℕ) where
       ∙ ap (λ b. b || after_part (code_part m from) from (begins_part n m at)) (ne_eqb from at isnt)
       ∙ ap (λ (o : Option Part). after_part o from (begins_part n m at)) e
       ∙ ap (λ i. begins_part n m at (dword_sum from i)) (sym s)
-
-  -- it doesn't, and is none
-  pub no_part : (n k from : ℕ) → k ≡ suc n → from ≢ at → code_part m from ≡ None → begins_part k m at from ≡ false
-  no_part n k from one isnt e =
-      ap (λ i. begins_part i m at from) one
-      ∙ ap (λ b. b || after_part (code_part m from) from (begins_part n m at)) (ne_eqb from at isnt)
-      ∙ ap (λ (o : Option Part). after_part o from (begins_part n m at)) e

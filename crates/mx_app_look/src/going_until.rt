@@ -13,7 +13,7 @@ ghost use Rattle.mx_app_look.specs.Happenings.{is_happening};
 ghost use Rattle.mx_app_look.specs.Searches.{IsLastHappened, not_met};
 ghost use Rattle.mx_app_look.specs.Seeking.{IsGoneUntilBack};
 ghost use Rattle.mx_app_look.specs.Shows.{IsLastShown, IsShownIf};
-ghost use Rattle.mx_app_look.specs.Until.{call_by_digits, has_service, has_slots, type_note, until_halt};
+ghost use Rattle.mx_app_look.specs.Until.{call_by_digits, has_service, has_slots, type_digits, type_line, type_note, until_halt};
 
 use crate::asked_slot::slot_asked;
 use crate::happening::{Happening, happens};
@@ -80,6 +80,29 @@ fn call_by_digits(rules: Rules, kind: u32) -> &'static [u8]
     request_name(rules, kind - FIRST_DIGITS + FIRST_TYPE)
 }
 
+/// Appends that a type is decimal, and whose it is in hexadecimal.
+fn push_type_digits(out: &mut Vec<u8>, kind: u32, name: &[u8]) -> Result<(), AllocError>
+    ensures { OnOk result (out.new.items ≡ out.old.items ++ type_digits kind name.now) }
+{
+    out.extend_from_slice(b"type ")?;
+    push_decimal(out, kind)?;
+    out.extend_from_slice(b" is decimal: ")?;
+    out.extend_from_slice(name)?;
+    out.extend_from_slice(b" is 0x")?;
+    push_decimal(out, kind)?;
+    out.extend_from_slice(b"\n")
+}
+
+/// Appends that if there is a name.
+fn push_type_line(out: &mut Vec<u8>, kind: u32, name: &[u8]) -> Result<(), AllocError>
+    ensures { OnOk result (out.new.items ≡ out.old.items ++ type_line kind name.now) }
+{
+    if name.is_empty() {
+        return Ok(());
+    }
+    push_type_digits(out, kind, name)
+}
+
 /// Appends that the type which is looked for is decimal, if its digits are those of a call's in hexadecimal.
 fn push_type_note(
     out: &mut Vec<u8>,
@@ -88,20 +111,13 @@ fn push_type_note(
 ) -> Result<(), AllocError>
     ensures { OnOk result (out.new.items ≡ out.old.items ++ type_note walker.now happening) }
 {
-    let Happening::Call(_, kind) = happening else {
-        return Ok(());
-    };
-    let name = call_by_digits(rules_here(walker), kind);
-    if name.is_empty() {
-        return Ok(());
+    match happening {
+        Happening::Call(_, kind) => {
+            let name = call_by_digits(rules_here(walker), kind);
+            push_type_line(out, kind, name)
+        }
+        _ => Ok(()),
     }
-    out.extend_from_slice(b"type ")?;
-    push_decimal(out, kind)?;
-    out.extend_from_slice(b" is decimal: ")?;
-    out.extend_from_slice(name)?;
-    out.extend_from_slice(b" is 0x")?;
-    push_decimal(out, kind)?;
-    out.extend_from_slice(b"\n")
 }
 
 /// Appends that nothing was met, and goes on to the last position.
