@@ -200,13 +200,18 @@ data_name w =
     if bytes_eq w (codes "db") then Some (codes ".data1, or .ascii for a text") else
     if bytes_eq w (codes "dw") then Some (codes ".data2") else
     if bytes_eq w (codes "dd") then Some (codes ".data4") else
+    None
+
+abbrev pub section_name : List ℕ → Option (List ℕ)
+section_name w =
     if bytes_eq w (codes "resb") then Some (codes ".space") else
     if bytes_eq w (codes "section") || bytes_eq w (codes "segment") then Some (codes ".text, .data or .bss alone") else
     None
 
 abbrev pub own_name : List ℕ → Option (List ℕ)
 own_name w =
-    name_or (equal_name w) (name_or (order_name w) (name_or (single_name w) (name_or (stack_name w) (data_name w))))
+    name_or (equal_name w) (name_or (order_name w) (name_or (single_name w) (name_or (stack_name w)
+    (name_or (data_name w) (section_name w)))))
 
 -- instructions of the 80386 that this machine hasn't
 abbrev pub is_decimal_word : List ℕ → Bool

@@ -3,7 +3,7 @@
 ghost use Rattle.std.specs.Prelude.{◌≡◌, None, Some, MatchOption, false, option_map};
 ghost use Rattle.mx_text.specs.Fields.{fields};
 ghost use Rattle.mx_app_explain.specs.Details.{detail_told};
-ghost use Rattle.mx_app_explain.specs.TextAdvice.{address_advice, advice_told, advised, after_first, after_label, bad_label, begins_open, bracket_wanted, byte_advice, constant_wanted, data_name, equal_name, escape_in, extra_advice, extra_word, fault_word, find_word, first_of, form_wanted, has_value, indexed_advice, indexed_in, indexed_name, indexed_wanted, is_decimal_word, is_data, is_of_386, is_other_word, is_port_word, is_prefix, is_segment_word, is_shift, is_sign, is_sought, is_star, joined_name, lacks_register, lacks_size, label_advice, labelled_advice, last_word, late_register, may_end, name_or, next_sought, number_advice, number_wanted, only_free_word, operand_advice, operand_word_advice, operator_wanted, order_name, other_form_wanted, own_name, pair_advice, plain, plain_word_wanted, pop_advice, push_advice, quoted_advice, second_address, section_advice, section_wanted, single_name, size_advice, stack_name, statement_advice, statement_form_advice, takes_one, takes_two, text_advice, together_advice, token_wanted, value_advice, value_mark, word_advice, word_wanted};
+ghost use Rattle.mx_app_explain.specs.TextAdvice.{address_advice, advice_told, advised, after_first, after_label, bad_label, begins_open, bracket_wanted, byte_advice, constant_wanted, data_name, equal_name, escape_in, extra_advice, extra_word, fault_word, find_word, first_of, form_wanted, has_value, indexed_advice, indexed_in, indexed_name, indexed_wanted, is_decimal_word, is_data, is_of_386, is_other_word, is_port_word, is_prefix, is_segment_word, is_shift, is_sign, is_sought, is_star, joined_name, lacks_register, lacks_size, label_advice, labelled_advice, last_word, late_register, may_end, name_or, next_sought, number_advice, number_wanted, only_free_word, operand_advice, operand_word_advice, operator_wanted, order_name, other_form_wanted, own_name, pair_advice, plain, plain_word_wanted, pop_advice, push_advice, quoted_advice, second_address, section_advice, section_name, section_wanted, single_name, size_advice, stack_name, statement_advice, statement_form_advice, takes_one, takes_two, text_advice, together_advice, token_wanted, value_advice, value_mark, word_advice, word_wanted};
 ghost use Rattle.mx_app_explain.specs.declared.text_advice.Sought.TheVariants.{FreeWord, Quoted};
 
 use crate::detail::{Detail, Label};
@@ -440,7 +440,7 @@ fn stack_name(word: &[u8]) -> Option<&'static str>
     }
 }
 
-/// This assembler's name for data and for sections.
+/// This assembler's name for data.
 fn data_name(word: &[u8]) -> Option<&'static str>
     ensures { option_map (λ s. s.now) result ≡ data_name word.now }
 {
@@ -448,9 +448,20 @@ fn data_name(word: &[u8]) -> Option<&'static str>
         b"db" => Some(".data1, or .ascii for a text"),
         b"dw" => Some(".data2"),
         b"dd" => Some(".data4"),
-        b"resb" => Some(".space"),
-        b"section" | b"segment" => Some(".text, .data or .bss alone"),
         _ => None,
+    }
+}
+
+/// This assembler's name for room and for sections.
+fn section_name(word: &[u8]) -> Option<&'static str>
+    ensures { option_map (λ s. s.now) result ≡ section_name word.now }
+{
+    if word == b"resb".as_slice() {
+        Some(".space")
+    } else if word == b"section".as_slice() || word == b"segment".as_slice() {
+        Some(".text, .data or .bss alone")
+    } else {
+        None
     }
 }
 
@@ -469,7 +480,8 @@ fn name_or(name: Option<&'static str>, other: Option<&'static str>) -> Option<&'
 fn own_name(word: &[u8]) -> Option<&'static str>
     ensures { option_map (λ s. s.now) result ≡ own_name word.now }
 {
-    let last = name_or(stack_name(word), data_name(word));
+    let data = name_or(data_name(word), section_name(word));
+    let last = name_or(stack_name(word), data);
     let rest = name_or(order_name(word), name_or(single_name(word), last));
     name_or(equal_name(word), rest)
 }

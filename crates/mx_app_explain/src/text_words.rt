@@ -215,27 +215,26 @@ pub(crate) fn is_jump(word: &[u8]) -> bool
 pub(crate) fn is_constant(word: &[u8]) -> bool
     ensures { result ≡ is_constant word.now }
 {
-    matches!(
-        word,
-        b"equ" | b"EQU" | b".equ" | b".set" | b"#define" | b"%define"
-    )
+    word == b"equ".as_slice()
+        || word == b"EQU".as_slice()
+        || word == b".equ".as_slice()
+        || word == b".set".as_slice()
+        || word == b"#define".as_slice()
+        || word == b"%define".as_slice()
 }
 
 /// Whether a preprocessor does something else by a word.
 pub(crate) fn is_prepared(word: &[u8]) -> bool
     ensures { result ≡ is_prepared word.now }
 {
-    matches!(
-        word,
-        b"#include"
-            | b"#if"
-            | b"#ifdef"
-            | b"#ifndef"
-            | b"%include"
-            | b"%macro"
-            | b".include"
-            | b".macro"
-    )
+    word == b"#include".as_slice()
+        || word == b"#if".as_slice()
+        || word == b"#ifdef".as_slice()
+        || word == b"#ifndef".as_slice()
+        || word == b"%include".as_slice()
+        || word == b"%macro".as_slice()
+        || word == b".include".as_slice()
+        || word == b".macro".as_slice()
 }
 
 /// Whether other assemblers have a word before a bracket: a size, with or without capital letters.

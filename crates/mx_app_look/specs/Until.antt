@@ -37,12 +37,14 @@ abbrev pub call_by_digits : Rules → ℕ → List ℕ
 call_by_digits rules kind =
     if nat_le 600 kind && nat_le kind 609 then request_name rules (kind - 600 + 1536) else []
 
-abbrev pub type_digits : ℕ → List ℕ → List ℕ
-type_digits kind name =
-    codes "type " ++ decimal kind ++ codes " is decimal: " ++ name ++ codes " is 0x" ++ decimal kind ++ codes "\n"
+abbrev pub is_decimal : ℕ → List ℕ
+is_decimal kind = codes "type " ++ decimal kind ++ codes " is decimal: "
+
+abbrev pub is_digits : ℕ → List ℕ → List ℕ
+is_digits kind name = name ++ codes " is 0x" ++ decimal kind ++ codes "\n"
 
 abbrev pub type_line : ℕ → List ℕ → List ℕ
-type_line kind name = if length name == 0 then [] else type_digits kind name
+type_line kind name = if length name == 0 then [] else is_decimal kind ++ is_digits kind name
 
 -- what is printed before the search
 abbrev pub type_note : Walk → Happening → List ℕ

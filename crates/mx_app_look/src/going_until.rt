@@ -13,7 +13,7 @@ ghost use Rattle.mx_app_look.specs.Happenings.{is_happening};
 ghost use Rattle.mx_app_look.specs.Searches.{IsLastHappened, not_met};
 ghost use Rattle.mx_app_look.specs.Seeking.{IsGoneUntilBack};
 ghost use Rattle.mx_app_look.specs.Shows.{IsLastShown, IsShownIf};
-ghost use Rattle.mx_app_look.specs.Until.{call_by_digits, has_service, has_slots, type_digits, type_line, type_note, until_halt};
+ghost use Rattle.mx_app_look.specs.Until.{call_by_digits, has_service, has_slots, is_decimal, is_digits, type_line, type_note, until_halt};
 
 use crate::asked_slot::slot_asked;
 use crate::happening::{Happening, happens};
@@ -80,27 +80,34 @@ fn call_by_digits(rules: Rules, kind: u32) -> &'static [u8]
     request_name(rules, kind - FIRST_DIGITS + FIRST_TYPE)
 }
 
-/// Appends that a type is decimal, and whose it is in hexadecimal.
-fn push_type_digits(out: &mut Vec<u8>, kind: u32, name: &[u8]) -> Result<(), AllocError>
-    ensures { OnOk result (out.new.items ≡ out.old.items ++ type_digits kind name.now) }
+/// Appends that a type is decimal.
+fn push_is_decimal(out: &mut Vec<u8>, kind: u32) -> Result<(), AllocError>
+    ensures { OnOk result (out.new.items ≡ out.old.items ++ is_decimal kind) }
 {
     out.extend_from_slice(b"type ")?;
     push_decimal(out, kind)?;
-    out.extend_from_slice(b" is decimal: ")?;
+    out.extend_from_slice(b" is decimal: ")
+}
+
+/// Appends whose these digits are in hexadecimal, and a line's end.
+fn push_is_digits(out: &mut Vec<u8>, kind: u32, name: &[u8]) -> Result<(), AllocError>
+    ensures { OnOk result (out.new.items ≡ out.old.items ++ is_digits kind name.now) }
+{
     out.extend_from_slice(name)?;
     out.extend_from_slice(b" is 0x")?;
     push_decimal(out, kind)?;
     out.extend_from_slice(b"\n")
 }
 
-/// Appends that if there is a name.
+/// Appends both if there is a name.
 fn push_type_line(out: &mut Vec<u8>, kind: u32, name: &[u8]) -> Result<(), AllocError>
     ensures { OnOk result (out.new.items ≡ out.old.items ++ type_line kind name.now) }
 {
     if name.is_empty() {
         return Ok(());
     }
-    push_type_digits(out, kind, name)
+    push_is_decimal(out, kind)?;
+    push_is_digits(out, kind, name)
 }
 
 /// Appends that the type which is looked for is decimal, if its digits are those of a call's in hexadecimal.
