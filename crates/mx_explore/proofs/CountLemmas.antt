@@ -1,0 +1,222 @@
+-- What an explorer has counted, and what was shown of it.
+use Rattle.std.proofs.Common.{◌≡◌, ◌∙◌, ◌<◌, ◌≤◌, ◌+◌, ◌-◌, ◌&&◌, ◌++◌, ℕ, zero, suc, Bool, true, false, List, [], ◌∷◌, map, take, length, length-append, cond, append_assoc, Option, refl, ap, sym, subst, arith}
+use Rattle.std.specs.Prelude.{filter, slice_get}
+use Rattle.std.specs.List.{flat_map, range_with_len}
+use Rattle.std.specs.Option.{option_to_list}
+use Rattle.std.proofs.lemmas.Grind.{flat_map-append}
+use Rattle.std.proofs.lemmas.List.{map-append}
+use Rattle.std.proofs.lemmas.List.Elements.{filter-append}
+use Rattle.mx_machine.specs.History.{BootAndHistory}
+use Rattle.mx_machine.specs.Machine.{MachineState, world_of}
+use Rattle.mx_machine.specs.Service.{Service}
+use Rattle.mx_machine.specs.World.{World}
+use Rattle.mx_turns.specs.declared.turns.Ending.{Ending}
+use Rattle.mx_walk.specs.declared.progress.Part.{Part as Parts}
+use Rattle.mx_explore.specs.declared.exploring.Explorer.{Explorer}
+use Rattle.mx_explore.specs.declared.exploring.Terms.{Terms}
+use Rattle.mx_explore.specs.declared.outcomes.Outcome.{Outcome}
+use Rattle.mx_explore.specs.declared.outcomes.Tally.{Tally}
+use Rattle.mx_explore.specs.declared.passing.Departure.{Departure}
+use Rattle.mx_explore.specs.declared.passing.Ran.{Ran}
+use Rattle.mx_explore.specs.Exploring.{HasCounted, IsAtBoot, IsSame, ShowsCounts, part_of, setting}
+use Rattle.mx_explore.specs.Outcomes.{Found, IsCounted, first_of, found_by, outcome_text}
+use Rattle.mx_explore.specs.Passages.{IsRun}
+use Rattle.mx_explore.specs.Passing.{Setting, end_of, from_boot, run_of_schedule}
+use Rattle.mx_explore.specs.Schedules.{Part, is_in_part}
+use Rattle.mx_explore.specs.Tree.{below, can_wait, departed, departing, is_of_outside, itself}
+use Rattle.mx_explore.proofs.AlongLemmas.{turns_last}
+use Rattle.mx_explore.proofs.FollowLemmas.{Bounded, bounded}
+use Rattle.mx_explore.proofs.RunLemmas.{run_boot}
+
+append_none : {X : Type 0} (xs : List X) → xs ++ [] ≡ xs
+append_none [] = refl
+append_none (x ∷ xs) = ap (λ l. x ∷ l) (append_none xs)
+
+-- the schedules of an explorer
+abbrev pub here : Explorer → Setting
+here a = setting a.terms a.boot
+
+-- nothing is counted
+pub none_counted : (a b : Explorer) → a.tally ≡ b.tally → HasCounted a [] b
+none_counted a b e fs h = subst (λ (gs : List Found). IsCounted gs b.tally) (sym (append_none fs)) (subst (IsCounted fs) e h)
+
+same_setting : (a b : Explorer) → IsSame a b → setting b.terms b.boot ≡ setting a.terms a.boot
+same_setting a b h = ap (λ (t : Terms). setting t b.boot) h.terms ∙ ap (λ (m : MachineState). setting a.terms m) h.boot
+
+-- some are counted, and then others
+pub then_counted : (a b c : Explorer) (xs ys : List (List Departure)) → IsSame a b → HasCounted a xs b → HasCounted b ys c → HasCounted a (xs ++ ys) c
+then_counted a b c xs ys same first second fs h =
+    let f : List Departure → Found = found_by (setting a.terms a.boot) in
+    let one = second (fs ++ map f xs) (first fs h) in
+    let two : IsCounted ((fs ++ map f xs) ++ map f ys) c.tally = subst (λ (t : Setting). IsCounted ((fs ++ map f xs) ++ map (found_by t) ys) c.tally) (same_setting a b same) one in
+    subst (λ (gs : List Found). IsCounted gs c.tally) (append_assoc fs (map f xs) (map f ys) ∙ ap (λ (gs : List Found). fs ++ gs) (sym (map-append f xs ys))) two
+
+pub same_then : (a b c : Explorer) → IsSame a b → IsSame b c → IsSame a c
+same_then a b c h g = record { terms = g.terms ∙ h.terms; boot = g.boot ∙ h.boot; departures = g.departures ∙ h.departures }
+
+pub same_itself : (a : Explorer) → IsSame a a
+same_itself a = record { terms = refl; boot = refl; departures = refl }
+
+-- ---- one schedule
+
+-- its outcome
+pub outcome_found : (t : Setting) (ds : List Departure) (r : Ran) (o : Outcome) → IsRun t ds r
+    → first_of o ≡ record { text = outcome_text (world_of r.machine) r.ending; departures = ds; records = (world_of r.machine).records } → first_of o ≡ found_by t ds
+outcome_found t ds r o ran e =
+    e ∙ ap (λ (w : World). let f : Found = record { text = outcome_text w r.ending; departures = ds; records = w.records } in f) ran.world
+    ∙ ap (λ (x : Ending). let f : Found = record { text = outcome_text (run_of_schedule t ds).0.world x; departures = ds; records = (run_of_schedule t ds).0.world.records } in f) ran.ending
+
+-- it is counted
+pub one_counted : (a b : Explorer) (r : Ran) (o : Outcome) → IsRun (here a) a.departures.items r
+    → first_of o ≡ record { text = outcome_text (world_of r.machine) r.ending; departures = a.departures.items; records = (world_of r.machine).records }
+    → ((fs : List Found) → IsCounted fs a.tally → IsCounted (fs ++ first_of o ∷ []) b.tally) → is_in_part (part_of a.terms) a.departures.items ≡ true
+    → HasCounted a (itself (part_of a.terms) a.departures.items) b
+one_counted a b r o ran e more is fs h =
+    subst (λ (dss : List (List Departure)). IsCounted (fs ++ map (found_by (here a)) dss) b.tally) (ap (λ c. cond c (a.departures.items ∷ []) []) (sym is))
+    (subst (λ (f : Found). IsCounted (fs ++ f ∷ []) b.tally) (outcome_found (here a) a.departures.items r o ran e) (more fs h))
+
+-- or it isn't in the part
+pub other_part : (a b : Explorer) → a.tally ≡ b.tally → is_in_part (part_of a.terms) a.departures.items ≡ false → HasCounted a (itself (part_of a.terms) a.departures.items) b
+other_part a b e not_in = subst (λ (dss : List (List Departure)). HasCounted a dss b) (ap (λ c. cond c (a.departures.items ∷ []) []) (sym not_in)) (none_counted a b e)
+
+-- the services come back from its machine
+pub services_back : (t : Setting) (ds : List Departure) (m : MachineState) (services : List Service) (r : Ran) → IsAtBoot m services → t.boot ≡ world_of m → IsRun t ds r → r.machine.kernel.boot.services ≡ services
+services_back t ds m services r start boot ran =
+    ap (λ (k : BootAndHistory). k.boot.services) ran.kernel ∙ ap (λ (w : World). w.services) (run_boot t ds ∙ boot)
+    ∙ sym (start.services ∙ ap (λ (k : BootAndHistory). k.boot.services) start.kernel)
+
+-- ---- the offers at which a schedule departs next
+
+one_more : (a n at : ℕ) → a + n ≡ at → range_with_len a (n + 1) ≡ range_with_len a n ++ at ∷ []
+one_more a zero at e = let same : a ≡ at = omega (arith, e) in ap (λ i. i ∷ []) same
+one_more a (suc n) at e = ap (λ l. a ∷ l) (one_more (a + 1) n at (omega (arith, e)))
+
+module _ (p : Part) (t : Setting) (k : ℕ) (ds : List Departure) where
+  abbrev asked : ℕ → Bool
+  asked at = is_in_part p (departed ds at 1)
+
+  abbrev deeper : ℕ → List (List Departure)
+  deeper at = departing (below p t k) t ds at 1 t.turns
+
+  -- what comes of the first n
+  abbrev pub tried : ℕ → List (List Departure)
+  tried n = itself p ds ++ flat_map deeper (filter asked (range_with_len (end_of t ds).after n))
+
+  pub tried_none : tried 0 ≡ itself p ds
+  tried_none = append_none (itself p ds)
+
+  pub tried_all : (n : ℕ) → n ≡ length (end_of t ds).met - (end_of t ds).after → tried n ≡ below p t (suc k) ds
+  tried_all n e = ap tried e
+
+  -- one more
+  tried_next : (n at : ℕ) (b : Bool) → (end_of t ds).after + n ≡ at → asked at ≡ b → tried (n + 1) ≡ tried n ++ cond b (deeper at) []
+  tried_next n at b e is =
+      ap (λ (l : List ℕ). itself p ds ++ flat_map deeper (filter asked l)) (one_more (end_of t ds).after n at e)
+      ∙ ap (λ (l : List ℕ). itself p ds ++ flat_map deeper l) (filter-append asked front (at ∷ []))
+      ∙ ap (λ (l : List (List Departure)). itself p ds ++ l) (flat_map-append deeper (filter asked front) (filter asked (at ∷ [])))
+      ∙ sym (append_assoc (itself p ds) (flat_map deeper (filter asked front)) (flat_map deeper (filter asked (at ∷ []))))
+      ∙ ap (λ (l : List (List Departure)). tried n ++ l) (ap (λ c. flat_map deeper (cond c (at ∷ []) [])) is ∙ single b)
+    where
+      front : List ℕ
+      front = range_with_len (end_of t ds).after n
+
+      single : (c : Bool) → flat_map deeper (cond c (at ∷ []) []) ≡ cond c (deeper at) []
+      single true = append_none (deeper at)
+      single false = refl
+
+  pub tried_asked : (n at : ℕ) → (end_of t ds).after + n ≡ at → asked at ≡ true → tried (n + 1) ≡ tried n ++ deeper at
+  tried_asked n at e is = tried_next n at true e is
+
+  pub tried_unasked : (n at : ℕ) → (end_of t ds).after + n ≡ at → asked at ≡ false → tried (n + 1) ≡ tried n
+  tried_unasked n at e not_asked = tried_next n at false e not_asked ∙ append_none (tried n)
+
+-- ---- for how many turns it departs there
+
+module _ (f : List Departure → List (List Departure)) (t : Setting) (ds : List Departure) (at : ℕ) where
+  -- these were run, for the first n turns, and the rest is for more
+  abbrev pub IsDeparted : ℕ → ℕ → List (List Departure) → Type 0
+  IsDeparted bound n dss = departing f t ds at 1 bound ≡ dss ++ departing f t ds at (n + 1) (bound - n)
+
+  abbrev waits : ℕ → Bool
+  waits turns = can_wait (end_of t (departed ds at turns)) && is_of_outside (slice_get (end_of t ds).met at)
+
+  pub departed_none : (bound : ℕ) → IsDeparted bound 0 []
+  departed_none bound = let one : 1 ≡ 0 + 1 = omega arith in let all : bound ≡ bound - 0 = omega arith in ap (λ n. departing f t ds at n bound) one ∙ ap (λ n. departing f t ds at (0 + 1) n) all
+
+  departed_next : (bound n : ℕ) (dss : List (List Departure)) (b : Bool) → n < bound → waits (n + 1) ≡ b → IsDeparted bound n dss
+      → departing f t ds at 1 bound ≡ (dss ++ f (departed ds at (n + 1))) ++ cond b (departing f t ds at (n + 1 + 1) (bound - (n + 1))) []
+  departed_next bound n dss b lt is h =
+      let more : bound - n ≡ suc (bound - (n + 1)) = omega (arith, lt) in
+      h ∙ ap (λ i. dss ++ departing f t ds at (n + 1) i) more
+      ∙ ap (λ c. dss ++ (f (departed ds at (n + 1)) ++ cond c (departing f t ds at (n + 1 + 1) (bound - (n + 1))) [])) is
+      ∙ sym (append_assoc dss (f (departed ds at (n + 1))) (cond b (departing f t ds at (n + 1 + 1) (bound - (n + 1))) []))
+
+  pub departed_more : (bound n : ℕ) (dss : List (List Departure)) → n < bound → waits (n + 1) ≡ true → IsDeparted bound n dss → IsDeparted bound (n + 1) (dss ++ f (departed ds at (n + 1)))
+  departed_more bound n dss lt is h = departed_next bound n dss true lt is h
+
+  -- it can't wait longer
+  pub departed_last : (bound n : ℕ) (dss : List (List Departure)) → n < bound → waits (n + 1) ≡ false → IsDeparted bound n dss → departing f t ds at 1 bound ≡ dss ++ f (departed ds at (n + 1))
+  departed_last bound n dss lt no h = departed_next bound n dss false lt no h ∙ append_none (dss ++ f (departed ds at (n + 1)))
+
+  -- it waits as long as may be
+  pub departed_all : (bound n : ℕ) (dss : List (List Departure)) → bound ≤ n → IsDeparted bound n dss → departing f t ds at 1 bound ≡ dss
+  departed_all bound n dss le h = let none : bound - n ≡ 0 = omega (arith, le) in h ∙ ap (λ i. dss ++ departing f t ds at (n + 1) i) none ∙ append_none dss
+
+-- ---- the last departure is taken away again
+
+front : {X : Type 0} (xs ys : List X) → take (length xs) (xs ++ ys) ≡ xs
+front [] ys = refl
+front (x ∷ xs) ys = ap (λ l. x ∷ l) (front xs ys)
+
+pub popped : {X : Type 0} (xs ys : List X) (x : X) (last : Option X) → xs ++ x ∷ [] ≡ ys ++ option_to_list last → length ys + length (option_to_list last) ≡ length (xs ++ x ∷ []) → length (option_to_list last) ≡ 1 → ys ≡ xs
+popped xs ys x last e n one =
+    let more : length (xs ++ x ∷ []) ≡ length xs + 1 = length-append xs (x ∷ []) in
+    let same : length ys ≡ length xs = omega (arith, n, one, more) in
+    sym (front ys (option_to_list last)) ∙ ap (take (length ys)) (sym e) ∙ ap (λ k. take k (xs ++ x ∷ [])) same ∙ front xs (x ∷ [])
+
+-- ---- explorers that are the same but for what they counted
+
+pub same_end : (a b : Explorer) → IsSame a b → end_of (here b) b.departures.items ≡ end_of (here a) a.departures.items
+same_end a b h = ap (λ (t : Setting). end_of t b.departures.items) (same_setting a b h) ∙ ap (end_of (here a)) h.departures
+
+-- what comes of an offer is counted too
+pub deeper_counted : (a b c : Explorer) (k at : ℕ) (xs : List (List Departure)) → IsSame a b → HasCounted a xs b
+    → HasCounted b (departing (below (part_of b.terms) (here b) k) (here b) b.departures.items at 1 b.terms.bound) c
+    → HasCounted a (xs ++ departing (below (part_of a.terms) (here a) k) (here a) a.departures.items at 1 a.terms.bound) c
+deeper_counted a b c k at xs same first second =
+    then_counted a b c xs (departing (below (part_of a.terms) (here a) k) (here a) a.departures.items at 1 a.terms.bound) same first
+    (subst (λ (ds : List Departure). HasCounted b (departing (below (part_of a.terms) (here a) k) (here a) ds at 1 a.terms.bound) c) same.departures
+    (subst (λ (m : MachineState). HasCounted b (departing (below (part_of a.terms) (setting a.terms m) k) (setting a.terms m) b.departures.items at 1 a.terms.bound) c) same.boot
+    (subst (λ (t : Terms). HasCounted b (departing (below (part_of t) (setting t b.boot) k) (setting t b.boot) b.departures.items at 1 t.bound) c) same.terms second)))
+
+-- so is what begins with one departure more: b with it is d, which becomes e, and c is e without it
+pub departed_counted : (a b c d e : Explorer) (k : ℕ) (es : List Departure) (xs : List (List Departure)) → IsSame a b → HasCounted a xs b → d.terms ≡ b.terms → d.boot ≡ b.boot → d.tally ≡ b.tally → d.departures.items ≡ es
+    → HasCounted d (below (part_of d.terms) (here d) k d.departures.items) e → c.tally ≡ e.tally → HasCounted a (xs ++ below (part_of a.terms) (here a) k es) c
+departed_counted a b c d e k es xs same first terms boot tally dss second left fs h =
+    let gs : List Found = fs ++ map (found_by (here a)) xs in
+    let f : List Departure → Found = found_by (here a) in
+    let ys : List (List Departure) = below (part_of a.terms) (here a) k es in
+    let one : IsCounted (gs ++ map (found_by (here d)) (below (part_of d.terms) (here d) k d.departures.items)) e.tally = second gs (subst (IsCounted gs) (sym tally) (first fs h)) in
+    let two = subst (λ (t : Terms). IsCounted (gs ++ map (found_by (setting t d.boot)) (below (part_of t) (setting t d.boot) k d.departures.items)) e.tally) (terms ∙ same.terms) one in
+    let three = subst (λ (m : MachineState). IsCounted (gs ++ map (found_by (setting a.terms m)) (below (part_of a.terms) (setting a.terms m) k d.departures.items)) e.tally) (boot ∙ same.boot) two in
+    let four = subst (λ (ds : List Departure). IsCounted (gs ++ map f (below (part_of a.terms) (here a) k ds)) e.tally) dss three in
+    let five = subst (λ (y : Tally). IsCounted (gs ++ map f ys) y) (sym left) four in
+    subst (λ (l : List Found). IsCounted l c.tally) (append_assoc fs (map f xs) (map f ys) ∙ ap (λ (l : List Found). fs ++ l) (sym (map-append f xs ys))) five
+
+-- ---- the offers after the last departure
+
+pub after_within : (t : Setting) (ds : List Departure) → (end_of t ds).after ≤ length (end_of t ds).met
+unfolding run_of_schedule
+after_within t ds = turns_last Bounded bounded t.turns (from_boot t ds) (omega arith)
+
+-- counts are shown, and then others
+pub then_shown : (k n m : ℕ) (ps qs : List Parts) → ShowsCounts k ps n → ShowsCounts n qs m → ShowsCounts k (ps ++ qs) m
+then_shown k n m [] qs h g = subst (λ i. ShowsCounts i qs m) h g
+then_shown k n m (p ∷ ps) qs h g = (h.0, (h.1, then_shown p.done n m ps qs h.2 g))
+
+pub shows_then : (k n m : ℕ) (as bs cs : List Parts) → ((ps : List Parts) × (bs ≡ as ++ ps) × ShowsCounts k ps n) → ((ps : List Parts) × (cs ≡ bs ++ ps) × ShowsCounts n ps m)
+    → ((ps : List Parts) × (cs ≡ as ++ ps) × ShowsCounts k ps m)
+shows_then k n m as bs cs x y = (x.0 ++ y.0, (y.1 ∙ ap (λ l. l ++ y.0) x.1 ∙ append_assoc as x.0 y.0, then_shown k n m x.0 y.0 x.2 y.2))
+
+pub shows_none : (k n : ℕ) (as bs : List Parts) → bs ≡ as → n ≡ k → (ps : List Parts) × (bs ≡ as ++ ps) × ShowsCounts k ps n
+shows_none k n as bs e same = ([], (e ∙ sym (append_none as), same))

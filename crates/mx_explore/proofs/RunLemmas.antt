@@ -1,0 +1,96 @@
+-- What all runs of schedules keep.
+use Rattle.std.proofs.Common.{◌≡◌, ◌∙◌, ◌<◌, ℕ, zero, suc, Bool, true, false, List, [], ◌∷◌, length, cond, Option, Some, None, refl, ap, sym, subst}
+use Rattle.mx_machine.specs.declared.events.Event.{Event}
+use Rattle.mx_machine.specs.History.{world_after_events}
+use Rattle.mx_machine.specs.Machine.{MachineState, world_of}
+use Rattle.mx_machine.specs.Move.{moves}
+use Rattle.mx_machine.specs.World.{World, actors}
+use Rattle.mx_turns.specs.Turns.{is_over, offered}
+use Rattle.mx_turns.specs.declared.outside.OutsideLine.{OutsideLine}
+use Rattle.mx_turns.specs.declared.turns.Ending.{Ending}
+use Rattle.mx_turns.specs.declared.turns.Ending.TheVariants.{Rest, Turns, Full}
+use Rattle.mx_machine.proofs.ActorLemmas.{actors_after_events}
+use Rattle.mx_turns.proofs.MadeLemmas.{kept_boot}
+use Rattle.mx_turns.proofs.TurnLemmas.{cpus_stay}
+use Rattle.mx_explore.specs.declared.offers.Offer.{Offer}
+use Rattle.mx_explore.specs.declared.passing.Departure.{Departure}
+use Rattle.mx_explore.specs.declared.passing.Ran.{Ran}
+use Rattle.mx_explore.specs.Passages.{HasRoom, IsRun, passage}
+use Rattle.mx_explore.specs.Passing.{Passage, Place, Setting, Standing, at_place, events_of, from_boot, made, meets_if, met_in, noted, open_at, passed_turn, passed_turns, passes, places, run_of_schedule}
+use Rattle.mx_explore.proofs.PassageLemmas.{At, stood}
+
+-- ---- the boot
+
+made_boot : (other : ℕ) (p : Passage) (x : Offer) → (made other p x).kernel.boot ≡ p.kernel.boot
+made_boot other p x = let xs = (offered p.world (events_of other x)).made in kept_boot p.kernel xs (moves p.world xs).0
+
+met_boot : (other begun : ℕ) (p : Passage) (o : Option Offer) → (meets_if other begun p o).kernel.boot ≡ p.kernel.boot
+met_boot other begun p None = refl
+met_boot other begun p (Some x) = by (passes p.standing x)
+  where
+    by : (b : Bool) → (let q = stood p (noted p.standing (met_in p.world begun x)) in (cond b q (made other q x)).kernel.boot ≡ p.kernel.boot)
+    by true = refl
+    by false = made_boot other (stood p (noted p.standing (met_in p.world begun x))) x
+
+at_boot : (other begun : ℕ) (p : Passage) (xs : List Place) → (At other begun p xs).kernel.boot ≡ p.kernel.boot
+at_boot other begun p [] = refl
+at_boot other begun p (x ∷ xs) = at_boot other begun (at_place other begun p x) xs ∙ met_boot other begun p (open_at p x)
+
+turns_boot : (k : ℕ) (p : Passage) → (passed_turns k p).0.kernel.boot ≡ p.kernel.boot
+turns_boot zero p = refl
+turns_boot (suc k) p = by (is_over p.world p.coming) (passed_turn p).full (turns_boot k (passed_turn p))
+  where
+    turned : (passed_turn p).kernel.boot ≡ p.kernel.boot
+    turned = at_boot (length p.world.cpus) p.world.records p (places (length p.world.cpus) (length p.world.services))
+
+    by : (over full : Bool) → (passed_turns k (passed_turn p)).0.kernel.boot ≡ (passed_turn p).kernel.boot → (cond over (let z : Passage × Ending = (p, Rest) in z) (let q = passed_turn p in cond full (let z : Passage × Ending = (q, Full) in z) (passed_turns k q))).0.kernel.boot ≡ p.kernel.boot
+    by true full rest = refl
+    by false true rest = turned
+    by false false rest = rest ∙ turned
+
+-- a run's kernel was booted so
+pub run_boot : (t : Setting) (ds : List Departure) → (run_of_schedule t ds).0.kernel.boot ≡ t.boot
+unfolding run_of_schedule
+run_boot t ds = turns_boot t.turns (from_boot t ds)
+
+-- ---- processors and actors
+
+module _ (f : World → ℕ) (same : (w : World) (xs : List (ℕ × Event)) → f (world_after_events w xs) ≡ f w) where
+  met_keeps : (other begun : ℕ) (p : Passage) (o : Option Offer) → f (meets_if other begun p o).world ≡ f p.world
+  met_keeps other begun p None = refl
+  met_keeps other begun p (Some x) = by (passes p.standing x)
+    where
+      by : (b : Bool) → (let q = stood p (noted p.standing (met_in p.world begun x)) in f (cond b q (made other q x)).world ≡ f p.world)
+      by true = refl
+      by false = same p.world (offered p.world (events_of other x)).made
+
+  at_keeps : (other begun : ℕ) (p : Passage) (xs : List Place) → f (At other begun p xs).world ≡ f p.world
+  at_keeps other begun p [] = refl
+  at_keeps other begun p (x ∷ xs) = at_keeps other begun (at_place other begun p x) xs ∙ met_keeps other begun p (open_at p x)
+
+  turn_keeps : (p : Passage) → f (passed_turn p).world ≡ f p.world
+  turn_keeps p = at_keeps (length p.world.cpus) p.world.records p (places (length p.world.cpus) (length p.world.services))
+
+-- an actor that is no processor stays
+pub room_stays : (m n : MachineState) (p q : Passage) → q ≡ passed_turn p → p.world ≡ world_of m → q.world ≡ world_of n → HasRoom m → HasRoom n
+room_stays m n p q e before after room =
+    let cpus : length (world_of n).cpus ≡ length (world_of m).cpus =
+    sym (ap (λ (w : World). length w.cpus) after) ∙ ap (λ (x : Passage). length x.world.cpus) e ∙ turn_keeps (λ w. length w.cpus) cpus_stay p ∙ ap (λ (w : World). length w.cpus) before in
+    let they : actors (world_of n) ≡ actors (world_of m) =
+    sym (ap actors after) ∙ ap (λ (x : Passage). actors x.world) e ∙ turn_keeps actors actors_after_events p ∙ ap actors before in
+    subst (λ k. k < actors (world_of n)) (sym cpus) (subst (λ k. length (world_of m).cpus < k) (sym they) room)
+
+-- ---- a run
+
+pub ran_by : (t : Setting) (ds : List Departure) (r : Ran) (coming : List OutsideLine) (s : Standing) (full : Bool) (start : Passage) → start ≡ from_boot t ds
+    → (passage r.machine coming s full, r.ending) ≡ passed_turns t.turns start → r.met.items ≡ s.met → r.after ≡ s.after → IsRun t ds r
+unfolding run_of_schedule
+ran_by t ds r coming s full start begins ran met after =
+    let e : (passage r.machine coming s full, r.ending) ≡ passed_turns t.turns (from_boot t ds) = ran ∙ ap (passed_turns t.turns) begins in
+    record {
+      kernel = ap (λ (x : Passage × Ending). x.0.kernel) e;
+      world = ap (λ (x : Passage × Ending). x.0.world) e;
+      ending = ap (λ (x : Passage × Ending). x.1) e;
+      met = met ∙ ap (λ (x : Passage × Ending). x.0.standing.met) e;
+      after = after ∙ ap (λ (x : Passage × Ending). x.0.standing.after) e;
+    }

@@ -1,0 +1,18 @@
+use Rattle.std.proofs.Common.{◌∙◌, arith}
+use Rattle.mx_explore.specs.Passages.{passage, standing}
+use Rattle.mx_explore.specs.Passing.{BackBy}
+use Rattle.mx_explore.proofs.PassageLemmas.{all_past, next_past}
+use Rattle.mx_explore.proofs.passing.pass_backs.Goals as goal
+
+pub loop-cpu-preserved : goal.loop-cpu-preserved
+loop-cpu-preserved c = record {
+  passed = λ coming other is_full.
+      next_past other c.args.begun BackBy (passage c.args.machine.now coming (standing c.args.schedule.now) is_full) (passage c.loop-cpu.machine coming (standing c.loop-cpu.schedule) is_full) _ c.loop-cpu.cpu
+      (c.loop-cpu.invariant.passed coming other is_full) (c.in_ok-pass_back.ensures.passed coming other is_full);
+  as_many = c.in_ok-pass_back.ensures.actors ∙ c.loop-cpu.invariant.as_many;
+}
+
+pub returns-clause-passed : goal.returns-clause-passed
+returns-clause-passed c coming other is_full =
+    all_past other c.args.begun BackBy (passage c.args.machine.now coming (standing c.args.schedule.now) is_full) _ c.loop-cpu.cpu c.args.cpus
+    (omega (arith, c.loop-cpu-test.false)) (omega (arith, c.loop-cpu.auto.cpu-end)) (c.loop-cpu.invariant.passed coming other is_full)
