@@ -22,7 +22,7 @@ use Rattle.mx_explore.specs.Passing.{Setting, run_of_schedule}
 use Rattle.mx_explore.specs.Schedules.{IsExplored, Part}
 use Rattle.mx_explore.specs.declared.outcomes.Outcome.{Outcome}
 use Rattle.mx_explore.specs.declared.outcomes.Tally.{Tally}
-use Rattle.mx_app_explore.specs.FoundText.{found_text}
+use Rattle.mx_app_explore.specs.FoundText.{found_text, numbered}
 use Rattle.mx_app_explore.specs.declared.exploring.Found.{Found}
 use Rattle.mx_app_explore.specs.declared.exploring.Found.TheVariants.{One, Several}
 
@@ -65,13 +65,9 @@ abbrev pub IsUnsavedOne : Option (List ℕ) → ℕ → List ℕ → List Writte
 IsUnsavedOne None number text ws f = ⊥
 IsUnsavedOne (Some name) number text ws f = IsUnwritten (name ++ decimal number) text ws f
 
--- the histories of outcomes, the first of which has this number
-abbrev pub saved_from : Setting → Option (List ℕ) → ℕ → List Outcome → List Written
-saved_from t save number [] = []
-saved_from t save number (o ∷ os) = saved_one save number (history_text t o) ++ saved_from t save (number + 1) os
-
+-- the histories of all outcomes
 abbrev pub saved_of : Setting → Option (List ℕ) → List Outcome → List Written
-saved_of t save os = saved_from t save 1 os
+saved_of t save os = numbered (λ number o. saved_one save number (history_text t o)) 1 os
 
 -- the history of the outcome after the first m isn't written
 abbrev pub IsUnsaved : Setting → Option (List ℕ) → ℕ → Option Outcome → List Written → Kind → Type 0

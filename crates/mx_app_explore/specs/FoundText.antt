@@ -57,10 +57,10 @@ outcome_lines t number o =
     o.departures.items
     ++ o.text.items
 
--- outcomes, the first of which has this number
-abbrev pub outcomes_text : Setting → ℕ → List Outcome → List ℕ
-outcomes_text t number [] = []
-outcomes_text t number (o ∷ os) = outcome_lines t number o ++ outcomes_text t (number + 1) os
+-- what f gives of outcomes in a row, the first of which has this number
+abbrev pub numbered : {X : Type 0} → (ℕ → Outcome → List X) → ℕ → List Outcome → List X
+numbered f number [] = []
+numbered f number (o ∷ os) = f number o ++ numbered f (number + 1) os
 
 abbrev pub total_text : ℕ → Tally → List ℕ
 total_text k found =
@@ -69,4 +69,4 @@ total_text k found =
 
 -- WHAT IS PRINTED of all schedules with at most k departures
 abbrev pub found_text : Setting → ℕ → Tally → List ℕ
-found_text t k found = outcomes_text t 1 found.outcomes.items ++ total_text k found
+found_text t k found = numbered (outcome_lines t) 1 found.outcomes.items ++ total_text k found

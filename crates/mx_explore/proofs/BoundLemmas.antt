@@ -108,15 +108,15 @@ turn_outs p =
 
 turns_outs : (k : ℕ) (p : Passage) → outs (passed_turns k p).0.standing.met ≤ outs p.standing.met + k
 turns_outs zero p = omega arith
-turns_outs (suc k) p = by (is_over p.world p.coming) (passed_turn p).full
+turns_outs (suc k) p = by (turns_outs k (passed_turn p)) (is_over p.world p.coming) (passed_turn p).full
   where
     turned : outs (passed_turn p).standing.met ≤ outs p.standing.met + 1
     turned = turn_outs p
 
-    by : (over full : Bool) → outs (cond over (let z : Passage × Ending = (p, Rest) in z) (let q = passed_turn p in cond full (let z : Passage × Ending = (q, Full) in z) (passed_turns k q))).0.standing.met ≤ outs p.standing.met + suc k
-    by true full = omega arith
-    by false true = omega (arith, turned)
-    by false false = let again = turns_outs k (passed_turn p) in omega (arith, turned, again)
+    by : outs (passed_turns k (passed_turn p)).0.standing.met ≤ outs (passed_turn p).standing.met + k → (over full : Bool) → outs (cond over (let z : Passage × Ending = (p, Rest) in z) (let q = passed_turn p in cond full (let z : Passage × Ending = (q, Full) in z) (passed_turns k q))).0.standing.met ≤ outs p.standing.met + suc k
+    by again true full = omega arith
+    by again false true = omega (arith, turned)
+    by again false false = omega (arith, turned, again)
 
 -- ---- how long the last departure lasts
 

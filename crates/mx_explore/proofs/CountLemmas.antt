@@ -1,10 +1,9 @@
 -- What an explorer has counted, and what was shown of it.
-use Rattle.std.proofs.Common.{◌≡◌, ◌∙◌, ◌<◌, ◌≤◌, ◌+◌, ◌-◌, ◌&&◌, ◌++◌, ℕ, zero, suc, Bool, true, false, List, [], ◌∷◌, map, take, length, length-append, cond, append_assoc, Option, refl, ap, sym, subst, arith}
+use Rattle.std.proofs.Common.{◌≡◌, ◌∙◌, ◌<◌, ◌≤◌, ◌+◌, ◌-◌, ◌^◌, ◌&&◌, ◌++◌, ℕ, zero, suc, Bool, true, false, List, [], ◌∷◌, map, take, length, length-append, cond, append_assoc, min, Option, Some, refl, ap, sym, subst, arith}
 use Rattle.std.specs.Prelude.{filter, slice_get}
 use Rattle.std.specs.List.{flat_map, range_with_len}
-use Rattle.std.specs.Option.{option_to_list}
 use Rattle.std.proofs.lemmas.Grind.{flat_map-append}
-use Rattle.std.proofs.lemmas.List.{map-append}
+use Rattle.std.proofs.lemmas.List.{append-nil, map-append, take_at}
 use Rattle.std.proofs.lemmas.List.Elements.{filter-append}
 use Rattle.mx_machine.specs.History.{BootAndHistory}
 use Rattle.mx_machine.specs.Machine.{MachineState, world_of}
@@ -17,8 +16,10 @@ use Rattle.mx_explore.specs.declared.exploring.Terms.{Terms}
 use Rattle.mx_explore.specs.declared.outcomes.Outcome.{Outcome}
 use Rattle.mx_explore.specs.declared.outcomes.Tally.{Tally}
 use Rattle.mx_explore.specs.declared.passing.Departure.{Departure}
+use Rattle.mx_explore.specs.declared.passing.Met.{Met}
 use Rattle.mx_explore.specs.declared.passing.Ran.{Ran}
 use Rattle.mx_explore.specs.Exploring.{HasCounted, IsAtBoot, IsSame, ShowsCounts, part_of, setting}
+use Rattle.mx_explore.specs.Offers.{is_outside}
 use Rattle.mx_explore.specs.Outcomes.{Found, IsCounted, first_of, found_by, outcome_text}
 use Rattle.mx_explore.specs.Passages.{IsRun}
 use Rattle.mx_explore.specs.Passing.{Setting, end_of, from_boot, run_of_schedule}
@@ -28,17 +29,13 @@ use Rattle.mx_explore.proofs.AlongLemmas.{turns_last}
 use Rattle.mx_explore.proofs.FollowLemmas.{Bounded, bounded}
 use Rattle.mx_explore.proofs.RunLemmas.{run_boot}
 
-append_none : {X : Type 0} (xs : List X) → xs ++ [] ≡ xs
-append_none [] = refl
-append_none (x ∷ xs) = ap (λ l. x ∷ l) (append_none xs)
-
 -- the schedules of an explorer
 abbrev pub here : Explorer → Setting
 here a = setting a.terms a.boot
 
 -- nothing is counted
 pub none_counted : (a b : Explorer) → a.tally ≡ b.tally → HasCounted a [] b
-none_counted a b e fs h = subst (λ (gs : List Found). IsCounted gs b.tally) (sym (append_none fs)) (subst (IsCounted fs) e h)
+none_counted a b e fs h = subst (λ (gs : List Found). IsCounted gs b.tally) (sym (append-nil fs)) (subst (IsCounted fs) e h)
 
 same_setting : (a b : Explorer) → IsSame a b → setting b.terms b.boot ≡ setting a.terms a.boot
 same_setting a b h = ap (λ (t : Terms). setting t b.boot) h.terms ∙ ap (λ (m : MachineState). setting a.terms m) h.boot
@@ -103,7 +100,7 @@ module _ (p : Part) (t : Setting) (k : ℕ) (ds : List Departure) where
   tried n = itself p ds ++ flat_map deeper (filter asked (range_with_len (end_of t ds).after n))
 
   pub tried_none : tried 0 ≡ itself p ds
-  tried_none = append_none (itself p ds)
+  tried_none = append-nil (itself p ds)
 
   pub tried_all : (n : ℕ) → n ≡ length (end_of t ds).met - (end_of t ds).after → tried n ≡ below p t (suc k) ds
   tried_all n e = ap tried e
@@ -121,14 +118,14 @@ module _ (p : Part) (t : Setting) (k : ℕ) (ds : List Departure) where
       front = range_with_len (end_of t ds).after n
 
       single : (c : Bool) → flat_map deeper (cond c (at ∷ []) []) ≡ cond c (deeper at) []
-      single true = append_none (deeper at)
+      single true = append-nil (deeper at)
       single false = refl
 
   pub tried_asked : (n at : ℕ) → (end_of t ds).after + n ≡ at → asked at ≡ true → tried (n + 1) ≡ tried n ++ deeper at
   tried_asked n at e is = tried_next n at true e is
 
   pub tried_unasked : (n at : ℕ) → (end_of t ds).after + n ≡ at → asked at ≡ false → tried (n + 1) ≡ tried n
-  tried_unasked n at e not_asked = tried_next n at false e not_asked ∙ append_none (tried n)
+  tried_unasked n at e not_asked = tried_next n at false e not_asked ∙ append-nil (tried n)
 
 -- ---- for how many turns it departs there
 
@@ -156,23 +153,19 @@ module _ (f : List Departure → List (List Departure)) (t : Setting) (ds : List
 
   -- it can't wait longer
   pub departed_last : (bound n : ℕ) (dss : List (List Departure)) → n < bound → waits (n + 1) ≡ false → IsDeparted bound n dss → departing f t ds at 1 bound ≡ dss ++ f (departed ds at (n + 1))
-  departed_last bound n dss lt no h = departed_next bound n dss false lt no h ∙ append_none (dss ++ f (departed ds at (n + 1)))
+  departed_last bound n dss lt no h = departed_next bound n dss false lt no h ∙ append-nil (dss ++ f (departed ds at (n + 1)))
 
   -- it waits as long as may be
   pub departed_all : (bound n : ℕ) (dss : List (List Departure)) → bound ≤ n → IsDeparted bound n dss → departing f t ds at 1 bound ≡ dss
-  departed_all bound n dss le h = let none : bound - n ≡ 0 = omega (arith, le) in h ∙ ap (λ i. dss ++ departing f t ds at (n + 1) i) none ∙ append_none dss
+  departed_all bound n dss le h = let none : bound - n ≡ 0 = omega (arith, le) in h ∙ ap (λ i. dss ++ departing f t ds at (n + 1) i) none ∙ append-nil dss
 
 -- ---- the last departure is taken away again
 
-front : {X : Type 0} (xs ys : List X) → take (length xs) (xs ++ ys) ≡ xs
-front [] ys = refl
-front (x ∷ xs) ys = ap (λ l. x ∷ l) (front xs ys)
-
-pub popped : {X : Type 0} (xs ys : List X) (x : X) (last : Option X) → xs ++ x ∷ [] ≡ ys ++ option_to_list last → length ys + length (option_to_list last) ≡ length (xs ++ x ∷ []) → length (option_to_list last) ≡ 1 → ys ≡ xs
-popped xs ys x last e n one =
+pub popped : {X : Type 0} (xs ys zs : List X) (x : X) (n : ℕ) → zs ≡ xs ++ x ∷ [] → n ≡ length zs → ys ≡ take (n - 1) zs → ys ≡ xs
+popped xs ys zs x n e many rest =
     let more : length (xs ++ x ∷ []) ≡ length xs + 1 = length-append xs (x ∷ []) in
-    let same : length ys ≡ length xs = omega (arith, n, one, more) in
-    sym (front ys (option_to_list last)) ∙ ap (take (length ys)) (sym e) ∙ ap (λ k. take k (xs ++ x ∷ [])) same ∙ front xs (x ∷ [])
+    let all : length zs ≡ length (xs ++ x ∷ []) = ap length e in
+    rest ∙ ap (take (n - 1)) e ∙ take_at xs (x ∷ []) (n - 1) (omega (arith, many, more, all))
 
 -- ---- explorers that are the same but for what they counted
 
@@ -180,7 +173,7 @@ pub same_end : (a b : Explorer) → IsSame a b → end_of (here b) b.departures.
 same_end a b h = ap (λ (t : Setting). end_of t b.departures.items) (same_setting a b h) ∙ ap (end_of (here a)) h.departures
 
 -- what comes of an offer is counted too
-pub deeper_counted : (a b c : Explorer) (k at : ℕ) (xs : List (List Departure)) → IsSame a b → HasCounted a xs b
+deeper_counted : (a b c : Explorer) (k at : ℕ) (xs : List (List Departure)) → IsSame a b → HasCounted a xs b
     → HasCounted b (departing (below (part_of b.terms) (here b) k) (here b) b.departures.items at 1 b.terms.bound) c
     → HasCounted a (xs ++ departing (below (part_of a.terms) (here a) k) (here a) a.departures.items at 1 a.terms.bound) c
 deeper_counted a b c k at xs same first second =
@@ -189,8 +182,50 @@ deeper_counted a b c k at xs same first second =
     (subst (λ (m : MachineState). HasCounted b (departing (below (part_of a.terms) (setting a.terms m) k) (setting a.terms m) b.departures.items at 1 a.terms.bound) c) same.boot
     (subst (λ (t : Terms). HasCounted b (departing (below (part_of t) (setting t b.boot) k) (setting t b.boot) b.departures.items at 1 t.bound) c) same.terms second)))
 
+-- an explorer has tried its schedule, and what departs next at the first n offers
+pub record HasTried (k n : ℕ) (a b : Explorer) : Type 0 where
+  pub same : IsSame a b
+  pub counted : HasCounted a (tried (part_of a.terms) (here a) k a.departures.items n) b
+
+pub none_tried : (k n : ℕ) (a b : Explorer) → n ≡ 0 → IsSame a b → HasCounted a (itself (part_of a.terms) a.departures.items) b → HasTried k n a b
+none_tried k n a b none same counted = record {
+  same = same;
+  counted = subst (λ (dss : List (List Departure)). HasCounted a dss b) (sym (ap (tried (part_of a.terms) (here a) k a.departures.items) none ∙ tried_none (part_of a.terms) (here a) k a.departures.items)) counted;
+}
+
+-- the offers of a schedule that is in the part for one explorer are so for the same one
+asked_same : (a b : Explorer) (at : ℕ) → IsSame a b → is_in_part (part_of b.terms) (departed b.departures.items at 1) ≡ is_in_part (part_of a.terms) (departed a.departures.items at 1)
+asked_same a b at h =
+    ap (λ (t : Terms). is_in_part (part_of t) (departed b.departures.items at 1)) h.terms
+    ∙ ap (λ (ds : List Departure). is_in_part (part_of a.terms) (departed ds at 1)) h.departures
+
+module _ (k n at m : ℕ) (a b : Explorer) (h : HasTried k n a b) (e : (end_of (here a) a.departures.items).after + n ≡ at) (next : m ≡ n + 1) where
+  pub asked_tried : (c : Explorer) → is_in_part (part_of b.terms) (departed b.departures.items at 1) ≡ true → IsSame b c
+      → HasCounted b (departing (below (part_of b.terms) (here b) k) (here b) b.departures.items at 1 b.terms.bound) c → HasTried k m a c
+  asked_tried c is same counted = record {
+    same = same_then a b c h.same same;
+    counted = subst (λ (dss : List (List Departure)). HasCounted a dss c)
+        (sym (ap (tried (part_of a.terms) (here a) k a.departures.items) next ∙ tried_asked (part_of a.terms) (here a) k a.departures.items n at e (sym (asked_same a b at h.same) ∙ is)))
+        (deeper_counted a b c k at (tried (part_of a.terms) (here a) k a.departures.items n) h.same h.counted counted);
+  }
+
+  pub unasked_tried : is_in_part (part_of b.terms) (departed b.departures.items at 1) ≡ false → HasTried k m a b
+  unasked_tried not_asked = record {
+    same = h.same;
+    counted = subst (λ (dss : List (List Departure)). HasCounted a dss b)
+        (sym (ap (tried (part_of a.terms) (here a) k a.departures.items) next ∙ tried_unasked (part_of a.terms) (here a) k a.departures.items n at e (sym (asked_same a b at h.same) ∙ not_asked)))
+        h.counted;
+  }
+
+-- all are tried
+pub all_tried : (k n left : ℕ) (a b : Explorer) → HasTried k n a b → left ≡ suc k → n ≡ length (end_of (here a) a.departures.items).met - (end_of (here a) a.departures.items).after
+    → HasCounted a (below (part_of a.terms) (here a) left a.departures.items) b
+all_tried k n left a b h e all =
+    subst (λ i. HasCounted a (below (part_of a.terms) (here a) i a.departures.items) b) (sym e)
+    (subst (λ (dss : List (List Departure)). HasCounted a dss b) (tried_all (part_of a.terms) (here a) k a.departures.items n all) h.counted)
+
 -- so is what begins with one departure more: b with it is d, which becomes e, and c is e without it
-pub departed_counted : (a b c d e : Explorer) (k : ℕ) (es : List Departure) (xs : List (List Departure)) → IsSame a b → HasCounted a xs b → d.terms ≡ b.terms → d.boot ≡ b.boot → d.tally ≡ b.tally → d.departures.items ≡ es
+departed_counted : (a b c d e : Explorer) (k : ℕ) (es : List Departure) (xs : List (List Departure)) → IsSame a b → HasCounted a xs b → d.terms ≡ b.terms → d.boot ≡ b.boot → d.tally ≡ b.tally → d.departures.items ≡ es
     → HasCounted d (below (part_of d.terms) (here d) k d.departures.items) e → c.tally ≡ e.tally → HasCounted a (xs ++ below (part_of a.terms) (here a) k es) c
 departed_counted a b c d e k es xs same first terms boot tally dss second left fs h =
     let gs : List Found = fs ++ map (found_by (here a)) xs in
@@ -202,6 +237,67 @@ departed_counted a b c d e k es xs same first terms boot tally dss second left f
     let four = subst (λ (ds : List Departure). IsCounted (gs ++ map f (below (part_of a.terms) (here a) k ds)) e.tally) dss three in
     let five = subst (λ (y : Tally). IsCounted (gs ++ map f ys) y) (sym left) four in
     subst (λ (l : List Found). IsCounted l c.tally) (append_assoc fs (map f xs) (map f ys) ∙ ap (λ (l : List Found). fs ++ l) (sym (map-append f xs ys))) five
+
+-- an explorer has tried what departs next at an offer, for the first n turns
+pub record HasDeparted (k at n : ℕ) (a b : Explorer) : Type 0 where
+  pub same : IsSame a b
+  pub counted : (dss : List (List Departure)) × HasCounted a dss b × IsDeparted (below (part_of a.terms) (here a) k) (here a) a.departures.items at a.terms.bound n dss
+
+pub none_departed : (k at n : ℕ) (a : Explorer) → n ≡ 0 → HasDeparted k at n a a
+none_departed k at n a none =
+    subst (λ i. HasDeparted k at i a a) (sym none) (record {
+      same = same_itself a;
+      counted = ([], (none_counted a a refl, departed_none (below (part_of a.terms) (here a) k) (here a) a.departures.items at a.terms.bound));
+    })
+
+-- one turn more: with one departure more b is d, which becomes e, and c is e without it
+module _ (k at n : ℕ) (a b c d e : Explorer) (h : HasDeparted k at n a b) (lt : n < a.terms.bound)
+    (terms : d.terms ≡ b.terms) (boot : d.boot ≡ b.boot) (tally : d.tally ≡ b.tally) (pushed : d.departures.items ≡ departed b.departures.items at (n + 1))
+    (same : IsSame d e) (more : HasCounted d (below (part_of d.terms) (here d) k d.departures.items) e)
+    (then_terms : c.terms ≡ e.terms) (then_boot : c.boot ≡ e.boot) (then_tally : c.tally ≡ e.tally) (back : c.departures.items ≡ b.departures.items) where
+  longer : d.departures.items ≡ departed a.departures.items at (n + 1)
+  longer = pushed ∙ ap (λ (ds : List Departure). departed ds at (n + 1)) h.same.departures
+
+  same_back : IsSame a c
+  same_back = record {
+    terms = then_terms ∙ same.terms ∙ terms ∙ h.same.terms;
+    boot = then_boot ∙ same.boot ∙ boot ∙ h.same.boot;
+    departures = back ∙ h.same.departures;
+  }
+
+  counted_back : HasCounted a (h.counted.0 ++ below (part_of a.terms) (here a) k (departed a.departures.items at (n + 1))) c
+  counted_back = departed_counted a b c d e k (departed a.departures.items at (n + 1)) h.counted.0 h.same h.counted.1 terms boot tally longer more then_tally
+
+  module _ (m : Met) (can goes : Bool) (there : slice_get (end_of (here a) a.departures.items).met at ≡ Some m) (waits : can ≡ can_wait (end_of (here d) d.departures.items)) (goes_is : goes ≡ (can && is_outside m.offer)) where
+    goes_as : (can_wait (end_of (here a) (departed a.departures.items at (n + 1))) && is_of_outside (slice_get (end_of (here a) a.departures.items).met at)) ≡ goes
+    goes_as =
+        let comes : end_of (here d) d.departures.items ≡ end_of (here a) (departed a.departures.items at (n + 1)) =
+        ap (λ (t : Terms). end_of (setting t d.boot) d.departures.items) (terms ∙ h.same.terms) ∙ ap (λ (m : MachineState). end_of (setting a.terms m) d.departures.items) (boot ∙ h.same.boot) ∙ ap (end_of (here a)) longer in
+        sym (goes_is ∙ ap (λ b. b && is_outside m.offer) (waits ∙ ap can_wait comes) ∙ ap (λ (o : Option Met). can_wait (end_of (here a) (departed a.departures.items at (n + 1))) && is_of_outside o) (sym there))
+
+    pub next_departed : goes ≡ true → HasDeparted k at (n + 1) a c
+    next_departed on = record {
+      same = same_back;
+      counted = (
+        h.counted.0 ++ below (part_of a.terms) (here a) k (departed a.departures.items at (n + 1)),
+        (counted_back, departed_more (below (part_of a.terms) (here a) k) (here a) a.departures.items at a.terms.bound n h.counted.0 lt (goes_as ∙ on) h.counted.2),
+      );
+    }
+
+    pub last_departed : goes ≡ false → IsSame a c × HasCounted a (departing (below (part_of a.terms) (here a) k) (here a) a.departures.items at 1 a.terms.bound) c
+    last_departed off = (
+      same_back,
+      subst (λ (dss : List (List Departure)). HasCounted a dss c)
+      (sym (departed_last (below (part_of a.terms) (here a) k) (here a) a.departures.items at a.terms.bound n h.counted.0 lt (goes_as ∙ off) h.counted.2)) counted_back,
+    )
+
+pub all_departed : (k at n : ℕ) (a b : Explorer) → HasDeparted k at n a b → a.terms.bound ≤ n → HasCounted a (departing (below (part_of a.terms) (here a) k) (here a) a.departures.items at 1 a.terms.bound) b
+all_departed k at n a b h all =
+    subst (λ (dss : List (List Departure)). HasCounted a dss b) (sym (departed_all (below (part_of a.terms) (here a) k) (here a) a.departures.items at a.terms.bound n h.counted.0 all h.counted.2)) h.counted.1
+
+-- a machine at its boot is so for the same explorer, with the same services
+pub at_boot : (a b : Explorer) (xs ys : List Service) → IsSame a b → ys ≡ xs → IsAtBoot a.boot xs → IsAtBoot b.boot ys
+at_boot a b xs ys same e h = subst (λ (m : MachineState). IsAtBoot m ys) (sym same.boot) (subst (IsAtBoot a.boot) (sym e) h)
 
 -- ---- the offers after the last departure
 
@@ -219,4 +315,7 @@ pub shows_then : (k n m : ℕ) (as bs cs : List Parts) → ((ps : List Parts) ×
 shows_then k n m as bs cs x y = (x.0 ++ y.0, (y.1 ∙ ap (λ l. l ++ y.0) x.1 ∙ append_assoc as x.0 y.0, then_shown k n m x.0 y.0 x.2 y.2))
 
 pub shows_none : (k n : ℕ) (as bs : List Parts) → bs ≡ as → n ≡ k → (ps : List Parts) × (bs ≡ as ++ ps) × ShowsCounts k ps n
-shows_none k n as bs e same = ([], (e ∙ sym (append_none as), same))
+shows_none k n as bs e same = ([], (e ∙ sym (append-nil as), same))
+
+pub shows_one : (k n : ℕ) (p : Parts) (as bs : List Parts) → bs ≡ as ++ p ∷ [] → n ≡ min (k + 1) (2 ^ 64 - 1) → p.done ≡ n → p.done ≤ p.all → (ps : List Parts) × (bs ≡ as ++ ps) × ShowsCounts k ps n
+shows_one k n p as bs e more done most = (p ∷ [], (e, (done ∙ more, (most, sym done))))

@@ -1,5 +1,5 @@
 -- What a machine does of an open offer, and what a passage says of it.
-use Rattle.std.proofs.Common.{◌≡◌, ◌∙◌, ℕ, zero, suc, ◌+◌, ◌-◌, ◌<◌, ◌≤◌, ◌++◌, ◌||◌, not, Bool, true, false, List, [], ◌∷◌, map, take, drop, length, cond, Option, Some, None, is_none, refl, ap, sym, subst, arith, true≢false}
+use Rattle.std.proofs.Common.{◌≡◌, ◌∙◌, ℕ, zero, suc, ◌+◌, ◌-◌, ◌<◌, ◌≤◌, ◌++◌, ◌||◌, not, Bool, true, false, List, [], ◌∷◌, map, take, drop, length, cond, Option, Some, None, is_none, is_some, refl, ap, sym, subst, arith, true≢false}
 use Rattle.std.specs.Prelude.{fold, option_map, slice_get}
 use Rattle.std.specs.List.{range_with_len}
 use Rattle.std.proofs.lemmas.List.{drop-map, take-append-drop}
@@ -7,7 +7,7 @@ use Rattle.std.proofs.lemmas.List.FromFn.{map-range_with_len_more, take-map-rang
 use Rattle.mx_machine.specs.declared.events.Event.{Event}
 use Rattle.mx_turns.specs.declared.outside.OutsideLine.{OutsideLine}
 use Rattle.mx_machine.specs.declared.events.Event.TheVariants as events
-use Rattle.mx_machine.specs.History.{BootAndHistory, world_after_events}
+use Rattle.mx_machine.specs.History.{BootAndHistory, replay, world_after_events}
 use Rattle.mx_machine.specs.Machine.{MachineState, world_of}
 use Rattle.mx_machine.specs.Proc.Queues.{first_ready}
 use Rattle.mx_machine.specs.Proc.TableState.{process_at}
@@ -96,6 +96,21 @@ some_respawn s false x e = absurd cc
 
 pub respawn_open : (w : World) (s : ℕ) (x : Offer) → open_respawn w s ≡ Some x → x ≡ Respawn s
 respawn_open w s x e = some_respawn s (can_respawn (process_at w.table s) (slice_get w.services s)) x e
+
+-- a processor that holds nothing would take the first that is ready
+ready_now : (m : MachineState) → first_ready (replay m.kernel).table.ready ≡ first_ready (world_of m).table.ready
+unfolding world_of
+ready_now m = refl
+
+free_takes : (c : ℕ) (held : Option HeldProcess) (on first : Option ℕ) → on ≡ option_map (λ (l : HeldProcess). l.slot) held → is_some on ≡ false
+    → option_map (λ s. Take c s) first ≡ cond (is_none held) (option_map (λ s. Take c s) first) None
+free_takes c None on first e h = refl
+free_takes c (Some l) on first e h = absurd (true≢false (sym (ap is_some e) ∙ h))
+
+pub take_now : (m : MachineState) (c : ℕ) (on first : Option ℕ) → on ≡ option_map (λ (l : HeldProcess). l.slot) (held_by (world_of m) c) → is_some on ≡ false → first ≡ first_ready (replay m.kernel).table.ready
+    → option_map (λ s. Take c s) first ≡ open_take (world_of m) c
+take_now m c on first e free is =
+    ap (option_map (λ s. Take c s)) (is ∙ ready_now m) ∙ free_takes c (held_by (world_of m) c) on (first_ready (world_of m).table.ready) e free
 
 -- ---- one offer of a machine
 

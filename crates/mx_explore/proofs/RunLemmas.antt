@@ -1,15 +1,13 @@
 -- What all runs of schedules keep.
 use Rattle.std.proofs.Common.{◌≡◌, ◌∙◌, ◌<◌, ℕ, zero, suc, Bool, true, false, List, [], ◌∷◌, length, cond, Option, Some, None, refl, ap, sym, subst}
-use Rattle.mx_machine.specs.declared.events.Event.{Event}
-use Rattle.mx_machine.specs.History.{world_after_events}
 use Rattle.mx_machine.specs.Machine.{MachineState, world_of}
 use Rattle.mx_machine.specs.Move.{moves}
 use Rattle.mx_machine.specs.World.{World, actors}
-use Rattle.mx_turns.specs.Turns.{is_over, offered}
+use Rattle.mx_turns.specs.Made.{HasOffered}
+use Rattle.mx_turns.specs.Turns.{Offered, is_over, offered}
 use Rattle.mx_turns.specs.declared.outside.OutsideLine.{OutsideLine}
 use Rattle.mx_turns.specs.declared.turns.Ending.{Ending}
 use Rattle.mx_turns.specs.declared.turns.Ending.TheVariants.{Rest, Turns, Full}
-use Rattle.mx_machine.proofs.ActorLemmas.{actors_after_events}
 use Rattle.mx_turns.proofs.MadeLemmas.{kept_boot}
 use Rattle.mx_turns.proofs.TurnLemmas.{cpus_stay}
 use Rattle.mx_explore.specs.declared.offers.Offer.{Offer}
@@ -55,30 +53,13 @@ run_boot t ds = turns_boot t.turns (from_boot t ds)
 
 -- ---- processors and actors
 
-module _ (f : World → ℕ) (same : (w : World) (xs : List (ℕ × Event)) → f (world_after_events w xs) ≡ f w) where
-  met_keeps : (other begun : ℕ) (p : Passage) (o : Option Offer) → f (meets_if other begun p o).world ≡ f p.world
-  met_keeps other begun p None = refl
-  met_keeps other begun p (Some x) = by (passes p.standing x)
-    where
-      by : (b : Bool) → (let q = stood p (noted p.standing (met_in p.world begun x)) in f (cond b q (made other q x)).world ≡ f p.world)
-      by true = refl
-      by false = same p.world (offered p.world (events_of other x)).made
-
-  at_keeps : (other begun : ℕ) (p : Passage) (xs : List Place) → f (At other begun p xs).world ≡ f p.world
-  at_keeps other begun p [] = refl
-  at_keeps other begun p (x ∷ xs) = at_keeps other begun (at_place other begun p x) xs ∙ met_keeps other begun p (open_at p x)
-
-  turn_keeps : (p : Passage) → f (passed_turn p).world ≡ f p.world
-  turn_keeps p = at_keeps (length p.world.cpus) p.world.records p (places (length p.world.cpus) (length p.world.services))
+-- no event changes how many processors there are
+pub cpus_kept : (m n : MachineState) (o : Offered) (full : Bool) → HasOffered m o full n → length (world_of n).cpus ≡ length (world_of m).cpus
+cpus_kept m n o full h = ap (λ (w : World). length w.cpus) h.made.world ∙ cpus_stay (world_of m) o.made
 
 -- an actor that is no processor stays
-pub room_stays : (m n : MachineState) (p q : Passage) → q ≡ passed_turn p → p.world ≡ world_of m → q.world ≡ world_of n → HasRoom m → HasRoom n
-room_stays m n p q e before after room =
-    let cpus : length (world_of n).cpus ≡ length (world_of m).cpus =
-    sym (ap (λ (w : World). length w.cpus) after) ∙ ap (λ (x : Passage). length x.world.cpus) e ∙ turn_keeps (λ w. length w.cpus) cpus_stay p ∙ ap (λ (w : World). length w.cpus) before in
-    let they : actors (world_of n) ≡ actors (world_of m) =
-    sym (ap actors after) ∙ ap (λ (x : Passage). actors x.world) e ∙ turn_keeps actors actors_after_events p ∙ ap actors before in
-    subst (λ k. k < actors (world_of n)) (sym cpus) (subst (λ k. length (world_of m).cpus < k) (sym they) room)
+pub room_stays : (m n : MachineState) → length (world_of n).cpus ≡ length (world_of m).cpus → actors (world_of n) ≡ actors (world_of m) → HasRoom m → HasRoom n
+room_stays m n cpus they room = subst (λ k. k < actors (world_of n)) (sym cpus) (subst (λ k. length (world_of m).cpus < k) (sym they) room)
 
 -- ---- a run
 

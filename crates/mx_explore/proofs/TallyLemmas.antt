@@ -5,6 +5,7 @@ use Rattle.std.specs.List.{IsDistinct, AllByRecursion, position_or_len}
 use Rattle.std.specs.List.Sorted.{IsPermutation}
 use Rattle.std.specs.Str.{bytes_eq}
 use Rattle.std.proofs.lemmas.Bool.{cases_Bool, ltb-false, ltb-true}
+use Rattle.std.proofs.lemmas.List.{append-nil}
 use Rattle.std.proofs.lemmas.List.Elements.{All-append, All-cons, All-contains, All-from_recursion, All-map, All-nil, All-weaker, Contains-append_cases, Contains-append_left, Contains-append_right, filter-append, recursion_from_All}
 use Rattle.std.proofs.lemmas.List.Sorted.{All-permutation, Contains-permutation, IsPermutation-map}
 use Rattle.std.proofs.lemmas.Map.Keys.{IsDistinct-IsPermutation}
@@ -49,10 +50,6 @@ text_kept o f e = by (is_before f o.first)
 leading_more : (t : List ℕ) (fs : List Found) (f : Found) (b : Bool) → bytes_eq f.text t ≡ b → leading_to t (fs ++ f ∷ []) ≡ leading_to t fs ++ cond b (f ∷ []) []
 leading_more t fs f b h = filter-append (λ (g : Found). bytes_eq g.text t) fs (f ∷ []) ∙ ap (λ x. leading_to t fs ++ cond x (f ∷ []) []) h
 
-append_none : {X : Type 0} (xs : List X) → xs ++ [] ≡ xs
-append_none [] = refl
-append_none (x ∷ xs) = ap (λ l. x ∷ l) (append_none xs)
-
 counted_more : (gs : List Found) (f : Found) (n : ℕ) → n ≡ count_of gs → min (n + 1) (2 ^ 64 - 1) ≡ count_of (gs ++ f ∷ [])
 counted_more gs f n h =
     let many : length (gs ++ f ∷ []) ≡ length gs + 1 = length-append gs (f ∷ []) in
@@ -63,7 +60,7 @@ counted_more gs f n h =
 module _ (fs : List Found) (f : Found) where
   kept_outcome : (o : Tallied) → bytes_eq f.text o.first.text ≡ false → IsOutcomeOf fs o → IsOutcomeOf (fs ++ f ∷ []) o
   kept_outcome o apart h =
-      let same : leading_to o.first.text (fs ++ f ∷ []) ≡ leading_to o.first.text fs = leading_more o.first.text fs f false apart ∙ append_none (leading_to o.first.text fs) in
+      let same : leading_to o.first.text (fs ++ f ∷ []) ≡ leading_to o.first.text fs = leading_more o.first.text fs f false apart ∙ append-nil (leading_to o.first.text fs) in
       record {
         count = h.count ∙ ap count_of (sym same);
         among = Contains-append_left fs (f ∷ []) o.first h.among;
@@ -119,47 +116,47 @@ module _ (fs : List Found) (f : Found) where
 
   outcomes_added : (os : List Tallied) → AllByRecursion (IsOutcomeOf fs) os → IsDistinct bytes_eq (texts os) → (Lacks os → leading_to f.text fs ≡ []) → AllByRecursion (IsOutcomeOf (fs ++ f ∷ [])) (added f os)
   outcomes_added [] h once new = (new_outcome (new tt), tt)
-  outcomes_added (o ∷ os) h once new = by (bytes_eq o.first.text f.text) refl
+  outcomes_added (o ∷ os) h once new = by (outcomes_added os h.1 once.1) (bytes_eq o.first.text f.text) refl
     where
-      by : (b : Bool) → bytes_eq o.first.text f.text ≡ b → AllByRecursion (IsOutcomeOf (fs ++ f ∷ [])) (cond b (joined o f ∷ os) (o ∷ added f os))
-      by true e = (joined_outcome o (same_text o.first.text f.text e) h.0, others_kept o.first.text (same_text o.first.text f.text e) os once.0 h.1)
-      by false e = (kept_outcome o (other_way o.first.text f.text e) h.0, outcomes_added os h.1 once.1 (λ lacks. new (e, lacks)))
+      by : ((Lacks os → leading_to f.text fs ≡ []) → AllByRecursion (IsOutcomeOf (fs ++ f ∷ [])) (added f os)) → (b : Bool) → bytes_eq o.first.text f.text ≡ b → AllByRecursion (IsOutcomeOf (fs ++ f ∷ [])) (cond b (joined o f ∷ os) (o ∷ added f os))
+      by others true e = (joined_outcome o (same_text o.first.text f.text e) h.0, others_kept o.first.text (same_text o.first.text f.text e) os once.0 h.1)
+      by others false e = (kept_outcome o (other_way o.first.text f.text e) h.0, others (λ lacks. new (e, lacks)))
 
   -- texts stay, and the schedule's is there
   text_stays : (t : List ℕ) (os : List Tallied) → Contains (texts os) t → Contains (texts (added f os)) t
   text_stays t [] h = Contains-append_left [] (f.text ∷ []) t h
-  text_stays t (o ∷ os) h = by (bytes_eq o.first.text f.text) refl
+  text_stays t (o ∷ os) h = by (text_stays t os) (bytes_eq o.first.text f.text) refl
     where
-      by : (b : Bool) → bytes_eq o.first.text f.text ≡ b → Contains (texts (cond b (joined o f ∷ os) (o ∷ added f os))) t
-      by true e = subst (λ x. Contains (x ∷ texts os) t) (sym (text_kept o f (same_text o.first.text f.text e))) h
-      by false e = elim (Contains-append_cases (o.first.text ∷ []) (texts os) t h) [
+      by : (Contains (texts os) t → Contains (texts (added f os)) t) → (b : Bool) → bytes_eq o.first.text f.text ≡ b → Contains (texts (cond b (joined o f ∷ os) (o ∷ added f os))) t
+      by others true e = subst (λ x. Contains (x ∷ texts os) t) (sym (text_kept o f (same_text o.first.text f.text e))) h
+      by others false e = elim (Contains-append_cases (o.first.text ∷ []) (texts os) t h) [
         | inl one ↦ Contains-append_left (o.first.text ∷ []) (texts (added f os)) t one
-        | inr rest ↦ Contains-append_right (o.first.text ∷ []) (texts (added f os)) t (text_stays t os rest)
+        | inr rest ↦ Contains-append_right (o.first.text ∷ []) (texts (added f os)) t (others rest)
       ]
 
   text_there : (os : List Tallied) → Contains (texts (added f os)) f.text
   text_there [] = (0, (omega arith, refl))
-  text_there (o ∷ os) = by (bytes_eq o.first.text f.text) refl
+  text_there (o ∷ os) = by (text_there os) (bytes_eq o.first.text f.text) refl
     where
-      by : (b : Bool) → bytes_eq o.first.text f.text ≡ b → Contains (texts (cond b (joined o f ∷ os) (o ∷ added f os))) f.text
-      by true e = subst (λ x. Contains (x ∷ texts os) f.text) (sym (text_kept o f (same_text o.first.text f.text e) ∙ same_text o.first.text f.text e)) (0, (omega arith, refl))
-      by false e = Contains-append_right (o.first.text ∷ []) (texts (added f os)) f.text (text_there os)
+      by : Contains (texts (added f os)) f.text → (b : Bool) → bytes_eq o.first.text f.text ≡ b → Contains (texts (cond b (joined o f ∷ os) (o ∷ added f os))) f.text
+      by there true e = subst (λ x. Contains (x ∷ texts os) f.text) (sym (text_kept o f (same_text o.first.text f.text e) ∙ same_text o.first.text f.text e)) (0, (omega arith, refl))
+      by there false e = Contains-append_right (o.first.text ∷ []) (texts (added f os)) f.text there
 
   still_apart : (t : List ℕ) (os : List Tallied) → bytes_eq t f.text ≡ false → AllByRecursion (λ y. bytes_eq t y ≡ false) (texts os) → AllByRecursion (λ y. bytes_eq t y ≡ false) (texts (added f os))
   still_apart t [] e h = (e, tt)
-  still_apart t (o ∷ os) e h = by (bytes_eq o.first.text f.text) refl
+  still_apart t (o ∷ os) e h = by (still_apart t os e h.1) (bytes_eq o.first.text f.text) refl
     where
-      by : (b : Bool) → bytes_eq o.first.text f.text ≡ b → AllByRecursion (λ y. bytes_eq t y ≡ false) (texts (cond b (joined o f ∷ os) (o ∷ added f os)))
-      by true i = (ap (bytes_eq t) (text_kept o f (same_text o.first.text f.text i)) ∙ h.0, h.1)
-      by false i = (h.0, still_apart t os e h.1)
+      by : AllByRecursion (λ y. bytes_eq t y ≡ false) (texts (added f os)) → (b : Bool) → bytes_eq o.first.text f.text ≡ b → AllByRecursion (λ y. bytes_eq t y ≡ false) (texts (cond b (joined o f ∷ os) (o ∷ added f os)))
+      by others true i = (ap (bytes_eq t) (text_kept o f (same_text o.first.text f.text i)) ∙ h.0, h.1)
+      by others false i = (h.0, others)
 
   once_added : (os : List Tallied) → IsDistinct bytes_eq (texts os) → IsDistinct bytes_eq (texts (added f os))
   once_added [] h = (tt, tt)
-  once_added (o ∷ os) h = by (bytes_eq o.first.text f.text) refl
+  once_added (o ∷ os) h = by (once_added os h.1) (bytes_eq o.first.text f.text) refl
     where
-      by : (b : Bool) → bytes_eq o.first.text f.text ≡ b → IsDistinct bytes_eq (texts (cond b (joined o f ∷ os) (o ∷ added f os)))
-      by true e = subst (λ x. IsDistinct bytes_eq (x ∷ texts os)) (sym (text_kept o f (same_text o.first.text f.text e))) h
-      by false e = (still_apart o.first.text os e h.0, once_added os h.1)
+      by : IsDistinct bytes_eq (texts (added f os)) → (b : Bool) → bytes_eq o.first.text f.text ≡ b → IsDistinct bytes_eq (texts (cond b (joined o f ∷ os) (o ∷ added f os)))
+      by others true e = subst (λ x. IsDistinct bytes_eq (x ∷ texts os)) (sym (text_kept o f (same_text o.first.text f.text e))) h
+      by others false e = (still_apart o.first.text os e h.0, others)
 
   -- no schedule leads to a text that no outcome has
   none_leads : (gs : List Found) (os : List Tallied) → AllByRecursion (λ (g : Found). Contains (texts os) g.text) gs → Lacks os → leading_to f.text gs ≡ []
@@ -190,22 +187,22 @@ place_in f os = position_or_len (λ (o : Outcome). bytes_eq o.text.items f.text)
 set_added : (os : List Outcome) (o p : Outcome) (f : Found) → place_in f os < length os → o ≡ get_or os (place_in f os) o → tallied p ≡ joined (tallied o) f
     → map tallied (set os (place_in f os) p) ≡ added f (map tallied os)
 set_added [] o p f lt is e = absurd (let none : 0 < 0 = lt in omega (arith, none))
-set_added (x ∷ os) o p f lt is e = by (bytes_eq x.text.items f.text) lt is
+set_added (x ∷ os) o p f lt is e = by (set_added os o p f) (bytes_eq x.text.items f.text) lt is
   where
-    by : (b : Bool) → (let n = cond (not b) (1 + place_in f os) 0 in
+    by : (place_in f os < length os → o ≡ get_or os (place_in f os) o → tallied p ≡ joined (tallied o) f → map tallied (set os (place_in f os) p) ≡ added f (map tallied os)) → (b : Bool) → (let n = cond (not b) (1 + place_in f os) 0 in
         n < length (x ∷ os) → o ≡ get_or (x ∷ os) n o → map tallied (set (x ∷ os) n p) ≡ cond b (joined (tallied x) f ∷ map tallied os) (tallied x ∷ added f (map tallied os)))
-    by true lt is = ap (λ (y : Tallied). y ∷ map tallied os) (e ∙ ap (λ (y : Outcome). joined (tallied y) f) is)
-    by false lt is = ap (λ (l : List Tallied). tallied x ∷ l) (set_added os o p f (omega (arith, lt)) is e)
+    by others true lt is = ap (λ (y : Tallied). y ∷ map tallied os) (e ∙ ap (λ (y : Outcome). joined (tallied y) f) is)
+    by others false lt is = ap (λ (l : List Tallied). tallied x ∷ l) (others (omega (arith, lt)) is e)
 
 -- or it is a new one
 push_added : (os : List Outcome) (o : Outcome) (f : Found) → length os ≤ place_in f os → tallied o ≡ record { count = 1; first = f } → map tallied (os ++ o ∷ []) ≡ added f (map tallied os)
 push_added [] o f le e = ap (λ (y : Tallied). y ∷ []) e
-push_added (x ∷ os) o f le e = by (bytes_eq x.text.items f.text) le
+push_added (x ∷ os) o f le e = by (push_added os o f) (bytes_eq x.text.items f.text) le
   where
-    by : (b : Bool) → length (x ∷ os) ≤ cond (not b) (1 + place_in f os) 0
+    by : (length os ≤ place_in f os → tallied o ≡ record { count = 1; first = f } → map tallied (os ++ o ∷ []) ≡ added f (map tallied os)) → (b : Bool) → length (x ∷ os) ≤ cond (not b) (1 + place_in f os) 0
         → tallied x ∷ map tallied (os ++ o ∷ []) ≡ cond b (joined (tallied x) f ∷ map tallied os) (tallied x ∷ added f (map tallied os))
-    by true le = absurd (let none : suc (length os) ≤ 0 = le in omega (arith, none))
-    by false le = ap (λ (l : List Tallied). tallied x ∷ l) (push_added os o f (omega (arith, le)) e)
+    by others true le = absurd (let none : suc (length os) ≤ 0 = le in omega (arith, none))
+    by others false le = ap (λ (l : List Tallied). tallied x ∷ l) (others (omega (arith, le)) e)
 
 some_place : (n len k : ℕ) (b : Bool) → nat_lt n len ≡ b → cond b (let z : Option ℕ = Some n in z) None ≡ Some k → (n ≡ k) × (n < len)
 some_place n len k true e h = (cc, ltb-true n len e)

@@ -3,6 +3,7 @@ use Rattle.std.proofs.Common.{◌≡◌, ◌∙◌, ◌⊎◌, ◌≤◌, ◌<�
 use Rattle.std.specs.Prelude.{⊤, All, Contains, filter, slice_get, slice_index_or}
 use Rattle.std.specs.List.{AllByRecursion, IsDistinct, flat_map, range_with_len}
 use Rattle.std.proofs.lemmas.Bool.{cases_Bool, cases_lt, eq-eqb, eqb-true, ltb-true, ne_eqb}
+use Rattle.std.proofs.lemmas.List.{append-nil}
 use Rattle.std.proofs.lemmas.List.Elements.{All-from_recursion, Contains-append_cases, Contains-append_left, Contains-append_right}
 use Rattle.std.proofs.lemmas.Option.{slice_get_within}
 use Rattle.mx_explore.specs.Offers.{is_outside}
@@ -37,11 +38,11 @@ rec_flat P f (x ∷ xs) h = rec_append P (f x) (flat_map f xs) h.0 (rec_flat P f
 -- what a filter keeps
 rec_filter : {X : Type 0} (p : X → Bool) (P : X → Type 0) (xs : List X) → AllByRecursion P xs → AllByRecursion (λ x. P x × (p x ≡ true)) (filter p xs)
 rec_filter p P [] h = tt
-rec_filter p P (x ∷ xs) h = by (p x) refl
+rec_filter p P (x ∷ xs) h = by (rec_filter p P xs h.1) (p x) refl
   where
-    by : (b : Bool) → p x ≡ b → AllByRecursion (λ y. P y × (p y ≡ true)) (cond b (x ∷ filter p xs) (filter p xs))
-    by true e = ((h.0, e), rec_filter p P xs h.1)
-    by false e = rec_filter p P xs h.1
+    by : AllByRecursion (λ y. P y × (p y ≡ true)) (filter p xs) → (b : Bool) → p x ≡ b → AllByRecursion (λ y. P y × (p y ≡ true)) (cond b (x ∷ filter p xs) (filter p xs))
+    by later true e = ((h.0, e), later)
+    by later false e = later
 
 has_first : {X : Type 0} (x : X) (xs : List X) → Contains (x ∷ xs) x
 has_first x xs = (0, (omega arith, refl))
@@ -58,13 +59,13 @@ only_one y x h = one_at y x h.0 h.1 h.2
 
 has_filter : {X : Type 0} (p : X → Bool) (xs : List X) (x : X) → p x ≡ true → Contains xs x → Contains (filter p xs) x
 has_filter p [] x is h = absurd (let none : h.0 < 0 = h.1 in omega (arith, none))
-has_filter p (y ∷ ys) x is h = by (p y) refl (Contains-append_cases (y ∷ []) ys x h)
+has_filter p (y ∷ ys) x is h = by (has_filter p ys x is) (p y) refl (Contains-append_cases (y ∷ []) ys x h)
   where
-    by : (b : Bool) → p y ≡ b → Contains (y ∷ []) x ⊎ Contains ys x → Contains (cond b (y ∷ filter p ys) (filter p ys)) x
-    by true e (inl c) = subst (λ z. Contains (y ∷ filter p ys) z) (sym (only_one y x c)) (has_first y (filter p ys))
-    by true e (inr c) = has_later y (filter p ys) x (has_filter p ys x is c)
-    by false e (inl c) = absurd (true≢false (sym is ∙ ap p (only_one y x c) ∙ e))
-    by false e (inr c) = has_filter p ys x is c
+    by : (Contains ys x → Contains (filter p ys) x) → (b : Bool) → p y ≡ b → Contains (y ∷ []) x ⊎ Contains ys x → Contains (cond b (y ∷ filter p ys) (filter p ys)) x
+    by later true e (inl c) = subst (λ z. Contains (y ∷ filter p ys) z) (sym (only_one y x c)) (has_first y (filter p ys))
+    by later true e (inr c) = has_later y (filter p ys) x (later c)
+    by later false e (inl c) = absurd (true≢false (sym is ∙ ap p (only_one y x c) ∙ e))
+    by later false e (inr c) = later c
 
 has_flat : {X Y : Type 0} (f : X → List Y) (xs : List X) (x : X) (y : Y) → Contains xs x → Contains (f x) y → Contains (flat_map f xs) y
 has_flat f [] x y h g = absurd (let none : h.0 < 0 = h.1 in omega (arith, none))
@@ -101,11 +102,7 @@ same_part p [] at n gs = refl
 same_part p (e ∷ es) at n gs = refl
 
 front_is_schedule : (t : Setting) (gs ds : List Departure) → IsSchedule t (ds ++ gs) → IsSchedule t ds
-front_is_schedule t [] ds h = subst (IsSchedule t) (none ds) h
-  where
-    none : (l : List Departure) → l ++ [] ≡ l
-    none [] = refl
-    none (x ∷ xs) = ap (λ l. x ∷ l) (none xs)
+front_is_schedule t [] ds h = subst (IsSchedule t) (append-nil ds) h
 front_is_schedule t (g ∷ gs) ds h = (shorter t ds g (front_is_schedule t gs (ds ++ g ∷ []) (subst (IsSchedule t) (sym (fronts ds g gs)) h))).0
 
 some_turn : (n : ℕ) (x : Offer) (d : Departure) → is_at n x d ≡ true → 0 < d.turns
@@ -135,12 +132,8 @@ module _ (p : Part) (t : Setting) where
   itself_below : (k : ℕ) (ds : List Departure) → IsSchedule t ds → AllByRecursion (IsBelow k ds) (itself p ds)
   itself_below k ds h = by (is_in_part p ds) refl
     where
-      none : (l : List Departure) → l ++ [] ≡ l
-      none [] = refl
-      none (x ∷ xs) = ap (λ l. x ∷ l) (none xs)
-
       by : (b : Bool) → is_in_part p ds ≡ b → AllByRecursion (IsBelow k ds) (cond b (ds ∷ []) [])
-      by true e = (record { met = h; few = omega arith; part = e; front = ([], sym (none ds)) }, tt)
+      by true e = (record { met = h; few = omega arith; part = e; front = ([], sym (append-nil ds)) }, tt)
       by false e = tt
 
   deeper : (k : ℕ) (ds : List Departure) (d : Departure) (es : List Departure) → IsBelow k (ds ++ d ∷ []) es → IsBelow (suc k) ds es
@@ -159,7 +152,7 @@ module _ (p : Part) (t : Setting) where
   departing_below k ds at m deep there (suc fuel) n lt h =
       rec_append (IsBelow (suc k) ds) (below p t k es) (cond (can_wait (end_of t es) && is_of_outside (slice_get (end_of t ds).met at)) (departing (below p t k) t ds at (n + 1) fuel) [])
       (rec_weaker (IsBelow k es) (IsBelow (suc k) ds) (deeper k ds d) (below p t k es) (deep es h))
-      (by (can_wait (end_of t es) && is_of_outside (slice_get (end_of t ds).met at)) refl)
+      (by (departing_below k ds at m deep there fuel (n + 1)) (can_wait (end_of t es) && is_of_outside (slice_get (end_of t ds).met at)) refl)
     where
       d : Departure
       d = record { at = at; turns = n }
@@ -167,15 +160,15 @@ module _ (p : Part) (t : Setting) where
       es : List Departure
       es = departed ds at n
 
-      by : (b : Bool) → (can_wait (end_of t es) && is_of_outside (slice_get (end_of t ds).met at)) ≡ b → AllByRecursion (IsBelow (suc k) ds) (cond b (departing (below p t k) t ds at (n + 1) fuel) [])
-      by false e = tt
-      by true e =
+      by : (0 < n + 1 → IsSchedule t (departed ds at (n + 1)) → AllByRecursion (IsBelow (suc k) ds) (departing (below p t k) t ds at (n + 1) fuel)) → (b : Bool) → (can_wait (end_of t es) && is_of_outside (slice_get (end_of t ds).met at)) ≡ b → AllByRecursion (IsBelow (suc k) ds) (cond b (departing (below p t k) t ds at (n + 1) fuel) [])
+      by longer false e = tt
+      by longer true e =
           let both = both_true _ _ e in
           let out : is_outside m.offer ≡ true = ap is_of_outside (sym there) ∙ both.1 in
           let it = (shorter t ds d h).2 in
           let same : Some it.0 ≡ Some m = sym it.1 ∙ there in
           let one : it.0 ≡ m = cc in
-          departing_below k ds at m deep there fuel (n + 1) (omega arith) (wait_more t ds d it.0 lt h it.2 (ap (λ (x : Met). is_outside x.offer) one ∙ out) both.0)
+          longer (omega arith) (wait_more t ds d it.0 lt h it.2 (ap (λ (x : Met). is_outside x.offer) one ∙ out) both.0)
 
   all_below : (k : ℕ) (ds : List Departure) → IsSchedule t ds → AllByRecursion (IsBelow k ds) (below p t k ds)
   all_below zero ds h = itself_below zero ds h
@@ -195,6 +188,17 @@ module _ (p : Part) (t : Setting) where
 
   -- ---- what the tree has
 
+  -- a schedule's last departure may last fewer turns
+  down : (ds : List Departure) (at n i : ℕ) → 0 < i → i ≤ n → IsSchedule t (departed ds at n) → IsSchedule t (departed ds at i)
+  down ds at zero i some few s = absurd (omega (arith, some, few))
+  down ds at (suc n) i some few s = elim (cases_lt i (suc n)) [
+    | inr ge ↦ (let same : suc n ≡ i = omega (arith, few, ge) in subst (λ k. IsSchedule t (departed ds at k)) same s)
+    | inl less ↦
+        (let one : suc n ≡ n + 1 = omega arith in
+        let d : Departure = record { at = at; turns = n } in
+        down ds at n i some (omega (arith, less)) (shorter_wait t ds d (omega (arith, some, less)) (subst (λ k. IsSchedule t (departed ds at k)) one s)).0)
+  ]
+
   -- a wait that a schedule has is found by going on from a shorter one
   departing_has : (f : List Departure → Lists) (ds : List Departure) (at n : ℕ) (es : List Departure) → IsSchedule t (departed ds at n) → Contains (f (departed ds at n)) es
       → (fuel j : ℕ) → 0 < j → j ≤ n → n < j + fuel → Contains (departing f t ds at j fuel) es
@@ -204,7 +208,7 @@ module _ (p : Part) (t : Setting) where
         (let same : n ≡ j = omega (arith, le, ge) in
         Contains-append_left (f (departed ds at j)) (rest j) es (subst (λ i. Contains (f (departed ds at i)) es) same has))
     | inl less ↦
-        (let next = down n (j + 1) (omega arith) (omega (arith, less)) h in
+        (let next = down ds at n (j + 1) (omega arith) (omega (arith, less)) h in
         let d : Departure = record { at = at; turns = j } in
         let can = (shorter_wait t ds d lt next).1 in
         let it = (shorter t ds (longer_wait d) next).2 in
@@ -218,37 +222,18 @@ module _ (p : Part) (t : Setting) where
       rest : ℕ → Lists
       rest j = cond (can_wait (end_of t (departed ds at j)) && is_of_outside (slice_get (end_of t ds).met at)) (departing f t ds at (j + 1) fuel) []
 
-      -- a schedule's last departure may last fewer turns
-      down : (n i : ℕ) → 0 < i → i ≤ n → IsSchedule t (departed ds at n) → IsSchedule t (departed ds at i)
-      down zero i some few s = absurd (omega (arith, some, few))
-      down (suc n) i some few s = elim (cases_lt i (suc n)) [
-        | inr ge ↦ (let same : suc n ≡ i = omega (arith, few, ge) in subst (λ k. IsSchedule t (departed ds at k)) same s)
-        | inl less ↦
-            (let one : suc n ≡ n + 1 = omega arith in
-            let d : Departure = record { at = at; turns = n } in
-            down n i some (omega (arith, less)) (shorter_wait t ds d (omega (arith, some, less)) (subst (λ k. IsSchedule t (departed ds at k)) one s)).0)
-      ]
-
   itself_has : (ds : List Departure) → is_in_part p ds ≡ true → Contains (itself p ds) ds
   itself_has ds e = subst (λ b. Contains (cond b (ds ∷ []) []) ds) (sym e) (has_first ds [])
 
-  every_below : (k : ℕ) (ds gs : List Departure) → IsSchedule t (ds ++ gs) → length gs ≤ k → is_in_part p (ds ++ gs) ≡ true → Contains (below p t k ds) (ds ++ gs)
-  every_below zero ds [] h few part = has_itself
-    where
-      none : (l : List Departure) → l ++ [] ≡ l
-      none [] = refl
-      none (x ∷ xs) = ap (λ l. x ∷ l) (none xs)
+  none_more : (ds : List Departure) → is_in_part p (ds ++ []) ≡ true → Contains (itself p ds) (ds ++ [])
+  none_more ds part = subst (λ es. Contains (itself p ds) es) (sym (append-nil ds)) (itself_has ds (ap (is_in_part p) (sym (append-nil ds)) ∙ part))
 
-      has_itself : Contains (itself p ds) (ds ++ [])
-      has_itself = subst (λ es. Contains (itself p ds) es) (sym (none ds)) (itself_has ds (ap (is_in_part p) (sym (none ds)) ∙ part))
+  every_below : (k : ℕ) (ds gs : List Departure) → IsSchedule t (ds ++ gs) → length gs ≤ k → is_in_part p (ds ++ gs) ≡ true → Contains (below p t k ds) (ds ++ gs)
+  every_below zero ds [] h few part = none_more ds part
   every_below zero ds (g ∷ gs) h few part = absurd (omega (arith, few))
   every_below (suc k) ds [] h few part =
       Contains-append_left (itself p ds) (flat_map (λ at. departing (below p t k) t ds at 1 t.turns) (asked_places p ds (end_of t ds))) (ds ++ [])
-      (subst (λ es. Contains (itself p ds) es) (sym (none ds)) (itself_has ds (ap (is_in_part p) (sym (none ds)) ∙ part)))
-    where
-      none : (l : List Departure) → l ++ [] ≡ l
-      none [] = refl
-      none (x ∷ xs) = ap (λ l. x ∷ l) (none xs)
+      (none_more ds part)
   every_below (suc k) ds (g ∷ gs) h few part =
       let s = end_of t ds in
       let es = ds ++ g ∷ gs in
@@ -303,10 +288,6 @@ Departs ds at n es = (gs : List Departure) × (es ≡ ds ++ record { at = at; tu
 abbrev Begins : List Departure → List Departure → Type 0
 Begins ds es = (gs : List Departure) × (es ≡ ds ++ gs)
 
-no_more : (l : List Departure) → l ++ [] ≡ l
-no_more [] = refl
-no_more (x ∷ xs) = ap (λ l. x ∷ l) (no_more xs)
-
 module _ (p : Part) (t : Setting) where
   abbrev AllBegin : (List Departure → Lists) → Type 0
   AllBegin f = (es : List Departure) → AllByRecursion (Begins es) (f es)
@@ -316,14 +297,14 @@ module _ (p : Part) (t : Setting) where
   departing_departs f all ds at (suc fuel) n =
       rec_append (λ es. (m : ℕ) × (n ≤ m) × Departs ds at m es) (f (departed ds at n)) (rest (can_wait (end_of t (departed ds at n)) && is_of_outside (slice_get (end_of t ds).met at)))
       (rec_weaker (Begins (departed ds at n)) (λ es. (m : ℕ) × (n ≤ m) × Departs ds at m es) (λ es b. (n, (omega arith, (b.0, b.1 ∙ fronts ds (record { at = at; turns = n }) b.0)))) (f (departed ds at n)) (all (departed ds at n)))
-      (by (can_wait (end_of t (departed ds at n)) && is_of_outside (slice_get (end_of t ds).met at)))
+      (by (departing_departs f all ds at fuel (n + 1)) (can_wait (end_of t (departed ds at n)) && is_of_outside (slice_get (end_of t ds).met at)))
     where
       rest : Bool → Lists
       rest b = cond b (departing f t ds at (n + 1) fuel) []
 
-      by : (b : Bool) → AllByRecursion (λ es. (m : ℕ) × (n ≤ m) × Departs ds at m es) (rest b)
-      by false = tt
-      by true = rec_weaker (λ es. (m : ℕ) × (n + 1 ≤ m) × Departs ds at m es) (λ es. (m : ℕ) × (n ≤ m) × Departs ds at m es) (λ es b. (b.0, (let le = b.1 in omega (arith, le), b.2))) (departing f t ds at (n + 1) fuel) (departing_departs f all ds at fuel (n + 1))
+      by : AllByRecursion (λ es. (m : ℕ) × (n + 1 ≤ m) × Departs ds at m es) (departing f t ds at (n + 1) fuel) → (b : Bool) → AllByRecursion (λ es. (m : ℕ) × (n ≤ m) × Departs ds at m es) (rest b)
+      by longer false = tt
+      by longer true = rec_weaker (λ es. (m : ℕ) × (n + 1 ≤ m) × Departs ds at m es) (λ es. (m : ℕ) × (n ≤ m) × Departs ds at m es) (λ es b. (b.0, (let le = b.1 in omega (arith, le), b.2))) (departing f t ds at (n + 1) fuel) longer
 
   itself_begins : (ds : List Departure) → AllByRecursion (λ es. es ≡ ds) (itself p ds)
   itself_begins ds = by (is_in_part p ds)
@@ -337,17 +318,17 @@ module _ (p : Part) (t : Setting) where
   every_of P f h (x ∷ xs) = rec_append P (f x) (flat_map f xs) (h x) (every_of P f h xs)
 
   begins_below : (k : ℕ) → AllBegin (below p t k)
-  begins_below zero ds = rec_weaker (λ es. es ≡ ds) (Begins ds) (λ es e. ([], e ∙ sym (no_more ds))) (itself p ds) (itself_begins ds)
+  begins_below zero ds = rec_weaker (λ es. es ≡ ds) (Begins ds) (λ es e. ([], e ∙ sym (append-nil ds))) (itself p ds) (itself_begins ds)
   begins_below (suc k) ds =
       rec_append (Begins ds) (itself p ds) (flat_map (λ at. departing (below p t k) t ds at 1 t.turns) (asked_places p ds (end_of t ds)))
-      (rec_weaker (λ es. es ≡ ds) (Begins ds) (λ es e. ([], e ∙ sym (no_more ds))) (itself p ds) (itself_begins ds))
+      (rec_weaker (λ es. es ≡ ds) (Begins ds) (λ es e. ([], e ∙ sym (append-nil ds))) (itself p ds) (itself_begins ds))
       (every_of (Begins ds) (λ at. departing (below p t k) t ds at 1 t.turns)
       (λ at. rec_weaker (λ es. (m : ℕ) × (1 ≤ m) × Departs ds at m es) (Begins ds) (λ es b. (record { at = at; turns = b.0 } ∷ b.2.0, b.2.1)) (departing (below p t k) t ds at 1 t.turns) (departing_departs (below p t k) (begins_below k) ds at t.turns 1))
       (asked_places p ds (end_of t ds)))
 
   departing_once : (f : List Departure → Lists) → AllBegin f → ((es : List Departure) → IsDistinct is_same (f es)) → (ds : List Departure) (at fuel n : ℕ) → IsDistinct is_same (departing f t ds at n fuel)
   departing_once f all once ds at zero n = tt
-  departing_once f all once ds at (suc fuel) n = by (can_wait (end_of t (departed ds at n)) && is_of_outside (slice_get (end_of t ds).met at))
+  departing_once f all once ds at (suc fuel) n = by (departing_once f all once ds at fuel (n + 1)) (can_wait (end_of t (departed ds at n)) && is_of_outside (slice_get (end_of t ds).met at))
     where
       es : List Departure
       es = departed ds at n
@@ -360,14 +341,10 @@ module _ (p : Part) (t : Setting) where
           ∙ same_fronts ds (record { at = at; turns = n } ∷ b.0) (record { at = at; turns = c.0 } ∷ c.2.0)
           ∙ other_turns at n c.0 b.0 c.2.0 (omega (arith, le))
 
-      by : (b : Bool) → IsDistinct is_same (f es ++ cond b (departing f t ds at (n + 1) fuel) [])
-      by false = subst (IsDistinct is_same) (sym (none (f es))) (once es)
-        where
-          none : (l : Lists) → l ++ [] ≡ l
-          none [] = refl
-          none (x ∷ xs) = ap (λ l. x ∷ l) (none xs)
-      by true =
-          distinct_append is_same (f es) (departing f t ds at (n + 1) fuel) (once es) (departing_once f all once ds at fuel (n + 1))
+      by : IsDistinct is_same (departing f t ds at (n + 1) fuel) → (b : Bool) → IsDistinct is_same (f es ++ cond b (departing f t ds at (n + 1) fuel) [])
+      by longer false = subst (IsDistinct is_same) (sym (append-nil (f es))) (once es)
+      by longer true =
+          distinct_append is_same (f es) (departing f t ds at (n + 1) fuel) (once es) longer
           (cross is_same (Begins es) (λ y. (m : ℕ) × (n + 1 ≤ m) × Departs ds at m y) apart (f es) (departing f t ds at (n + 1) fuel) (all es) (departing_departs f all ds at fuel (n + 1)))
 
   -- places in order
@@ -381,14 +358,14 @@ module _ (p : Part) (t : Setting) where
 
   filter_rises : (q : ℕ → Bool) (places_of : List ℕ) → Rises places_of → Rises (filter q places_of)
   filter_rises q [] h = tt
-  filter_rises q (a ∷ places_of) h = by (q a)
+  filter_rises q (a ∷ places_of) h = by (filter_rises q places_of h.1) (q a)
     where
       kept : AllByRecursion (λ b. a < b) (filter q places_of)
       kept = rec_weaker (λ b. (a < b) × (q b ≡ true)) (λ b. a < b) (λ b c. c.0) (filter q places_of) (rec_filter q (λ b. a < b) places_of h.0)
 
-      by : (b : Bool) → Rises (cond b (a ∷ filter q places_of) (filter q places_of))
-      by true = (kept, filter_rises q places_of h.1)
-      by false = filter_rises q places_of h.1
+      by : Rises (filter q places_of) → (b : Bool) → Rises (cond b (a ∷ filter q places_of) (filter q places_of))
+      by later true = (kept, later)
+      by later false = later
 
   module _ (f : List Departure → Lists) (all : AllBegin f) (once : (es : List Departure) → IsDistinct is_same (f es)) (ds : List Departure) where
     abbrev at_once : ℕ → Lists
@@ -434,7 +411,7 @@ module _ (p : Part) (t : Setting) where
     where
       apart : (x y : List Departure) → x ≡ ds → ((d : Departure) × (gs : List Departure) × (y ≡ ds ++ d ∷ gs)) → is_same x y ≡ false
       apart x y e g =
-          ap (λ (l : List Departure). is_same l y) (e ∙ sym (no_more ds)) ∙ ap (is_same (ds ++ [])) g.2 ∙ same_fronts ds [] (g.0 ∷ g.1)
+          ap (λ (l : List Departure). is_same l y) (e ∙ sym (append-nil ds)) ∙ ap (is_same (ds ++ [])) g.2 ∙ same_fronts ds [] (g.0 ∷ g.1)
 
 -- ---- without a departure
 

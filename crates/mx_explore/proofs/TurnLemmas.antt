@@ -60,11 +60,6 @@ turned_by p v cpus slots begun c s b e =
     sym e ∙ ap (λ n. At n begun p (places n slots)) c ∙ ap (λ n. At (length p.world.cpus) begun p (places (length p.world.cpus) n)) s
     ∙ ap (λ n. At (length p.world.cpus) n p (places (length p.world.cpus) (length p.world.services))) b
 
--- some events are to come, the first of which is this one
-pub some_coming : (next : Option OutsideLine) → (coming : List OutsideLine) × (next ≡ slice_get coming 0)
-some_coming None = ([], refl)
-some_coming (Some x) = (x ∷ [], refl)
-
 -- ---- turns
 
 pub get_drop : {X : Type 0} (xs : List X) (n : ℕ) → slice_get (drop n xs) 0 ≡ slice_get xs n

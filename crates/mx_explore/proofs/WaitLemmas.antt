@@ -28,27 +28,27 @@ begun_of (Some m) = m.is_begun
 
 pub waits_by : (ms : List Met) → waits_on ms ≡ begun_of (first_outside ms)
 waits_by [] = refl
-waits_by (m ∷ ms) = by (is_outside m.offer)
+waits_by (m ∷ ms) = by (waits_by ms) (is_outside m.offer)
   where
-    by : (b : Bool) → cond b m.is_begun (waits_on ms) ≡ begun_of (cond b (Some m) (first_outside ms))
-    by true = refl
-    by false = waits_by ms
+    by : waits_on ms ≡ begun_of (first_outside ms) → (b : Bool) → cond b m.is_begun (waits_on ms) ≡ begun_of (cond b (Some m) (first_outside ms))
+    by later true = refl
+    by later false = later
 
 first_kept : (ms : List Met) (m n : Met) → first_outside ms ≡ Some n → first_outside (ms ++ m ∷ []) ≡ Some n
 first_kept [] m n h = absurd cc
-first_kept (x ∷ ms) m n h = by (is_outside x.offer) h
+first_kept (x ∷ ms) m n h = by (first_kept ms m n) (is_outside x.offer) h
   where
-    by : (b : Bool) → cond b (Some x) (first_outside ms) ≡ Some n → cond b (Some x) (first_outside (ms ++ m ∷ [])) ≡ Some n
-    by true h = h
-    by false h = first_kept ms m n h
+    by : (first_outside ms ≡ Some n → first_outside (ms ++ m ∷ []) ≡ Some n) → (b : Bool) → cond b (Some x) (first_outside ms) ≡ Some n → cond b (Some x) (first_outside (ms ++ m ∷ [])) ≡ Some n
+    by later true h = h
+    by later false h = later h
 
 first_more : (ms : List Met) (m : Met) → first_outside ms ≡ None → first_outside (ms ++ m ∷ []) ≡ cond (is_outside m.offer) (Some m) None
 first_more [] m h = refl
-first_more (x ∷ ms) m h = by (is_outside x.offer) h
+first_more (x ∷ ms) m h = by (first_more ms m) (is_outside x.offer) h
   where
-    by : (b : Bool) → cond b (Some x) (first_outside ms) ≡ None → cond b (Some x) (first_outside (ms ++ m ∷ [])) ≡ cond (is_outside m.offer) (Some m) None
-    by true h = absurd cc
-    by false h = first_more ms m h
+    by : (first_outside ms ≡ None → first_outside (ms ++ m ∷ []) ≡ cond (is_outside m.offer) (Some m) None) → (b : Bool) → cond b (Some x) (first_outside ms) ≡ None → cond b (Some x) (first_outside (ms ++ m ∷ [])) ≡ cond (is_outside m.offer) (Some m) None
+    by later true h = absurd cc
+    by later false h = later h
 
 drop_more : {X : Type 0} (k : ℕ) (xs : List X) (y : X) → k ≤ length xs → drop k (xs ++ y ∷ []) ≡ drop k xs ++ y ∷ []
 drop_more zero xs y h = refl

@@ -219,9 +219,10 @@ impl Explorer<'_> {
         }
         self.know(after, met.len());
         for at in after..met.len() {
-            if self.is_asked(at) {
-                services = self.depart(alloc, progress, services, left - 1, met[at], at)?;
+            if !self.is_asked(at) {
+                continue;
             }
+            services = self.depart(alloc, progress, services, left - 1, met[at], at)?;
         }
         Ok((services, can_wait))
     }

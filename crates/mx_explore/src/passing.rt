@@ -90,7 +90,7 @@ fn meet(schedule: &mut Schedule<'_>, met: Met) -> Result<bool, AllocError>
     if goes_on {
         schedule.waits -= 1;
         schedule.after = schedule.met.len();
-        schedule.is_kept = schedule.is_kept && met.is_begun;
+        schedule.is_kept &= met.is_begun;
         return Ok(true);
     }
     if !begins {
@@ -163,6 +163,7 @@ fn pass_take(
         passage machine.new coming (standing schedule.new) is_full
         ≡ at_place other begun (passage machine.old coming (standing schedule.old) false)
         (TakeBy cpu)) }
+    ensures cpus { length (world_of machine.new).cpus ≡ length (world_of machine.old).cpus }
     ensures actors { actors (world_of machine.new) ≡ actors (world_of machine.old) }
 {
     let opened = open_take(machine, cpu);
@@ -186,6 +187,7 @@ fn pass_takes(
         passage machine.new coming (standing schedule.new) is_full
         ≡ fold (at_place other begun) (passage machine.old coming (standing schedule.old) false)
         (map TakeBy (range_with_len 0 cpus))) }
+    ensures cpus { length (world_of machine.new).cpus ≡ length (world_of machine.old).cpus }
     ensures actors { actors (world_of machine.new) ≡ actors (world_of machine.old) }
 {
     for cpu in 0..cpus {
@@ -208,6 +210,7 @@ fn pass_back(
         passage machine.new coming (standing schedule.new) is_full
         ≡ at_place other begun (passage machine.old coming (standing schedule.old) is_full)
         (BackBy cpu)) }
+    ensures cpus { length (world_of machine.new).cpus ≡ length (world_of machine.old).cpus }
     ensures actors { actors (world_of machine.new) ≡ actors (world_of machine.old) }
 {
     let opened = open_back(machine, cpu);
@@ -230,6 +233,7 @@ fn pass_backs(
         passage machine.new coming (standing schedule.new) is_full
         ≡ fold (at_place other begun) (passage machine.old coming (standing schedule.old) is_full)
         (map BackBy (range_with_len 0 cpus))) }
+    ensures cpus { length (world_of machine.new).cpus ≡ length (world_of machine.old).cpus }
     ensures actors { actors (world_of machine.new) ≡ actors (world_of machine.old) }
 {
     for cpu in 0..cpus {
@@ -251,6 +255,7 @@ fn pass_respawn(
         passage machine.new coming (standing schedule.new) is_full
         ≡ at_place other begun (passage machine.old coming (standing schedule.old) false)
         (NewIn slot)) }
+    ensures cpus { length (world_of machine.new).cpus ≡ length (world_of machine.old).cpus }
     ensures actors { actors (world_of machine.new) ≡ actors (world_of machine.old) }
 {
     let opened = open_respawn(machine, slot);
@@ -276,6 +281,7 @@ fn pass_respawns(
         passage machine.new coming (standing schedule.new) is_full
         ≡ fold (at_place other begun) (passage machine.old coming (standing schedule.old) false)
         (map NewIn (range_with_len 0 slots))) }
+    ensures cpus { length (world_of machine.new).cpus ≡ length (world_of machine.old).cpus }
     ensures actors { actors (world_of machine.new) ≡ actors (world_of machine.old) }
 {
     for slot in 0..slots {
@@ -309,6 +315,7 @@ fn pass_outside(
         (standing schedule.new) turned.is_full
         ≡ at_place other begun (passage machine.old coming (standing schedule.old) false)
         FromOutside) }
+    ensures cpus { length (world_of machine.new).cpus ≡ length (world_of machine.old).cpus }
     ensures actors { actors (world_of machine.new) ≡ actors (world_of machine.old) }
 {
     let due = next_now(machine, next);
@@ -332,12 +339,13 @@ fn pass_turn(
     schedule: &mut Schedule<'_>,
     next: Option<OutsideLine>,
 ) -> Result<Turned, AllocError>
-    requires { length (world_of machine.old).cpus < actors (world_of machine.old) }
+    requires { HasRoom machine.old }
     ensures passed { (coming : List Lines) → next ≡ slice_get coming 0 → IfOk result (λ turned.
         passage machine.new (if turned.is_gone then drop 1 coming else coming)
         (standing schedule.new) turned.is_full
         ≡ passed_turn (passage machine.old coming (standing schedule.old) false)) }
-    ensures room { OnOk result (HasRoom machine.old → HasRoom machine.new) }
+    ensures cpus { length (world_of machine.new).cpus ≡ length (world_of machine.old).cpus }
+    ensures actors { actors (world_of machine.new) ≡ actors (world_of machine.old) }
 {
     let cpus = cpus_of(machine);
     let slots = slots_of(machine);

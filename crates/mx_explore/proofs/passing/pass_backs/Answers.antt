@@ -9,7 +9,8 @@ loop-cpu-preserved c = record {
   passed = λ coming other is_full.
       next_past other c.args.begun BackBy (passage c.args.machine.now coming (standing c.args.schedule.now) is_full) (passage c.loop-cpu.machine coming (standing c.loop-cpu.schedule) is_full) _ c.loop-cpu.cpu
       (c.loop-cpu.invariant.passed coming other is_full) (c.in_ok-pass_back.ensures.passed coming other is_full);
-  as_many = c.in_ok-pass_back.ensures.actors ∙ c.loop-cpu.invariant.as_many;
+  cpus = c.in_ok-pass_back.ensures.cpus ∙ c.loop-cpu.invariant.cpus;
+  actors = c.in_ok-pass_back.ensures.actors ∙ c.loop-cpu.invariant.actors;
 }
 
 pub returns-clause-passed : goal.returns-clause-passed

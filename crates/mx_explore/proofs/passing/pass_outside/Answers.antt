@@ -7,6 +7,7 @@ use Rattle.mx_explore.specs.Offers.{open_outside}
 use Rattle.mx_explore.specs.Passages.{passage, standing}
 use Rattle.mx_explore.specs.Passing.{FromOutside}
 use Rattle.mx_explore.proofs.PassageLemmas.{none_comes, outside_at, stays_at}
+use Rattle.mx_explore.proofs.RunLemmas.{cpus_kept}
 use Rattle.mx_explore.proofs.passing.pass_outside.Goals as goal
 
 pub returns-then-not-is_gone-clause-passed : goal.returns-then-not-is_gone-clause-passed
@@ -30,3 +31,6 @@ returns-clause-passed c coming next =
     ap (λ (b : Bool). passage c.offer-is_full.new.machine (cond b (drop 1 coming) coming) t c.offer-is_full.result) c.if-not-is_gone.false
     ∙ sym (outside_at m coming c.args.other c.args.begun (standing c.args.schedule.now) t c.open_outside.result c.in_ok-is_gone.is_gone c.offer-is_full.result c.offer-is_full.new.machine c.in-Some.event
     (c.open_outside.ensures ∙ ap open_outside (c.next_now-due.ensures ∙ now)) (sym now ∙ sym c.next_now-due.ensures ∙ c.in-Some.is) c.in_ok-is_gone.ensures c.if-not-is_gone.false c.offer-is_full.ensures.offered)
+
+pub returns-clause-cpus : goal.returns-clause-cpus
+returns-clause-cpus c = cpus_kept c.args.machine.now c.offer-is_full.new.machine _ _ c.offer-is_full.ensures.offered

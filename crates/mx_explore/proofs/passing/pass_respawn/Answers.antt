@@ -6,6 +6,7 @@ use Rattle.mx_turns.specs.Turns.{offered}
 use Rattle.mx_explore.specs.Passages.{standing}
 use Rattle.mx_explore.specs.Passing.{NewIn}
 use Rattle.mx_explore.proofs.PassageLemmas.{respawns_at, stays_at}
+use Rattle.mx_explore.proofs.RunLemmas.{cpus_kept}
 use Rattle.mx_explore.proofs.passing.pass_respawn.Goals as goal
 
 pub returns-then-to_make-clause-passed : goal.returns-then-to_make-clause-passed
@@ -18,3 +19,6 @@ pub returns-else-to_make-clause-passed : goal.returns-else-to_make-clause-passed
 returns-else-to_make-clause-passed c coming =
     sym (stays_at c.args.machine.now coming c.args.other c.args.begun (standing c.args.schedule.now) (standing c.is_made.new.schedule) false (NewIn c.args.slot) c.open_respawn-opened.result c.in_ok-to_make.to_make
     c.open_respawn-opened.ensures c.in_ok-to_make.ensures c.if-to_make.false)
+
+pub returns-then-to_make-clause-cpus : goal.returns-then-to_make-clause-cpus
+returns-then-to_make-clause-cpus c = cpus_kept c.args.machine.now c.offer.new.machine _ _ c.offer.ensures.offered

@@ -9,7 +9,8 @@ loop-slot-preserved c = record {
   passed = λ coming.
       next_past c.args.other c.args.begun NewIn (passage c.args.machine.now coming (standing c.args.schedule.now) false) (passage c.loop-slot.machine coming (standing c.loop-slot.schedule) false) _ c.loop-slot.slot
       (c.loop-slot.invariant.passed coming) (ap (passage c.pass_respawn.new.machine coming (standing c.pass_respawn.new.schedule)) (sym c.if-is_full.false) ∙ c.in_ok-is_full.ensures.passed coming);
-  as_many = c.in_ok-is_full.ensures.actors ∙ c.loop-slot.invariant.as_many;
+  cpus = c.in_ok-is_full.ensures.cpus ∙ c.loop-slot.invariant.cpus;
+  actors = c.in_ok-is_full.ensures.actors ∙ c.loop-slot.invariant.actors;
 }
 
 pub returns-then-is_full-clause-passed : goal.returns-then-is_full-clause-passed

@@ -9,7 +9,8 @@ loop-cpu-preserved c = record {
   passed = λ coming other.
       next_past other c.args.begun TakeBy (passage c.args.machine.now coming (standing c.args.schedule.now) false) (passage c.loop-cpu.machine coming (standing c.loop-cpu.schedule) false) _ c.loop-cpu.cpu
       (c.loop-cpu.invariant.passed coming other) (ap (passage c.pass_take.new.machine coming (standing c.pass_take.new.schedule)) (sym c.if-is_full.false) ∙ c.in_ok-is_full.ensures.passed coming other);
-  as_many = c.in_ok-is_full.ensures.actors ∙ c.loop-cpu.invariant.as_many;
+  cpus = c.in_ok-is_full.ensures.cpus ∙ c.loop-cpu.invariant.cpus;
+  actors = c.in_ok-is_full.ensures.actors ∙ c.loop-cpu.invariant.actors;
 }
 
 pub returns-then-is_full-clause-passed : goal.returns-then-is_full-clause-passed

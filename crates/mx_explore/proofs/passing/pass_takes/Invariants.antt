@@ -1,4 +1,4 @@
-use Rattle.std.proofs.Common.{◌≡◌, List, map, ℕ, false}
+use Rattle.std.proofs.Common.{◌≡◌, List, length, map, ℕ, false}
 use Rattle.std.specs.List.{range_with_len}
 use Rattle.mx_turns.specs.declared.outside.OutsideLine.{OutsideLine}
 use Rattle.mx_machine.specs.Machine.{world_of}
@@ -12,5 +12,6 @@ use Rattle.mx_explore.proofs.passing.pass_takes.Given as goal
 abbrev pub invariant-loop-cpu : goal.invariant-loop-cpu
 invariant-loop-cpu l = record {
   passed : (coming : List OutsideLine) (other : ℕ) → passage l.machine coming (standing l.schedule) false ≡ At other l.begun (passage l.initial.machine coming (standing l.initial.schedule) false) (map TakeBy (range_with_len 0 l.cpu));
-  as_many : actors (world_of l.machine) ≡ actors (world_of l.initial.machine);
+  cpus : length (world_of l.machine).cpus ≡ length (world_of l.initial.machine).cpus;
+  actors : actors (world_of l.machine) ≡ actors (world_of l.initial.machine);
 }

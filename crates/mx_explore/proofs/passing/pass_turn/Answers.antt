@@ -1,7 +1,6 @@
-use Rattle.std.proofs.Common.{◌∙◌, cond, drop, false, refl, ap, sym}
+use Rattle.std.proofs.Common.{◌∙◌, cond, drop, false, ap, sym}
 use Rattle.mx_explore.specs.Passages.{passage, standing}
-use Rattle.mx_explore.proofs.RunLemmas.{room_stays}
-use Rattle.mx_explore.proofs.TurnLemmas.{some_coming, turn_full, turn_outside, turn_whole, turned_by}
+use Rattle.mx_explore.proofs.TurnLemmas.{turn_full, turn_outside, turn_whole, turned_by}
 use Rattle.mx_explore.proofs.passing.pass_turn.Goals as goal
 
 pub returns-then-is_full-clause-passed : goal.returns-then-is_full-clause-passed
@@ -45,18 +44,3 @@ returns-clause-passed c coming next =
     let outside = ap (passage c.pass_outside.new.machine left (standing c.pass_outside.new.schedule)) (sym c.if-turned.false) ∙ out in
     turned_by p v c.cpus_of-cpus.result c.slots_of-slots.result c.records_of-begun.result c.cpus_of-cpus.ensures c.slots_of-slots.ensures c.records_of-begun.ensures
     (turn_whole c.cpus_of-cpus.result c.records_of-begun.result p q r w v c.cpus_of-cpus.result c.slots_of-slots.result takes backs outside (c.in_ok-is_filled.ensures.passed left))
-
-pub returns-then-is_full-clause-room : goal.returns-then-is_full-clause-room
-returns-then-is_full-clause-room c room =
-    let some = some_coming c.args.next in
-    room_stays c.args.machine.now c.pass_backs.new.machine _ _ (returns-then-is_full-clause-passed c some.0 some.1) refl refl room
-
-pub returns-then-turned-clause-room : goal.returns-then-turned-clause-room
-returns-then-turned-clause-room c room =
-    let some = some_coming c.args.next in
-    room_stays c.args.machine.now c.pass_outside.new.machine _ _ (returns-then-turned-clause-passed c some.0 some.1) refl refl room
-
-pub returns-clause-room : goal.returns-clause-room
-returns-clause-room c room =
-    let some = some_coming c.args.next in
-    room_stays c.args.machine.now c.pass_respawns.new.machine _ _ (returns-clause-passed c some.0 some.1) refl refl room

@@ -1,4 +1,5 @@
 use Rattle.std.proofs.Common.{◌≡◌, ◌∙◌, ◌+◌, ◌-◌, ◌≤◌, ◌&&◌, ℕ, Bool, List, Option, true, false, cond, drop, is_none, refl, ap, sym, arith}
+use Rattle.std.specs.Int.{from_bool}
 use Rattle.std.specs.Prelude.{slice_get}
 use Rattle.mx_machine.specs.Machine.{world_of}
 use Rattle.mx_machine.specs.Rest.{at_rest}
@@ -6,8 +7,13 @@ use Rattle.mx_turns.specs.Made.{outside_events}
 use Rattle.mx_turns.specs.declared.outside.OutsideLine.{OutsideLine}
 use Rattle.mx_explore.specs.Passages.{passage, standing}
 use Rattle.mx_explore.specs.Passing.{passed_turns}
+use Rattle.mx_explore.proofs.RunLemmas.{room_stays}
 use Rattle.mx_explore.proofs.TurnLemmas.{coming_on, ends_full, ends_last, ends_over, get_drop, goes_on}
 use Rattle.mx_explore.proofs.passing.pass_turns.Goals as goal
+
+number : (b : Bool) → from_bool b ≡ cond b 1 0
+number true = refl
+number false = refl
 
 at_most : (b : Bool) → cond b 1 0 ≤ 1
 at_most true = omega arith
@@ -29,9 +35,9 @@ loop-preserved c =
     let t = standing c.pass_turn.new.schedule in
     let gone = c.in_ok-turned.turned.is_gone in
     let full = c.in_ok-turned.turned.is_full in
-    let more : at + c.from-place.result ≡ at + cond gone 1 0 = ap (λ k. at + k) c.from-place.ensures in
+    let more : at + c.from-place.result ≡ at + cond gone 1 0 = ap (λ k. at + k) (c.from-place.ensures ∙ number gone) in
     record {
-      room = c.in_ok-turned.ensures.room c.loop.invariant.room;
+      room = room_stays m n c.in_ok-turned.ensures.cpus c.in_ok-turned.ensures.actors c.loop.invariant.room;
       few = (let one : cond gone 1 0 ≤ 1 = at_most gone in let few = c.loop.invariant.few in omega (arith, few, one, more));
       left =
       goes_on (passage c.args.machine.now events (standing c.args.schedule.now) false) c.args.bound events c.loop.counter at m (standing c.loop.schedule) (passage n (cond gone (drop 1 (drop at events)) (drop at events)) t full)
