@@ -21,7 +21,7 @@ use Rattle.mx_explore.specs.declared.passing.Ran.{Ran}
 use Rattle.mx_explore.specs.Exploring.{HasCounted, IsAtBoot, IsSame, ShowsCounts, part_of, setting}
 use Rattle.mx_explore.specs.Offers.{is_outside}
 use Rattle.mx_explore.specs.Outcomes.{Found, IsCounted, first_of, found_by, outcome_text}
-use Rattle.mx_explore.specs.Passages.{IsRun}
+use Rattle.mx_explore.specs.Passages.{HasRoom, IsRun}
 use Rattle.mx_explore.specs.Passing.{Setting, end_of, from_boot, run_of_schedule}
 use Rattle.mx_explore.specs.Schedules.{Part, is_in_part}
 use Rattle.mx_explore.specs.Tree.{below, can_wait, departed, departing, is_of_outside, itself}
@@ -75,6 +75,14 @@ one_counted a b r o ran e more is fs h =
 -- or it isn't in the part
 pub other_part : (a b : Explorer) → a.tally ≡ b.tally → is_in_part (part_of a.terms) a.departures.items ≡ false → HasCounted a (itself (part_of a.terms) a.departures.items) b
 other_part a b e not_in = subst (λ (dss : List (List Departure)). HasCounted a dss b) (ap (λ c. cond c (a.departures.items ∷ []) []) (sym not_in)) (none_counted a b e)
+
+-- its machine is the one at boot, so it may run
+pub boots : (m n : MachineState) (services : List Service) → n ≡ m → IsAtBoot m services → (n.kernel ≡ record { boot = world_of n; history = [] }) × HasRoom n
+boots m n services e h = subst (λ (x : MachineState). (x.kernel ≡ record { boot = world_of x; history = [] }) × HasRoom x) (sym e) (h.kernel, h.room)
+
+-- and its run is that of the schedule
+pub ran_from : (a : Explorer) (m : MachineState) (r : Ran) → m ≡ a.boot → IsRun (setting a.terms m) a.departures.items r → IsRun (here a) a.departures.items r
+ran_from a m r e h = subst (λ (x : MachineState). IsRun (setting a.terms x) a.departures.items r) e h
 
 -- the services come back from its machine
 pub services_back : (t : Setting) (ds : List Departure) (m : MachineState) (services : List Service) (r : Ran) → IsAtBoot m services → t.boot ≡ world_of m → IsRun t ds r → r.machine.kernel.boot.services ≡ services

@@ -12,7 +12,8 @@ use Rattle.std.proofs.lemmas.Map.Keys.{IsDistinct-IsPermutation}
 use Rattle.std.proofs.lemmas.Slice.Eq.{bytes_eq-Decides}
 use Rattle.std.specs.Cmp.{both_ways}
 use Rattle.mx_explore.specs.declared.outcomes.Outcome.{Outcome}
-use Rattle.mx_explore.specs.Outcomes.{AreOutcomes, Found, IsOutcomeOf, Tallied, count_of, first_of, is_before, leading_to, tallied, texts}
+use Rattle.mx_explore.specs.declared.outcomes.Tally.{Tally}
+use Rattle.mx_explore.specs.Outcomes.{AreOutcomes, Found, IsCounted, IsOutcomeOf, Tallied, count_of, first_of, is_before, leading_to, tallied, texts}
 use Rattle.mx_explore.proofs.OrderLemmas.{not_before, ranked}
 
 -- an outcome with one schedule more, and the outcomes with it
@@ -252,3 +253,16 @@ reordered fs os ps h are =
       every = All-weaker (λ (f : Found). Contains (texts os) f.text) (λ (f : Found). Contains (texts ps) f.text) (λ f there. Contains-permutation (texts os) (texts ps) f.text same there) fs are.every;
       once = IsDistinct-IsPermutation bytes_eq flips (texts os) (texts ps) same are.once;
     }
+
+-- ---- schedules that are counted
+
+none_known : AreOutcomes [] []
+none_known = record { outcomes = All-nil (IsOutcomeOf []); every = All-nil (λ (f : Found). Contains (texts []) f.text); once = tt }
+
+-- none
+pub nothing_counted : (t : Tally) → t.schedules ≡ 0 → t.outcomes.items ≡ [] → IsCounted [] t
+nothing_counted t none e = record { schedules = omega (arith, none); outcomes = subst (λ (os : List Outcome). AreOutcomes [] (map tallied os)) (sym e) none_known }
+
+-- and one more
+pub one_more : (fs : List Found) (f : Found) (a b : Tally) → b.schedules ≡ min (a.schedules + 1) (2 ^ 64 - 1) → (AreOutcomes fs (map tallied a.outcomes.items) → AreOutcomes (fs ++ f ∷ []) (map tallied b.outcomes.items)) → IsCounted fs a → IsCounted (fs ++ f ∷ []) b
+one_more fs f a b more outcomes h = record { schedules = more ∙ counted_more fs f a.schedules h.schedules; outcomes = outcomes h.outcomes }

@@ -1,3 +1,4 @@
+use Rattle.std.proofs.Common.{◌∙◌, refl, subst, sym}
 use Rattle.mx_explore.proofs.TallyLemmas.{begins, joins}
 use Rattle.mx_explore.proofs.outcomes.Tally.add.Goals as goal
 
