@@ -6,27 +6,28 @@ use Rattle.mx_turns.specs.declared.turns.Ending.{Ending}
 use Rattle.mx_turns.specs.declared.turns.Ending.TheVariants.{Rest, Turns, Full}
 use Rattle.mx_explore.specs.declared.offers.Offer.{Offer}
 use Rattle.mx_explore.specs.declared.passing.Met.{Met}
-use Rattle.mx_explore.specs.Passing.{Passage, Place, Standing, at_place, made, meets, meets_if, met_in, noted, open_at, passed_turn, passed_turns, passes, places}
+use Rattle.mx_explore.specs.declared.passing.TurnStart.{TurnStart}
+use Rattle.mx_explore.specs.Passing.{Passage, Place, Standing, at_place, made, meets, meets_if, met_in, noted, open_at, passed_turn, passed_turns, passes, places, turn_start}
 use Rattle.mx_explore.proofs.PassageLemmas.{At, stood}
 
 -- ---- what lasts
 
 -- what holds of a standing whatever is noted next holds along a run
 module _ (K : Standing → Type 0) (lasts : (s : Standing) (m : Met) → K s → K (noted s m)) where
-  met_lasts : (other begun : ℕ) (p : Passage) (o : Option Offer) → K p.standing → K (meets_if other begun p o).standing
-  met_lasts other begun p None k = k
-  met_lasts other begun p (Some x) k = by (passes p.standing x)
+  met_lasts : (start : TurnStart) (p : Passage) (o : Option Offer) → K p.standing → K (meets_if start p o).standing
+  met_lasts start p None k = k
+  met_lasts start p (Some x) k = by (passes p.standing x)
     where
-      by : (b : Bool) → (let q = stood p (noted p.standing (met_in p.world begun x)) in K (cond b q (made other q x)).standing)
-      by true = lasts p.standing (met_in p.world begun x) k
-      by false = lasts p.standing (met_in p.world begun x) k
+      by : (b : Bool) → (let q = stood p (noted p.standing (met_in p.world start.records x)) in K (cond b q (made start.other q x)).standing)
+      by true = lasts p.standing (met_in p.world start.records x) k
+      by false = lasts p.standing (met_in p.world start.records x) k
 
-  at_lasts : (other begun : ℕ) (p : Passage) (xs : List Place) → K p.standing → K (At other begun p xs).standing
-  at_lasts other begun p [] k = k
-  at_lasts other begun p (x ∷ xs) k = at_lasts other begun (at_place other begun p x) xs (met_lasts other begun p (open_at p x) k)
+  at_lasts : (start : TurnStart) (p : Passage) (xs : List Place) → K p.standing → K (At start p xs).standing
+  at_lasts start p [] k = k
+  at_lasts start p (x ∷ xs) k = at_lasts start (at_place start p x) xs (met_lasts start p (open_at start p x) k)
 
   turn_lasts : (p : Passage) → K p.standing → K (passed_turn p).standing
-  turn_lasts p k = at_lasts (length p.world.cpus) p.world.records p (places (length p.world.cpus) (length p.world.services)) k
+  turn_lasts p k = at_lasts (turn_start p) p (places (length p.world.cpus) (length p.world.services)) k
 
   pub turns_last : (k : ℕ) (p : Passage) → K p.standing → K (passed_turns k p).0.standing
   turns_last zero p h = h
@@ -48,47 +49,47 @@ module _ (T A : Standing → Standing → Type 0)
   abbrev pub Goes : Passage → Passage → Type 0
   Goes p q = ((q ≡ stood p q.standing) × T p.standing q.standing) ⊎ A p.standing q.standing
 
-  met_standing : (other begun : ℕ) (p : Passage) (x : Offer) → (meets other begun p x).standing ≡ noted p.standing (met_in p.world begun x)
-  met_standing other begun p x = by (passes p.standing x)
+  met_standing : (start : TurnStart) (p : Passage) (x : Offer) → (meets start p x).standing ≡ noted p.standing (met_in p.world start.records x)
+  met_standing start p x = by (passes p.standing x)
     where
-      by : (b : Bool) → (let q = stood p (noted p.standing (met_in p.world begun x)) in (cond b q (made other q x)).standing ≡ noted p.standing (met_in p.world begun x))
+      by : (b : Bool) → (let q = stood p (noted p.standing (met_in p.world start.records x)) in (cond b q (made start.other q x)).standing ≡ noted p.standing (met_in p.world start.records x))
       by true = refl
       by false = refl
 
-  met_same : (other begun : ℕ) (p : Passage) (t : Standing) (x : Offer) → passes t x ≡ passes p.standing x
-      → meets other begun (stood p t) x ≡ stood (meets other begun p x) (noted t (met_in p.world begun x))
-  met_same other begun p t x e =
-      ap (λ c. let q = stood p (noted t (met_in p.world begun x)) in cond c q (made other q x)) e ∙ by (passes p.standing x)
+  met_same : (start : TurnStart) (p : Passage) (t : Standing) (x : Offer) → passes t x ≡ passes p.standing x
+      → meets start (stood p t) x ≡ stood (meets start p x) (noted t (met_in p.world start.records x))
+  met_same start p t x e =
+      ap (λ c. let q = stood p (noted t (met_in p.world start.records x)) in cond c q (made start.other q x)) e ∙ by (passes p.standing x)
     where
-      by : (b : Bool) → (let n = noted t (met_in p.world begun x) in let q = stood p (noted p.standing (met_in p.world begun x)) in
-          cond b (stood p n) (made other (stood p n) x) ≡ stood (cond b q (made other q x)) n)
+      by : (b : Bool) → (let n = noted t (met_in p.world start.records x) in let q = stood p (noted p.standing (met_in p.world start.records x)) in
+          cond b (stood p n) (made start.other (stood p n) x) ≡ stood (cond b q (made start.other q x)) n)
       by true = refl
       by false = refl
 
-  goes_met : (other begun : ℕ) (p : Passage) (t : Standing) (o : Option Offer) → T p.standing t → Goes (meets_if other begun p o) (meets_if other begun (stood p t) o)
-  goes_met other begun p t None h = inl (refl, h)
-  goes_met other begun p t (Some x) h =
-      let m = met_in p.world begun x in
+  goes_met : (start : TurnStart) (p : Passage) (t : Standing) (o : Option Offer) → T p.standing t → Goes (meets_if start p o) (meets_if start (stood p t) o)
+  goes_met start p t None h = inl (refl, h)
+  goes_met start p t (Some x) h =
+      let m = met_in p.world start.records x in
       elim (step p.standing t m h) [
         | inl on ↦
-            subst (λ (u : Passage). Goes (meets other begun p x) u) (sym (met_same other begun p t x on.0))
-            (inl (refl, subst (λ (s : Standing). T s (noted t m)) (sym (met_standing other begun p x)) on.1))
+            subst (λ (u : Passage). Goes (meets start p x) u) (sym (met_same start p t x on.0))
+            (inl (refl, subst (λ (s : Standing). T s (noted t m)) (sym (met_standing start p x)) on.1))
         | inr apart ↦
-            inr (subst (λ (s : Standing). A s (meets other begun (stood p t) x).standing) (sym (met_standing other begun p x))
-            (subst (λ (s : Standing). A (noted p.standing m) s) (sym (met_standing other begun (stood p t) x)) apart))
+            inr (subst (λ (s : Standing). A s (meets start (stood p t) x).standing) (sym (met_standing start p x))
+            (subst (λ (s : Standing). A (noted p.standing m) s) (sym (met_standing start (stood p t) x)) apart))
       ]
 
-  goes_at : (other begun : ℕ) (p q : Passage) (xs : List Place) → Goes p q → Goes (At other begun p xs) (At other begun q xs)
-  goes_at other begun p q [] g = g
-  goes_at other begun p q (x ∷ xs) (inl g) =
-      goes_at other begun (at_place other begun p x) (at_place other begun q x) xs
-      (subst (λ (u : Passage). Goes (at_place other begun p x) (at_place other begun u x)) (sym g.0) (goes_met other begun p q.standing (open_at p x) g.1))
-  goes_at other begun p q (x ∷ xs) (inr g) =
-      inr (at_lasts (λ (s : Standing). A s (At other begun q (x ∷ xs)).standing) (first (At other begun q (x ∷ xs)).standing) other begun p (x ∷ xs)
-      (at_lasts (λ (t : Standing). A p.standing t) (second p.standing) other begun q (x ∷ xs) g))
+  goes_at : (start : TurnStart) (p q : Passage) (xs : List Place) → Goes p q → Goes (At start p xs) (At start q xs)
+  goes_at start p q [] g = g
+  goes_at start p q (x ∷ xs) (inl g) =
+      goes_at start (at_place start p x) (at_place start q x) xs
+      (subst (λ (u : Passage). Goes (at_place start p x) (at_place start u x)) (sym g.0) (goes_met start p q.standing (open_at start p x) g.1))
+  goes_at start p q (x ∷ xs) (inr g) =
+      inr (at_lasts (λ (s : Standing). A s (At start q (x ∷ xs)).standing) (first (At start q (x ∷ xs)).standing) start p (x ∷ xs)
+      (at_lasts (λ (t : Standing). A p.standing t) (second p.standing) start q (x ∷ xs) g))
 
   goes_turn : (p : Passage) (t : Standing) → T p.standing t → Goes (passed_turn p) (passed_turn (stood p t))
-  goes_turn p t h = goes_at (length p.world.cpus) p.world.records p (stood p t) (places (length p.world.cpus) (length p.world.services)) (inl (refl, h))
+  goes_turn p t h = goes_at (turn_start p) p (stood p t) (places (length p.world.cpus) (length p.world.services)) (inl (refl, h))
 
   rest_parted : (k j : ℕ) (p q : Passage) → A p.standing q.standing → A (passed_turns k p).0.standing (passed_turns j q).0.standing
   rest_parted k j p q g =

@@ -10,7 +10,8 @@ use Rattle.mx_explore.specs.Offers.{is_outside, open_back, open_respawn, open_ta
 use Rattle.mx_explore.specs.declared.offers.Offer.{Offer}
 use Rattle.mx_explore.specs.declared.passing.Departure.{Departure}
 use Rattle.mx_explore.specs.declared.passing.Met.{Met}
-use Rattle.mx_explore.specs.Passing.{IsSchedule, Passage, Place, Setting, Standing, at_place, begins, begins_by, end_of, from_boot, goes_on, is_at, made, meets, meets_if, met_in, noted, open_at, passed_turn, passed_turns, passes, places, run_of_schedule, turns_of}
+use Rattle.mx_explore.specs.declared.passing.TurnStart.{TurnStart}
+use Rattle.mx_explore.specs.Passing.{IsSchedule, Passage, Place, Setting, Standing, at_place, begins, begins_by, end_of, from_boot, goes_on, is_at, made, meets, meets_if, met_in, noted, open_at, passed_turn, passed_turns, passes, places, run_of_schedule, turn_start, turns_of}
 use Rattle.mx_explore.specs.Passing.{BackBy, FromOutside, NewIn, TakeBy}
 use Rattle.mx_explore.proofs.PassageLemmas.{At, at_append, back_open, respawn_open, stood, take_open}
 use Rattle.mx_explore.proofs.AlongLemmas.{turns_last}
@@ -36,53 +37,53 @@ met_is s m true b = refl
 met_is s m false true = refl
 met_is s m false false = refl
 
-outs_met : (other begun : ℕ) (p : Passage) (x : Offer) → outs (meets other begun p x).standing.met ≡ outs p.standing.met + one_if (is_outside x)
-outs_met other begun p x = by (passes p.standing x)
+outs_met : (start : TurnStart) (p : Passage) (x : Offer) → outs (meets start p x).standing.met ≡ outs p.standing.met + one_if (is_outside x)
+outs_met start p x = by (passes p.standing x)
   where
     m : Met
-    m = met_in p.world begun x
+    m = met_in p.world start.records x
 
     noted_outs : outs (noted p.standing m).met ≡ outs p.standing.met + one_if (is_outside x)
     noted_outs = ap outs (met_is p.standing m (goes_on p.standing x) (begins p.standing x)) ∙ outs_more p.standing.met m
 
-    by : (b : Bool) → (let q = stood p (noted p.standing m) in outs (cond b q (made other q x)).standing.met ≡ outs p.standing.met + one_if (is_outside x))
+    by : (b : Bool) → (let q = stood p (noted p.standing m) in outs (cond b q (made start.other q x)).standing.met ≡ outs p.standing.met + one_if (is_outside x))
     by true = noted_outs
     by false = noted_outs
 
 -- a place where nothing of the outside may be open
 abbrev IsInside : Place → Type 0
-IsInside z = (p : Passage) (x : Offer) → open_at p z ≡ Some x → is_outside x ≡ false
+IsInside z = (start : TurnStart) (p : Passage) (x : Offer) → open_at start p z ≡ Some x → is_outside x ≡ false
 
-inside_met : (other begun : ℕ) (p : Passage) (o : Option Offer) → ((x : Offer) → o ≡ Some x → is_outside x ≡ false) → outs (meets_if other begun p o).standing.met ≡ outs p.standing.met
-inside_met other begun p None h = refl
-inside_met other begun p (Some x) h = let one = outs_met other begun p x in let none = ap one_if (h x refl) in omega (arith, one, none)
+inside_met : (start : TurnStart) (p : Passage) (o : Option Offer) → ((x : Offer) → o ≡ Some x → is_outside x ≡ false) → outs (meets_if start p o).standing.met ≡ outs p.standing.met
+inside_met start p None h = refl
+inside_met start p (Some x) h = let one = outs_met start p x in let none = ap one_if (h x refl) in omega (arith, one, none)
 
-inside_at : (other begun : ℕ) (p : Passage) (f : ℕ → Place) → ((n : ℕ) → IsInside (f n)) → (ns : List ℕ) → outs (At other begun p (map f ns)).standing.met ≡ outs p.standing.met
-inside_at other begun p f h [] = refl
-inside_at other begun p f h (n ∷ ns) = inside_at other begun (at_place other begun p (f n)) f h ns ∙ inside_met other begun p (open_at p (f n)) (h n p)
+inside_at : (start : TurnStart) (p : Passage) (f : ℕ → Place) → ((n : ℕ) → IsInside (f n)) → (ns : List ℕ) → outs (At start p (map f ns)).standing.met ≡ outs p.standing.met
+inside_at start p f h [] = refl
+inside_at start p f h (n ∷ ns) = inside_at start (at_place start p (f n)) f h ns ∙ inside_met start p (open_at start p (f n)) (h n start p)
 
 take_inside : (n : ℕ) → IsInside (TakeBy n)
-take_inside n p x e = by p.full e
+take_inside n start p x e = by p.full e
   where
     by : (b : Bool) → cond b None (open_take p.world n) ≡ Some x → is_outside x ≡ false
     by true e = absurd cc
     by false e = let it = take_open p.world n x e in ap is_outside it.1
 
 back_inside : (n : ℕ) → IsInside (BackBy n)
-back_inside n p x e = let it = back_open p.world n x e in ap is_outside it.1
+back_inside n start p x e = let it = back_open p.world n x e in ap is_outside it.1
 
 new_inside : (n : ℕ) → IsInside (NewIn n)
-new_inside n p x e = by p.full e
+new_inside n start p x e = by p.full e
   where
     by : (b : Bool) → cond b None (open_respawn p.world n) ≡ Some x → is_outside x ≡ false
     by true e = absurd cc
     by false e = ap is_outside (respawn_open p.world n x e)
 
-one_met : (other begun : ℕ) (p : Passage) (o : Option Offer) → outs (meets_if other begun p o).standing.met ≤ outs p.standing.met + 1
-one_met other begun p None = omega arith
-one_met other begun p (Some x) = by (is_outside x) (outs_met other begun p x)
+one_met : (start : TurnStart) (p : Passage) (o : Option Offer) → outs (meets_if start p o).standing.met ≤ outs p.standing.met + 1
+one_met start p None = omega arith
+one_met start p (Some x) = by (is_outside x) (outs_met start p x)
   where
-    by : (b : Bool) → outs (meets other begun p x).standing.met ≡ outs p.standing.met + one_if b → outs (meets other begun p x).standing.met ≤ outs p.standing.met + 1
+    by : (b : Bool) → outs (meets start p x).standing.met ≡ outs p.standing.met + one_if b → outs (meets start p x).standing.met ≤ outs p.standing.met + 1
     by true e = omega (arith, e)
     by false e = omega (arith, e)
 
@@ -91,18 +92,18 @@ turn_outs : (p : Passage) → outs (passed_turn p).standing.met ≤ outs p.stand
 turn_outs p =
     let cpus = length p.world.cpus in
     let slots = length p.world.services in
-    let begun = p.world.records in
+    let start = turn_start p in
     let takes = map TakeBy (range_with_len 0 cpus) in
     let backs = map BackBy (range_with_len 0 cpus) in
     let news = map NewIn (range_with_len 0 slots) in
-    let q = At cpus begun p takes in
-    let r = At cpus begun q backs in
-    let u = at_place cpus begun r FromOutside in
-    let one : At cpus begun p (places cpus slots) ≡ At cpus begun u news = at_append cpus begun p takes (backs ++ FromOutside ∷ news) ∙ at_append cpus begun q backs (FromOutside ∷ news) in
-    let a = inside_at cpus begun p TakeBy take_inside (range_with_len 0 cpus) in
-    let b = inside_at cpus begun q BackBy back_inside (range_with_len 0 cpus) in
-    let c = one_met cpus begun r (open_at r FromOutside) in
-    let d = inside_at cpus begun u NewIn new_inside (range_with_len 0 slots) in
+    let q = At start p takes in
+    let r = At start q backs in
+    let u = at_place start r FromOutside in
+    let one : At start p (places cpus slots) ≡ At start u news = at_append start p takes (backs ++ FromOutside ∷ news) ∙ at_append start q backs (FromOutside ∷ news) in
+    let a = inside_at start p TakeBy take_inside (range_with_len 0 cpus) in
+    let b = inside_at start q BackBy back_inside (range_with_len 0 cpus) in
+    let c = one_met start r (open_at start r FromOutside) in
+    let d = inside_at start u NewIn new_inside (range_with_len 0 slots) in
     let e = ap (λ (x : Passage). outs x.standing.met) one in
     omega (arith, a, b, c, d, e)
 

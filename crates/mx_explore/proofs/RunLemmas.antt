@@ -14,7 +14,8 @@ use Rattle.mx_explore.specs.declared.offers.Offer.{Offer}
 use Rattle.mx_explore.specs.declared.passing.Departure.{Departure}
 use Rattle.mx_explore.specs.declared.passing.Ran.{Ran}
 use Rattle.mx_explore.specs.Passages.{HasRoom, IsRun, passage}
-use Rattle.mx_explore.specs.Passing.{Passage, Place, Setting, Standing, at_place, events_of, from_boot, made, meets_if, met_in, noted, open_at, passed_turn, passed_turns, passes, places, run_of_schedule}
+use Rattle.mx_explore.specs.declared.passing.TurnStart.{TurnStart}
+use Rattle.mx_explore.specs.Passing.{Passage, Place, Setting, Standing, at_place, events_of, from_boot, made, meets_if, met_in, noted, open_at, passed_turn, passed_turns, passes, places, run_of_schedule, turn_start}
 use Rattle.mx_explore.proofs.PassageLemmas.{At, stood}
 
 -- ---- the boot
@@ -22,24 +23,24 @@ use Rattle.mx_explore.proofs.PassageLemmas.{At, stood}
 made_boot : (other : ℕ) (p : Passage) (x : Offer) → (made other p x).kernel.boot ≡ p.kernel.boot
 made_boot other p x = let xs = (offered p.world (events_of other x)).made in kept_boot p.kernel xs (moves p.world xs).0
 
-met_boot : (other begun : ℕ) (p : Passage) (o : Option Offer) → (meets_if other begun p o).kernel.boot ≡ p.kernel.boot
-met_boot other begun p None = refl
-met_boot other begun p (Some x) = by (passes p.standing x)
+met_boot : (start : TurnStart) (p : Passage) (o : Option Offer) → (meets_if start p o).kernel.boot ≡ p.kernel.boot
+met_boot start p None = refl
+met_boot start p (Some x) = by (passes p.standing x)
   where
-    by : (b : Bool) → (let q = stood p (noted p.standing (met_in p.world begun x)) in (cond b q (made other q x)).kernel.boot ≡ p.kernel.boot)
+    by : (b : Bool) → (let q = stood p (noted p.standing (met_in p.world start.records x)) in (cond b q (made start.other q x)).kernel.boot ≡ p.kernel.boot)
     by true = refl
-    by false = made_boot other (stood p (noted p.standing (met_in p.world begun x))) x
+    by false = made_boot start.other (stood p (noted p.standing (met_in p.world start.records x))) x
 
-at_boot : (other begun : ℕ) (p : Passage) (xs : List Place) → (At other begun p xs).kernel.boot ≡ p.kernel.boot
-at_boot other begun p [] = refl
-at_boot other begun p (x ∷ xs) = at_boot other begun (at_place other begun p x) xs ∙ met_boot other begun p (open_at p x)
+at_boot : (start : TurnStart) (p : Passage) (xs : List Place) → (At start p xs).kernel.boot ≡ p.kernel.boot
+at_boot start p [] = refl
+at_boot start p (x ∷ xs) = at_boot start (at_place start p x) xs ∙ met_boot start p (open_at start p x)
 
 turns_boot : (k : ℕ) (p : Passage) → (passed_turns k p).0.kernel.boot ≡ p.kernel.boot
 turns_boot zero p = refl
 turns_boot (suc k) p = by (is_over p.world p.coming) (passed_turn p).full (turns_boot k (passed_turn p))
   where
     turned : (passed_turn p).kernel.boot ≡ p.kernel.boot
-    turned = at_boot (length p.world.cpus) p.world.records p (places (length p.world.cpus) (length p.world.services))
+    turned = at_boot (turn_start p) p (places (length p.world.cpus) (length p.world.services))
 
     by : (over full : Bool) → (passed_turns k (passed_turn p)).0.kernel.boot ≡ (passed_turn p).kernel.boot → (cond over (let z : Passage × Ending = (p, Rest) in z) (let q = passed_turn p in cond full (let z : Passage × Ending = (q, Full) in z) (passed_turns k q))).0.kernel.boot ≡ p.kernel.boot
     by true full rest = refl

@@ -4,14 +4,16 @@ use Rattle.std.specs.Prelude.{slice_get}
 use Rattle.std.specs.List.{range_with_len}
 use Rattle.std.proofs.lemmas.List.{drop-drop}
 use Rattle.mx_turns.specs.declared.outside.OutsideLine.{OutsideLine}
+use Rattle.mx_machine.specs.declared.events.Event.{Event}
 use Rattle.mx_machine.specs.Machine.{MachineState, world_of}
 use Rattle.mx_machine.specs.Rest.{at_rest}
 use Rattle.mx_machine.specs.World.{World}
-use Rattle.mx_turns.specs.Turns.{is_over}
+use Rattle.mx_turns.specs.Turns.{is_over, next_now}
 use Rattle.mx_turns.specs.declared.turns.Ending.{Ending}
 use Rattle.mx_turns.specs.declared.turns.Ending.TheVariants.{Rest, Turns, Full}
 use Rattle.mx_explore.specs.Passages.{passage}
-use Rattle.mx_explore.specs.Passing.{Passage, Place, Standing, at_place, meets_if, open_at, passed_turn, passed_turns, places}
+use Rattle.mx_explore.specs.declared.passing.TurnStart.{TurnStart}
+use Rattle.mx_explore.specs.Passing.{Passage, Place, Standing, at_place, meets_if, open_at, passed_turn, passed_turns, places, turn_start}
 use Rattle.mx_explore.specs.Passing.{BackBy, FromOutside, NewIn, TakeBy}
 use Rattle.mx_explore.proofs.PassageLemmas.{At, at_append, none_after, outside_needs, respawns_need}
 
@@ -27,38 +29,46 @@ abbrev news_of : ℕ → List Place
 news_of n = map NewIn (range_with_len 0 n)
 
 -- a turn in its parts
-in_parts : (other begun : ℕ) (p q r u : Passage) (cpus slots : ℕ) → q ≡ At other begun p (takes_of cpus) → r ≡ At other begun q (backs_of cpus) → u ≡ at_place other begun r FromOutside
-    → At other begun p (places cpus slots) ≡ At other begun u (news_of slots)
-in_parts other begun p q r u cpus slots e f g =
-    ap (At other begun p) (append_assoc (takes_of cpus) (backs_of cpus) (FromOutside ∷ news_of slots))
-    ∙ at_append other begun p (takes_of cpus) (backs_of cpus ++ FromOutside ∷ news_of slots)
-    ∙ ap (λ (x : Passage). At other begun x (backs_of cpus ++ FromOutside ∷ news_of slots)) (sym e)
-    ∙ at_append other begun q (backs_of cpus) (FromOutside ∷ news_of slots)
-    ∙ ap (λ (x : Passage). At other begun x (FromOutside ∷ news_of slots)) (sym f)
-    ∙ ap (λ (x : Passage). At other begun x (news_of slots)) (sym g)
+in_parts : (start : TurnStart) (p q r u : Passage) (cpus slots : ℕ) → q ≡ At start p (takes_of cpus) → r ≡ At start q (backs_of cpus) → u ≡ at_place start r FromOutside
+    → At start p (places cpus slots) ≡ At start u (news_of slots)
+in_parts start p q r u cpus slots e f g =
+    ap (At start p) (append_assoc (takes_of cpus) (backs_of cpus) (FromOutside ∷ news_of slots))
+    ∙ at_append start p (takes_of cpus) (backs_of cpus ++ FromOutside ∷ news_of slots)
+    ∙ ap (λ (x : Passage). At start x (backs_of cpus ++ FromOutside ∷ news_of slots)) (sym e)
+    ∙ at_append start q (backs_of cpus) (FromOutside ∷ news_of slots)
+    ∙ ap (λ (x : Passage). At start x (FromOutside ∷ news_of slots)) (sym f)
+    ∙ ap (λ (x : Passage). At start x (news_of slots)) (sym g)
 
 -- after a take that met a full history there are the returns alone
-pub turn_full : (other begun : ℕ) (p q r : Passage) (cpus slots : ℕ) → q ≡ At other begun p (takes_of cpus) → r ≡ At other begun q (backs_of cpus) → r.full ≡ true
-    → At other begun p (places cpus slots) ≡ r
-turn_full other begun p q r cpus slots e f full =
-    in_parts other begun p q r r cpus slots e f (sym (ap (meets_if other begun r) (outside_needs r full)))
-    ∙ none_after other begun NewIn respawns_need r full (range_with_len 0 slots)
+pub turn_full : (start : TurnStart) (p q r : Passage) (cpus slots : ℕ) → q ≡ At start p (takes_of cpus) → r ≡ At start q (backs_of cpus) → r.full ≡ true
+    → At start p (places cpus slots) ≡ r
+turn_full start p q r cpus slots e f full =
+    in_parts start p q r r cpus slots e f (sym (ap (meets_if start r) (outside_needs start r full)))
+    ∙ none_after start NewIn respawns_need r full (range_with_len 0 slots)
 
 -- after an outside event that met one there is nothing
-pub turn_outside : (other begun : ℕ) (p q r u : Passage) (cpus slots : ℕ) → q ≡ At other begun p (takes_of cpus) → r ≡ At other begun q (backs_of cpus) → u ≡ at_place other begun r FromOutside → u.full ≡ true
-    → At other begun p (places cpus slots) ≡ u
-turn_outside other begun p q r u cpus slots e f g full =
-    in_parts other begun p q r u cpus slots e f g ∙ none_after other begun NewIn respawns_need u full (range_with_len 0 slots)
+pub turn_outside : (start : TurnStart) (p q r u : Passage) (cpus slots : ℕ) → q ≡ At start p (takes_of cpus) → r ≡ At start q (backs_of cpus) → u ≡ at_place start r FromOutside → u.full ≡ true
+    → At start p (places cpus slots) ≡ u
+turn_outside start p q r u cpus slots e f g full =
+    in_parts start p q r u cpus slots e f g ∙ none_after start NewIn respawns_need u full (range_with_len 0 slots)
 
-pub turn_whole : (other begun : ℕ) (p q r u v : Passage) (cpus slots : ℕ) → q ≡ At other begun p (takes_of cpus) → r ≡ At other begun q (backs_of cpus) → u ≡ at_place other begun r FromOutside
-    → v ≡ At other begun u (news_of slots) → At other begun p (places cpus slots) ≡ v
-turn_whole other begun p q r u v cpus slots e f g h = in_parts other begun p q r u cpus slots e f g ∙ sym h
+pub turn_whole : (start : TurnStart) (p q r u v : Passage) (cpus slots : ℕ) → q ≡ At start p (takes_of cpus) → r ≡ At start q (backs_of cpus) → u ≡ at_place start r FromOutside
+    → v ≡ At start u (news_of slots) → At start p (places cpus slots) ≡ v
+turn_whole start p q r u v cpus slots e f g h = in_parts start p q r u cpus slots e f g ∙ sym h
 
--- by how many processors, slots and records there are
-pub turned_by : (p v : Passage) (cpus slots begun : ℕ) → cpus ≡ length p.world.cpus → slots ≡ length p.world.services → begun ≡ p.world.records → At cpus begun p (places cpus slots) ≡ v → v ≡ passed_turn p
-turned_by p v cpus slots begun c s b e =
-    sym e ∙ ap (λ n. At n begun p (places n slots)) c ∙ ap (λ n. At (length p.world.cpus) begun p (places (length p.world.cpus) n)) s
-    ∙ ap (λ n. At (length p.world.cpus) n p (places (length p.world.cpus) (length p.world.services))) b
+-- where it begins
+pub begins_so : (p : Passage) (other records : ℕ) (event : Option Event) → other ≡ length p.world.cpus → records ≡ p.world.records → event ≡ next_now p.world.table (slice_get p.coming 0)
+    → (let z : TurnStart = record { other = other; records = records; event = event } in z) ≡ turn_start p
+begins_so p other records event o r e =
+    ap (λ n. let z : TurnStart = record { other = n; records = records; event = event } in z) o
+    ∙ ap (λ n. let z : TurnStart = record { other = length p.world.cpus; records = n; event = event } in z) r
+    ∙ ap (λ (x : Option Event). let z : TurnStart = record { other = length p.world.cpus; records = p.world.records; event = x } in z) e
+
+-- by how many processors and slots there are
+pub turned_by : (p v : Passage) (cpus slots : ℕ) (start : TurnStart) → cpus ≡ length p.world.cpus → slots ≡ length p.world.services → start ≡ turn_start p → At start p (places cpus slots) ≡ v → v ≡ passed_turn p
+turned_by p v cpus slots start c s b e =
+    sym e ∙ ap (λ n. At start p (places n slots)) c ∙ ap (λ n. At start p (places (length p.world.cpus) n)) s
+    ∙ ap (λ (x : TurnStart). At x p (places (length p.world.cpus) (length p.world.services))) b
 
 -- ---- turns
 

@@ -15,6 +15,7 @@ use Rattle.mx_explore.specs.declared.offers.Offer.{Offer}
 use Rattle.mx_explore.specs.declared.offers.Offer.TheVariants.{Take, Back, Outside, Respawn}
 use Rattle.mx_explore.specs.declared.passing.Departure.{Departure}
 use Rattle.mx_explore.specs.declared.passing.Met.{Met}
+use Rattle.mx_explore.specs.declared.passing.TurnStart.{TurnStart}
 
 -- ---- departures
 
@@ -92,12 +93,20 @@ places cpus slots =
     map TakeBy (range_with_len 0 cpus) ++ map BackBy (range_with_len 0 cpus)
     ++ FromOutside ∷ map NewIn (range_with_len 0 slots)
 
--- what is open there: once the history was too full for an event, returns alone
-abbrev pub open_at : Passage → Place → Option Offer
-open_at p (TakeBy c) = if p.full then None else open_take p.world c
-open_at p (BackBy c) = open_back p.world c
-open_at p FromOutside = if p.full then None else open_outside (next_now p.world.table (slice_get p.coming 0))
-open_at p (NewIn s) = if p.full then None else open_respawn p.world s
+-- where a turn begins. Whom its outside event kills is known then, since no slot gets a new process before it
+abbrev pub turn_start : Passage → TurnStart
+turn_start p = record {
+  other = length p.world.cpus;
+  records = p.world.records;
+  event = next_now p.world.table (slice_get p.coming 0);
+}
+
+-- what is open there, in a turn that began so: once the history was too full for an event, returns alone
+abbrev pub open_at : TurnStart → Passage → Place → Option Offer
+open_at start p (TakeBy c) = if p.full then None else open_take p.world c
+open_at start p (BackBy c) = open_back p.world c
+open_at start p FromOutside = if p.full then None else open_outside start.event
+open_at start p (NewIn s) = if p.full then None else open_respawn p.world s
 
 -- THE EVENTS OF AN OFFER, in which `other` makes what no processor does
 abbrev pub events_of : ℕ → Offer → List (ℕ × Event)
@@ -122,23 +131,21 @@ abbrev pub met_in : World → ℕ → Offer → Met
 met_in w begun x = record { offer = x; records = w.records; is_begun = nat_lt begun w.records }
 
 -- AN OPEN OFFER IS MET: it is passed, or made
-abbrev pub meets : ℕ → ℕ → Passage → Offer → Passage
-meets other begun p x =
-    let q = record p { standing = noted p.standing (met_in p.world begun x) } in
-    if passes p.standing x then q else made other q x
+abbrev pub meets : TurnStart → Passage → Offer → Passage
+meets start p x =
+    let q = record p { standing = noted p.standing (met_in p.world start.records x) } in
+    if passes p.standing x then q else made start.other q x
 
-abbrev pub meets_if : ℕ → ℕ → Passage → Option Offer → Passage
-meets_if other begun p None = p
-meets_if other begun p (Some x) = meets other begun p x
+abbrev pub meets_if : TurnStart → Passage → Option Offer → Passage
+meets_if start p None = p
+meets_if start p (Some x) = meets start p x
 
-abbrev pub at_place : ℕ → ℕ → Passage → Place → Passage
-at_place other begun p place = meets_if other begun p (open_at p place)
+abbrev pub at_place : TurnStart → Passage → Place → Passage
+at_place start p place = meets_if start p (open_at start p place)
 
 -- A TURN: what is open at each place, one after another
 abbrev pub passed_turn : Passage → Passage
-passed_turn p =
-    let cpus = length p.world.cpus in
-    fold (at_place cpus p.world.records) p (places cpus (length p.world.services))
+passed_turn p = fold (at_place (turn_start p)) p (places (length p.world.cpus) (length p.world.services))
 
 -- AT MOST n TURNS: where the run is after them, and how they end
 abbrev pub passed_turns : ℕ → Passage → Passage × Ending

@@ -58,6 +58,17 @@ pub(crate) struct Schedule<'a> {
     pub(crate) is_kept: bool,
 }
 
+/// Where a turn begins.
+#[derive(Clone, Copy)]
+pub(crate) struct TurnStart {
+    /// The actor that makes what no processor does.
+    pub(crate) other: u8,
+    /// How many records there are.
+    pub(crate) records: usize,
+    /// What comes from outside next.
+    pub(crate) event: Option<Event>,
+}
+
 /// Whether the offer goes on waiting for a departure that began at an earlier one.
 fn goes_on(schedule: &Schedule<'_>, offer: Offer) -> bool
     ensures { result ≡ goes_on (standing schedule.now) offer }
@@ -129,14 +140,14 @@ fn slots_of(machine: &Machine) -> u8
     machine.kernel().table().slot_count()
 }
 
-/// Whether something is made of what may be open, in a turn before which there were so many records.
+/// Whether something is made of what may be open.
 fn is_made(
     machine: &Machine,
     schedule: &mut Schedule<'_>,
-    begun: usize,
+    start: TurnStart,
     opened: Option<Offer>,
 ) -> Result<bool, AllocError>
-    ensures { IfOk result (λ is_made. IsMet (world_of machine.now) begun opened
+    ensures { IfOk result (λ is_made. IsMet (world_of machine.now) start.records opened
         (standing schedule.old) (standing schedule.new) is_made) }
 {
     let Some(offer) = opened else {
@@ -146,7 +157,7 @@ fn is_made(
     let met = Met {
         offer,
         records,
-        is_begun: records > begun,
+        is_begun: records > start.records,
     };
     let is_passed = meet(schedule, met)?;
     Ok(!is_passed)
@@ -156,18 +167,18 @@ fn is_made(
 fn pass_take(
     machine: &mut Machine,
     schedule: &mut Schedule<'_>,
-    begun: usize,
+    start: TurnStart,
     cpu: u8,
 ) -> Result<bool, AllocError>
-    ensures passed { (coming : List Lines) → (other : ℕ) → IfOk result (λ is_full.
+    ensures passed { (coming : List Lines) → IfOk result (λ is_full.
         passage machine.new coming (standing schedule.new) is_full
-        ≡ at_place other begun (passage machine.old coming (standing schedule.old) false)
+        ≡ at_place start (passage machine.old coming (standing schedule.old) false)
         (TakeBy cpu)) }
     ensures cpus { length (world_of machine.new).cpus ≡ length (world_of machine.old).cpus }
     ensures actors { actors (world_of machine.new) ≡ actors (world_of machine.old) }
 {
     let opened = open_take(machine, cpu);
-    let to_make = is_made(machine, schedule, begun, opened)?;
+    let to_make = is_made(machine, schedule, start, opened)?;
     if to_make {
         Ok(offer(machine, cpu, Event::Take))
     } else {
@@ -180,18 +191,18 @@ fn pass_take(
 fn pass_takes(
     machine: &mut Machine,
     schedule: &mut Schedule<'_>,
-    begun: usize,
+    start: TurnStart,
     cpus: u8,
 ) -> Result<bool, AllocError>
-    ensures passed { (coming : List Lines) → (other : ℕ) → IfOk result (λ is_full.
+    ensures passed { (coming : List Lines) → IfOk result (λ is_full.
         passage machine.new coming (standing schedule.new) is_full
-        ≡ fold (at_place other begun) (passage machine.old coming (standing schedule.old) false)
+        ≡ fold (at_place start) (passage machine.old coming (standing schedule.old) false)
         (map TakeBy (range_with_len 0 cpus))) }
     ensures cpus { length (world_of machine.new).cpus ≡ length (world_of machine.old).cpus }
     ensures actors { actors (world_of machine.new) ≡ actors (world_of machine.old) }
 {
     for cpu in 0..cpus {
-        let is_full = pass_take(machine, schedule, begun, cpu)?;
+        let is_full = pass_take(machine, schedule, start, cpu)?;
         if is_full {
             return Ok(true);
         }
@@ -203,18 +214,18 @@ fn pass_takes(
 fn pass_back(
     machine: &mut Machine,
     schedule: &mut Schedule<'_>,
-    begun: usize,
+    start: TurnStart,
     cpu: u8,
 ) -> Result<(), AllocError>
-    ensures passed { (coming : List Lines) → (other : ℕ) → (is_full : Bool) → OnOk result (
+    ensures passed { (coming : List Lines) → (is_full : Bool) → OnOk result (
         passage machine.new coming (standing schedule.new) is_full
-        ≡ at_place other begun (passage machine.old coming (standing schedule.old) is_full)
+        ≡ at_place start (passage machine.old coming (standing schedule.old) is_full)
         (BackBy cpu)) }
     ensures cpus { length (world_of machine.new).cpus ≡ length (world_of machine.old).cpus }
     ensures actors { actors (world_of machine.new) ≡ actors (world_of machine.old) }
 {
     let opened = open_back(machine, cpu);
-    let to_make = is_made(machine, schedule, begun, opened)?;
+    let to_make = is_made(machine, schedule, start, opened)?;
     if to_make {
         offer_run(machine, cpu);
         return Ok(());
@@ -226,18 +237,18 @@ fn pass_back(
 fn pass_backs(
     machine: &mut Machine,
     schedule: &mut Schedule<'_>,
-    begun: usize,
+    start: TurnStart,
     cpus: u8,
 ) -> Result<(), AllocError>
-    ensures passed { (coming : List Lines) → (other : ℕ) → (is_full : Bool) → OnOk result (
+    ensures passed { (coming : List Lines) → (is_full : Bool) → OnOk result (
         passage machine.new coming (standing schedule.new) is_full
-        ≡ fold (at_place other begun) (passage machine.old coming (standing schedule.old) is_full)
+        ≡ fold (at_place start) (passage machine.old coming (standing schedule.old) is_full)
         (map BackBy (range_with_len 0 cpus))) }
     ensures cpus { length (world_of machine.new).cpus ≡ length (world_of machine.old).cpus }
     ensures actors { actors (world_of machine.new) ≡ actors (world_of machine.old) }
 {
     for cpu in 0..cpus {
-        pass_back(machine, schedule, begun, cpu)?;
+        pass_back(machine, schedule, start, cpu)?;
     }
     Ok(())
 }
@@ -246,22 +257,21 @@ fn pass_backs(
 fn pass_respawn(
     machine: &mut Machine,
     schedule: &mut Schedule<'_>,
-    begun: usize,
-    other: u8,
+    start: TurnStart,
     slot: u8,
 ) -> Result<bool, AllocError>
-    requires { other < actors (world_of machine.old) }
+    requires { start.other < actors (world_of machine.old) }
     ensures passed { (coming : List Lines) → IfOk result (λ is_full.
         passage machine.new coming (standing schedule.new) is_full
-        ≡ at_place other begun (passage machine.old coming (standing schedule.old) false)
+        ≡ at_place start (passage machine.old coming (standing schedule.old) false)
         (NewIn slot)) }
     ensures cpus { length (world_of machine.new).cpus ≡ length (world_of machine.old).cpus }
     ensures actors { actors (world_of machine.new) ≡ actors (world_of machine.old) }
 {
     let opened = open_respawn(machine, slot);
-    let to_make = is_made(machine, schedule, begun, opened)?;
+    let to_make = is_made(machine, schedule, start, opened)?;
     if to_make {
-        Ok(offer(machine, other, Event::Respawn(u32::from(slot))))
+        Ok(offer(machine, start.other, Event::Respawn(u32::from(slot))))
     } else {
         Ok(false)
     }
@@ -272,20 +282,19 @@ fn pass_respawn(
 fn pass_respawns(
     machine: &mut Machine,
     schedule: &mut Schedule<'_>,
-    begun: usize,
-    other: u8,
+    start: TurnStart,
     slots: u8,
 ) -> Result<bool, AllocError>
-    requires { other < actors (world_of machine.old) }
+    requires { start.other < actors (world_of machine.old) }
     ensures passed { (coming : List Lines) → IfOk result (λ is_full.
         passage machine.new coming (standing schedule.new) is_full
-        ≡ fold (at_place other begun) (passage machine.old coming (standing schedule.old) false)
+        ≡ fold (at_place start) (passage machine.old coming (standing schedule.old) false)
         (map NewIn (range_with_len 0 slots))) }
     ensures cpus { length (world_of machine.new).cpus ≡ length (world_of machine.old).cpus }
     ensures actors { actors (world_of machine.new) ≡ actors (world_of machine.old) }
 {
     for slot in 0..slots {
-        let is_full = pass_respawn(machine, schedule, begun, other, slot)?;
+        let is_full = pass_respawn(machine, schedule, start, slot)?;
         if is_full {
             return Ok(true);
         }
@@ -305,31 +314,28 @@ pub(crate) struct Turned {
 fn pass_outside(
     machine: &mut Machine,
     schedule: &mut Schedule<'_>,
-    begun: usize,
-    other: u8,
-    next: Option<OutsideLine>,
+    start: TurnStart,
 ) -> Result<Turned, AllocError>
-    requires { other < actors (world_of machine.old) }
-    ensures passed { (coming : List Lines) → next ≡ slice_get coming 0 → IfOk result (λ turned.
+    requires { start.other < actors (world_of machine.old) }
+    ensures passed { (coming : List Lines) → IfOk result (λ turned.
         passage machine.new (if turned.is_gone then drop 1 coming else coming)
         (standing schedule.new) turned.is_full
-        ≡ at_place other begun (passage machine.old coming (standing schedule.old) false)
+        ≡ at_place start (passage machine.old coming (standing schedule.old) false)
         FromOutside) }
     ensures cpus { length (world_of machine.new).cpus ≡ length (world_of machine.old).cpus }
     ensures actors { actors (world_of machine.new) ≡ actors (world_of machine.old) }
 {
-    let due = next_now(machine, next);
-    let is_gone = is_made(machine, schedule, begun, open_outside(due))?;
+    let is_gone = is_made(machine, schedule, start, open_outside(start.event))?;
     if !is_gone {
         return Ok(Turned {
             is_full: false,
             is_gone,
         });
     }
-    let Some(event) = due else {
+    let Some(event) = start.event else {
         unreachable!();
     };
-    let is_full = offer(machine, other, event);
+    let is_full = offer(machine, start.other, event);
     Ok(Turned { is_full, is_gone })
 }
 
@@ -349,20 +355,25 @@ fn pass_turn(
 {
     let cpus = cpus_of(machine);
     let slots = slots_of(machine);
-    let begun = records_of(machine);
-    let is_full = pass_takes(machine, schedule, begun, cpus)?;
-    pass_backs(machine, schedule, begun, cpus)?;
+    // No slot gets a new process before it, so whom it kills is known now.
+    let start = TurnStart {
+        other: cpus,
+        records: records_of(machine),
+        event: next_now(machine, next),
+    };
+    let is_full = pass_takes(machine, schedule, start, cpus)?;
+    pass_backs(machine, schedule, start, cpus)?;
     if is_full {
         return Ok(Turned {
             is_full,
             is_gone: false,
         });
     }
-    let turned = pass_outside(machine, schedule, begun, cpus, next)?;
+    let turned = pass_outside(machine, schedule, start)?;
     if turned.is_full {
         return Ok(turned);
     }
-    let is_filled = pass_respawns(machine, schedule, begun, cpus, slots)?;
+    let is_filled = pass_respawns(machine, schedule, start, slots)?;
     Ok(Turned {
         is_full: is_filled,
         is_gone: turned.is_gone,

@@ -6,13 +6,13 @@ use Rattle.mx_explore.proofs.RunLemmas.{cpus_kept}
 use Rattle.mx_explore.proofs.passing.pass_back.Goals as goal
 
 pub returns-then-to_make-clause-passed : goal.returns-then-to_make-clause-passed
-returns-then-to_make-clause-passed c coming other is_full =
-    sym (backs_at c.args.machine.now coming other c.args.begun (standing c.args.schedule.now) (standing c.is_made.new.schedule) c.args.cpu c.open_back-opened.result c.in_ok-to_make.to_make is_full c.offer_run.new.machine
+returns-then-to_make-clause-passed c coming is_full =
+    sym (backs_at c.args.machine.now coming c.args.start (standing c.args.schedule.now) (standing c.is_made.new.schedule) c.args.cpu c.open_back-opened.result c.in_ok-to_make.to_make is_full c.offer_run.new.machine
     c.open_back-opened.ensures c.in_ok-to_make.ensures c.if-to_make.true c.offer_run.ensures.offered)
 
 pub returns-clause-passed : goal.returns-clause-passed
-returns-clause-passed c coming other is_full =
-    sym (stays_at c.args.machine.now coming other c.args.begun (standing c.args.schedule.now) (standing c.is_made.new.schedule) is_full (BackBy c.args.cpu) c.open_back-opened.result c.in_ok-to_make.to_make
+returns-clause-passed c coming is_full =
+    sym (stays_at c.args.machine.now coming c.args.start (standing c.args.schedule.now) (standing c.is_made.new.schedule) is_full (BackBy c.args.cpu) c.open_back-opened.result c.in_ok-to_make.to_make
     c.open_back-opened.ensures c.in_ok-to_make.ensures c.if-to_make.false)
 
 pub returns-then-to_make-clause-cpus : goal.returns-then-to_make-clause-cpus

@@ -11,7 +11,7 @@ use Rattle.mx_explore.proofs.passing.pass_respawns.Given as goal
 -- the slots so far are past
 abbrev pub invariant-loop-slot : goal.invariant-loop-slot
 invariant-loop-slot l = record {
-  passed : (coming : List OutsideLine) → passage l.machine coming (standing l.schedule) false ≡ At l.other l.begun (passage l.initial.machine coming (standing l.initial.schedule) false) (map NewIn (range_with_len 0 l.slot));
+  passed : (coming : List OutsideLine) → passage l.machine coming (standing l.schedule) false ≡ At l.start (passage l.initial.machine coming (standing l.initial.schedule) false) (map NewIn (range_with_len 0 l.slot));
   cpus : length (world_of l.machine).cpus ≡ length (world_of l.initial.machine).cpus;
   actors : actors (world_of l.machine) ≡ actors (world_of l.initial.machine);
 }
