@@ -12,3 +12,4 @@ mod TreeLemmas
 mod CountLemmas
 mod StateLemmas
 mod MeetLemmas
+mod NoneLemmas

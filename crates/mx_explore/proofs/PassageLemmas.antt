@@ -190,7 +190,7 @@ at_append start p [] ys = refl
 at_append start p (x ∷ xs) ys = at_append start (at_place start p x) xs ys
 
 -- one place more
-one_more : (start : TurnStart) (p : Passage) (f : ℕ → Place) (n : ℕ) → At start p (map f (range_with_len 0 (n + 1))) ≡ at_place start (At start p (map f (range_with_len 0 n))) (f n)
+pub one_more : (start : TurnStart) (p : Passage) (f : ℕ → Place) (n : ℕ) → At start p (map f (range_with_len 0 (n + 1))) ≡ at_place start (At start p (map f (range_with_len 0 n))) (f n)
 one_more start p f n =
     let z : 0 + n ≡ n = omega arith in
     ap (At start p) (map-range_with_len_more f 0 n n z) ∙ at_append start p (map f (range_with_len 0 n)) (f n ∷ [])

@@ -2,9 +2,19 @@
 
 ghost use Rattle.std.specs.Prelude.{◌≡◌, ◌<◌, ◌+◌, ◌++◌, ◌∷◌, [], ℕ, List};
 ghost use Rattle.mx_explore.specs.declared.passing.Departure.{Departure as Departures};
-ghost use Rattle.mx_explore.specs.Passing.{IsSchedule, Setting};
+ghost use Rattle.mx_machine.specs.History.{world_after_events};
+ghost use Rattle.mx_turns.specs.Turns.{turns};
+ghost use Rattle.mx_walk.specs.Kept.{kept_of};
+ghost use Rattle.mx_explore.specs.Passing.{IsSchedule, Setting, run_of_schedule};
 ghost use Rattle.mx_explore.specs.Schedules.{AreAll, Part};
 ghost use Rattle.mx_explore.specs.Tree.{below};
+
+/// Law: a run without a departure makes the turns of `make_turns`.
+pub fn none_is_turns()
+    ensures { (t : Setting) → let c = turns t.turns t.boot t.coming in let r = run_of_schedule t [] in
+        (r.0.kernel ≡ kept_of (record { boot = t.boot; history = [] }) t.boot c.made)
+        × (r.0.world ≡ world_after_events t.boot c.made) × (r.1 ≡ c.ending) }
+{}
 
 /// Law: a schedule without its last departure is one.
 pub fn shorter_is_a_schedule()
