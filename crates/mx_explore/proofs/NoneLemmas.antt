@@ -416,7 +416,7 @@ module _ (p : Passage) (quiet : Quiet p.standing) (room : p.full ≡ false) wher
           (λ no. h.coming ∙ u_coming)
 
       turn_with : IsTurned p turned (passed_turn p)
-      turn_with = elim (cases_Bool one.full) [ | inl full ↦ turn_filled full | inr free ↦ turn_all free ]
+      turn_with = elim (cases_Bool one.full) [ inl full ↦ turn_filled full | inr free ↦ turn_all free ]
 
     by_next : (o : Option Event) → next_now w.table (slice_get p.coming 0) ≡ o → IsTurned p turned (passed_turn p)
     by_next None e = turn_alone e
@@ -424,7 +424,7 @@ module _ (p : Passage) (quiet : Quiet p.standing) (room : p.full ≡ false) wher
 
   -- A TURN without a departure
   turn_made : IsTurned p turned (passed_turn p)
-  turn_made = elim (cases_Bool taken.full) [ | inl t ↦ turn_taken t | inr t ↦ by_next t (next_now w.table (slice_get p.coming 0)) refl ]
+  turn_made = elim (cases_Bool taken.full) [ inl t ↦ turn_taken t | inr t ↦ by_next t (next_now w.table (slice_get p.coming 0)) refl ]
 
 -- ---- turns
 

@@ -21,4 +21,4 @@ pub ranked : IsStrictWeakOrder is_before
 ranked = ranks_by found_total (λ (f : Found). f)
 
 pub not_before : (f : Found) → is_before f f ≡ false
-not_before f = elim (cases_Bool (is_before f f)) [ | inl e ↦ ranked.one_way f f e | inr e ↦ e ]
+not_before f = elim (cases_Bool (is_before f f)) [ inl e ↦ ranked.one_way f f e | inr e ↦ e ]
