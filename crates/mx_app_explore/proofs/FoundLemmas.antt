@@ -112,13 +112,10 @@ module _ (t : Setting) (save : Option (List ℕ)) (os : List Outcome) where
           (subst (PrintsFront (λ text. Appends x z text)) (sym lines_next) (front_after x y z (numbered (outcome_lines t) 1 (take m os)) (outcome_lines t (m + 1) o) h.printed front)) in
           let all : more ≡ before ++ saved_of t save (take m os) ++ ws = e ∙ ap (λ (l : List Written). l ++ ws) h.saved in
           elim why [
-            | inl none ↦ (m, (ws, (all, (inl none, text))))
+            | inl none ↦ (m, ws, all, inl none, text)
             | inr some ↦ elim some [
-              | inl unsaved ↦ (m, (ws, (all, (inr (subst (λ (p : Option Outcome). IsUnsaved t save m p ws f) (sym there) unsaved), text))))
-              | inr whole ↦ (
-                m + 1,
-                ([], (saved_then more (e ∙ ap (λ (l : List Written). now ++ l) whole.0) ∙ sym (append-nil (before ++ saved_of t save (take (m + 1) os))), (inl (refl, whole.1), text))),
-              )
+              | inl unsaved ↦ (m, ws, all, inr (subst (λ (p : Option Outcome). IsUnsaved t save m p ws f) (sym there) unsaved), text)
+              | inr whole ↦ (m + 1, [], saved_then more (e ∙ ap (λ (l : List Written). now ++ l) whole.0) ∙ sym (append-nil (before ++ saved_of t save (take (m + 1) os))), inl (refl, whole.1), text)
             ]
           ]
 
@@ -140,7 +137,7 @@ module _ (t : Setting) (save : Option (List ℕ)) (os : List Outcome) where
         → (m : ℕ) × (us : List Written) × (now ≡ before ++ saved_of t save (take m os) ++ us) × (((us ≡ []) × IsWanting f) ⊎ IsUnsaved t save m (slice_get os m) us f)
         × PrintsFront (λ text. Appends x z text) (numbered (outcome_lines t) 1 os ++ last)
     all_but_last z f last front wanting =
-        (n, ([], (h.saved ∙ sym (append-nil (before ++ saved_of t save (take n os))), (inl (refl, wanting), front_after x y z (numbered (outcome_lines t) 1 os) last lines front))))
+        (n, [], h.saved ∙ sym (append-nil (before ++ saved_of t save (take n os))), inl (refl, wanting), front_after x y z (numbered (outcome_lines t) 1 os) last lines front)
 
 -- ---- all of it
 
@@ -156,19 +153,19 @@ setting_as t m c vs xs events ticks booted =
 module _ (config : List ℕ) (events save : Option (List ℕ)) (k n before after : ℕ) (qs : List Asked) (Prints : List ℕ → Type 0) where
   pub not_begun : (f : Kind) (r : Result Found Kind) → IsNotBegun config events qs f → Prints [] → IsErrAnd r (λ y. y ≡ f) → Explores config events save k n before after qs [] [] Prints r
   not_begun f (Ok how) why printed h = absurd h
-  not_begun f (Err y) why printed h = inl (refl, (refl, (printed, subst (λ z. IsNotBegun config events qs z) (sym h) why)))
+  not_begun f (Err y) why printed h = inl (refl, refl, printed, subst (λ z. IsNotBegun config events qs z) (sym h) why)
 
   module _ (c : Config) (vs : List Service) (xs : List OutsideLine) (begun : IsBegun config events qs c vs xs) where
     -- a program isn't written over
     pub spared : (f : Kind) (r : Result Found Kind) → saves_program c save ≡ true → f ≡ over_program → Prints [] → IsErrAnd r (λ y. y ≡ f) → Explores config events save k n before after qs [] [] Prints r
     spared f (Ok how) is why printed h = absurd h
-    spared f (Err y) is why printed h = inr (inl (c, (vs, (xs, (begun, (is, (refl, (refl, (printed, h ∙ why)))))))))
+    spared f (Err y) is why printed h = inr (inl (c, vs, xs, begun, is, refl, refl, printed, h ∙ why))
 
     module _ (other : saves_program c save ≡ false) (ps : List Parts) where
       -- memory was out
       pub unexplored : (m : ℕ) (f : Kind) (r : Result Found Kind) → ShowsCounts 0 ps m → f ≡ NoMemory → Prints [] → IsErrAnd r (λ y. y ≡ f) → Explores config events save k n before after qs [] ps Prints r
       unexplored m f (Ok how) shown why printed h = absurd h
-      unexplored m f (Err y) shown why printed h = inr (inr (c, (vs, (xs, (begun, (other, inl (m, (shown, (refl, (printed, h ∙ why))))))))))
+      unexplored m f (Err y) shown why printed h = inr (inr (c, vs, xs, begun, other, inl (m, shown, refl, printed, h ∙ why)))
 
       module _ (found : Tally) (t : Setting) (same : t ≡ (asking c vs xs n k before after save).setting) (explored : IsExplored t k (record { before = before; after = after }) found) (shown : ShowsCounts 0 ps found.schedules) (old now : List Written) where
         abbrev asked : Setting
@@ -182,10 +179,10 @@ module _ (config : List ℕ) (events save : Option (List ℕ)) (k n before after
             × IfErr r (λ f. (m : ℕ) × (us : List Written) × (now ≡ old ++ saved_of s save (take m os) ++ us) × (((us ≡ []) × IsWanting f) ⊎ IsUnsaved s save m (slice_get os m) us f) × PrintsFront Prints (found_text s k found))
 
         ended : (r : Result Found Kind) → IsExplored asked k (record { before = before; after = after }) found → IsEnd asked r → (ws : List Written) × (now ≡ old ++ ws) × Explores config events save k n before after qs ws ps Prints r
-        ended (Ok how) all (ok, err) = (saved_of asked save os, (ok.1, (c, (vs, (xs, (begun, (other, (found, (all, (shown, (ok.0, (refl, ok.2))))))))))))
+        ended (Ok how) all (ok, err) = (saved_of asked save os, ok.1, c, vs, xs, begun, other, found, all, shown, ok.0, refl, ok.2)
         ended (Err f) all (ok, err) =
             let ws = saved_of asked save (take err.0 os) in
-            (ws ++ err.1, (err.2 ∙ append_assoc old ws err.1, inr (inr (c, (vs, (xs, (begun, (other, inr (found, (err.0, (err.1, (all, (shown, (refl, (err.3, err.4))))))))))))))
+            (ws ++ err.1, err.2 ∙ append_assoc old ws err.1, inr (inr (c, vs, xs, begun, other, inr (found, err.0, err.1, all, shown, refl, err.3, err.4))))
 
         pub ends : (r : Result Found Kind) → IsEnd t r → (ws : List Written) × (now ≡ old ++ ws) × Explores config events save k n before after qs ws ps Prints r
         ends r h = ended r (subst (λ (s : Setting). IsExplored s k (record { before = before; after = after }) found) same explored) (subst (λ (s : Setting). IsEnd s r) same h)

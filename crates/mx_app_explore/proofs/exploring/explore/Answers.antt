@@ -25,6 +25,13 @@ returns-in_err-spare_programs g c =
     let s = c.in_ok-begun.ensures.begun in
     let b = c.in_ok-begun.begun in
     let begun = subst (λ (k : Config). IsBegun config file s.0 k s.2 b.events.items) (sym s.6) s.4 in
-    let h = c.in_err-spare_programs.ensures.over in
-    (s.0, [], [], s.3, sym (append-nil _), sym (append-nil _), spared config file save w.departures w.bound w.before w.after s.0 (λ (text : List ℕ). Appends (g.W.Write.contents c.args.channels.now.out) (g.W.Write.contents c.args.channels.now.out) text) b.config s.2 b.events.items begun
-        c.in_err-spare_programs.field-0.0 c.from_residual-in_err-spare_programs.result h.0 h.1 (appends_nothing _) c.from_residual-in_err-spare_programs.ensures.1)
+    let h = c.in_err-spare_programs.ensures.over in (
+      s.0,
+      [],
+      [],
+      s.3,
+      sym (append-nil _),
+      sym (append-nil _),
+      spared config file save w.departures w.bound w.before w.after s.0 (λ (text : List ℕ). Appends (g.W.Write.contents c.args.channels.now.out) (g.W.Write.contents c.args.channels.now.out) text) b.config s.2 b.events.items begun
+          c.in_err-spare_programs.field-0.0 c.from_residual-in_err-spare_programs.result h.0 h.1 (appends_nothing _) c.from_residual-in_err-spare_programs.ensures.1,
+    )
