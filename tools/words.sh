@@ -61,11 +61,19 @@ refuse_same() {
     exit 3
 }
 
-# Ends with status 3 if these words are those of a `step`, `run`, `turns` or `sweep` that would write its history or its
-# sums over a file that it reads, or its sums over its history, also by another name of the same file.
+# The same of the files whose names are the second word and a number: refuse_numbered FILE WORD EXPLAINS.
+refuse_numbered() {
+    [ -n "$2" ] || return 0
+    for numbered in "$2"[1-9]*; do
+        case ${numbered#"$2"} in *[!0-9]*) ;; *) refuse_same "$1" "$numbered" NAME "$3" ;; esac
+    done
+}
+
+# Ends with status 3 if these words are those of a `step`, `run`, `turns`, `sweep` or `explore` that would write a history
+# or its sums over a file that it reads, or its sums over its history, also by another name of the same file.
 refuse_own_files() {
-    case ${1-} in step | run | turns | sweep) ;; *) return 0 ;; esac
-    command=$1 config='' second='' third='' label=LOG save='' events='' sums='' compared='' option=''
+    case ${1-} in step | run | turns | sweep | explore) ;; *) return 0 ;; esac
+    command=$1 config='' second='' third='' label=LOG save='' events='' sums='' compared='' option='' several=''
     explains=$(explains_words "$@")
     shift
     for word in "$@"; do
@@ -94,10 +102,12 @@ refuse_own_files() {
         run | turns) written=$second read=$events ;;
         # It compares SUMS, and doesn't write it.
         sweep) label=FILE compared=$sums sums='' ;;
+        explore) several=$save written='' read=$events ;;
     esac
     [ -n "$config" ] || return 0
     while read -r file; do
         refuse_same "$file" "$written" "$label" "$explains"
+        refuse_numbered "$file" "$several" "$explains"
         refuse_same "$file" "$sums" SUMS "$explains"
     done <<END
 $(files_read "$config" "$read" "$third" "$compared")
@@ -150,7 +160,7 @@ tell_option() {
         option=${word%%=*}
         ! has_option "$1" "$option" || continue
         have=''
-        for other in one as dis nm explain step run turns sweep replay trace draw page look gdb why db; do
+        for other in one as dis nm explain step run turns sweep explore replay trace draw page look gdb why db; do
             ! has_option "$other" "$option" || have="$have $other"
         done
         [ -z "$have" ] || echo "mx: $1 has no $option, these have:$have" >&2
