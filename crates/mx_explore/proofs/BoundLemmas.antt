@@ -13,10 +13,11 @@ use Rattle.mx_explore.specs.declared.passing.Met.{Met}
 use Rattle.mx_explore.specs.declared.passing.TurnStart.{TurnStart}
 use Rattle.mx_explore.specs.Passing.{IsSchedule, Passage, Place, Setting, Standing, at_place, begins, begins_by, end_of, from_boot, goes_on, is_at, made, meets, meets_if, met_in, noted, open_at, passed_turn, passed_turns, passes, places, run_of_schedule, turn_start, turns_of}
 use Rattle.mx_explore.specs.Passing.{BackBy, FromOutside, NewIn, TakeBy}
-use Rattle.mx_explore.proofs.PassageLemmas.{At, at_append, back_open, respawn_open, stood, take_open}
+use Rattle.mx_explore.proofs.PassageLemmas.{At, back_open, respawn_open, stood, take_open}
 use Rattle.mx_explore.proofs.AlongLemmas.{turns_last}
 use Rattle.mx_explore.proofs.FollowLemmas.{departed_by, none_begins, noted_if}
 use Rattle.mx_explore.proofs.ScheduleLemmas.{no_end}
+use Rattle.mx_explore.proofs.TurnLemmas.{in_parts}
 
 -- ---- how many offers of the outside a run meets
 
@@ -99,7 +100,7 @@ turn_outs p =
     let q = At start p takes in
     let r = At start q backs in
     let u = at_place start r FromOutside in
-    let one : At start p (places cpus slots) ≡ At start u news = at_append start p takes (backs ++ FromOutside ∷ news) ∙ at_append start q backs (FromOutside ∷ news) in
+    let one : At start p (places cpus slots) ≡ At start u news = in_parts start p q r u cpus slots refl refl refl in
     let a = inside_at start p TakeBy take_inside (range_with_len 0 cpus) in
     let b = inside_at start q BackBy back_inside (range_with_len 0 cpus) in
     let c = one_met start r (open_at start r FromOutside) in

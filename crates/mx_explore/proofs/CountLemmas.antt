@@ -327,3 +327,7 @@ shows_none k n as bs e same = ([], (e ∙ sym (append-nil as), same))
 
 pub shows_one : (k n : ℕ) (p : Parts) (as bs : List Parts) → bs ≡ as ++ p ∷ [] → n ≡ min (k + 1) (2 ^ 64 - 1) → p.done ≡ n → p.done ≤ p.all → (ps : List Parts) × (bs ≡ as ++ ps) × ShowsCounts k ps n
 shows_one k n p as bs e more done most = (p ∷ [], (e, (done ∙ more, (most, sym done))))
+
+-- what is known changes nothing of what is counted
+pub tallied_same : (a b c : Explorer) (dss : List (List Departure)) → IsSame a b → HasCounted a dss b → IsSame b c → c.tally ≡ b.tally → IsSame a c × HasCounted a dss c
+tallied_same a b c dss same counted then_same e = (same_then a b c same then_same, λ fs h. subst (λ (y : Tally). IsCounted (fs ++ map (found_by (here a)) dss) y) (sym e) (counted fs h))

@@ -29,7 +29,7 @@ abbrev news_of : ℕ → List Place
 news_of n = map NewIn (range_with_len 0 n)
 
 -- a turn in its parts
-in_parts : (start : TurnStart) (p q r u : Passage) (cpus slots : ℕ) → q ≡ At start p (takes_of cpus) → r ≡ At start q (backs_of cpus) → u ≡ at_place start r FromOutside
+pub in_parts : (start : TurnStart) (p q r u : Passage) (cpus slots : ℕ) → q ≡ At start p (takes_of cpus) → r ≡ At start q (backs_of cpus) → u ≡ at_place start r FromOutside
     → At start p (places cpus slots) ≡ At start u (news_of slots)
 in_parts start p q r u cpus slots e f g =
     ap (At start p) (append_assoc (takes_of cpus) (backs_of cpus) (FromOutside ∷ news_of slots))
