@@ -19,13 +19,13 @@ use Rattle.mx_explore.proofs.PassageLemmas.{At, at_append, none_after, outside_n
 
 -- ---- a turn
 
-abbrev takes_of : ℕ → List Place
+abbrev pub takes_of : ℕ → List Place
 takes_of n = map TakeBy (range_with_len 0 n)
 
-abbrev backs_of : ℕ → List Place
+abbrev pub backs_of : ℕ → List Place
 backs_of n = map BackBy (range_with_len 0 n)
 
-abbrev news_of : ℕ → List Place
+abbrev pub news_of : ℕ → List Place
 news_of n = map NewIn (range_with_len 0 n)
 
 -- a turn in its parts
