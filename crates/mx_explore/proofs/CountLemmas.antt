@@ -1,6 +1,6 @@
 -- What an explorer has counted, and what was shown of it.
-use Rattle.std.proofs.Common.{◌≡◌, ◌∙◌, ◌<◌, ◌≤◌, ◌+◌, ◌-◌, ◌^◌, ◌&&◌, ◌++◌, ℕ, zero, suc, Bool, true, false, List, [], ◌∷◌, map, take, length, length-append, cond, append_assoc, min, Option, Some, refl, ap, sym, subst, arith}
-use Rattle.std.specs.Prelude.{filter, slice_get}
+use Rattle.std.proofs.Common.{◌≡◌, ◌∙◌, ◌<◌, ◌≤◌, ◌+◌, ◌-◌, ◌^◌, ◌&&◌, ◌++◌, ℕ, zero, suc, Bool, true, false, List, [], ◌∷◌, map, take, drop, length, length-append, cond, append_assoc, min, Option, Some, Result, Ok, Err, refl, ap, sym, subst, arith}
+use Rattle.std.specs.Prelude.{IfOk, IsErrAnd, filter, slice_get}
 use Rattle.std.specs.List.{flat_map, range_with_len}
 use Rattle.std.proofs.lemmas.Grind.{flat_map-append}
 use Rattle.std.proofs.lemmas.List.{append-nil, map-append, take_at}
@@ -20,14 +20,15 @@ use Rattle.mx_explore.specs.declared.passing.Met.{Met}
 use Rattle.mx_explore.specs.declared.passing.Ran.{Ran}
 use Rattle.mx_explore.specs.Exploring.{HasCounted, IsAtBoot, IsSame, ShowsCounts, part_of, setting}
 use Rattle.mx_explore.specs.Offers.{is_outside}
-use Rattle.mx_explore.specs.Outcomes.{Found, IsCounted, first_of, found_by, outcome_text}
+use Rattle.mx_explore.specs.Outcomes.{Found, IsCounted, IsTally, first_of, found_by, outcome_text}
 use Rattle.mx_explore.specs.Passages.{HasRoom, IsRun}
-use Rattle.mx_explore.specs.Passing.{Setting, end_of, from_boot, run_of_schedule}
-use Rattle.mx_explore.specs.Schedules.{Part, is_in_part}
-use Rattle.mx_explore.specs.Tree.{below, can_wait, departed, departing, is_of_outside, itself}
+use Rattle.mx_explore.specs.Passing.{Setting, Standing, end_of, from_boot, run_of_schedule}
+use Rattle.mx_explore.specs.Schedules.{IsExplored, Part, is_in_part}
+use Rattle.mx_explore.specs.Tree.{below, can_wait, departed, departing, is_of_outside, itself, waits_on}
 use Rattle.mx_explore.proofs.AlongLemmas.{turns_last}
 use Rattle.mx_explore.proofs.FollowLemmas.{Bounded, bounded}
 use Rattle.mx_explore.proofs.RunLemmas.{run_boot}
+use Rattle.mx_explore.proofs.TreeLemmas.{all_schedules}
 
 -- the schedules of an explorer
 abbrev pub here : Explorer → Setting
@@ -331,3 +332,43 @@ shows_one k n p as bs e more done most = (p ∷ [], (e, (done ∙ more, (most, s
 -- what is known changes nothing of what is counted
 pub tallied_same : (a b c : Explorer) (dss : List (List Departure)) → IsSame a b → HasCounted a dss b → IsSame b c → c.tally ≡ b.tally → IsSame a c × HasCounted a dss c
 tallied_same a b c dss same counted then_same e = (same_then a b c same then_same, λ fs h. subst (λ (y : Tally). IsCounted (fs ++ map (found_by (here a)) dss) y) (sym e) (counted fs h))
+
+-- the offers after the last departure are some of those that were met
+pub after_fits : (t : Setting) (ds : List Departure) (ms : List Met) (n : ℕ) → ms ≡ (end_of t ds).met → n ≡ (end_of t ds).after → n ≤ length ms
+after_fits t ds ms n e a = let many : length ms ≡ length (end_of t ds).met = ap length e in let within = after_within t ds in omega (arith, many, within, a)
+
+pub waits_now : (t : Setting) (ds : List Departure) (ms : List Met) (n : ℕ) → ms ≡ (end_of t ds).met → n ≡ (end_of t ds).after → waits_on (drop n ms) ≡ can_wait (end_of t ds)
+waits_now t ds ms n e a = ap (λ i. waits_on (drop i ms)) a ∙ ap (λ (l : List Met). waits_on (drop (end_of t ds).after l)) e
+
+pub shows_same : (k n m : ℕ) (as bs : List Parts) → n ≡ m → ((ps : List Parts) × (bs ≡ as ++ ps) × ShowsCounts k ps n) → ((ps : List Parts) × (bs ≡ as ++ ps) × ShowsCounts k ps m)
+shows_same k n m as bs e (ps, more, shown) = (ps, more, subst (ShowsCounts k ps) e shown)
+
+-- an offer that the same explorer's schedule met
+pub met_there : (a b : Explorer) (ms : List Met) (at : ℕ) (m : Met) → IsSame a b → ms ≡ (end_of (here a) a.departures.items).met → slice_get ms at ≡ Some m → slice_get (end_of (here b) b.departures.items).met at ≡ Some m
+met_there a b ms at m same e there = ap (λ (s : Standing). slice_get s.met at) (same_end a b same) ∙ ap (λ (l : List Met). slice_get l at) (sym e) ∙ there
+
+-- ---- all of it
+
+pub starts_at : (m n : MachineState) (xs ys : List Service) → n ≡ m → ys ≡ xs → IsAtBoot m xs → IsAtBoot n ys
+starts_at m n xs ys same e h = subst (λ (x : MachineState). IsAtBoot x ys) (sym same) (subst (IsAtBoot m) (sym e) h)
+
+pub err_not_ok : {A E : Type 0} (r : Result A E) (P : E → Type 0) (Q : A → Type 0) → IsErrAnd r P → IfOk r Q
+err_not_ok (Ok x) P Q h = absurd h
+err_not_ok (Err e) P Q h = tt
+
+-- an explorer that begins with the order of turns has found everything
+pub explored_all : (a b : Explorer) (k : ℕ) (m : MachineState) (found : Tally) → a.boot ≡ m → a.departures.items ≡ [] → IsCounted [] a.tally
+    → HasCounted a (below (part_of a.terms) (here a) k a.departures.items) b → ((fs : List Found) → IsCounted fs b.tally → IsTally fs found) → IsExplored (setting a.terms m) k (part_of a.terms) found
+explored_all a b k m found boot none counted more sorted =
+    let t = setting a.terms m in
+    let p = part_of a.terms in
+    let one = subst (λ (ds : List Departure). IsCounted (map (found_by (here a)) (below p (here a) k ds)) b.tally) none (more [] counted) in
+    let two = subst (λ (x : MachineState). IsCounted (map (found_by (setting a.terms x)) (below p (setting a.terms x) k [])) b.tally) boot one in
+    (below p t k [], (all_schedules t k p, sorted (map (found_by t) (below p t k [])) two))
+
+-- what was shown since nothing was counted
+pub shows_all : (t : Tally) (n : ℕ) (as bs : List Parts) → IsCounted [] t → ((ps : List Parts) × (bs ≡ as ++ ps) × ShowsCounts t.schedules ps n) → (ps : List Parts) × (bs ≡ as ++ ps) × ShowsCounts 0 ps n
+shows_all t n as bs counted (ps, more, shown) =
+    let none = counted.schedules in
+    let zero : t.schedules ≡ 0 = omega (arith, none) in
+    (ps, more, subst (λ k. ShowsCounts k ps n) zero shown)

@@ -182,7 +182,7 @@ none_comes w begun next o s t is_made e none h is = absurd (true≢false (sym is
 
 -- ---- places in a row
 
-abbrev pub At : ℕ → ℕ → Passage → List Place → Passage
+abbrev pub At : TurnStart → Passage → List Place → Passage
 At start p places = fold (at_place start) p places
 
 pub at_append : (start : TurnStart) (p : Passage) (xs ys : List Place) → At start p (xs ++ ys) ≡ At start (At start p xs) ys

@@ -1,5 +1,6 @@
 -- What all runs of schedules keep.
 use Rattle.std.proofs.Common.{◌≡◌, ◌∙◌, ◌<◌, ℕ, zero, suc, Bool, true, false, List, [], ◌∷◌, length, cond, Option, Some, None, refl, ap, sym, subst}
+use Rattle.mx_machine.specs.History.{BootAndHistory}
 use Rattle.mx_machine.specs.Machine.{MachineState, world_of}
 use Rattle.mx_machine.specs.Move.{moves}
 use Rattle.mx_machine.specs.World.{World, actors}
@@ -12,6 +13,7 @@ use Rattle.mx_turns.proofs.MadeLemmas.{kept_boot}
 use Rattle.mx_turns.proofs.TurnLemmas.{cpus_stay}
 use Rattle.mx_explore.specs.declared.offers.Offer.{Offer}
 use Rattle.mx_explore.specs.declared.passing.Departure.{Departure}
+use Rattle.mx_explore.specs.declared.passing.Met.{Met}
 use Rattle.mx_explore.specs.declared.passing.Ran.{Ran}
 use Rattle.mx_explore.specs.Passages.{HasRoom, IsRun, passage}
 use Rattle.mx_explore.specs.declared.passing.TurnStart.{TurnStart}
@@ -63,6 +65,19 @@ pub room_stays : (m n : MachineState) → length (world_of n).cpus ≡ length (w
 room_stays m n cpus they room = subst (λ k. k < actors (world_of n)) (sym cpus) (subst (λ k. length (world_of m).cpus < k) (sym they) room)
 
 -- ---- a run
+
+-- it begins at the boot
+pub starts_so : (n : ℕ) (coming : List OutsideLine) (ds : List Departure) (m : MachineState) (met : List Met) → m.kernel ≡ record { boot = world_of m; history = [] } → met ≡ []
+    → passage m coming (record { ahead = ds; waits = 0; met = met; after = 0; kept = true }) false ≡ from_boot (record { turns = n; boot = world_of m; coming = coming }) ds
+starts_so n coming ds m met kernel none =
+    ap (λ (k : BootAndHistory). let p : Passage = record { kernel = k; world = world_of m; coming = coming; standing = record { ahead = ds; waits = 0; met = met; after = 0; kept = true }; full = false } in p) kernel
+    ∙ ap (λ (l : List Met). let p : Passage = record {
+      kernel = record { boot = world_of m; history = [] };
+      world = world_of m;
+      coming = coming;
+      standing = record { ahead = ds; waits = 0; met = l; after = 0; kept = true };
+      full = false;
+    } in p) none
 
 pub ran_by : (t : Setting) (ds : List Departure) (r : Ran) (coming : List OutsideLine) (s : Standing) (full : Bool) (start : Passage) → start ≡ from_boot t ds
     → (passage r.machine coming s full, r.ending) ≡ passed_turns t.turns start → r.met.items ≡ s.met → r.after ≡ s.after → IsRun t ds r

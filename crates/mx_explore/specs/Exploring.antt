@@ -21,9 +21,9 @@ abbrev pub part_of : Terms → Part
 part_of t = record { before = t.before; after = t.after }
 
 -- A machine at its boot, with these services: schedules are run from it.
-pub record IsAtBoot (m : MachineState) (services : List Service) : Type 0 where
+pub record IsAtBoot (m : MachineState) (given : List Service) : Type 0 where
   pub kernel : m.kernel ≡ record { boot = world_of m; history = [] }
-  pub services : services ≡ m.kernel.boot.services
+  pub services : given ≡ m.kernel.boot.services
   pub room : HasRoom m
 
 -- after each schedule it is shown how many are done, as far as 64 bits count, of no fewer: k were before, n are then

@@ -41,7 +41,7 @@ loop-preserved c =
       few = (let one : cond gone 1 0 ≤ 1 = at_most gone in let few = c.loop.invariant.few in omega (arith, few, one, more));
       left =
           goes_on (passage c.args.machine.now events (standing c.args.schedule.now) false) c.args.bound events c.loop.counter at m (standing c.loop.schedule) (passage n (cond gone (drop 1 (drop at events)) (drop at events)) t full)
-          c.loop-test.true c.loop.invariant.left c.get-next.result c.get-next.ensures (sym c.is_over.ensures ∙ c.if-is_over.false) (c.in_ok-turned.ensures.passed (drop at events) (c.get-next.ensures ∙ sym (get_drop events at))) c.if-is_full.false
+          c.loop-test.true c.loop.invariant.left c.get-next.result c.get-next.ensures (sym c.is_over.ensures ∙ c.if-is_over.false) (c.in_ok-turned.ensures.passed (drop at events) (c.get-next.ensures ∙ sym (get_drop events at))) c.if-turned.false
           ∙ ap (λ (l : List OutsideLine). passed_turns (c.args.bound - (c.loop.counter + 1)) (passage n l t full)) (coming_on events at gone ∙ ap (λ k. drop k events) (sym more))
-          ∙ ap (λ (b : Bool). passed_turns (c.args.bound - (c.loop.counter + 1)) (passage n (drop (at + c.from-place.result) events) t b)) c.if-is_full.false;
+          ∙ ap (λ (b : Bool). passed_turns (c.args.bound - (c.loop.counter + 1)) (passage n (drop (at + c.from-place.result) events) t b)) c.if-turned.false;
     }

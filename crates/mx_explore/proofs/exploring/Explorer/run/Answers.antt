@@ -30,7 +30,7 @@ count-requires g c = ran_from c.args.self.now c.in_ok-machine.machine c.in_ok-ra
 
 pub returns-clause-services : goal.returns-clause-services
 returns-clause-services g c =
-    c.into_services.ensures ∙ ap (λ (k : BootAndHistory). k.boot.services) c.into_kernel.ensures
+    c.into_services-services.ensures ∙ ap (λ (k : BootAndHistory). k.boot.services) c.into_kernel.ensures
     ∙ services_back (setting c.args.self.now.terms c.args.self.now.boot) c.args.self.now.departures.items c.args.self.now.boot c.args.services.items c.in_ok-ran.ran c.requires refl
     (ran_from c.args.self.now c.in_ok-machine.machine c.in_ok-ran.ran c.in_ok-machine.ensures c.in_ok-ran.ensures)
 
