@@ -164,7 +164,7 @@ module _ (f : List Departure → List (List Departure)) (t : Setting) (ds : List
   pub departed_last : (bound n : ℕ) (dss : List (List Departure)) → n < bound → waits (n + 1) ≡ false → IsDeparted bound n dss → departing f t ds at 1 bound ≡ dss ++ f (departed ds at (n + 1))
   departed_last bound n dss lt no h = departed_next bound n dss false lt no h ∙ append-nil (dss ++ f (departed ds at (n + 1)))
 
-  -- it waits as long as may be
+  -- it waits old long old may be
   pub departed_all : (bound n : ℕ) (dss : List (List Departure)) → bound ≤ n → IsDeparted bound n dss → departing f t ds at 1 bound ≡ dss
   departed_all bound n dss le h = let none : bound - n ≡ 0 = omega (arith, le) in h ∙ ap (λ i. dss ++ departing f t ds at (n + 1) i) none ∙ append-nil dss
 
@@ -297,7 +297,7 @@ module _ (k at n : ℕ) (a b c d e : Explorer) (h : HasDeparted k at n a b) (lt 
     last_departed off = (
       same_back,
       subst (λ (dss : List (List Departure)). HasCounted a dss c)
-      (sym (departed_last (below (part_of a.terms) (here a) k) (here a) a.departures.items at a.terms.bound n h.counted.0 lt (goes_as ∙ off) h.counted.2)) counted_back,
+          (sym (departed_last (below (part_of a.terms) (here a) k) (here a) a.departures.items at a.terms.bound n h.counted.0 lt (goes_as ∙ off) h.counted.2)) counted_back,
     )
 
 pub all_departed : (k at n : ℕ) (a b : Explorer) → HasDeparted k at n a b → a.terms.bound ≤ n → HasCounted a (departing (below (part_of a.terms) (here a) k) (here a) a.departures.items at 1 a.terms.bound) b
@@ -319,15 +319,15 @@ pub then_shown : (k n m : ℕ) (ps qs : List Parts) → ShowsCounts k ps n → S
 then_shown k n m [] qs h g = subst (λ i. ShowsCounts i qs m) h g
 then_shown k n m (p ∷ ps) qs h g = (h.0, (h.1, then_shown p.done n m ps qs h.2 g))
 
-pub shows_then : (k n m : ℕ) (as bs cs : List Parts) → ((ps : List Parts) × (bs ≡ as ++ ps) × ShowsCounts k ps n) → ((ps : List Parts) × (cs ≡ bs ++ ps) × ShowsCounts n ps m)
-    → ((ps : List Parts) × (cs ≡ as ++ ps) × ShowsCounts k ps m)
-shows_then k n m as bs cs x y = (x.0 ++ y.0, (y.1 ∙ ap (λ l. l ++ y.0) x.1 ∙ append_assoc as x.0 y.0, then_shown k n m x.0 y.0 x.2 y.2))
+pub shows_then : (k n m : ℕ) (old bs cs : List Parts) → ((ps : List Parts) × (bs ≡ old ++ ps) × ShowsCounts k ps n) → ((ps : List Parts) × (cs ≡ bs ++ ps) × ShowsCounts n ps m)
+    → ((ps : List Parts) × (cs ≡ old ++ ps) × ShowsCounts k ps m)
+shows_then k n m old bs cs x y = (x.0 ++ y.0, (y.1 ∙ ap (λ l. l ++ y.0) x.1 ∙ append_assoc old x.0 y.0, then_shown k n m x.0 y.0 x.2 y.2))
 
-pub shows_none : (k n : ℕ) (as bs : List Parts) → bs ≡ as → n ≡ k → (ps : List Parts) × (bs ≡ as ++ ps) × ShowsCounts k ps n
-shows_none k n as bs e same = ([], (e ∙ sym (append-nil as), same))
+pub shows_none : (k n : ℕ) (old bs : List Parts) → bs ≡ old → n ≡ k → (ps : List Parts) × (bs ≡ old ++ ps) × ShowsCounts k ps n
+shows_none k n old bs e same = ([], (e ∙ sym (append-nil old), same))
 
-pub shows_one : (k n : ℕ) (p : Parts) (as bs : List Parts) → bs ≡ as ++ p ∷ [] → n ≡ min (k + 1) (2 ^ 64 - 1) → p.done ≡ n → p.done ≤ p.all → (ps : List Parts) × (bs ≡ as ++ ps) × ShowsCounts k ps n
-shows_one k n p as bs e more done most = (p ∷ [], (e, (done ∙ more, (most, sym done))))
+pub shows_one : (k n : ℕ) (p : Parts) (old bs : List Parts) → bs ≡ old ++ p ∷ [] → n ≡ min (k + 1) (2 ^ 64 - 1) → p.done ≡ n → p.done ≤ p.all → (ps : List Parts) × (bs ≡ old ++ ps) × ShowsCounts k ps n
+shows_one k n p old bs e more done most = (p ∷ [], (e, (done ∙ more, (most, sym done))))
 
 -- what is known changes nothing of what is counted
 pub tallied_same : (a b c : Explorer) (dss : List (List Departure)) → IsSame a b → HasCounted a dss b → IsSame b c → c.tally ≡ b.tally → IsSame a c × HasCounted a dss c
@@ -340,8 +340,8 @@ after_fits t ds ms n e a = let many : length ms ≡ length (end_of t ds).met = a
 pub waits_now : (t : Setting) (ds : List Departure) (ms : List Met) (n : ℕ) → ms ≡ (end_of t ds).met → n ≡ (end_of t ds).after → waits_on (drop n ms) ≡ can_wait (end_of t ds)
 waits_now t ds ms n e a = ap (λ i. waits_on (drop i ms)) a ∙ ap (λ (l : List Met). waits_on (drop (end_of t ds).after l)) e
 
-pub shows_same : (k n m : ℕ) (as bs : List Parts) → n ≡ m → ((ps : List Parts) × (bs ≡ as ++ ps) × ShowsCounts k ps n) → ((ps : List Parts) × (bs ≡ as ++ ps) × ShowsCounts k ps m)
-shows_same k n m as bs e (ps, more, shown) = (ps, more, subst (ShowsCounts k ps) e shown)
+pub shows_same : (k n m : ℕ) (old bs : List Parts) → n ≡ m → ((ps : List Parts) × (bs ≡ old ++ ps) × ShowsCounts k ps n) → ((ps : List Parts) × (bs ≡ old ++ ps) × ShowsCounts k ps m)
+shows_same k n m old bs e (ps, more, shown) = (ps, more, subst (ShowsCounts k ps) e shown)
 
 -- an offer that the same explorer's schedule met
 pub met_there : (a b : Explorer) (ms : List Met) (at : ℕ) (m : Met) → IsSame a b → ms ≡ (end_of (here a) a.departures.items).met → slice_get ms at ≡ Some m → slice_get (end_of (here b) b.departures.items).met at ≡ Some m
@@ -367,8 +367,8 @@ explored_all a b k m found boot none counted more sorted =
     (below p t k [], (all_schedules t k p, sorted (map (found_by t) (below p t k [])) two))
 
 -- what was shown since nothing was counted
-pub shows_all : (t : Tally) (n : ℕ) (as bs : List Parts) → IsCounted [] t → ((ps : List Parts) × (bs ≡ as ++ ps) × ShowsCounts t.schedules ps n) → (ps : List Parts) × (bs ≡ as ++ ps) × ShowsCounts 0 ps n
-shows_all t n as bs counted (ps, more, shown) =
+pub shows_all : (t : Tally) (n : ℕ) (old bs : List Parts) → IsCounted [] t → ((ps : List Parts) × (bs ≡ old ++ ps) × ShowsCounts t.schedules ps n) → (ps : List Parts) × (bs ≡ old ++ ps) × ShowsCounts 0 ps n
+shows_all t n old bs counted (ps, more, shown) =
     let none = counted.schedules in
     let zero : t.schedules ≡ 0 = omega (arith, none) in
     (ps, more, subst (λ k. ShowsCounts k ps n) zero shown)
