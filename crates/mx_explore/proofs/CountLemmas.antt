@@ -164,7 +164,7 @@ module _ (f : List Departure → List (List Departure)) (t : Setting) (ds : List
   pub departed_last : (bound n : ℕ) (dss : List (List Departure)) → n < bound → waits (n + 1) ≡ false → IsDeparted bound n dss → departing f t ds at 1 bound ≡ dss ++ f (departed ds at (n + 1))
   departed_last bound n dss lt no h = departed_next bound n dss false lt no h ∙ append-nil (dss ++ f (departed ds at (n + 1)))
 
-  -- it waits old long old may be
+  -- it waits as long as may be
   pub departed_all : (bound n : ℕ) (dss : List (List Departure)) → bound ≤ n → IsDeparted bound n dss → departing f t ds at 1 bound ≡ dss
   departed_all bound n dss le h = let none : bound - n ≡ 0 = omega (arith, le) in h ∙ ap (λ i. dss ++ departing f t ds at (n + 1) i) none ∙ append-nil dss
 
