@@ -60,7 +60,7 @@ files_read() {
 # Whether an option has no value.
 is_flag() {
     case $1 in
-        --numbered | --check | --explain | --no-explain | --force | --strict | --live | --raw) ;;
+        --numbered | --check | --explain | --no-explain | --force | --strict | --live | --raw | --no-sums) ;;
         *) return 1 ;;
     esac
 }
@@ -90,13 +90,12 @@ refuse_same() {
     exit 3
 }
 
-# Ends with status 3 if these words are those of a `step`, `run`, `turns` or `sweep` that would write its history or its
-# sums over a file that it reads, or its sums over its history, also by another name of the same file.
-refuse_own_files() {
-    case ${1-} in step | run | turns | sweep) ;; *) return 0 ;; esac
-    command=$1 config='' second='' third='' label=LOG save='' events='' sums='' compared='' option=''
-    explains=$(explains_words "$@")
-    shift
+# Reads the words of a command on a machine: command; config, second and third, which stand in places, and how many do;
+# the values of save, events and sums; whether they say themselves what becomes of sums; and whether they are clear to
+# this script, which knows no grammar.
+read_words() {
+    command=${1-} config='' second='' third='' places=0 save='' events='' sums='' says_sums='' is_clear=yes option=''
+    [ $# = 0 ] || shift
     for word in "$@"; do
         case $option in
             --save) save=$word option='' ; continue ;;
@@ -104,19 +103,38 @@ refuse_own_files() {
             --sums) sums=$word option='' ; continue ;;
             ?*) option='' ; continue ;;
         esac
+        case $word in --sums | --sums=* | --no-sums) says_sums=yes ;; esac
         case $word in
             --save=*) save=${word#*=} ;;
             --events=*) events=${word#*=} ;;
             --sums=*) sums=${word#*=} ;;
+            -- | --help) is_clear='' ;;
             --*=*) ;;
             --*) is_flag "$word" || option=$word ;;
-            *)
-                if [ -z "$config" ]; then config=$word
-                elif [ -z "$second" ]; then second=$word
-                elif [ "$command" = sweep ] && [ -z "$third" ]; then third=$word
-                else return 0; fi ;;
+            -?*) is_clear='' ;;
+            *) take_place "$word" ;;
         esac
     done
+    [ -z "$option" ] || is_clear=''
+}
+
+# Takes the next word that stands in a place.
+take_place() {
+    places=$((places + 1))
+    case $places in
+        1) config=$1 ;;
+        2) second=$1 ;;
+        3) third=$1 ;;
+    esac
+}
+
+# Ends with status 3 if these words are those of a `step`, `run`, `turns` or `sweep` that would write its history or its
+# sums over a file that it reads, or its sums over its history, also by another name of the same file.
+refuse_own_files() {
+    case ${1-} in step | run | turns | sweep) ;; *) return 0 ;; esac
+    read_words "$@"
+    explains=$(explains_words "$@") label=LOG compared=''
+    [ "$places" -lt 3 ] || [ "$command$places" = sweep3 ] || return 0
     written=$save read=$second
     case $command in
         run | turns) written=$second read=$events ;;
@@ -586,7 +604,8 @@ run_stoppable() {
     room=$(mktemp -d) || return 3
     stop=$(stop_named "$@")
     [ -n "$stop" ] || { stop=$room/stop; set -- "$@" --stop "$stop"; }
-    exec 3<&0
+    # What runs beside the shell has no input but what it is given, if there is one.
+    if [ -e /dev/fd/0 ]; then exec 3<&0; else exec 3</dev/null; fi
     trap leave_session EXIT
     trap end_session INT TERM HUP
     (trap '' INT TERM HUP; start_program "$@") <&3 3<&- &
@@ -615,4 +634,106 @@ run_told() {
     else
         echo "mx: the history isn't saved: --save LOG" >&2
     fi
+}
+
+# Whether a file begins as sums do: with the line of a configuration's.
+holds_sums() {
+    { head -c 80 <"$1"; } 2>/dev/null | LC_ALL=C tr '\n!' '!.' | LC_ALL=C grep -Eq '^[0-9A-Fa-f]{64}  configuration!'
+}
+
+# Whether a history has changed in any way since its sums were written, or got its name since then: changed_since LOG SUMS.
+changed_since() {
+    case $1 in /*) at='' ;; *) at=./ ;; esac
+    [ -n "$(find "$at$1" -newercc "$2" 2>/dev/null || echo unknown)" ]
+}
+
+# Whether a machine's configuration and programs are regular files, which can be read once more.
+is_read_twice() (
+    files_read "$1" | while IFS= read -r file; do
+        case $file in /dev/* | /proc/*) exit 1 ;; esac
+        [ -f "$file" ] || exit 1
+    done
+)
+
+# Says why there are no sums beside a history, if these words explain.
+tell_sums() {
+    [ -z "$explains" ] || echo "mx: SUMS $beside: $1" >&2
+}
+
+# Whether the sums of a history are to be written beside it: no other file stands there, and one can.
+can_write_sums() {
+    if [ -e "$beside" ] || [ -L "$beside" ]; then
+        if [ -L "$beside" ] || [ ! -f "$beside" ] || ! holds_sums "$beside"; then
+            tell_sums "is there and has no sums: it is left as it is"
+            return 1
+        fi
+        at=$beside
+    else
+        at=./
+        case $beside in */*) at=${beside%/*}/ ;; esac
+        [ -d "$at" ] || return 1
+    fi
+    [ ! -w "$at" ] || return 0
+    tell_sums "isn't written: there is no right to"
+    return 1
+}
+
+# Whether sums stand beside a history, and are to be compared.
+can_compare_sums() {
+    { [ -f "$log" ] && [ -f "$beside" ] && [ ! -L "$beside" ]; } || return 1
+    if [ ! -r "$beside" ]; then
+        tell_sums "isn't compared: there is no right to read it"
+    elif ! holds_sums "$beside"; then
+        tell_sums "isn't compared: it has no sums"
+    elif changed_since "$log" "$beside"; then
+        tell_sums "isn't compared: $log has changed since it was written"
+    else
+        return 0
+    fi
+    return 1
+}
+
+# The history of these words: log, and beside, the file of sums beside it. There is none if it is no regular file or a new
+# one, if the words say themselves what becomes of sums or name that file, or if the machine can't be read once more.
+find_beside() {
+    log='' beside='' wanted=2
+    read_words "$@"
+    case $command in
+        step) log=$save ;;
+        run | turns | replay | trace | draw | page | look | gdb | why) log=$second ;;
+        sweep) log=$second wanted=3 ;;
+    esac
+    { [ -n "$log" ] && [ "$places" = "$wanted" ] && [ -n "$is_clear" ] && [ -z "$says_sums" ]; } || return 1
+    [ ! -L "$log" ] || log=$(readlink -f "$log") || return 1
+    case $log in /dev/* | /proc/*) return 1 ;; esac
+    { [ -f "$log" ] || [ ! -e "$log" ]; } && is_read_twice "$config" || return 1
+    beside=$log.sums
+    for word in "$@"; do
+        case $word in *"${beside##*/}") return 1 ;; esac
+    done
+}
+
+# Which sums go with the history of these words by itself, where they say nothing of sums: sums_word is --sums=LOG.sums,
+# or empty. A replay takes none: it is of any machine, and tell_changed says of which one.
+choose_sums() {
+    sums_word='' replayed=''
+    explains=$(explains_words "$@")
+    find_beside "$@" || return 0
+    case $command in
+        step | run | turns) can_write_sums || return 0 ;;
+        replay)
+            [ -z "$explains" ] || ! can_compare_sums || replayed=$beside
+            return 0 ;;
+        *) can_compare_sums || return 0 ;;
+    esac
+    sums_word=--sums=$beside
+}
+
+# Says of a replay what isn't as it was when its history was made, by the comparison of start_program, which goes before
+# all records.
+tell_changed() {
+    [ -n "$replayed" ] || return 0
+    part=$( (start_program replay "$config" /dev/null "--sums=$replayed" --no-explain) 2>&1 >/dev/null |
+        sed -n 's/^mx: 64 OtherMachine //p')
+    [ -z "$part" ] || echo "mx: SUMS $replayed: $part isn't as it was when $log was made: it is replayed all the same" >&2
 }

@@ -52,6 +52,8 @@ use Rattle.mx_app_run.specs.declared.run_by_threads.RunEnding.{RunEnding}
 use Rattle.mx_app_turns.specs.declared.turning.TurnsEnd.{TurnsEnd}
 use Rattle.mx_walk.specs.Parts.{walk_shown}
 use Rattle.mx_walk.specs.Walks.{Walk}
+use Rattle.mx_turns.specs.declared.outside.OutsideLine.{OutsideLine}
+use Rattle.mx_why.specs.Begun.{FileNames, IsUntold, IsBegun as IsHistoryBegun}
 use Rattle.mx_why.specs.Checking.{ChecksConfig}
 use Rattle.mx_why.specs.Telling.{IsWhyPrinted}
 use Rattle.mx_app.specs.Deeds.{Deeds, IsAlone, nothing_done}
@@ -294,15 +296,15 @@ module _ (asked now : List Asked) (files : List Written) where
   pages config log range x y (Ok how) r p f e = (p.0, [], p.4, sym (append-nil files), (Ok how, refl, (p.1, p.2, p.3, p.5, p.6), e))
   pages config log range x y (Err why) r p f e = (f.0, [], f.1, sym (append-nil files), (Err why, refl, f.2, e))
 
-  pub whys : (config log : List ℕ) (x y : Option (List ℕ)) (strict : Bool) (d : Result Told Kind) (r : Result Done Kind)
-      → IfOk d (λ how. (qs : List Asked) × (c : Config) × (vs : List Service) × (records : List Record)
-      × (now ≡ asked ++ qs) × IsStart IsSaved config log qs c vs records
-      × IsWhyPrinted (world_at_boot c vs) (take 4294967295 records) c how (λ text. Appends x y text))
-      → IfErr d (λ f. (qs : List Asked) × (now ≡ asked ++ qs) × IsTold IsSaved TellsSaved config log qs f)
+  pub whys : (names : FileNames) (x y : Option (List ℕ)) (strict : Bool) (d : Result Told Kind) (r : Result Done Kind)
+      → IfOk d (λ how. (qs : List Asked) × (c : Config) × (vs : List Service) × (records : List Record) × (said : List (Option OutsideLine))
+      × (now ≡ asked ++ qs) × IsHistoryBegun names qs c vs records said
+      × IsWhyPrinted (world_at_boot c vs) (take 4294967295 records) c said how (λ text. Appends x y text))
+      → IfErr d (λ f. (qs : List Asked) × (now ≡ asked ++ qs) × IsUntold names qs f)
       → r ≡ done_after_why strict d
-      → WritesNone (λ qs ws. (e : Result Told Kind) × (ws ≡ []) × Whys config log qs (λ text. Appends x y text) e × (r ≡ done_after_why strict e))
-  whys config log x y strict (Ok how) r p f e = (p.0, [], p.4, sym (append-nil files), (Ok how, refl, (p.1, p.2, p.3, p.5, p.6), e))
-  whys config log x y strict (Err why) r p f e = (f.0, [], f.1, sym (append-nil files), (Err why, refl, f.2, e))
+      → WritesNone (λ qs ws. (e : Result Told Kind) × (ws ≡ []) × Whys names qs (λ text. Appends x y text) e × (r ≡ done_after_why strict e))
+  whys names x y strict (Ok how) r p f e = (p.0, [], p.5, sym (append-nil files), (Ok how, refl, (p.1, p.2, p.3, p.4, p.6, p.7), e))
+  whys names x y strict (Err why) r p f e = (f.0, [], f.1, sym (append-nil files), (Err why, refl, f.2, e))
 
 -- ---- whether it writes over what it reads, or over a file that is spared
 

@@ -1,24 +1,22 @@
 -- What standard error gets after a command that made a history (our own).
-use Rattle.std.specs.Prelude.{◌≡◌, ℕ, ◌==◌, ◌&&◌, ◌||◌, not, if◌then◌else◌, Bool, true, false, List, [], ◌++◌, codes, Option, Some, None, Result, Ok, Err, take}
+use Rattle.std.specs.Prelude.{◌≡◌, ℕ, ◌==◌, ◌&&◌, ◌||◌, not, if◌then◌else◌, Bool, true, false, List, [], ◌++◌, codes, Option, Some, None, Result, Ok, Err, option_map, take}
 use Rattle.mx_app_command.specs.declared.command_line.CommandRequest.{CommandRequest}
 use Rattle.mx_app_command.specs.declared.command_line.CommandRequest.TheVariants as requests
 use Rattle.mx_app_failure.specs.declared.failure.Failure.{Failure as Kind}
 use Rattle.mx_app_db.specs.Asked.{Asked}
 use Rattle.mx_app_db.specs.Config.{Config}
-use Rattle.mx_app_db.specs.Course.{IsSaved, TellsSaved}
 use Rattle.mx_app_db.specs.Service.{Service}
-use Rattle.mx_app_db.specs.Setup.{IsStart}
-use Rattle.mx_app_db.specs.Telling.{IsTold}
 use Rattle.mx_machine.specs.declared.history.Record.{Record}
 use Rattle.mx_machine.specs.Boot.{world_at_boot}
 use Rattle.mx_app.specs.Ending.{driven_word}
 use Rattle.mx_app.specs.declared.ending.DrivenEnding.{DrivenEnding}
 use Rattle.mx_app.specs.declared.ending.DrivenEnding.TheVariants.{Interrupted, Run}
 use Rattle.mx_app_run.specs.declared.run_by_threads.RunEnding.TheVariants as runs
-use Rattle.mx_why.specs.AfterRun.{IsToldWithin}
+use Rattle.mx_turns.specs.declared.outside.OutsideLine.{OutsideLine}
+use Rattle.mx_why.specs.AfterRun.{IsToldWithin, command_text}
+use Rattle.mx_why.specs.Begun.{FileNames, IsBegun, IsUntold, file_names}
 use Rattle.mx_why.specs.declared.after_run.AfterRun.{AfterRun}
 use Rattle.mx_why.specs.declared.after_run.AfterRun.TheVariants as after
-use Rattle.mx_why.specs.declared.after_run.HistoryNames.{HistoryNames}
 
 -- it was stopped
 abbrev pub is_stopped : Option DrivenEnding → Bool
@@ -34,44 +32,39 @@ wants_marks ending shows strict = not (is_stopped ending) && (shows || strict)
 abbrev pub status_after : ℕ → Bool → Bool → ℕ
 status_after status strict marked = if (status == 0) && (strict && marked) then 1 else status
 
--- the names of a configuration and of a history
-abbrev pub names_of : HistoryNames → List ℕ × List ℕ
-names_of n = (n.config.now, n.log.now)
-
--- the history that a request makes
-abbrev pub made_by : CommandRequest → Option (List ℕ × List ℕ)
-made_by (requests.Step config script (Some log) numbered) = Some (config.now, log.now)
-made_by (requests.Run config log ticks events stop) = Some (config.now, log.now)
-made_by (requests.Turns config log ticks events bound stop) = Some (config.now, log.now)
+-- the files of the history that a request makes
+abbrev pub made_by : CommandRequest → Option FileNames
+made_by (requests.Step config script (Some log) numbered) = Some (file_names config.now log.now None)
+made_by (requests.Run config log ticks events stop) =
+    Some (file_names config.now log.now (option_map (λ s. s.now) events))
+made_by (requests.Turns config log ticks events bound stop) =
+    Some (file_names config.now log.now (option_map (λ s. s.now) events))
 made_by r = None
-
--- a configuration and a history, as they are typed
-unfoldable pub pair_text : List ℕ → List ℕ → List ℕ
-pair_text config log = config ++ codes " " ++ log
 
 unfoldable pub ended_text : List ℕ → List ℕ
 ended_text word = codes "mx: " ++ word
 
 -- what tells more of a history
-unfoldable pub pointer_text : List ℕ → List ℕ → List ℕ
-pointer_text config log = codes "; more: mx why " ++ pair_text config log
+unfoldable pub pointer_text : FileNames → List ℕ
+pointer_text f = codes ";" ++ command_text f
 
-unfoldable pub unknown_text : List ℕ → List ℕ → List ℕ → List ℕ
-unknown_text word config log = ended_text word ++ pointer_text config log ++ codes "\n"
+unfoldable pub unknown_text : List ℕ → FileNames → List ℕ
+unknown_text word f = ended_text word ++ pointer_text f ++ codes "\n"
 
 -- THE LINE of a history of which nothing is known: how the turns or the run ended, and what tells more
-abbrev pub unknown_line : Option DrivenEnding → Option (List ℕ × List ℕ) → Option (List ℕ)
-unknown_line (Some ending) (Some names) = Some (unknown_text (driven_word ending) names.0 names.1)
+abbrev pub unknown_line : Option DrivenEnding → Option FileNames → Option (List ℕ)
+unknown_line (Some ending) (Some names) = Some (unknown_text (driven_word ending) names)
 unknown_line ending names = None
 
 -- what is told of the history in these files, if the files are as a start wants them
-abbrev pub TellsOf : Bool → List ℕ → List ℕ → List Asked → Result AfterRun Kind → Type 0
-TellsOf strict config log qs (Ok told) =
-    (c : Config) × (vs : List Service) × (records : List Record) × IsStart IsSaved config log qs c vs records
-    × IsToldWithin strict (world_at_boot c vs) (take 4294967295 records) c config log told
-TellsOf strict config log qs (Err f) = IsTold IsSaved TellsSaved config log qs f
+abbrev pub TellsOf : Bool → FileNames → List Asked → Result AfterRun Kind → Type 0
+TellsOf strict names qs (Ok told) =
+    (c : Config) × (vs : List Service) × (records : List Record) × (said : List (Option OutsideLine))
+    × IsBegun names qs c vs records said
+    × IsToldWithin strict (world_at_boot c vs) (take 4294967295 records) c said names told
+TellsOf strict names qs (Err f) = IsUntold names qs f
 
 -- WHAT IS TOLD AFTER A COMMAND: nothing is read, if it makes no history
-abbrev pub TellsAfter : Bool → Option (List ℕ × List ℕ) → List Asked → Result AfterRun Kind → Type 0
+abbrev pub TellsAfter : Bool → Option FileNames → List Asked → Result AfterRun Kind → Type 0
 TellsAfter strict None qs r = (qs ≡ []) × (r ≡ Ok after.Nothing)
-TellsAfter strict (Some names) qs r = TellsOf strict names.0 names.1 qs r
+TellsAfter strict (Some names) qs r = TellsOf strict names qs r

@@ -56,6 +56,8 @@ use Rattle.mx_walk.specs.Parts.{walk_shown}
 use Rattle.mx_walk.specs.Walks.{Walk}
 use Rattle.mx_app_db.specs.DebugLines.{DebuggedWorld, debug_lines_made}
 use Rattle.mx_app_db.specs.LineTexts.{debug_lines_text}
+use Rattle.mx_turns.specs.declared.outside.OutsideLine.{OutsideLine}
+use Rattle.mx_why.specs.Begun.{FileNames, IsUntold, IsBegun as IsHistoryBegun, file_names}
 use Rattle.mx_why.specs.Checking.{ChecksConfig}
 use Rattle.mx_why.specs.Telling.{IsWhyPrinted}
 use Rattle.mx_why.specs.declared.telling.Told.{Told}
@@ -184,12 +186,13 @@ Traces config log range qs Prints (Ok how) =
     × IsTracePrinted (world_at_boot c vs) (take range.to records) range.from how Prints
 Traces config log range qs Prints (Err f) = IsTold IsSaved TellsSaved config log qs f
 
--- what became of all records
-abbrev pub Whys : List ℕ → List ℕ → List Asked → (List ℕ → Type 0) → Result Told Kind → Type 0
-Whys config log qs Prints (Ok how) =
-    (c : Config) × (vs : List Service) × (records : List Record) × IsStart IsSaved config log qs c vs records
-    × IsWhyPrinted (world_at_boot c vs) (take 4294967295 records) c how Prints
-Whys config log qs Prints (Err f) = IsTold IsSaved TellsSaved config log qs f
+-- what became of all records, and of the outside events with which they were made
+abbrev pub Whys : FileNames → List Asked → (List ℕ → Type 0) → Result Told Kind → Type 0
+Whys names qs Prints (Ok how) =
+    (c : Config) × (vs : List Service) × (records : List Record) × (said : List (Option OutsideLine))
+    × IsHistoryBegun names qs c vs records said
+    × IsWhyPrinted (world_at_boot c vs) (take 4294967295 records) c said how Prints
+Whys names qs Prints (Err f) = IsUntold names qs f
 
 -- the records of a trace, as a picture
 abbrev pub Draws : List ℕ → List ℕ → RecordRange → List Asked → (List ℕ → Type 0) → Result Replayed Kind → Type 0
@@ -279,8 +282,9 @@ PerformsUntyped (Page config log range) qs ws Prints r =
 PerformsUntyped (SweptPage config log fault bound from to jobs) qs ws Prints r = ⊥
 PerformsUntyped (Look config log) qs ws Prints r = ⊥
 PerformsUntyped (Gdb config log slot) qs ws Prints r = ⊥
-PerformsUntyped (Why config log strict) qs ws Prints r =
-    (d : Result Told Kind) × (ws ≡ []) × Whys config.now log.now qs Prints d × (r ≡ done_after_why strict d)
+PerformsUntyped (Why config log events strict) qs ws Prints r =
+    (d : Result Told Kind) × (ws ≡ []) × Whys (file_names config.now log.now (option_map (λ s. s.now) events)) qs Prints d
+    × (r ≡ done_after_why strict d)
 PerformsUntyped (Db config script) qs ws Prints r =
     (d : Result (Unit {0}) Kind) × (ws ≡ []) × Debugs config.now script.now qs Prints d × (r ≡ done_after_work d)
 

@@ -2,14 +2,15 @@
 
 ghost use Rattle.std.specs.Prelude.{◌≡◌, ◌++◌, IfOk, List, OnOk, option_map};
 ghost use Rattle.mx_app_db.specs.Asked.{Asked};
-ghost use Rattle.mx_app.specs.AfterRun.{TellsAfter, ended_text, is_stopped, made_by, names_of, pair_text, pointer_text, status_after, unknown_line, unknown_text, wants_marks};
+ghost use Rattle.mx_why.specs.Begun.{names_of};
+ghost use Rattle.mx_app.specs.AfterRun.{TellsAfter, ended_text, is_stopped, made_by, pointer_text, status_after, unknown_line, unknown_text, wants_marks};
 
 use crate::ending::DrivenEnding;
 use mx_app_command::CommandRequest;
 use mx_app_failure::Failure;
 use mx_app_run::RunEnding;
 use mx_app_start::Reader;
-use mx_why::{AfterRun, HistoryNames, line_after_run};
+use mx_why::{AfterRun, HistoryNames, line_after_run, push_command};
 use std::alloc::{AllocError, Global};
 
 /// Whether turns or a run were stopped.
@@ -50,9 +51,31 @@ fn made_by(request: CommandRequest<'_>) -> Option<HistoryNames<'_>>
             config,
             save: Some(log),
             ..
-        } => Some(HistoryNames { config, log }),
-        CommandRequest::Run { config, log, .. } => Some(HistoryNames { config, log }),
-        CommandRequest::Turns { config, log, .. } => Some(HistoryNames { config, log }),
+        } => Some(HistoryNames {
+            config,
+            log,
+            events: None,
+        }),
+        CommandRequest::Run {
+            config,
+            log,
+            events,
+            ..
+        } => Some(HistoryNames {
+            config,
+            log,
+            events,
+        }),
+        CommandRequest::Turns {
+            config,
+            log,
+            events,
+            ..
+        } => Some(HistoryNames {
+            config,
+            log,
+            events,
+        }),
         _ => None,
     }
 }
@@ -75,16 +98,6 @@ pub fn told_after<R: Reader>(
     }
 }
 
-/// Appends the words of a configuration and a history.
-#[tactic(auto, unfolding(crate::specs::AfterRun::pair_text))]
-fn push_pair(out: &mut Vec<u8>, config: &str, log: &str) -> Result<(), AllocError>
-    ensures { OnOk result (out.new.items ≡ out.old.items ++ pair_text config.now log.now) }
-{
-    out.extend_from_slice(config.as_bytes())?;
-    out.extend_from_slice(b" ")?;
-    out.extend_from_slice(log.as_bytes())
-}
-
 /// Appends how turns or a run ended.
 #[tactic(auto, unfolding(crate::specs::AfterRun::ended_text))]
 fn push_ended(out: &mut Vec<u8>, word: &str) -> Result<(), AllocError>
@@ -96,21 +109,21 @@ fn push_ended(out: &mut Vec<u8>, word: &str) -> Result<(), AllocError>
 
 /// Appends what tells more of a history.
 #[tactic(auto, unfolding(crate::specs::AfterRun::pointer_text))]
-fn push_pointer(out: &mut Vec<u8>, config: &str, log: &str) -> Result<(), AllocError>
-    ensures { OnOk result (out.new.items ≡ out.old.items ++ pointer_text config.now log.now) }
+fn push_pointer(out: &mut Vec<u8>, names: HistoryNames<'_>) -> Result<(), AllocError>
+    ensures { OnOk result (out.new.items ≡ out.old.items ++ pointer_text (names_of names.entry)) }
 {
-    out.extend_from_slice(b"; more: mx why ")?;
-    push_pair(out, config, log)
+    out.extend_from_slice(b";")?;
+    push_command(out, names)
 }
 
 /// Appends the line of a history that isn't run again.
 #[tactic(auto, unfolding(crate::specs::AfterRun::unknown_text))]
-fn push_unknown(out: &mut Vec<u8>, word: &str, config: &str, log: &str) -> Result<(), AllocError>
+fn push_unknown(out: &mut Vec<u8>, word: &str, names: HistoryNames<'_>) -> Result<(), AllocError>
     ensures { OnOk result (out.new.items
-        ≡ out.old.items ++ unknown_text word.now config.now log.now) }
+        ≡ out.old.items ++ unknown_text word.now (names_of names.entry)) }
 {
     push_ended(out, word)?;
-    push_pointer(out, config, log)?;
+    push_pointer(out, names)?;
     out.extend_from_slice(b"\n")
 }
 
@@ -124,9 +137,9 @@ pub fn unknown_line(
         ≡ unknown_line ending (made_by request.entry)) }
 {
     match (made_by(request), ending) {
-        (Some(HistoryNames { config, log }), Some(ending)) => {
+        (Some(names), Some(ending)) => {
             let mut line = Vec::new(alloc);
-            push_unknown(&mut line, ending.word(), config, log)?;
+            push_unknown(&mut line, ending.word(), names)?;
             Ok(Some(line))
         }
         _ => Ok(None),

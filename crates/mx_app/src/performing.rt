@@ -23,7 +23,7 @@ use mx_app_turns::{
     SweepNames, SweepWanted, Swept, TurnsEnd, TurnsNames, TurnsWanted, Untested, sweep, turns,
 };
 use mx_walk::Progress;
-use mx_why::{Told, check, why};
+use mx_why::{HistoryNames, Told, check, why};
 use std::alloc::Global;
 use std::io::Write;
 use std::rt::Files;
@@ -388,11 +388,17 @@ where
         CommandRequest::Why {
             config,
             log,
+            events,
             strict,
         } => {
+            let names = HistoryNames {
+                config,
+                log,
+                events,
+            };
             let reader = &mut channels.reader;
             let out = &mut channels.out;
-            done_after_why(why(alloc, reader, config, log, out), strict)
+            done_after_why(why(alloc, reader, names, out), strict)
         }
         CommandRequest::SweptPage {
             config,

@@ -16,19 +16,20 @@ pub record FileWord : Type 0 where
 abbrev pub file_word : List ℕ → List ℕ → FileWord
 file_word label name = record { label = label; name = name }
 
--- The files that are read, in order: a program, a text or a configuration; what drives the machine; a sweep's fault.
+-- The files that are read, in order: a program, a text or a configuration; what drives the machine; and a sweep's fault,
+-- or the outside events with which a history was made.
 pub record FilesRead : Type 0 where
   pub first : FileWord
   pub course : Option FileWord
-  pub fault : Option FileWord
+  pub further : Option FileWord
 
 abbrev pub one_file : List ℕ → List ℕ → FilesRead
-one_file label name = record { first = file_word label name; course = None; fault = None }
+one_file label name = record { first = file_word label name; course = None; further = None }
 
 -- a configuration, and what drives its machine
 abbrev pub with_course : List ℕ → List ℕ → List ℕ → FilesRead
 with_course config label name =
-    record { first = file_word (codes "CONFIG") config; course = Some (file_word label name); fault = None }
+    record { first = file_word (codes "CONFIG") config; course = Some (file_word label name); further = None }
 
 -- a configuration, and the file of outside events if one is named
 abbrev pub with_events : List ℕ → Option (List ℕ) → FilesRead
@@ -40,7 +41,15 @@ abbrev pub with_fault : List ℕ → List ℕ → List ℕ → FilesRead
 with_fault config log fault = record {
   first = file_word (codes "CONFIG") config;
   course = Some (file_word (codes "LOG") log);
-  fault = Some (file_word (codes "FAULT") fault);
+  further = Some (file_word (codes "FAULT") fault);
+}
+
+-- a configuration, a history of its machine, and the file of outside events with which it was made, if one is named
+abbrev pub with_log : List ℕ → List ℕ → Option (List ℕ) → FilesRead
+with_log config log events = record {
+  first = file_word (codes "CONFIG") config;
+  course = Some (file_word (codes "LOG") log);
+  further = option_map (file_word (codes "EVENTS")) events;
 }
 
 -- THE FILES THAT ARE READ
@@ -62,7 +71,7 @@ files_read (Page config log range) = with_course config.now (codes "LOG") log.no
 files_read (SweptPage config log fault bound from to jobs) = with_fault config.now log.now fault.now
 files_read (Look config log) = with_course config.now (codes "LOG") log.now
 files_read (Gdb config log slot) = with_course config.now (codes "LOG") log.now
-files_read (Why config log strict) = with_course config.now (codes "LOG") log.now
+files_read (Why config log events strict) = with_log config.now log.now (option_map (λ s. s.now) events)
 files_read (Db config script) = with_course config.now (codes "SCRIPT") script.now
 
 -- THE FILE THAT IS WRITTEN
@@ -92,7 +101,7 @@ names (Some w) name = is_of name w
 
 -- one of these files has this name
 abbrev pub has_name : FilesRead → List ℕ → Bool
-has_name files name = is_of name files.first || (names files.course name || names files.fault name)
+has_name files name = is_of name files.first || (names files.course name || names files.further name)
 
 -- what is read would be written over
 abbrev pub is_over : FilesRead → Option FileWord → Bool
@@ -112,4 +121,4 @@ word_of w = file_word w.label.now w.name.now
 
 abbrev pub files_in : ReadWords → FilesRead
 files_in r =
-    record { first = word_of r.first; course = option_map word_of r.course; fault = option_map word_of r.fault }
+    record { first = word_of r.first; course = option_map word_of r.course; further = option_map word_of r.further }

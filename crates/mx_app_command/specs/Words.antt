@@ -1,5 +1,5 @@
 -- The command line's grammar, and what a request says of its words.
-use Rattle.std.specs.Prelude.{◌≡◌, ◌⊎◌, ◌||◌, ◌++◌, is_some, Bool, ℕ, true, false, List, [], ◌∷◌, Option, Some, None, Ok, codes, option_map, pos}
+use Rattle.std.specs.Prelude.{◌≡◌, ◌⊎◌, ◌||◌, ◌++◌, if◌then◌else◌, is_some, Bool, ℕ, true, false, List, [], ◌∷◌, Option, Some, None, Ok, codes, option_map, pos}
 use Rattle.std.specs.Str.{bytes_eq}
 use Rattle.std.specs.Str.Parse.{ParsesUnsigned}
 use Rattle.std.specs.declared.num.ParseIntError.{ParseIntError}
@@ -58,13 +58,19 @@ of_two name first second = subcommand name (required_text first ∷ required_tex
 abbrev pub sums_rule : Rule
 sums_rule = after_name (codes "sums") (codes "SUMS")
 
+-- `--no-sums`: there is none
+abbrev pub no_sums_rule : Rule
+no_sums_rule = flag (codes "no-sums")
+
 -- `--force`: what a file holds may be written over
 abbrev pub force_rule : Rule
 force_rule = flag (codes "force")
 
--- `NAME CONFIG LOG --sums SUMS`, what follows a history
+-- `NAME CONFIG LOG --sums SUMS --no-sums`, what follows a history
 abbrev pub following_shape : Text → Shape
-following_shape name = subcommand name (required_text (codes "CONFIG") ∷ required_text (codes "LOG") ∷ sums_rule ∷ [])
+following_shape name =
+    subcommand name
+    (required_text (codes "CONFIG") ∷ required_text (codes "LOG") ∷ sums_rule ∷ no_sums_rule ∷ [])
 
 -- none of its arguments is its subcommands' too
 abbrev pub IsLocal : Command → Type 0
@@ -83,67 +89,69 @@ as_shape =
 abbrev pub explain_shape : Shape
 explain_shape = of_one (codes "explain") (codes "CONFIG") (flag (codes "check") ∷ [])
 
--- `step CONFIG SCRIPT --save LOG --numbered --sums SUMS --force`
+-- `step CONFIG SCRIPT --save LOG --numbered --sums SUMS --no-sums --force`
 abbrev pub step_shape : Shape
 step_shape =
     subcommand (codes "step")
     (required_text (codes "CONFIG") ∷ required_text (codes "SCRIPT") ∷ after_name (codes "save") (codes "LOG")
-    ∷ flag (codes "numbered") ∷ sums_rule ∷ force_rule ∷ [])
+    ∷ flag (codes "numbered") ∷ sums_rule ∷ no_sums_rule ∷ force_rule ∷ [])
 
--- `run CONFIG LOG --ticks T --events EVENTS --stop FILE --strict --sums SUMS --force`
+-- `run CONFIG LOG --ticks T --events EVENTS --stop FILE --strict --sums SUMS --no-sums --force`
 abbrev pub run_shape : Shape
 run_shape =
     subcommand (codes "run")
     (required_text (codes "CONFIG") ∷ required_text (codes "LOG") ∷ number_after (codes "ticks") (codes "T")
     ∷ after_name (codes "events") (codes "EVENTS") ∷ after_name (codes "stop") (codes "FILE")
-    ∷ flag (codes "strict") ∷ sums_rule ∷ force_rule ∷ [])
+    ∷ flag (codes "strict") ∷ sums_rule ∷ no_sums_rule ∷ force_rule ∷ [])
 
 -- `turns CONFIG LOG --ticks T --events EVENTS --turns N --live --raw --hertz H --stop FILE --strict
--- --sums SUMS --force`; which of them exclude each other, `Mistakes` has
+-- --sums SUMS --no-sums --force`; which of them exclude each other, `Mistakes` has
 abbrev pub turns_shape : Shape
 turns_shape =
     subcommand (codes "turns")
     (required_text (codes "CONFIG") ∷ required_text (codes "LOG") ∷ number_after (codes "ticks") (codes "T")
     ∷ after_name (codes "events") (codes "EVENTS") ∷ number_after (codes "turns") (codes "N")
     ∷ flag (codes "live") ∷ flag (codes "raw") ∷ number_after (codes "hertz") (codes "H")
-    ∷ after_name (codes "stop") (codes "FILE") ∷ flag (codes "strict") ∷ sums_rule ∷ force_rule ∷ [])
+    ∷ after_name (codes "stop") (codes "FILE") ∷ flag (codes "strict") ∷ sums_rule ∷ no_sums_rule ∷ force_rule ∷ [])
 
--- `sweep CONFIG LOG FAULT --turns N --from A --to B --jobs J --strict --save FILE --sums SUMS --force`
+-- `sweep CONFIG LOG FAULT --turns N --from A --to B --jobs J --strict --save FILE --sums SUMS --no-sums --force`
 abbrev pub sweep_shape : Shape
 sweep_shape =
     subcommand (codes "sweep")
     (required_text (codes "CONFIG") ∷ required_text (codes "LOG") ∷ required_text (codes "FAULT")
     ∷ number_after (codes "turns") (codes "N") ∷ number_after (codes "from") (codes "A")
     ∷ number_after (codes "to") (codes "B") ∷ jobs_after (codes "jobs") (codes "J") ∷ flag (codes "strict")
-    ∷ after_name (codes "save") (codes "FILE") ∷ sums_rule ∷ force_rule ∷ [])
+    ∷ after_name (codes "save") (codes "FILE") ∷ sums_rule ∷ no_sums_rule ∷ force_rule ∷ [])
 
--- `NAME CONFIG LOG --from A --to B --sums SUMS`, what is printed of a history's records
+-- `NAME CONFIG LOG --from A --to B --sums SUMS --no-sums`, what is printed of a history's records
 abbrev pub looking_shape : Text → Shape
 looking_shape name =
     subcommand name
     (required_text (codes "CONFIG") ∷ required_text (codes "LOG") ∷ number_after (codes "from") (codes "A")
-    ∷ number_after (codes "to") (codes "B") ∷ sums_rule ∷ [])
+    ∷ number_after (codes "to") (codes "B") ∷ sums_rule ∷ no_sums_rule ∷ [])
 
--- `page CONFIG LOG --from A --to B --fault FAULT --turns N --jobs J --sums SUMS`; what needs what, `Mistakes` has
+-- `page CONFIG LOG --from A --to B --fault FAULT --turns N --jobs J --sums SUMS --no-sums`; what needs what, `Mistakes`
+-- has
 abbrev pub page_shape : Shape
 page_shape =
     subcommand (codes "page")
     (required_text (codes "CONFIG") ∷ required_text (codes "LOG") ∷ number_after (codes "from") (codes "A")
     ∷ number_after (codes "to") (codes "B") ∷ after_name (codes "fault") (codes "FAULT")
-    ∷ number_after (codes "turns") (codes "N") ∷ jobs_after (codes "jobs") (codes "J") ∷ sums_rule ∷ [])
+    ∷ number_after (codes "turns") (codes "N") ∷ jobs_after (codes "jobs") (codes "J") ∷ sums_rule ∷ no_sums_rule ∷ [])
 
--- `gdb CONFIG LOG --slot S --sums SUMS`
+-- `gdb CONFIG LOG --slot S --sums SUMS --no-sums`
 abbrev pub gdb_shape : Shape
 gdb_shape =
     subcommand (codes "gdb")
     (required_text (codes "CONFIG") ∷ required_text (codes "LOG") ∷ number_after (codes "slot") (codes "S")
-    ∷ sums_rule ∷ [])
+    ∷ sums_rule ∷ no_sums_rule ∷ [])
 
--- `why CONFIG LOG --strict --sums SUMS`
+-- `why CONFIG LOG --events EVENTS --strict --sums SUMS --no-sums`
 abbrev pub why_shape : Shape
 why_shape =
     subcommand (codes "why")
-    (required_text (codes "CONFIG") ∷ required_text (codes "LOG") ∷ flag (codes "strict") ∷ sums_rule ∷ [])
+    (required_text (codes "CONFIG") ∷ required_text (codes "LOG") ∷ after_name (codes "events") (codes "EVENTS")
+    ∷ flag (codes "strict") ∷ sums_rule ∷ no_sums_rule ∷ [])
 
 -- one of the subcommands is wanted
 abbrev pub top_app : App
@@ -306,9 +314,9 @@ AsksBy (Look config log) name rows =
 AsksBy (Gdb config log slot) name rows =
     (name ≡ codes "gdb") × HasText (codes "CONFIG") rows config.now × HasText (codes "LOG") rows log.now
     × HasNumberIf (codes "S") rows slot
-AsksBy (Why config log strict) name rows =
+AsksBy (Why config log events strict) name rows =
     (name ≡ codes "why") × HasText (codes "CONFIG") rows config.now × HasText (codes "LOG") rows log.now
-    × IsFlag (codes "strict") rows strict
+    × MayHaveText (codes "EVENTS") rows (option_map (λ s. s.now) events) × IsFlag (codes "strict") rows strict
 AsksBy (Db config script) name rows =
     (name ≡ codes "db") × HasText (codes "CONFIG") rows config.now × HasText (codes "SCRIPT") rows script.now
 
@@ -322,9 +330,13 @@ abbrev pub AsksForSilence : Bool → Option (Text × List Row) → Type 0
 AsksForSilence silent (Some found) = IsFlag (codes "no-explain") found.1 silent
 AsksForSilence silent None = ⊥
 
+-- the file of sums that is asked for: none with `--no-sums`
+abbrev pub sums_asked : List Row → Option Text
+sums_asked rows = if is_on (codes "no-sums") rows then None else first_of (codes "SUMS") rows
+
 -- the file of sums that the words name, if they name one
 abbrev pub AsksForSums : Option Text → Option (Text × List Row) → Type 0
-AsksForSums sums (Some found) = MayHaveText (codes "SUMS") found.1 sums
+AsksForSums sums (Some found) = sums ≡ sums_asked found.1
 AsksForSums sums None = ⊥
 
 -- the words ask that a file is written over whatever it holds, or they don't

@@ -2,7 +2,7 @@
 
 ghost use Rattle.std.specs.Prelude.{◌≡◌, ◌&&◌, ◌⊎◌, ℕ, Bool, IfErr, IfOk, MatchResult, None, [], codes, is_none, is_some, map, option_map, true};
 ghost use Rattle.clap.specs.Words.{FailsBy, HasMatchesOf, fault_of, first_of, found_of, kind_of, rows_of, subcommand_of, takes};
-ghost use Rattle.mx_app_command.specs.Words.{Asks, AsksBy, AsksForForce, AsksForSilence, AsksForSums, AsksToBeStrict, AsksToExplain, HasNumber, HasNumberIf, HasNumberOr, HasRange, HasText, IsAsked, IsFlag, IsHistoryAsked, IsMachineAsked, IsOtherHistoryAsked, IsProgramAsked, IsRecordsAsked, IsScriptAsked, MayHaveNumber, MayHaveRange, MayHaveStrip, MayHaveSweep, MayHaveText, MayHaveTurns, is_following, is_machine, is_on, mx_grammar};
+ghost use Rattle.mx_app_command.specs.Words.{Asks, AsksBy, AsksForForce, AsksForSilence, AsksForSums, AsksToBeStrict, AsksToExplain, HasNumber, HasNumberIf, HasNumberOr, HasRange, HasText, IsAsked, IsFlag, IsHistoryAsked, IsMachineAsked, IsOtherHistoryAsked, IsProgramAsked, IsRecordsAsked, IsScriptAsked, MayHaveNumber, MayHaveRange, MayHaveStrip, MayHaveSweep, MayHaveText, MayHaveTurns, is_following, is_machine, is_on, mx_grammar, sums_asked};
 ghost use Rattle.mx_app_command.specs.Mistakes.{IsMistake, IsOutOfMemory, has_both, has_course, lacks_fault, lacks_live, mistake_given, mistake_in};
 
 use crate::grammar::grammar;
@@ -162,10 +162,11 @@ pub enum CommandRequest<'a> {
         /// The only slot that gdb is to have.
         slot: Option<u32>,
     },
-    /// `why CONFIG LOG`, with `--strict` or without.
+    /// `why CONFIG LOG`, with `--events EVENTS` and `--strict` or without.
     Why {
         config: &'a str,
         log: &'a str,
+        events: Option<&'a str>,
         strict: bool,
     },
     /// `db CONFIG SCRIPT`.
@@ -183,7 +184,7 @@ pub struct CommandLine<'a> {
     pub explains: bool,
     /// Whether a failure is not to be explained, also if standard error is a terminal.
     pub silent: bool,
-    /// The file of sums that is written, or that the machine has to have.
+    /// The file of sums that is written, or whose sums the machine has to have.
     pub sums: Option<&'a str>,
     /// Whether a file is written over whatever it holds.
     pub force: bool,
@@ -324,6 +325,17 @@ fn is_on(matches: &ArgMatches<'_>, id: &str) -> bool
     match value_if_asked(matches, id) {
         Some(text) => text == "true",
         None => false,
+    }
+}
+
+/// The file of sums that is asked for.
+fn sums_asked<'a>(matches: &ArgMatches<'a>) -> Option<&'a str>
+    ensures { option_map (λ s. s.now) result ≡ sums_asked (rows_of (found_of matches.now)) }
+{
+    if is_on(matches, "no-sums") {
+        None
+    } else {
+        value_if_asked(matches, "SUMS")
     }
 }
 
@@ -493,10 +505,12 @@ fn reading_request<'a>(
     } else if name == "look" {
         CommandRequest::Look { config, log }
     } else if name == "why" {
+        let events = value_if_asked(matches, "EVENTS");
         let strict = flag_asked(matches, "strict");
         CommandRequest::Why {
             config,
             log,
+            events,
             strict,
         }
     } else {
@@ -717,7 +731,7 @@ pub fn command<'a>(alloc: Global, words: &'a [&'a str]) -> Result<CommandLine<'a
                 request: request_of(name, found),
                 explains: flag_asked(found, "explain"),
                 silent: flag_asked(found, "no-explain"),
-                sums: value_if_asked(found, "SUMS"),
+                sums: sums_asked(found),
                 force: is_on(found, "force"),
                 strict: is_on(found, "strict"),
             })

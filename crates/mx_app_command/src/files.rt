@@ -1,7 +1,7 @@
 //! The files that a request names: those that it reads, and the one that it writes.
 
 ghost use Rattle.std.specs.Prelude.{◌≡◌, codes, option_map};
-ghost use Rattle.mx_app_command.specs.Files.{file_word, file_written, files_in, files_read, has_name, names, names_file, one_file, with_course, with_events, with_fault, word_of, writes_over, written_kind};
+ghost use Rattle.mx_app_command.specs.Files.{file_word, file_written, files_in, files_read, has_name, names, names_file, one_file, with_course, with_events, with_fault, with_log, word_of, writes_over, written_kind};
 
 use crate::command_line::CommandRequest;
 
@@ -19,8 +19,8 @@ pub struct ReadWords<'a> {
     pub first: NamedWord<'a>,
     /// What drives the machine.
     pub course: Option<NamedWord<'a>>,
-    /// The fault of a sweep.
-    pub fault: Option<NamedWord<'a>>,
+    /// What it reads besides: the fault of a sweep, or the outside events with which a history was made.
+    pub further: Option<NamedWord<'a>>,
 }
 
 /// What a file that is written holds.
@@ -48,7 +48,7 @@ fn one_file<'a>(label: &'static str, name: &'a str) -> ReadWords<'a>
     ReadWords {
         first: word(label, name),
         course: None,
-        fault: None,
+        further: None,
     }
 }
 
@@ -59,7 +59,7 @@ fn with_course<'a>(config: &'a str, label: &'static str, name: &'a str) -> ReadW
     ReadWords {
         first: word("CONFIG", config),
         course: Some(word(label, name)),
-        fault: None,
+        further: None,
     }
 }
 
@@ -81,7 +81,22 @@ fn with_fault<'a>(config: &'a str, log: &'a str, fault: &'a str) -> ReadWords<'a
     ReadWords {
         first: word("CONFIG", config),
         course: Some(word("LOG", log)),
-        fault: Some(word("FAULT", fault)),
+        further: Some(word("FAULT", fault)),
+    }
+}
+
+/// A configuration, a history of its machine, and the file of outside events with which it was made, if one is named.
+fn with_log<'a>(config: &'a str, log: &'a str, events: Option<&'a str>) -> ReadWords<'a>
+    ensures { files_in result ≡ with_log config.entry.now log.entry.now
+        (option_map (λ s. s.now) events.entry) }
+{
+    ReadWords {
+        first: word("CONFIG", config),
+        course: Some(word("LOG", log)),
+        further: match events {
+            Some(events) => Some(word("EVENTS", events)),
+            None => None,
+        },
     }
 }
 
@@ -100,7 +115,7 @@ impl ReadWords<'_> {
     pub fn has(self, name: &str) -> bool
         ensures { result ≡ has_name (files_in self.entry) name.now }
     {
-        self.first.name == name || names(self.course, name) || names(self.fault, name)
+        self.first.name == name || names(self.course, name) || names(self.further, name)
     }
 }
 
@@ -138,7 +153,12 @@ impl<'a> CommandRequest<'a> {
             CommandRequest::Page { config, log, .. } => with_course(config, "LOG", log),
             CommandRequest::Look { config, log } => with_course(config, "LOG", log),
             CommandRequest::Gdb { config, log, .. } => with_course(config, "LOG", log),
-            CommandRequest::Why { config, log, .. } => with_course(config, "LOG", log),
+            CommandRequest::Why {
+                config,
+                log,
+                events,
+                ..
+            } => with_log(config, log, events),
         }
     }
 

@@ -228,6 +228,13 @@ const STRICT_RUN: CommandArgument<'static> = CommandArgument {
     form: ArgumentForm::Flag,
 };
 
+/// What happened from outside while a history was made.
+const EVENTS_WHY: CommandArgument<'static> = CommandArgument {
+    name: "EVENTS",
+    help: "The file of outside events that LOG was made with: tells which of its lines were refused",
+    form: ArgumentForm::After("events"),
+};
+
 /// Whether a mark is an error.
 const STRICT_WHY: CommandArgument<'static> = CommandArgument {
     name: "strict",
@@ -319,6 +326,20 @@ const SUMS: CommandArgument<'static> = CommandArgument {
     form: ArgumentForm::After("sums"),
 };
 
+/// Whether there are no sums.
+const NO_SUMS: CommandArgument<'static> = CommandArgument {
+    name: "no-sums",
+    help: "Writes no sums, also not to LOG.sums, where ./mx has them written by default",
+    form: ArgumentForm::Flag,
+};
+
+/// Whether the machine may have any sums.
+const ANY_SUMS: CommandArgument<'static> = CommandArgument {
+    name: "no-sums",
+    help: "Compares no sums, also not those of LOG.sums, which ./mx has compared by default",
+    form: ArgumentForm::Flag,
+};
+
 /// Whether what a file holds is kept.
 const FORCE: CommandArgument<'static> = CommandArgument {
     name: "force",
@@ -385,6 +406,7 @@ static MACHINE_COMMANDS: [Subcommand<'static>; 3] = [
             SAVED,
             NUMBERED,
             WRITTEN_SUMS,
+            NO_SUMS,
             FORCE,
             EXPLAIN,
             SILENT,
@@ -402,6 +424,7 @@ static MACHINE_COMMANDS: [Subcommand<'static>; 3] = [
             STOP,
             STRICT_RUN,
             WRITTEN_SUMS,
+            NO_SUMS,
             FORCE,
             EXPLAIN,
             SILENT,
@@ -427,6 +450,7 @@ static TURN_COMMANDS: [Subcommand<'static>; 2] = [
             STOP,
             STRICT_RUN,
             WRITTEN_SUMS,
+            NO_SUMS,
             FORCE,
             EXPLAIN,
             SILENT,
@@ -447,6 +471,7 @@ static TURN_COMMANDS: [Subcommand<'static>; 2] = [
             STRICT,
             SAVED_FAULT,
             SUMS,
+            ANY_SUMS,
             FORCE,
             EXPLAIN,
             SILENT,
@@ -460,46 +485,46 @@ static HISTORY_COMMANDS: [Subcommand<'static>; 8] = [
     Subcommand {
         name: "replay",
         help: "Runs a saved history again and prints the report",
-        arguments: &[CONFIG, LOG, SUMS, EXPLAIN, SILENT],
+        arguments: &[CONFIG, LOG, SUMS, ANY_SUMS, EXPLAIN, SILENT],
         example: Example::Replay,
     },
     Subcommand {
         name: "trace",
         help: "Runs a saved history again and prints what each record did",
-        arguments: &[CONFIG, LOG, FROM, TO, SUMS, EXPLAIN, SILENT],
+        arguments: &[CONFIG, LOG, FROM, TO, SUMS, ANY_SUMS, EXPLAIN, SILENT],
         example: Example::Trace,
     },
     Subcommand {
         name: "draw",
         help: "Runs a saved history again and prints a picture of it as SVG",
-        arguments: &[CONFIG, LOG, FROM, TO, SUMS, EXPLAIN, SILENT],
+        arguments: &[CONFIG, LOG, FROM, TO, SUMS, ANY_SUMS, EXPLAIN, SILENT],
         example: Example::Draw,
     },
     Subcommand {
         name: "page",
         help: "Runs a saved history again and prints a page that shows it in a browser",
         arguments: &[
-            CONFIG, LOG, PAGE_FROM, PAGE_TO, PAGE_FAULT, PAGE_TURNS, PAGE_JOBS, SUMS, EXPLAIN,
-            SILENT,
+            CONFIG, LOG, PAGE_FROM, PAGE_TO, PAGE_FAULT, PAGE_TURNS, PAGE_JOBS, SUMS, ANY_SUMS,
+            EXPLAIN, SILENT,
         ],
         example: Example::Page,
     },
     Subcommand {
         name: "look",
         help: "Looks at a saved history forward and back, by commands on standard input",
-        arguments: &[CONFIG, LOG, SUMS, EXPLAIN, SILENT],
+        arguments: &[CONFIG, LOG, SUMS, ANY_SUMS, EXPLAIN, SILENT],
         example: Example::Look,
     },
     Subcommand {
         name: "gdb",
         help: "Lets gdb look at a saved history, forward and back: target remote | mx gdb CONFIG LOG",
-        arguments: &[CONFIG, LOG, SLOT, SUMS, EXPLAIN, SILENT],
+        arguments: &[CONFIG, LOG, SLOT, SUMS, ANY_SUMS, EXPLAIN, SILENT],
         example: Example::Gdb,
     },
     Subcommand {
         name: "why",
         help: "Says what became of a saved history: who waits for ever, who died, what was refused",
-        arguments: &[CONFIG, LOG, STRICT_WHY, SUMS, EXPLAIN, SILENT],
+        arguments: &[CONFIG, LOG, EVENTS_WHY, STRICT_WHY, SUMS, ANY_SUMS, EXPLAIN, SILENT],
         example: Example::Why,
     },
     Subcommand {

@@ -442,8 +442,11 @@ ends: rest after 4 records
 waits: button receives from HARDWARE since record 4: nobody raises its line 5
 
 A line that begins with never: is of a process that no event but a kill makes go on; one
-with waits: of a process that an interrupt line or an alarm may make go on; with busy: of
-one that computes without a call; with CONFIG: of what the configuration alone forbids.
+with waits: of a process that an interrupt line or an alarm may make go on, or that sends
+to one that doesn't receive; with busy: of one that computes without a call; with CONFIG:
+of what the configuration alone forbids. With --events EVENTS, the file that LOG was made
+with, a line that begins with outside: is of events that have no record, so they were
+refused.
 What one record did is shown by the line why of mx look.
 
 Status: 0 done; 1 a text or a program's file is refused, or an event, whose record is

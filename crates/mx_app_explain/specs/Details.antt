@@ -1,5 +1,5 @@
 -- What was wanted, and where (our own words).
-use Rattle.std.specs.Prelude.{ℕ, ◌-◌, ◌==◌, ◌||◌, Bool, false, if◌then◌else◌, List, [], ◌∷◌, ◌++◌, codes, Option, Some, None, slice_get}
+use Rattle.std.specs.Prelude.{ℕ, ◌-◌, ◌==◌, ◌||◌, ◌&&◌, Bool, false, if◌then◌else◌, List, [], ◌∷◌, ◌++◌, codes, Option, Some, None, slice_get, slice_index}
 use Rattle.std.specs.Str.{is_utf8}
 use Rattle.std.specs.List.{before_first}
 use Rattle.mx_boot.specs.Items.{is_hash, said_in}
@@ -8,11 +8,11 @@ use Rattle.mx_text.specs.Lines.{lines}
 use Rattle.mx_app_explain.specs.ConfigFaults.{fault_in}
 use Rattle.mx_app_explain.specs.ConfigFields.{value_name, wanted_at, words_before}
 use Rattle.mx_app_explain.specs.FoundWords.{field_told, found_at, found_told}
-use Rattle.mx_app_explain.specs.Hints.{hint_told}
+use Rattle.mx_app_explain.specs.Hints.{hint_told, words_told}
 use Rattle.mx_app_explain.specs.LineLooks.{hint_at}
 use Rattle.mx_app_explain.specs.MaskNames.{is_service, mask_hint}
 use Rattle.mx_app_explain.specs.declared.config_field.Field.{Field}
-use Rattle.mx_app_explain.specs.declared.config_field.Field.TheVariants.{Item, Value}
+use Rattle.mx_app_explain.specs.declared.config_field.Field.TheVariants.{Item, ItemEnd, ServiceEnd, Value}
 use Rattle.mx_app_explain.specs.declared.config_field.Key.{Key as Kind}
 use Rattle.mx_app_explain.specs.declared.line_looks.LineLooks.TheVariants.{Config}
 use Rattle.mx_app_explain.specs.declared.detail.Detail.{Detail}
@@ -61,9 +61,22 @@ abbrev pub value_hint : List (List ℕ) → Kind → Option (List ℕ) → List 
 value_hint ls key None = []
 value_hint ls key (Some word) = mask_hint ls key word
 
--- at a place of a line: at its first word what takes such a line, and at a mask of names the number that it is
+-- a word that begins a comment elsewhere: ; or // or /*
+abbrev pub is_remark : List ℕ → Bool
+is_remark w =
+    slice_index w 0 == 59 || (slice_index w 0 == 47 && (slice_index w 1 == 47 || slice_index w 1 == 42))
+
+-- what is added where a comment may begin, at a word; or this
+abbrev pub remark_or : Option (List ℕ) → List ℕ → List ℕ
+remark_or None other = other
+remark_or (Some word) other = if is_remark word then words_told (codes "a comment begins with #") else other
+
+-- at a place of a line: where a comment may begin what begins it, at its first word what takes such a line, and at a
+-- mask of names the number that it is
 abbrev pub field_hint : List (List ℕ) → List ℕ → Field → List ℕ
-field_hint ls line Item = hint_at line Config
+field_hint ls line Item = remark_or (slice_get (fields line) 0) (hint_at line Config)
+field_hint ls line ItemEnd = remark_or (slice_get (fields line) 2) []
+field_hint ls line ServiceEnd = remark_or (slice_get (fields line) 17) []
 field_hint ls line (Value key) = value_hint ls key (slice_get (fields line) (words_before (Value key)))
 field_hint ls line place = []
 

@@ -1,5 +1,6 @@
 -- The second line of a failure: what it is about, and what was wanted (our own).
-use Rattle.std.specs.Prelude.{◌++◌, ◌==◌, ℕ, Bool, false, if◌then◌else◌, List, [], codes, length, Option, Some, None, option_map, slice_index, string_bytes, take}
+use Rattle.std.specs.List.{ends_with}
+use Rattle.std.specs.Prelude.{◌++◌, ◌==◌, nat_eq, ℕ, Bool, false, if◌then◌else◌, List, [], codes, length, Option, Some, None, option_map, slice_index, string_bytes, take}
 use Rattle.std.specs.Path.{rfind_below}
 use Rattle.std.specs.Str.{bytes_eq}
 use Rattle.mx_text.specs.declared.error.BootError.{BootError}
@@ -71,7 +72,7 @@ file_subject r about.Program = word_subject (Some (files_read r).first)
 file_subject r about.Source = word_subject (Some (files_read r).first)
 file_subject r about.Config = word_subject (Some (files_read r).first)
 file_subject r about.Course = word_subject (files_read r).course
-file_subject r about.Fault = word_subject (files_read r).fault
+file_subject r about.Fault = word_subject (files_read r).further
 file_subject r about.Written = word_subject (file_written r)
 file_subject r (about.Service name) = service_told (string_bytes name)
 
@@ -138,9 +139,10 @@ file_label r p = []
 abbrev pub folder_of : List ℕ → Option (List ℕ)
 folder_of name = option_map (λ n. take n name) (rfind_below 47 name (length name))
 
-abbrev pub folder_if : Option (List ℕ) → List ℕ
-folder_if None = []
-folder_if (Some folder) = folder_told folder
+abbrev pub folder_or_made : Option (List ℕ) → List ℕ
+folder_or_made None =
+    words_told (codes "mx as makes it of a text, and make of C if programs in the Makefile has its name")
+folder_or_made (Some folder) = folder_told folder
 
 -- a file's name that is a dash, as that of standard input elsewhere
 abbrev pub is_dash : Option FileWord → Bool
@@ -150,16 +152,17 @@ is_dash (Some w) = bytes_eq w.name (codes "-")
 -- the word of the command line that names a file which is read
 abbrev pub word_read : CommandRequest → About → Option FileWord
 word_read r about.Course = (files_read r).course
-word_read r about.Fault = (files_read r).fault
+word_read r about.Fault = (files_read r).further
 word_read r about.Written = None
 word_read r (about.Service name) = None
 word_read r a = Some (files_read r).first
 
--- where a service's program is sought: its configuration's folder is none of this, and a tilde is no home
+-- where a service's program is sought: its configuration's folder is none of this, and a tilde is no home; else what
+-- makes one
 abbrev pub place_told : List ℕ → CommandRequest → List ℕ
 place_told name r =
     if slice_index name 0 == 126 then words_told (codes "~ is no home in CONFIG: write the whole name, from /")
-    else folder_if (folder_of (files_read r).first.name)
+    else folder_or_made (folder_of (files_read r).first.name)
 
 -- what is added of a file that isn't there
 abbrev pub missing_hint : CommandRequest → About → List ℕ
@@ -179,11 +182,23 @@ abbrev pub faulty_words : FileProblem → Option (List ℕ) → List (List ℕ)
 faulty_words (Faulty f) (Some text) = words_at text f.line
 faulty_words p text = []
 
+-- of a text for the assembler that is C, by its file's name; else this
+abbrev pub is_c : List ℕ → Bool
+is_c name = ends_with nat_eq name (codes ".c")
+
+abbrev pub source_told : List ℕ → List ℕ → List ℕ
+source_told name told =
+    if is_c name
+    then wanted_told [] (codes "a text for the assembler; this is C: make compiles it, with the Makefile of examples/c "
+    ++ codes "or of mx new NAME --c") [] []
+    else told
+
 -- what was wanted of the line at fault of a text, if that is known
 abbrev pub line_detail : CommandRequest → About → FileProblem → Option (List ℕ) → Option (List ℕ)
 line_detail r a (Misstated (lines.BadLine n)) (Some text) = config_detail text n
 line_detail r a (Misstated (lines.BadRecord n)) (Some text) = record_detail r a text n
-line_detail r a (Faulty f) (Some text) = Some (advice_told (advised f.problem (words_at text f.line)))
+line_detail r a (Faulty f) (Some text) =
+    Some (source_told (files_read r).first.name (advice_told (advised f.problem (words_at text f.line))))
 line_detail r a p text = None
 
 -- that, or else what was wanted of no line that is known

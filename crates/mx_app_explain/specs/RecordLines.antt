@@ -7,7 +7,7 @@ use Rattle.mx_boot.specs.Items.{said_in}
 use Rattle.mx_text.specs.Bytes.{begins_name}
 use Rattle.mx_text.specs.NumberFields.{number_up_to}
 use Rattle.mx_app_command.specs.declared.command_line.CommandRequest.{CommandRequest}
-use Rattle.mx_app_command.specs.declared.command_line.CommandRequest.TheVariants.{Step, Run, Turns, Sweep, SweptPage, Db}
+use Rattle.mx_app_command.specs.declared.command_line.CommandRequest.TheVariants.{Step, Run, Turns, Sweep, SweptPage, Why, Db}
 use Rattle.mx_app_db.specs.Looks.{script_lines}
 use Rattle.mx_app_failure.specs.declared.failure.About.{About}
 use Rattle.mx_app_failure.specs.declared.failure.About.TheVariants.{Fault}
@@ -41,6 +41,9 @@ record_wanted (Turns config log ticks events bound stop) about =
     codes "an outside event: line L, tick, kill E or respawn S, where a service's name may stand for E and S"
 record_wanted (Sweep config log fault bound from to jobs strict save) Fault = fault_wanted
 record_wanted (SweptPage config log fault bound from to jobs) Fault = fault_wanted
+record_wanted (Why config log events strict) Fault =
+    codes "an outside event, or wait N: line L, tick, kill E or respawn S, where a service's name may stand for E "
+    ++ codes "and S"
 record_wanted r about = history_wanted
 
 -- what they look like: all but a history's are much as a script's
@@ -51,6 +54,7 @@ own_looks (Run config log ticks events stop) about = Script
 own_looks (Turns config log ticks events bound stop) about = Script
 own_looks (Sweep config log fault bound from to jobs strict save) Fault = Script
 own_looks (SweptPage config log fault bound from to jobs) Fault = Script
+own_looks (Why config log events strict) Fault = Script
 own_looks r about = History
 
 abbrev pub ends_in_return : List ℕ → Bool

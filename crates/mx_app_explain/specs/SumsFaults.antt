@@ -51,7 +51,7 @@ fault_wanted Unread = codes "a file that can be read"
 fault_wanted Unwritten = codes "a file that can be written"
 fault_wanted OtherKind = kind_wanted Sums
 fault_wanted NoMemory = codes "more memory"
-fault_wanted (OtherMachine part) = codes "the configuration and programs whose sums it has"
+fault_wanted (OtherMachine part) = codes "the configuration and programs whose sums it has, or --no-sums"
 
 -- of a file that would be written over it is said first that it is there
 abbrev pub fault_label : SumsFault → List ℕ

@@ -9,7 +9,7 @@ use Rattle.mx_asm.specs.declared.fault.Problem.{Problem}
 use Rattle.mx_asm.specs.declared.fault.Problem.TheVariants as problems
 use Rattle.mx_app_explain.specs.declared.text_advice.Sought.{Sought}
 use Rattle.mx_app_explain.specs.declared.text_advice.Sought.TheVariants as sought
-use Rattle.mx_app_explain.specs.TextWords.{bad_escape, begins_comment, begins_with_digit, is_bad_number, is_beyond_ascii, is_capital, is_close, is_equals, is_free_word, is_jump, is_long_name, is_operator, is_punctuation_word, is_odd_byte, is_open, is_quote, is_reserved, is_size, is_unpushed, words_in}
+use Rattle.mx_app_explain.specs.TextWords.{bad_escape, begins_comment, begins_with_digit, is_bad_number, is_beyond_ascii, is_capital, is_close, is_constant, is_equals, is_free_word, is_jump, is_long_name, is_operator, is_other_size, is_prepared, is_punctuation_word, is_odd_byte, is_open, is_quote, is_reserved, is_size, is_unpushed, words_in}
 use Rattle.mx_app_explain.specs.Details.{word_detail}
 use Rattle.mx_app_explain.specs.Wanted.{problem_wanted}
 
@@ -38,7 +38,7 @@ abbrev pub is_sought : Sought → List ℕ → Bool
 is_sought sought.Odd w = list_any is_odd_byte w
 is_sought sought.Quoted w = list_any is_quote w
 is_sought sought.Beyond w = list_any is_beyond_ascii w
-is_sought sought.Comment w = begins_comment w
+is_sought sought.Comment w = begins_comment w || is_prepared w
 is_sought sought.BadNumber w = is_bad_number w
 is_sought sought.LongName w = is_long_name w
 is_sought sought.Open w = is_open w
@@ -48,6 +48,7 @@ is_sought sought.FreeWord w = is_free_word w
 is_sought sought.Number w = begins_with_digit w
 is_sought sought.Operator w = is_operator w
 is_sought sought.Unpushed w = is_unpushed w
+is_sought sought.Constant w = is_constant w
 
 -- the first word that is so, and the words after it
 abbrev pub next_sought : Sought → List (List ℕ) → Option (List ℕ × List (List ℕ))
@@ -109,6 +110,21 @@ value_mark inside number [] = None
 value_mark inside number (w ∷ ws) =
     if not inside && (is_star w || (number && is_sign w)) then Some w
     else value_mark ((inside || is_open w) && not (is_close w)) (begins_with_digit w) ws
+
+-- the first name that a sign joins to a name; before these words a name may be the last, or a sign after one
+abbrev pub joined_name : Bool → Bool → List (List ℕ) → Option (List ℕ)
+joined_name named signed [] = None
+joined_name named signed (w ∷ ws) =
+    if signed && is_free_word w then Some w else joined_name (is_free_word w) (named && is_sign w) ws
+
+abbrev pub begins_open : List (List ℕ) → Bool
+begins_open [] = false
+begins_open (w ∷ ws) = is_open w
+
+-- the first name right before a bracket that opens
+abbrev pub indexed_name : List (List ℕ) → Option (List ℕ)
+indexed_name [] = None
+indexed_name (w ∷ ws) = if is_free_word w && begins_open ws then Some w else indexed_name ws
 
 -- whether there is a name or a number that isn't a scale, after this word of an operand too; a star may be before it
 abbrev pub has_value : Bool → Bool → List ℕ → Bool
@@ -181,14 +197,21 @@ stack_name w =
 
 abbrev pub data_name : List ℕ → Option (List ℕ)
 data_name w =
-    if bytes_eq w (codes "db") then Some (codes ".data1, or .ascii for a text,") else
+    if bytes_eq w (codes "db") then Some (codes ".data1, or .ascii for a text") else
     if bytes_eq w (codes "dw") then Some (codes ".data2") else
     if bytes_eq w (codes "dd") then Some (codes ".data4") else
     None
 
+abbrev pub section_name : List ℕ → Option (List ℕ)
+section_name w =
+    if bytes_eq w (codes "resb") then Some (codes ".space") else
+    if bytes_eq w (codes "section") || bytes_eq w (codes "segment") then Some (codes ".text, .data or .bss alone") else
+    None
+
 abbrev pub own_name : List ℕ → Option (List ℕ)
 own_name w =
-    name_or (equal_name w) (name_or (order_name w) (name_or (single_name w) (name_or (stack_name w) (data_name w))))
+    name_or (equal_name w) (name_or (order_name w) (name_or (single_name w) (name_or (stack_name w)
+    (name_or (data_name w) (section_name w)))))
 
 -- instructions of the 80386 that this machine hasn't
 abbrev pub is_decimal_word : List ℕ → Bool
@@ -237,20 +260,26 @@ abbrev pub advice_or : Option Advised → Advised → Advised
 advice_or None other = other
 advice_or (Some advice) other = advice
 
--- a comment, a character, a constant, or another word that is no token
+-- a name in place of a number: there are none for numbers
+abbrev pub constant_wanted : List ℕ
+constant_wanted = codes "the number itself in each place, since there are no constants"
+
+-- a line for a preprocessor, a comment, a character, a constant, or another word that is no token
 abbrev pub token_wanted : List ℕ → List ℕ
 token_wanted w =
+    if is_constant w then constant_wanted else
+    if is_prepared w then codes "the lines themselves, since there is no preprocessor" else
     if begins_comment w then codes "; before a comment" else
     if list_any is_beyond_ascii w
     then codes "characters of ASCII: a -, a \" or a blank beyond them looks alike and is another one" else
     if slice_index w 0 == 39 then codes "the character's number, as 97 for a" else
     if (slice_index w 0 == 37) || (slice_index w 0 == 36)
     then codes "Intel's order: the target first, registers without %, numbers without $" else
-    if list_any is_equals w then codes "the number itself in each place, since there are no constants" else
+    if list_any is_equals w then constant_wanted else
     codes "a word, a number, a text in \" or one of [ ] + - * , :"
 
--- an escape that is none; or a comment after a text: a text may have any bytes, so nothing is said of another word in a
--- line with one
+-- an escape that is none; or a comment, or what includes other lines, beside a text: a text may have any bytes, so
+-- nothing is said of another word in a line with one
 abbrev pub text_advice : List (List ℕ) → Advised
 text_advice ws =
     advice_or (said_of (codes "an escape that a text has, \\n, \\0, \\\" or \\\\") (escape_in ws))
@@ -267,9 +296,10 @@ number_wanted w =
     if slice_index w (length w - 1) == 104 then codes "hexadecimal after 0x and without h, as 0x21"
     else problem_wanted problems.BadNumber
 
--- a word with a capital letter, an unknown directive, an instruction that this machine hasn't, or another word
+-- what includes other lines, a word with a capital letter, an unknown directive, an instruction that this machine hasn't, or another word
 abbrev pub plain_word_wanted : List ℕ → List ℕ
 plain_word_wanted w =
+    if is_prepared w then codes "the lines themselves, since there is no preprocessor" else
     if list_any is_capital w then codes "lower case" else
     if slice_index w 0 == 46
     then codes ".text .data .bss .data1 .data2 .data4 .ascii .space .sep .entry or .stack" else
@@ -287,9 +317,12 @@ abbrev pub label_advice : Option (List ℕ) → Option Advised
 label_advice label =
     said_of (codes "a label of a letter or _, and then letters, digits and _, and no register or size") label
 
+-- a label that is no name, a constant, or the statement's first word
 abbrev pub word_advice : List (List ℕ) → Advised
 word_advice ws =
-    advice_or (label_advice (bad_label ws)) (about word_wanted problems.UnknownWord (first_of (after_label ws)))
+    advice_or (label_advice (bad_label ws))
+    (advice_or (said_of constant_wanted (find_word sought.Constant ws))
+    (about word_wanted problems.UnknownWord (first_of (after_label ws))))
 
 -- ---- what the operands of a statement are, by its first word
 
@@ -382,12 +415,14 @@ size_advice first ws =
     then (codes "byte, word or dword before the bracket, since no register says the size", Some (codes "["))
     else statement_form_advice first ws
 
--- a mark that no value has, or a register after a name; or one of these
+-- a mark that no value has, a second name, or a register after a name; or one of these
 abbrev pub value_advice : List ℕ → List (List ℕ) → Advised
 value_advice first ws =
     advice_or (said_of (codes "a value: n, -n, name, name+n or name-n") (value_mark false false ws))
+    (advice_or (said_of (codes "a value of one name at most: n, -n, name, name+n or name-n")
+    (joined_name false false ws))
     (advice_or (said_of (codes "registers before a name or a number in a bracket, as [ebx+ecx*4+name]")
-    (late_register false false ws)) (size_advice first ws))
+    (late_register false false ws)) (size_advice first ws)))
 
 -- a word too many; or one of these
 abbrev pub extra_advice : List ℕ → List (List ℕ) → Advised
@@ -408,10 +443,25 @@ address_advice first ws =
     advice_or (said_of (codes "a register or a number in place of the second bracket, since no instruction has two")
     (second_address ws)) (quoted_advice (find_word sought.Quoted ws) first ws)
 
+-- a name before its bracket, or a size of another assembler
+abbrev pub indexed_wanted : List ℕ → List ℕ
+indexed_wanted w =
+    if is_other_size w then codes "byte, word or dword before a bracket, in lower case and without PTR"
+    else codes "the name inside its bracket, after the registers, as [ebx+ecx*4+name]"
+
+-- after a prefix is an instruction, and no name
+abbrev pub indexed_in : List ℕ → List (List ℕ) → Option (List ℕ)
+indexed_in first ws = if is_prefix first then None else indexed_name ws
+
+-- that; or one of these
+abbrev pub indexed_advice : Option (List ℕ) → List ℕ → List (List ℕ) → Advised
+indexed_advice (Some w) first ws = (indexed_wanted w, Some w)
+indexed_advice None first ws = address_advice first ws
+
 -- a bracket alone; or one of these
 abbrev pub bracket_advice : Option (List ℕ) → List ℕ → List (List ℕ) → Advised
 bracket_advice (Some wanted) first ws = (wanted, None)
-bracket_advice None first ws = address_advice first ws
+bracket_advice None first ws = indexed_advice (indexed_in first ws) first ws
 
 abbrev pub operand_advice : List ℕ → List (List ℕ) → Advised
 operand_advice first ws = bracket_advice (bracket_wanted ws) first ws

@@ -126,6 +126,24 @@ is_loop w = list_any (bytes_eq w) (codes "loop" ∷ codes "loope" ∷ codes "loo
 abbrev pub is_jump : List ℕ → Bool
 is_jump w = ((slice_index w 0 == 106) && not (bytes_eq w (codes "jmp"))) || is_loop w
 
+-- what other assemblers call a constant's definition, and what a preprocessor does
+abbrev pub is_constant : List ℕ → Bool
+is_constant w =
+    list_any (bytes_eq w) (codes "equ" ∷ codes "EQU" ∷ codes ".equ" ∷ codes ".set" ∷ codes "#define" ∷ codes "%define"
+    ∷ [])
+
+-- what else a preprocessor does
+abbrev pub is_prepared : List ℕ → Bool
+is_prepared w =
+    list_any (bytes_eq w) (codes "#include" ∷ codes "#if" ∷ codes "#ifdef" ∷ codes "#ifndef" ∷ codes "%include"
+    ∷ codes "%macro" ∷ codes ".include" ∷ codes ".macro" ∷ [])
+
+-- what other assemblers have before a bracket: sizes, with or without capital letters
+abbrev pub is_other_size : List ℕ → Bool
+is_other_size w =
+    list_any (bytes_eq w) (codes "BYTE" ∷ codes "WORD" ∷ codes "DWORD" ∷ codes "PTR" ∷ codes "qword" ∷ codes "QWORD"
+    ∷ codes "near" ∷ codes "far" ∷ [])
+
 -- operators of other assemblers
 abbrev pub is_operator : List ℕ → Bool
 is_operator w = bytes_eq w (codes "offset") || bytes_eq w (codes "ptr")

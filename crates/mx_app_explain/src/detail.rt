@@ -5,14 +5,14 @@ ghost use Rattle.mx_text.specs.Fields.{fields};
 ghost use Rattle.mx_text.specs.Lines.{lines};
 ghost use Rattle.mx_app_explain.specs.ConfigFaults.{fault_in};
 ghost use Rattle.mx_app_explain.specs.ConfigFields.{value_name, words_before};
-ghost use Rattle.mx_app_explain.specs.Details.{after_words, config_detail, detail_told, label_told, field_detail, field_hint, field_label, has_service, service_detail, wanted_of_field};
+ghost use Rattle.mx_app_explain.specs.Details.{after_words, config_detail, detail_told, label_told, field_detail, field_hint, field_label, has_service, is_remark, remark_or, service_detail, wanted_of_field};
 ghost use Rattle.mx_app_explain.specs.MaskNames.{is_service};
 ghost use Rattle.mx_boot.specs.Items.{said_in};
 ghost use Rattle.mx_app_explain.specs.Hints.{hint_told};
 
 use crate::config_field::Field;
 use crate::config_line::line_fault;
-use crate::found_word::{FoundWord, found_at};
+use crate::found_word::{FoundWord, byte_at, found_at};
 use crate::hint::Hint;
 use crate::line_looks::{LineLooks, hint_at};
 use crate::mask_names::mask_hint;
@@ -144,14 +144,35 @@ fn field_label(line: &[u8], place: Field) -> Label<'_>
     }
 }
 
-/// What is added at a place of a line of a configuration's text: at its first word what takes such a line, and at a
-/// mask of names the number that it is.
+/// Whether a word begins a comment elsewhere.
+fn is_remark(word: &[u8]) -> bool
+    ensures { result ≡ is_remark word.now }
+{
+    byte_at(word, 0) == b';'
+        || (byte_at(word, 0) == b'/' && (byte_at(word, 1) == b'/' || byte_at(word, 1) == b'*'))
+}
+
+/// What is added where a comment may begin: at a word that begins one elsewhere, and at another one this.
+fn remark_or<'a>(word: Option<&[u8]>, other: Hint<'a>) -> Hint<'a>
+    ensures { hint_told result
+        ≡ remark_or (option_map (λ w. w.now) word.entry) (hint_told other.entry) }
+{
+    match word {
+        Some(word) if is_remark(word) => Hint::Words("a comment begins with #"),
+        _ => other,
+    }
+}
+
+/// What is added at a place of a line of a configuration's text: where a comment may begin what begins it, at its first
+/// word what takes such a line, and at a mask of names the number that it is.
 fn field_hint<'a>(text: &[u8], line: &'a [u8], place: Field) -> Hint<'a>
     ensures { hint_told result ≡ field_hint (lines text.now) line.now place }
 {
+    let word = word_after(line, place.words_before());
     match place {
-        Field::Item => hint_at(line, LineLooks::Config),
-        Field::Value(key) => match word_after(line, place.words_before()) {
+        Field::Item => remark_or(word, hint_at(line, LineLooks::Config)),
+        Field::ItemEnd | Field::ServiceEnd => remark_or(word, Hint::Nothing),
+        Field::Value(key) => match word {
             Some(word) => mask_hint(text, key, word),
             None => Hint::Nothing,
         },

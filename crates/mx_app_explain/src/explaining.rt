@@ -3,7 +3,7 @@
 ghost use Rattle.std.specs.Prelude.{◌≡◌, IfOk, option_map, string_bytes};
 ghost use Rattle.mx_app_command.specs.Files.{word_of};
 ghost use Rattle.mx_app_explain.specs.Details.{detail_told, label_told};
-ghost use Rattle.mx_app_explain.specs.Explaining.{explained, faulty_words, file_label, file_said, file_subject, folder_of, is_dash, line_detail, missing_hint, output_said, plain_detail, place_told, plain_hint, said_line, subject_told, text_of, word_read};
+ghost use Rattle.mx_app_explain.specs.Explaining.{explained, faulty_words, file_label, file_said, file_subject, folder_of, folder_or_made, is_c, is_dash, line_detail, missing_hint, output_said, plain_detail, place_told, plain_hint, said_line, source_told, subject_told, text_of, word_read};
 ghost use Rattle.mx_app_explain.specs.Hints.{hint_told};
 ghost use Rattle.mx_text.specs.Fields.{fields};
 
@@ -81,6 +81,29 @@ fn faulty_words(alloc: Global, failure: &FileFailure) -> Result<Vec<u8>, AllocEr
     }
 }
 
+/// Whether a file's name is that of a text in C.
+fn is_c(name: &str) -> bool
+    ensures { result ≡ is_c name.now }
+{
+    name.as_bytes().ends_with(b".c")
+}
+
+/// What was wanted of a text for the assembler, by its file's name: if it is C, what compiles that, else this.
+fn source_detail<'a>(name: &str, advised: Detail<'a>) -> Detail<'a>
+    ensures { detail_told result ≡ source_told name.now (detail_told advised.entry) }
+{
+    if !is_c(name) {
+        return advised;
+    }
+    Detail {
+        label: Label::Nowhere,
+        wanted: "a text for the assembler; this is C: make compiles it, with the Makefile of \
+                 examples/c or of mx new NAME --c",
+        found: FoundWord::Unseen,
+        hint: Hint::Nothing,
+    }
+}
+
 /// What was wanted of the line of a text that is at fault: of a text for the assembler its words are given. None if
 /// there is no such line.
 fn line_detail<'a>(
@@ -99,7 +122,10 @@ fn line_detail<'a>(
         (FileProblem::Misstated(BootError::BadRecord(number)), Some(text)) => {
             record_detail(request, &failure.about, text.as_slice(), number)
         }
-        (FileProblem::Faulty(fault), Some(_)) => Some(advice_on(words, fault.problem).detail()),
+        (FileProblem::Faulty(fault), Some(_)) => {
+            let advised = advice_on(words, fault.problem).detail();
+            Some(source_detail(request.reads().first.name, advised))
+        }
         _ => None,
     }
 }
@@ -142,12 +168,13 @@ fn word_read<'a>(request: CommandRequest<'a>, about: &About) -> Option<NamedWord
     match about {
         About::Program | About::Source | About::Config => Some(reads.first),
         About::Course => reads.course,
-        About::Fault => reads.fault,
+        About::Fault => reads.further,
         About::Written | About::Service(_) => None,
     }
 }
 
-/// What is added of a service's program that isn't there: that a tilde is no home, or where its configuration is.
+/// What is added of a service's program that isn't there: that a tilde is no home, where its configuration is, or what
+/// makes one.
 fn place_hint<'a>(request: CommandRequest<'a>, name: &str) -> Hint<'a>
     ensures { hint_told result ≡ place_told name.now request.entry }
 {
@@ -156,7 +183,9 @@ fn place_hint<'a>(request: CommandRequest<'a>, name: &str) -> Hint<'a>
     }
     match folder_of(request.reads().first.name) {
         Some(folder) => Hint::Folder(folder),
-        None => Hint::Nothing,
+        None => Hint::Words(
+            "mx as makes it of a text, and make of C if programs in the Makefile has its name",
+        ),
     }
 }
 

@@ -27,9 +27,12 @@ fn own_looks(request: CommandRequest<'_>, about: &About) -> LineLooks
     ensures { result ≡ own_looks request.entry about.now }
 {
     match (request, about) {
-        (CommandRequest::Sweep { .. } | CommandRequest::SweptPage { .. }, About::Fault) => {
-            LineLooks::Script
-        }
+        (
+            CommandRequest::Sweep { .. }
+            | CommandRequest::SweptPage { .. }
+            | CommandRequest::Why { .. },
+            About::Fault,
+        ) => LineLooks::Script,
         (CommandRequest::Db { .. }, _) => LineLooks::Debugger,
         (
             CommandRequest::Step { .. } | CommandRequest::Run { .. } | CommandRequest::Turns { .. },

@@ -62,7 +62,7 @@ pub(crate) fn file_subject<'a>(request: CommandRequest<'a>, about: &'a About) ->
     match about {
         About::Program | About::Source | About::Config => word_subject(Some(reads.first)),
         About::Course => word_subject(reads.course),
-        About::Fault => word_subject(reads.fault),
+        About::Fault => word_subject(reads.further),
         About::Written => word_subject(request.writes()),
         About::Service(name) => Subject::Service(name.as_str()),
     }

@@ -109,7 +109,8 @@ fn fault_wanted(fault: SumsFault) -> &'static str
         SumsFault::Unwritten => "a file that can be written",
         SumsFault::OtherKind => kind_wanted(FileKind::Sums),
         SumsFault::NoMemory => "more memory",
-        SumsFault::OtherMachine(_) => "the configuration and programs whose sums it has",
+        SumsFault::OtherMachine(_) =>
+            "the configuration and programs whose sums it has, or --no-sums",
     }
 }
 

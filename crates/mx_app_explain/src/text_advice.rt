@@ -3,7 +3,7 @@
 ghost use Rattle.std.specs.Prelude.{◌≡◌, None, Some, MatchOption, false, option_map};
 ghost use Rattle.mx_text.specs.Fields.{fields};
 ghost use Rattle.mx_app_explain.specs.Details.{detail_told};
-ghost use Rattle.mx_app_explain.specs.TextAdvice.{address_advice, advice_told, advised, after_first, after_label, bad_label, bracket_wanted, byte_advice, data_name, equal_name, escape_in, extra_advice, extra_word, fault_word, find_word, first_of, form_wanted, has_value, is_decimal_word, is_data, is_of_386, is_other_word, is_port_word, is_prefix, is_segment_word, is_shift, is_sign, is_sought, is_star, lacks_register, lacks_size, label_advice, labelled_advice, last_word, late_register, may_end, name_or, next_sought, number_advice, number_wanted, only_free_word, operand_advice, operand_word_advice, operator_wanted, order_name, other_form_wanted, own_name, pair_advice, plain, plain_word_wanted, pop_advice, push_advice, quoted_advice, second_address, section_advice, section_wanted, single_name, size_advice, stack_name, statement_advice, statement_form_advice, takes_one, takes_two, text_advice, together_advice, token_wanted, value_advice, value_mark, word_advice, word_wanted};
+ghost use Rattle.mx_app_explain.specs.TextAdvice.{address_advice, advice_told, advised, after_first, after_label, bad_label, begins_open, bracket_wanted, byte_advice, constant_wanted, data_name, equal_name, escape_in, extra_advice, extra_word, fault_word, find_word, first_of, form_wanted, has_value, indexed_advice, indexed_in, indexed_name, indexed_wanted, is_decimal_word, is_data, is_of_386, is_other_word, is_port_word, is_prefix, is_segment_word, is_shift, is_sign, is_sought, is_star, joined_name, lacks_register, lacks_size, label_advice, labelled_advice, last_word, late_register, may_end, name_or, next_sought, number_advice, number_wanted, only_free_word, operand_advice, operand_word_advice, operator_wanted, order_name, other_form_wanted, own_name, pair_advice, plain, plain_word_wanted, pop_advice, push_advice, quoted_advice, second_address, section_advice, section_name, section_wanted, single_name, size_advice, stack_name, statement_advice, statement_form_advice, takes_one, takes_two, text_advice, together_advice, token_wanted, value_advice, value_mark, word_advice, word_wanted};
 ghost use Rattle.mx_app_explain.specs.declared.text_advice.Sought.TheVariants.{FreeWord, Quoted};
 
 use crate::detail::{Detail, Label};
@@ -11,8 +11,9 @@ use crate::found_word::{FoundWord, byte_at, found_at};
 use crate::hint::Hint;
 use crate::text_words::{
     bad_escape, begins_comment, begins_with_digit, has_capital, has_equals, has_quote,
-    is_bad_number, is_beyond, is_close, is_free_word, is_jump, is_long_name, is_odd, is_open,
-    is_operator, is_punctuation_word, is_reserved, is_size, is_unpushed,
+    is_bad_number, is_beyond, is_close, is_constant, is_free_word, is_jump, is_long_name, is_odd,
+    is_open, is_operator, is_other_size, is_prepared, is_punctuation_word, is_reserved, is_size,
+    is_unpushed,
 };
 use crate::wanted::problem_wanted;
 use mx_asm::Problem;
@@ -53,7 +54,7 @@ enum Sought {
     Quoted,
     /// A word with a byte beyond ASCII.
     Beyond,
-    /// What begins a comment of other languages.
+    /// What begins a comment of other languages, or includes other lines.
     Comment,
     /// A word that begins as a number and is none.
     BadNumber,
@@ -72,6 +73,8 @@ enum Sought {
     Operator,
     /// What isn't pushed: a size or a register of fewer than 32 bits.
     Unpushed,
+    /// What defines a constant in other assemblers.
+    Constant,
 }
 
 impl Sought {
@@ -83,7 +86,7 @@ impl Sought {
             Sought::Odd => is_odd(word),
             Sought::Quoted => has_quote(word),
             Sought::Beyond => is_beyond(word),
-            Sought::Comment => begins_comment(word),
+            Sought::Comment => begins_comment(word) || is_prepared(word),
             Sought::BadNumber => is_bad_number(word),
             Sought::LongName => is_long_name(word),
             Sought::Open => is_open(word),
@@ -93,6 +96,7 @@ impl Sought {
             Sought::Number => begins_with_digit(word),
             Sought::Operator => is_operator(word),
             Sought::Unpushed => is_unpushed(word),
+            Sought::Constant => is_constant(word),
         }
     }
 }
@@ -264,6 +268,48 @@ fn value_mark(line: &[u8]) -> Option<&[u8]>
     None
 }
 
+/// The first name that a sign joins to a name.
+fn joined_name(line: &[u8]) -> Option<&[u8]>
+    ensures { option_map (λ w. w.now) result ≡ joined_name false false (fields line.now) }
+{
+    let mut named = false;
+    let mut signed = false;
+    let mut rest = line;
+    while let Some((word, more)) = next_field(rest) {
+        if signed && is_free_word(word) {
+            return Some(word);
+        }
+        signed = named && is_sign(word);
+        named = is_free_word(word);
+        rest = more;
+    }
+    None
+}
+
+/// Whether the first word is a bracket that opens.
+fn begins_open(line: &[u8]) -> bool
+    ensures { result ≡ begins_open (fields line.now) }
+{
+    match next_field(line) {
+        Some((word, _)) => is_open(word),
+        None => false,
+    }
+}
+
+/// The first name right before a bracket that opens.
+fn indexed_name(line: &[u8]) -> Option<&[u8]>
+    ensures { option_map (λ w. w.now) result ≡ indexed_name (fields line.now) }
+{
+    let mut rest = line;
+    while let Some((word, more)) = next_field(rest) {
+        if is_free_word(word) && begins_open(more) {
+            return Some(word);
+        }
+        rest = more;
+    }
+    None
+}
+
 /// Whether there is a name or a number that isn't a scale, after this word of an operand too.
 fn has_value(valued: bool, starred: bool, word: &[u8]) -> bool
     ensures { result ≡ has_value valued starred word.now }
@@ -399,10 +445,23 @@ fn data_name(word: &[u8]) -> Option<&'static str>
     ensures { option_map (λ s. s.now) result ≡ data_name word.now }
 {
     match word {
-        b"db" => Some(".data1, or .ascii for a text,"),
+        b"db" => Some(".data1, or .ascii for a text"),
         b"dw" => Some(".data2"),
         b"dd" => Some(".data4"),
         _ => None,
+    }
+}
+
+/// This assembler's name for room and for sections.
+fn section_name(word: &[u8]) -> Option<&'static str>
+    ensures { option_map (λ s. s.now) result ≡ section_name word.now }
+{
+    if word == b"resb".as_slice() {
+        Some(".space")
+    } else if word == b"section".as_slice() || word == b"segment".as_slice() {
+        Some(".text, .data or .bss alone")
+    } else {
+        None
     }
 }
 
@@ -421,16 +480,27 @@ fn name_or(name: Option<&'static str>, other: Option<&'static str>) -> Option<&'
 fn own_name(word: &[u8]) -> Option<&'static str>
     ensures { option_map (λ s. s.now) result ≡ own_name word.now }
 {
-    let last = name_or(stack_name(word), data_name(word));
+    let data = name_or(data_name(word), section_name(word));
+    let last = name_or(stack_name(word), data);
     let rest = name_or(order_name(word), name_or(single_name(word), last));
     name_or(equal_name(word), rest)
 }
+
+/// What is wanted in place of a name for a number.
+const NUMBER_ITSELF: &str = "the number itself in each place, since there are no constants";
+
+/// What is wanted in place of a line for a preprocessor.
+const LINES_THEMSELVES: &str = "the lines themselves, since there is no preprocessor";
 
 /// What is wanted in place of a word that is no token.
 fn token_wanted(word: &[u8]) -> &'static str
     ensures { result.now ≡ token_wanted word.now }
 {
-    if begins_comment(word) {
+    if is_constant(word) {
+        NUMBER_ITSELF
+    } else if is_prepared(word) {
+        LINES_THEMSELVES
+    } else if begins_comment(word) {
         "; before a comment"
     } else if is_beyond(word) {
         "characters of ASCII: a -, a \" or a blank beyond them looks alike and is another one"
@@ -439,7 +509,7 @@ fn token_wanted(word: &[u8]) -> &'static str
     } else if byte_at(word, 0) == b'%' || byte_at(word, 0) == b'$' {
         "Intel's order: the target first, registers without %, numbers without $"
     } else if has_equals(word) {
-        "the number itself in each place, since there are no constants"
+        NUMBER_ITSELF
     } else {
         "a word, a number, a text in \" or one of [ ] + - * , :"
     }
@@ -508,7 +578,9 @@ fn is_of_386(word: &[u8]) -> bool
 fn plain_word_wanted(word: &[u8]) -> &'static str
     ensures { result.now ≡ plain_word_wanted word.now }
 {
-    if has_capital(word) {
+    if is_prepared(word) {
+        LINES_THEMSELVES
+    } else if has_capital(word) {
         "lower case"
     } else if byte_at(word, 0) == b'.' {
         ".text .data .bss .data1 .data2 .data4 .ascii .space .sep .entry or .stack"
@@ -540,8 +612,8 @@ fn plain_advice<'a>(problem: Problem) -> Advice<'a>
     }
 }
 
-/// Advice on a line with a text that has a byte at fault: an escape, or a comment after a text. A text may have any
-/// bytes, so there is no advice on another word.
+/// Advice on a line with a text that has a byte at fault: an escape, or a comment or what includes other lines. A text may
+/// have any bytes, so there is no advice on another word.
 fn text_advice(line: &[u8]) -> Advice<'_>
     ensures { (result.wanted.now, option_map (λ w. w.now) result.word)
         ≡ text_advice (fields line.now) }
@@ -592,13 +664,19 @@ fn number_advice(line: &[u8]) -> Advice<'_>
     }
 }
 
-/// Advice on a label that is no name, or on a statement's first word.
+/// Advice on a label that is no name, on a constant, or on a statement's first word.
 fn word_advice(line: &[u8]) -> Advice<'_>
     ensures { (result.wanted.now, option_map (λ w. w.now) result.word)
         ≡ word_advice (fields line.now) }
 {
     if let Some(label) = bad_label(line) {
         return label_advice(label);
+    }
+    if let Some(word) = find_word(line, Sought::Constant) {
+        return Advice {
+            wanted: NUMBER_ITSELF,
+            word: Some(word),
+        };
     }
     match first_of(after_label(line)) {
         Some(word) => Advice {
@@ -781,7 +859,7 @@ fn size_advice<'a>(first: &[u8], line: &'a [u8]) -> Advice<'a>
     }
 }
 
-/// Advice on operands: a mark that no value has, or a register after a name.
+/// Advice on operands: a mark that no value has, a second name, or a register after a name.
 fn value_advice<'a>(first: &[u8], line: &'a [u8]) -> Advice<'a>
     ensures { (result.wanted.now, option_map (λ w. w.now) result.word)
         ≡ value_advice first.now (fields line.now) }
@@ -789,6 +867,12 @@ fn value_advice<'a>(first: &[u8], line: &'a [u8]) -> Advice<'a>
     if let Some(word) = value_mark(line) {
         return Advice {
             wanted: "a value: n, -n, name, name+n or name-n",
+            word: Some(word),
+        };
+    }
+    if let Some(word) = joined_name(line) {
+        return Advice {
+            wanted: "a value of one name at most: n, -n, name, name+n or name-n",
             word: Some(word),
         };
     }
@@ -848,6 +932,42 @@ fn address_advice<'a>(first: &[u8], line: &'a [u8]) -> Advice<'a>
     }
 }
 
+/// What is wanted in place of a name before its bracket, or of a size of another assembler.
+fn indexed_wanted(word: &[u8]) -> &'static str
+    ensures { result.now ≡ indexed_wanted word.now }
+{
+    if is_other_size(word) {
+        "byte, word or dword before a bracket, in lower case and without PTR"
+    } else {
+        "the name inside its bracket, after the registers, as [ebx+ecx*4+name]"
+    }
+}
+
+/// The first name before its bracket; after a prefix is an instruction, and no name.
+fn indexed_in<'a>(first: &[u8], line: &'a [u8]) -> Option<&'a [u8]>
+    ensures { option_map (λ w. w.now) result ≡ indexed_in first.now (fields line.now) }
+{
+    if is_prefix(first) {
+        None
+    } else {
+        indexed_name(line)
+    }
+}
+
+/// Advice on operands: a name before its bracket.
+fn indexed_advice<'a>(first: &[u8], line: &'a [u8]) -> Advice<'a>
+    ensures { (result.wanted.now, option_map (λ w. w.now) result.word)
+        ≡ indexed_advice (indexed_in first.now (fields line.now)) first.now (fields line.now) }
+{
+    match indexed_in(first, line) {
+        Some(word) => Advice {
+            wanted: indexed_wanted(word),
+            word: Some(word),
+        },
+        None => address_advice(first, line),
+    }
+}
+
 /// Advice on operands: a bracket alone.
 fn operand_advice<'a>(first: &[u8], line: &'a [u8]) -> Advice<'a>
     ensures { (result.wanted.now, option_map (λ w. w.now) result.word)
@@ -855,7 +975,7 @@ fn operand_advice<'a>(first: &[u8], line: &'a [u8]) -> Advice<'a>
 {
     match bracket_wanted(line) {
         Some(wanted) => Advice { wanted, word: None },
-        None => address_advice(first, line),
+        None => indexed_advice(first, line),
     }
 }
 

@@ -2,7 +2,7 @@
 
 ghost use Rattle.std.specs.Prelude.{◌≡◌, ◌++◌, IfOk, OnOk, option_map};
 ghost use Rattle.std.specs.List.{flat_map, list_any};
-ghost use Rattle.mx_app_explain.specs.TextWords.{bad_escape, begins_comment, begins_with_digit, is_bad_number, is_beyond_ascii, is_blank, is_capital, is_close, is_equals, is_escaped, is_free_word, is_jump, is_long_name, is_loop, is_narrow_register, is_operator, is_punctuation, is_punctuation_word, is_number, is_odd_byte, is_open, is_quote, is_reserved, is_size, is_unpushed, with_spaces, spaced_byte};
+ghost use Rattle.mx_app_explain.specs.TextWords.{bad_escape, begins_comment, begins_with_digit, is_bad_number, is_beyond_ascii, is_blank, is_capital, is_close, is_constant, is_equals, is_escaped, is_free_word, is_jump, is_long_name, is_loop, is_narrow_register, is_operator, is_punctuation, is_punctuation_word, is_number, is_odd_byte, is_open, is_other_size, is_prepared, is_quote, is_reserved, is_size, is_unpushed, with_spaces, spaced_byte};
 
 use crate::found_word::byte_at;
 use mx_boot::before_byte;
@@ -209,6 +209,42 @@ pub(crate) fn is_jump(word: &[u8]) -> bool
     ensures { result ≡ is_jump word.now }
 {
     (byte_at(word, 0) == b'j' && word != b"jmp".as_slice()) || is_loop(word)
+}
+
+/// Whether other assemblers, or a preprocessor, define a constant by a word.
+pub(crate) fn is_constant(word: &[u8]) -> bool
+    ensures { result ≡ is_constant word.now }
+{
+    word == b"equ".as_slice()
+        || word == b"EQU".as_slice()
+        || word == b".equ".as_slice()
+        || word == b".set".as_slice()
+        || word == b"#define".as_slice()
+        || word == b"%define".as_slice()
+}
+
+/// Whether a preprocessor does something else by a word.
+pub(crate) fn is_prepared(word: &[u8]) -> bool
+    ensures { result ≡ is_prepared word.now }
+{
+    word == b"#include".as_slice()
+        || word == b"#if".as_slice()
+        || word == b"#ifdef".as_slice()
+        || word == b"#ifndef".as_slice()
+        || word == b"%include".as_slice()
+        || word == b"%macro".as_slice()
+        || word == b".include".as_slice()
+        || word == b".macro".as_slice()
+}
+
+/// Whether other assemblers have a word before a bracket: a size, with or without capital letters.
+pub(crate) fn is_other_size(word: &[u8]) -> bool
+    ensures { result ≡ is_other_size word.now }
+{
+    matches!(
+        word,
+        b"BYTE" | b"WORD" | b"DWORD" | b"PTR" | b"qword" | b"QWORD" | b"near" | b"far"
+    )
 }
 
 /// Whether a word is an operator of other assemblers.

@@ -78,6 +78,10 @@ pub(crate) fn record_wanted(request: CommandRequest<'_>, about: &About) -> &'sta
         (CommandRequest::Sweep { .. } | CommandRequest::SweptPage { .. }, About::Fault) => {
             "an event of a script, kill slot S, kill NAME or respawn NAME"
         }
+        (CommandRequest::Why { .. }, About::Fault) => {
+            "an outside event, or wait N: line L, tick, kill E or respawn S, where a service's name may \
+             stand for E and S"
+        }
         _ => {
             "a record and its line feed: A take, A back N, A line L, A tick, A kill E or \
              A respawn S; or rules 2 on line 1"

@@ -12,7 +12,7 @@ use Rattle.mx_app_look.specs.Answers.{IsMade}
 use Rattle.mx_app_look.specs.Places.{place_text}
 use Rattle.mx_app_look.specs.declared.happening.Happening.{Happening}
 use Rattle.mx_app_look.specs.Seeking.{IsGoneBack, IsGoneBy, IsGoneOn, IsGoneUntilBackBy, IsHalted, has_points, no_points}
-use Rattle.mx_app_look.specs.Until.{has_slots, no_service}
+use Rattle.mx_app_look.specs.Until.{has_slots, no_service, type_note}
 use Rattle.mx_app_look.specs.Requests.{ends, request_of}
 use Rattle.mx_app_look.specs.Sessions.{IsAnswered, IsAnsweredBy, IsSession, end_text, prompt_text}
 use Rattle.mx_walk.specs.declared.progress.Part.{Part}
@@ -115,7 +115,9 @@ by_gone true IsGone s u v t r f a b = f a b
 by_gone false IsGone s u v t r f a b = by_functions s u v no_points t r a b
 
 by_until : (p : Bool) (s u v : Sight) (h : Happening) (t r : List ℕ) → IsGoneUntilBackBy p s h u t → IsGoneUntilBackBy p s h v r → Alike u v t r
-by_until true s u v h t r a b = by_halt s u v a.0 b.0 t r (one_last_happened s.walker h a.0 b.0 a.1 b.1) a.2 b.2
+by_until true s u v h t r a b =
+    let noted : Position × List ℕ → Position × List ℕ = λ x. (x.0, type_note s.walker h ++ x.1) in
+    by_halt s u v (noted a.0) (noted b.0) t r (ap noted (one_last_happened s.walker h a.0 b.0 a.1 b.1)) a.2 b.2
 by_until false s u v h t r a b = by_functions s u v no_service t r a b
 
 alike : (s u v : Sight) (q : Request) (t r : List ℕ) → IsReady s → IsMade s q u t → IsMade s q v r → Alike u v t r

@@ -22,7 +22,7 @@ use Rattle.mx_app_look.specs.Places.{place_text}
 use Rattle.mx_app_look.specs.Searches.{IsLastHappened, not_met, record_after}
 use Rattle.mx_app_look.specs.Seeking.{IsGoneUntilBack, IsGoneUntilBackBy}
 use Rattle.mx_app_look.specs.Shows.{steps_made}
-use Rattle.mx_app_look.specs.Until.{has_slots, no_service, past}
+use Rattle.mx_app_look.specs.Until.{has_slots, no_service, past, type_note}
 use Rattle.mx_app_look.proofs.Coming.{above_by, gone, order}
 use Rattle.mx_app_look.proofs.Halted.{both_hold}
 use Rattle.mx_app_look.proofs.Lists.{same_rest}
@@ -139,13 +139,14 @@ none_happened k j h out new at_first passed added = (not_met, added, inr (passed
 
 -- ---- answers
 
-pub gone_until : (s : Sight) (w v : Walk) (h : Happening) (old out text : List ℕ) → has_slots s.walker h ≡ true → w ≡ record s.walker { here = w.here } → old ≡ []
+pub gone_until : (s : Sight) (w v : Walk) (h : Happening) (old out text : List ℕ) → has_slots s.walker h ≡ true → w ≡ record s.walker { here = w.here } → old ≡ type_note s.walker h
     → (t : List ℕ) × (out ≡ old ++ t) × IsLastHappened s.walker h (w.here, t) → v ≡ w → text ≡ out ++ place_text w → IsGoneUntilBack s h (record s { walker = v }) text
-gone_until s w v h old out text has moved empty a same placed =
+gone_until s w v h old out text has moved noted a same placed =
+    let note : List ℕ = type_note s.walker h in
     let u : Sight = record s { walker = v } in
     let there : u ≡ record s { walker = record s.walker { here = w.here } } = ap (λ (x : Walk). let i : Sight = record s { walker = x } in i) (same ∙ moved) in
-    let printed : text ≡ a.0 ++ place_text v =
-    placed ∙ ap (λ (o : List ℕ). o ++ place_text w) (a.1 ∙ ap (λ (o : List ℕ). o ++ a.0) empty) ∙ ap (λ (x : Walk). a.0 ++ place_text x) (sym same) in
+    let printed : text ≡ (note ++ a.0) ++ place_text v =
+    placed ∙ ap (λ (o : List ℕ). o ++ place_text w) (a.1 ∙ ap (λ (o : List ℕ). o ++ a.0) noted) ∙ ap (λ (x : Walk). (note ++ a.0) ++ place_text x) (sym same) in
     subst (λ (b : Bool). IsGoneUntilBackBy b s h u text) (sym has) ((w.here, a.0), a.2, (there, printed))
 
 pub ungone_until : {E : Type 0} (s : Sight) (h : Happening) (r : Result (Sight × Vec ℕ Global) E) → has_slots s.walker h ≡ false → IfOk r (λ (a : Sight × Vec ℕ Global). a.0 ≡ s) → IfOk r (λ (a : Sight × Vec ℕ Global). a.1.items ≡ no_service)

@@ -18,3 +18,4 @@ mod Making
 mod Since
 mod Happened
 mod Ranges
+mod Parted

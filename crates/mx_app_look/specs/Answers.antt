@@ -11,10 +11,10 @@ use Rattle.mx_app_look.specs.declared.sight.Sight.{Sight}
 use Rattle.mx_app_look.specs.Before.{why_text}
 use Rattle.mx_walk.specs.Moves.{back_from, can_go, forward_from, gone_to, position_asked, steps_back, steps_on}
 use Rattle.mx_app_look.specs.Places.{place_text}
-use Rattle.mx_app_look.specs.Seeking.{IsGoneBack, IsGoneIf, IsGoneOn, IsGoneUntilBack, point_made, point_text}
+use Rattle.mx_app_look.specs.Seeking.{IsGoneBack, IsGoneIf, IsGoneOn, IsGoneUntilBack, point_answer, point_made}
 use Rattle.mx_app_look.specs.Verbs.{help_text}
 use Rattle.mx_app_look.specs.Showing.{query_text}
-use Rattle.mx_app_look.specs.Until.{has_slots, no_service, until_halt}
+use Rattle.mx_app_look.specs.Until.{has_slots, no_service, type_note, until_halt}
 
 -- ---- the report, whose last line ends
 
@@ -62,9 +62,10 @@ request_text k (Back n) = place_text (after k (Back n))
 request_text k (Step n) = place_text (after k (Step n))
 request_text k (StepBack n) = place_text (after k (StepBack n))
 request_text k (GoTo p) =
-    if can_go k (position_asked k p) then place_text (after k (GoTo p)) else codes "refused 63 NoPosition\n"
+    if can_go k (position_asked k p) then place_text (after k (GoTo p))
+    else codes "refused 63 NoPosition: K is at most the number of records, and J a step of the next one\n"
 request_text k (Until h) =
-    if has_slots k h then (until_halt k h).1 ++ place_text (after k (Until h)) else no_service
+    if has_slots k h then type_note k h ++ (until_halt k h).1 ++ place_text (after k (Until h)) else no_service
 request_text k Where = place_text k
 request_text k Why = why_text k
 request_text k Processes = processes_text (world_here k)
@@ -76,7 +77,7 @@ request_text k _ = []
 -- what each leaves in hand, and what it prints
 abbrev pub IsMade : Sight → Request → Sight → List ℕ → Type 0
 IsMade s (Point p) u text =
-    (u ≡ record s { points = (point_made s p).1 }) × (text ≡ point_text (point_made s p).1 (point_made s p).0)
+    (u ≡ record s { points = (point_made s p).1 }) × (text ≡ point_answer s p)
 IsMade s Continue u text = IsGoneIf IsGoneOn s u text
 IsMade s Reverse u text = IsGoneIf IsGoneBack s u text
 IsMade s (UntilBack h) u text = IsGoneUntilBack s h u text

@@ -7,6 +7,7 @@ pub mod Requests
 pub mod Watches
 pub mod Ranges
 pub mod Points
+pub mod Starts
 pub mod Marks
 pub mod Changes
 pub mod Before

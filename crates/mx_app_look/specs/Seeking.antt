@@ -11,7 +11,7 @@ use Rattle.mx_app_look.specs.declared.points.Points.{Points}
 use Rattle.mx_app_look.specs.Points.{points_text}
 use Rattle.mx_app_look.specs.declared.happening.Happening.{Happening}
 use Rattle.mx_app_look.specs.Searches.{IsLastHalt, IsLastHappened, IsNextHalt}
-use Rattle.mx_app_look.specs.Until.{has_slots, no_service}
+use Rattle.mx_app_look.specs.Until.{has_slots, no_service, type_note}
 use Rattle.mx_app_look.specs.declared.watches.Watch.{Watch as Watched}
 use Rattle.mx_app_look.specs.Watches.{watch_set}
 use Rattle.mx_print_answers.specs.Answers.{done_line}
@@ -23,6 +23,7 @@ use Rattle.mx_walk.specs.Walks.{Walk, world_here}
 use Rattle.mx_app_look.specs.declared.sight.Sight.{Sight}
 use Rattle.mx_app_look.specs.Places.{place_text}
 use Rattle.mx_app_look.specs.Slots.{limit_in, slot_asked}
+use Rattle.mx_app_look.specs.Starts.{note_in}
 
 -- ---- breakpoints and watches
 
@@ -75,8 +76,18 @@ abbrev pub point_text : Points → Option (Result (Unit {0}) Refused) → List �
 point_text s (Some done) = done_line done
 point_text s None = points_text s
 
+-- and then, of a breakpoint that is set, that no instruction begins there
+abbrev pub break_note : Walk → PointRequest → Option (Result (Unit {0}) Refused) → List ℕ
+break_note k (Break slot at) (Some (Ok done)) = note_in (world_here k) at (slot_asked k (Some slot))
+break_note k r _ = []
+
 abbrev pub point_made : Sight → PointRequest → Option (Result (Unit {0}) Refused) × Points
 point_made s r = points_after s.walker s.points r
+
+-- THE ANSWER to such a request
+abbrev pub point_answer : Sight → PointRequest → List ℕ
+point_answer s r =
+    point_text (point_made s r).1 (point_made s r).0 ++ break_note s.walker r (point_made s r).0
 
 -- ---- searches
 
@@ -108,7 +119,8 @@ IsGoneIf IsGone s u text = IsGoneBy (has_points s.points) IsGone s u text
 
 -- a search back for what happens, if each slot that it is about has a service; else one stays
 abbrev pub IsGoneUntilBackBy : Bool → Sight → Happening → Sight → List ℕ → Type 0
-IsGoneUntilBackBy true s h u text = (at : Position × List ℕ) × IsLastHappened s.walker h at × IsHalted s at u text
+IsGoneUntilBackBy true s h u text =
+    (at : Position × List ℕ) × IsLastHappened s.walker h at × IsHalted s (at.0, type_note s.walker h ++ at.1) u text
 IsGoneUntilBackBy false s h u text = (u ≡ s) × (text ≡ no_service)
 
 abbrev pub IsGoneUntilBack : Sight → Happening → Sight → List ℕ → Type 0

@@ -35,7 +35,8 @@ use mx_walk::{
 use std::alloc::{AllocError, Global};
 
 /// What a position that isn't there is answered.
-const NO_POSITION: &str = "refused 63 NoPosition\n";
+const NO_POSITION: &str =
+    "refused 63 NoPosition: K is at most the number of records, and J a step of the next one\n";
 
 /// Goes to a position, and answers where that is.
 fn go_to<P: Progress>(

@@ -6,14 +6,14 @@ ghost use Rattle.mx_walk.specs.declared.progress.Part.{Part as Parts};
 ghost use Rattle.mx_walk.specs.Parts.{HasGrown, walk_shown};
 ghost use Rattle.mx_walk.specs.Positions.{first};
 ghost use Rattle.mx_walk.specs.Seeking.{IsLastMarked, IsPassed};
-ghost use Rattle.mx_walk.specs.Walks.{shown_to};
+ghost use Rattle.mx_walk.specs.Walks.{shown_to, world_here};
 ghost use Rattle.mx_app_look.specs.declared.request.Request.TheVariants as requests;
 ghost use Rattle.mx_app_look.specs.Answers.{after, request_text, to_of};
 ghost use Rattle.mx_app_look.specs.Happenings.{is_happening};
 ghost use Rattle.mx_app_look.specs.Searches.{IsLastHappened, not_met};
 ghost use Rattle.mx_app_look.specs.Seeking.{IsGoneUntilBack};
 ghost use Rattle.mx_app_look.specs.Shows.{IsLastShown, IsShownIf};
-ghost use Rattle.mx_app_look.specs.Until.{has_service, has_slots, until_halt};
+ghost use Rattle.mx_app_look.specs.Until.{call_by_digits, has_service, has_slots, is_decimal, is_digits, type_line, type_note, until_halt};
 
 use crate::asked_slot::slot_asked;
 use crate::happening::{Happening, happens};
@@ -23,13 +23,16 @@ use crate::sight::{Sight, say};
 use crate::world_texts::{Placed, push_record_after, see_record};
 use mx_app_failure::Failure;
 use mx_app_step::resting_transition;
-use mx_look::push_record;
+use mx_look::{push_record, request_name};
+use mx_print_report::push_decimal;
+use mx_proc::Rules;
 use mx_walk::{Progress, Walker};
 use mx_word::NoMemory;
-use std::alloc::Global;
+use std::alloc::{AllocError, Global};
 
 /// What a slot that isn't there is answered.
-const NO_SERVICE: &str = "refused 42 NoService\n";
+const NO_SERVICE: &str =
+    "refused 42 NoService: until [back] death SLOT, message FROM TO, error [SLOT] or SLOT TYPE\n";
 
 /// Whether a slot has a service.
 fn has_service(walker: &Walker, slot: u32) -> bool
@@ -50,6 +53,77 @@ fn has_slots(walker: &Walker, happening: Happening) -> bool
         Happening::Delivery(from, to) => has_service(walker, from) && has_service(walker, to),
         Happening::Error(None) => true,
         Happening::Error(Some(slot)) => has_service(walker, slot),
+    }
+}
+
+/// The type of the first kernel call, and the number that has its digits in decimal; and the last such number.
+const FIRST_TYPE: u32 = 0x600;
+
+const FIRST_DIGITS: u32 = 600;
+
+const LAST_DIGITS: u32 = 609;
+
+/// The rules of the machine.
+fn rules_here(walker: &Walker) -> Rules
+    ensures { result ≡ (world_here walker.now).table.rules }
+{
+    walker.machine().rules()
+}
+
+/// The name of the call whose type has these decimal digits, read in hexadecimal; empty if the rules have none.
+fn call_by_digits(rules: Rules, kind: u32) -> &'static [u8]
+    ensures { result.now ≡ call_by_digits rules kind }
+{
+    if kind < FIRST_DIGITS || kind > LAST_DIGITS {
+        return b"";
+    }
+    request_name(rules, kind - FIRST_DIGITS + FIRST_TYPE)
+}
+
+/// Appends that a type is decimal.
+fn push_is_decimal(out: &mut Vec<u8>, kind: u32) -> Result<(), AllocError>
+    ensures { OnOk result (out.new.items ≡ out.old.items ++ is_decimal kind) }
+{
+    out.extend_from_slice(b"type ")?;
+    push_decimal(out, kind)?;
+    out.extend_from_slice(b" is decimal: ")
+}
+
+/// Appends whose these digits are in hexadecimal, and a line's end.
+fn push_is_digits(out: &mut Vec<u8>, kind: u32, name: &[u8]) -> Result<(), AllocError>
+    ensures { OnOk result (out.new.items ≡ out.old.items ++ is_digits kind name.now) }
+{
+    out.extend_from_slice(name)?;
+    out.extend_from_slice(b" is 0x")?;
+    push_decimal(out, kind)?;
+    out.extend_from_slice(b"\n")
+}
+
+/// Appends both if there is a name.
+fn push_type_line(out: &mut Vec<u8>, kind: u32, name: &[u8]) -> Result<(), AllocError>
+    ensures { OnOk result (out.new.items ≡ out.old.items ++ type_line kind name.now) }
+{
+    if name.is_empty() {
+        return Ok(());
+    }
+    push_is_decimal(out, kind)?;
+    push_is_digits(out, kind, name)
+}
+
+/// Appends that the type which is looked for is decimal, if its digits are those of a call's in hexadecimal.
+fn push_type_note(
+    out: &mut Vec<u8>,
+    walker: &Walker,
+    happening: Happening,
+) -> Result<(), AllocError>
+    ensures { OnOk result (out.new.items ≡ out.old.items ++ type_note walker.now happening) }
+{
+    match happening {
+        Happening::Call(_, kind) => {
+            let name = call_by_digits(rules_here(walker), kind);
+            push_type_line(out, kind, name)
+        }
+        _ => Ok(()),
     }
 }
 
@@ -123,6 +197,7 @@ fn go_on_to<P: Progress>(
     ensures grown { IfErr result (λ _. HasGrown (P.shown progress.old) (P.shown progress.new)) }
 {
     let mut text = Vec::new(alloc);
+    push_type_note(&mut text, &sight.walker, happening)?;
     let mut walker = go_on_until(alloc, sight.walker, happening, &mut text, progress)?;
     push_place(alloc, &mut text, &mut walker)?;
     Ok((Sight { walker, ..sight }, text))
@@ -219,6 +294,7 @@ pub(crate) fn go_until_back<P: Progress>(
         return say(alloc, sight, NO_SERVICE);
     }
     let mut text = Vec::new(alloc);
+    push_type_note(&mut text, &sight.walker, happening)?;
     let mut walker = go_back_until(alloc, sight.walker, happening, &mut text, progress)?;
     push_place(alloc, &mut text, &mut walker)?;
     Ok((Sight { walker, ..sight }, text))

@@ -30,6 +30,7 @@ mod session_laws;
 mod showing;
 mod sight;
 mod slot_word;
+mod starts;
 mod until_request;
 mod verb;
 mod watches;

@@ -5,7 +5,7 @@ ghost use Rattle.mx_app_step.specs.Failure.{IsWanting};
 ghost use Rattle.mx_walk.specs.declared.progress.Part.{Part as Parts};
 ghost use Rattle.mx_walk.specs.Parts.{HasGrown};
 ghost use Rattle.mx_app_look.specs.Places.{place_text};
-ghost use Rattle.mx_app_look.specs.Seeking.{IsGoneBack, IsGoneIf, IsGoneOn, breaks_after, has_points, point_made, point_text, points_after, watches_after};
+ghost use Rattle.mx_app_look.specs.Seeking.{IsGoneBack, IsGoneIf, IsGoneOn, break_note, breaks_after, has_points, point_answer, point_made, point_text, points_after, watches_after};
 ghost use Rattle.mx_app_look.specs.Marks.{is_looked_for};
 ghost use Rattle.mx_app_look.specs.Shows.{IsLastShown, IsNextShown, IsShownIf};
 
@@ -15,6 +15,7 @@ use crate::point_request::PointRequest;
 use crate::points::Points;
 use crate::searches::{go_back_to_point, go_on_to_point};
 use crate::sight::{Sight, say};
+use crate::starts::push_break_note;
 use crate::watches::Watch;
 use mx_app_failure::Failure;
 use mx_boot::AddressWord;
@@ -100,6 +101,24 @@ fn push_point(
     }
 }
 
+/// Appends that no instruction begins at a breakpoint that is set, unless one does.
+fn push_note(
+    out: &mut String,
+    walker: &Walker,
+    request: &PointRequest,
+    done: Option<Result<(), Refused>>,
+) -> Result<(), AllocError>
+    ensures { OnOk result (string_bytes out.new ≡ string_bytes out.old
+        ++ break_note walker.now request.now done) }
+{
+    match (request, done) {
+        (PointRequest::Break(slot, address), Some(Ok(()))) => {
+            push_break_note(out, walker, *slot, address)
+        }
+        _ => Ok(()),
+    }
+}
+
 /// Does what a request about what a search halts at asks for, and appends the answer.
 pub(crate) fn perform_point(
     alloc: Global,
@@ -109,13 +128,13 @@ pub(crate) fn perform_point(
     ensures err { IfErr result IsWanting }
     ensures sight { IfOk result (λ r. r.0
         ≡ record sight { points = (point_made sight request.now).1 }) }
-    ensures text { IfOk result (λ r. r.1.items
-        ≡ point_text (point_made sight request.now).1 (point_made sight request.now).0) }
+    ensures text { IfOk result (λ r. r.1.items ≡ point_answer sight request.now) }
 {
     let mut sight = sight;
     let done = set_point(&sight.walker, &mut sight.points, request);
     let mut line = String::new(alloc);
     push_point(&mut line, &sight.points, done)?;
+    push_note(&mut line, &sight.walker, request, done)?;
     Ok((sight, line.into_bytes()))
 }
 

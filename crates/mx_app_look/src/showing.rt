@@ -1,9 +1,9 @@
 //! What is shown of a slot's process.
 
 ghost use Rattle.std.specs.Prelude.{◌≡◌, ◌++◌, OnOk, Some, option_copied, option_map, string_bytes};
-ghost use Rattle.mx_print_answers.specs.Slots.{address_asked, image_in, memory_of, refused_text, registers_of};
+ghost use Rattle.mx_print_answers.specs.Slots.{address_asked, image_in, memory_of, refused_text};
 ghost use Rattle.mx_walk.specs.Walks.{world_here};
-ghost use Rattle.mx_app_look.specs.Showing.{code_at, code_by, code_from, code_next, code_of, dword_line, query_text, stack_by, stack_of, symbol_of_name, symbols_in, value_text, variable_by, variable_text};
+ghost use Rattle.mx_app_look.specs.Showing.{code_at, code_by, code_from, code_next, code_of, dword_line, query_text, registers_by, slot_refused, stack_by, stack_of, symbol_of_name, symbols_in, value_text, variable_by, variable_text};
 ghost use Rattle.mx_app_look.specs.Slots.{slot_asked};
 
 use crate::asked_slot::{address_here, slot_asked};
@@ -13,9 +13,7 @@ use mx_boot::{AddressWord, SymbolName};
 use mx_debug::DebugError;
 use mx_exec::Image;
 use mx_look::{push_code_lines, push_stack, push_variable, variable_named, variable_value};
-use mx_print_answers::{
-    Refused, image_in, push_memory_of, push_process, push_registers_of, symbols_of,
-};
+use mx_print_answers::{Refused, image_in, push_memory_of, push_process, symbols_of};
 use mx_proc::Slot;
 use mx_walk::Walker;
 use std::alloc::{AllocError, Global};
@@ -31,6 +29,24 @@ fn push_refused(text: &mut String, refused: Refused) -> Result<(), AllocError>
     writeln!(text, "{refused}")
 }
 
+/// What is answered if no slot is named, and no process is on the processor whose record is next.
+const NO_SLOT: &str = "refused 61 NotHere: no process is next here: name a SLOT\n";
+
+/// Appends why nothing is shown of a slot that is asked for, or that isn't named.
+fn push_slot_refused(
+    text: &mut String,
+    asked: Option<u32>,
+    refused: Refused,
+) -> Result<(), AllocError>
+    ensures { OnOk result (string_bytes text.new ≡ string_bytes text.old
+        ++ slot_refused asked refused) }
+{
+    match asked {
+        Some(_) => push_refused(text, refused),
+        None => text.push_str(NO_SLOT),
+    }
+}
+
 /// The symbols of the program of a slot's service.
 fn symbols_in(walker: &Walker, slot: Slot) -> &[Symbol]
     ensures { result.now ≡ symbols_in (world_here walker.now) slot }
@@ -39,7 +55,7 @@ fn symbols_in(walker: &Walker, slot: Slot) -> &[Symbol]
 }
 
 /// The process of a slot.
-fn image_here(walker: &Walker, slot: Slot) -> Option<&Image>
+pub(crate) fn image_here(walker: &Walker, slot: Slot) -> Option<&Image>
     ensures { option_map (λ m. m.now) result ≡ image_in (world_here walker.now) slot }
 {
     image_in(walker.machine(), slot)
@@ -48,9 +64,12 @@ fn image_here(walker: &Walker, slot: Slot) -> Option<&Image>
 /// Appends the registers of a slot's process, or why there are none.
 fn push_registers(text: &mut String, walker: &Walker, asked: Option<u32>) -> Result<(), AllocError>
     ensures { OnOk result (string_bytes text.new ≡ string_bytes text.old
-        ++ registers_of (world_here walker.now) (slot_asked walker.now asked)) }
+        ++ registers_by (world_here walker.now) asked (slot_asked walker.now asked)) }
 {
-    push_registers_of(text, walker.machine(), slot_asked(walker, asked))
+    match slot_asked(walker, asked) {
+        Ok(slot) => push_process(text, image_here(walker, slot)),
+        Err(refused) => push_slot_refused(text, asked, refused),
+    }
 }
 
 /// Appends bytes of the process of a slot that is named, or why there are none.
@@ -140,11 +159,11 @@ fn push_code(
     from: &Option<AddressWord>,
 ) -> Result<(), AllocError>
     ensures { OnOk result (string_bytes text.new ≡ string_bytes text.old
-        ++ code_by (world_here walker.now) from.now (slot_asked walker.now asked)) }
+        ++ code_by (world_here walker.now) asked from.now (slot_asked walker.now asked)) }
 {
     match slot_asked(walker, asked) {
         Ok(slot) => push_code_of(text, walker, slot, from),
-        Err(refused) => push_refused(text, refused),
+        Err(refused) => push_slot_refused(text, asked, refused),
     }
 }
 
@@ -172,14 +191,14 @@ fn push_stack_asked(
     count: u32,
 ) -> Result<(), AllocError>
     ensures { OnOk result (string_bytes text.new ≡ string_bytes text.old
-        ++ stack_by (world_here walker.now) count (slot_asked walker.now asked)) }
+        ++ stack_by (world_here walker.now) asked count (slot_asked walker.now asked)) }
 {
     match slot_asked(walker, asked) {
         Ok(slot) => {
             let symbols = symbols_in(walker, slot);
             push_stack_of(text, symbols, image_here(walker, slot), count)
         }
-        Err(refused) => push_refused(text, refused),
+        Err(refused) => push_slot_refused(text, asked, refused),
     }
 }
 

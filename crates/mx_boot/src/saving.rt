@@ -1,6 +1,6 @@
 //! Writes the text of a history to a sink.
 
-ghost use Rattle.std.specs.Prelude.{◌≡◌, ◌≤◌, ◌<◌, ◌+◌, ◌++◌, ◌∷◌, ℕ, List, true, false, length, OnOk, OnErr, codes};
+ghost use Rattle.std.specs.Prelude.{◌≡◌, ◌≤◌, ◌<◌, ◌+◌, ◌++◌, ◌∷◌, [], ℕ, List, true, false, length, OnOk, OnErr, codes};
 ghost use Rattle.std.specs.Fmt.{decimal};
 ghost use Rattle.arrayvec.specs.ArrayVec.{array_vec_len};
 ghost use Rattle.mx_boot.specs.Words.{joined_words};
@@ -73,16 +73,15 @@ fn push_event(line: &mut Line, event: Recorded)
     }
 }
 
-/// The line of a record, with its line feed.
-fn line_of(entry: Record) -> Line
-    ensures { result.items ≡ joined_words (record_words entry) ++ codes "\n" }
+/// Makes an empty line that of a record, with its line feed.
+fn push_record(line: &mut Line, entry: Record)
+    requires { line.old.items ≡ [] }
+    ensures { line.new.items ≡ joined_words (record_words entry) ++ codes "\n" }
 {
-    let mut line = ArrayVec::new();
-    push_number(&mut line, u32::from(entry.actor));
+    push_number(line, u32::from(entry.actor));
     line.push(b' ');
-    push_event(&mut line, entry.event);
+    push_event(line, entry.event);
     line.push(b'\n');
-    line
 }
 
 /// Puts all bytes.
@@ -116,7 +115,9 @@ fn save_records<S: Sink>(records: &[Record], sink: &mut S) -> Result<(), SaveFau
     ensures failed { OnErr result (S.has_failed sink.new ≡ true) }
 {
     for entry in records {
-        put_all(sink, line_of(*entry).as_slice())?;
+        let mut line = ArrayVec::new();
+        push_record(&mut line, *entry);
+        put_all(sink, line.as_slice())?;
     }
     Ok(())
 }

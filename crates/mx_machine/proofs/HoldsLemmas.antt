@@ -32,6 +32,11 @@ out_count-less (Some y ∷ ys) zero x e = refl
 out_count-less (None ∷ ys) (suc a) x e = out_count-less ys a x e
 out_count-less (Some y ∷ ys) (suc a) x e = ap (λ n. suc n) (out_count-less ys a x e)
 
+pub out_count-most : {X : Type 0} (xs : List (Option X)) → out_count xs ≤ length xs
+out_count-most [] = omega arith
+out_count-most (None ∷ ys) = let h = out_count-most ys in omega arith
+out_count-most (Some y ∷ ys) = let h = out_count-most ys in omega arith
+
 -- ---- an event that changes no slot's loan
 
 pub holds_on : (t u : TableState) (ls : List (Option Lease)) (ss : List Service) (r c : ℕ) → IsConsistent t ls ss r c → Keeps t u → Settled u → u.uptime ≤ t.uptime + 1 → WritesAtMostOne t u → 1 ≤ c - (r + out_count ls)

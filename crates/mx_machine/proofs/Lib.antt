@@ -16,6 +16,7 @@ pub mod StepLemmas
 pub mod MachineLemmas
 pub mod RunLemmas
 pub mod DoneLemmas
+pub mod PlaceLemmas
 pub mod RunningLemmas
 pub mod SoundLemmas
 pub mod AgainLemmas

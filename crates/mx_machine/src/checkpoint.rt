@@ -2,6 +2,7 @@
 
 ghost use Rattle.std.specs.Prelude.{◌≡◌, IfOk};
 
+use crate::place::{Place, no_outs};
 use crate::stored::StoredKernel;
 use crate::{Decoded, Kernel, Machine, Out, Record, Service};
 use mx_exec::{CopyFor, copy_image};
@@ -13,7 +14,7 @@ use std::marker::Model;
 /// A contract sees it as the whole machine. It has no cache of decoded instructions.
 pub struct Checkpoint {
     kernel: StoredKernel,
-    outs: [Option<Out>; 8],
+    outs: [Place; 8],
 }
 
 impl Drop for Checkpoint {
@@ -33,32 +34,30 @@ impl Model for Checkpoint {
 }
 
 /// A copy of what a processor holds, if it holds anything. It has no cache.
-fn copy_held(alloc: Global, held: &Option<Out>, purpose: CopyFor) -> Result<Option<Out>, NoMemory>
+fn copy_held(alloc: Global, held: &Place, purpose: CopyFor) -> Result<Place, NoMemory>
     ensures { IfOk result (λ copy. copy ≡ held.now) }
 {
-    let Some(out) = held else {
-        return Ok(None);
-    };
+    if !held.is_held {
+        return Ok(Place::new(alloc));
+    }
+    let out = &held.out;
     let image = copy_image(alloc, &out.image, purpose)?;
-    Ok(Some(Out {
+    let out = Out {
         image,
         budget: out.budget,
         count: out.count,
         stop: out.stop,
         // A cache only makes runs faster, and fills again.
         decoded: Decoded::nothing(),
-    }))
+    };
+    Ok(Place { is_held: true, out })
 }
 
 /// Copies of what the processors hold.
-fn copy_outs(
-    alloc: Global,
-    outs: &[Option<Out>; 8],
-    purpose: CopyFor,
-) -> Result<[Option<Out>; 8], NoMemory>
+fn copy_outs(alloc: Global, outs: &[Place; 8], purpose: CopyFor) -> Result<[Place; 8], NoMemory>
     ensures { IfOk result (λ copies. copies ≡ outs.now) }
 {
-    let mut copies = [None, None, None, None, None, None, None, None];
+    let mut copies = no_outs(alloc);
     for cpu in 0..outs.len() {
         copies[cpu] = copy_held(alloc, &outs[cpu], purpose)?;
     }
@@ -66,17 +65,17 @@ fn copy_outs(
 }
 
 /// Gives a process the cache of its slot, if a processor holds one.
-fn give_cache(kernel: &mut Kernel, cpu: u8, held: &mut Option<Out>)
+fn give_cache(kernel: &mut Kernel, cpu: u8, held: &mut Place)
     ensures kernel { kernel.new ≡ kernel.old }
     ensures held { held.new ≡ held.old }
 {
-    if let Some(out) = held {
-        out.decoded = kernel.lend_cache(cpu);
+    if held.is_held {
+        held.out.decoded = kernel.lend_cache(cpu);
     }
 }
 
 /// Gives each process that a processor holds the cache of its slot.
-fn give_caches(kernel: &mut Kernel, outs: &mut [Option<Out>; 8])
+fn give_caches(kernel: &mut Kernel, outs: &mut [Place; 8])
     ensures kernel { kernel.new ≡ kernel.old }
     ensures outs { outs.new ≡ outs.old }
 {

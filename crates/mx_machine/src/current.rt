@@ -1,6 +1,6 @@
 //! The current state of a kernel, without its history: the table, the leases and the services.
 
-ghost use Rattle.std.specs.Prelude.{◌≡◌, ℕ, ◌+◌, ◌-◌, ◌<◌, ◌≤◌, ◌^◌, ◌==◌, ◌&&◌, true, Some, None, IsSome, IfOk, IfErr, OnOk, is_none, length, slice_get};
+ghost use Rattle.std.specs.Prelude.{◌≡◌, ℕ, ◌+◌, ◌-◌, ◌<◌, ◌≤◌, ◌^◌, ◌==◌, ◌&&◌, true, Some, None, IsSome, Ok, Err, IfOk, IfErr, OnOk, OnErr, is_none, length, slice_get};
 ghost use Rattle.mx_machine.specs.Load.{IsLoadedFrom};
 ghost use Rattle.mx_ipc.specs.Proc.Queues.{first_ready};
 ghost use Rattle.mx_ipc.specs.Proc.Sound.{Sound};
@@ -17,9 +17,7 @@ ghost use Rattle.mx_machine.specs.KernelState.{is_for_all, records_left, refusal
 
 use crate::serving::{come_home, kill, send_out};
 use crate::stored::StoredState;
-use crate::{
-    Answer, Decoded, Event, Lease, Out, Refusal, Service, Stop, is_worn, raise, respawn, tick,
-};
+use crate::{Answer, Event, Lease, Out, Refusal, Service, Stop, is_worn, raise, respawn, tick};
 use mx_exec::CopyFor;
 use mx_ipc::pick;
 use mx_proc::{Endpoint, Slot, Table, endpoint_from};
@@ -185,6 +183,16 @@ impl CurrentState {
         self.capacity as usize - (self.records as usize + count_out(self.leases.as_slice()))
     }
 
+    /// The records that are free even if each processor holds a process: so nobody counts these.
+    fn surely_free(&self) -> usize
+        ensures { result ≤ records_left self.now }
+    {
+        let held = self.processors();
+        (self.capacity as usize)
+            .saturating_sub(self.records as usize)
+            .saturating_sub(held)
+    }
+
     /// Fewer records are free than an event needs.
     fn if_full(&self, needed: usize) -> Result<(), Refusal>
         ensures ok { OnOk result ((if_full (records_left self.now) needed ≡ None)
@@ -192,6 +200,9 @@ impl CurrentState {
         ensures err { IfErr result (λ refusal. if_full (records_left self.now) needed
             ≡ Some refusal) }
     {
+        if self.surely_free() >= needed {
+            return Ok(());
+        }
         if self.free() < needed {
             Err(Refusal::LogFull)
         } else {
@@ -199,9 +210,11 @@ impl CurrentState {
         }
     }
 
-    /// A processor takes the process that is first to run, with nothing decoded.
-    pub(crate) fn take(&mut self, cpu: u8) -> Result<Out, Refusal>
-        ensures { AnswersTake self.old self.new cpu result }
+    /// A processor takes the process that is first to run; `out` becomes what it is lent.
+    pub(crate) fn take(&mut self, cpu: u8, out: &mut Out) -> Result<(), Refusal>
+        ensures ok { OnOk result (AnswersTake self.old self.new cpu (Ok out.new)) }
+        ensures err { IfErr result (λ refusal. AnswersTake self.old self.new cpu (Err refusal)) }
+        ensures same { OnErr result (out.new ≡ out.old) }
     {
         if cpu as usize >= self.processors() {
             return Err(Refusal::CpuBusy);
@@ -214,40 +227,37 @@ impl CurrentState {
         };
         // One record for this Take, and one for its Back. Tested last: a Take with nothing ready is refused as such.
         self.if_full(2)?;
-        Ok(self.take_out(cpu, slot))
+        self.take_out(cpu, slot, out);
+        Ok(())
     }
 
     /// A processor takes a ready process.
-    fn take_out(&mut self, cpu: u8, slot: Slot) -> Out
+    fn take_out(&mut self, cpu: u8, slot: Slot, out: &mut Out)
         requires cpu { cpu < length self.old.leases }
         requires idle { lease_at self.old.leases cpu ≡ None }
         requires slot { slot < length self.old.table.slots }
         requires ready { is_ready (process_at self.old.table slot).state ≡ true }
         requires room { 2 ≤ records_left self.old }
         ensures value { self.new ≡ state_after_take self.old cpu slot }
-        ensures out { result ≡ (held_at_take self.old.table slot).out }
+        ensures out { out.new ≡ (held_at_take self.old.table slot).out }
     {
         let budget = self.table.process(slot).schedule.ticks;
-        let image = send_out(&mut self.table, slot);
+        send_out(&mut self.table, slot, &mut out.image);
         self.leases[cpu as usize] = Some(Lease { slot, budget });
         self.records += 1;
-        Out {
-            image,
-            budget,
-            count: 0,
-            stop: Stop::Spent,
-            decoded: Decoded::nothing(),
-        }
+        out.budget = budget;
+        out.count = 0;
+        out.stop = Stop::Spent;
     }
 
     /// The process that a processor holds comes back.
-    pub(crate) fn come_back(&mut self, cpu: u8, lease: Lease, out: Out)
+    pub(crate) fn come_back(&mut self, cpu: u8, lease: Lease, out: &mut Out)
         requires lease { lease_at self.old.leases cpu ≡ Some lease }
-        requires count { out.count ≤ lease.budget }
+        requires count { out.old.count ≤ lease.budget }
         requires loaded { (v : Service) → slice_get self.old.services lease.slot ≡ Some v
-            → IsLoadedFrom out.image v.program }
-        ensures value { self.new ≡ state_after_back self.old cpu lease.slot out }
-        ensures few { out.count ≤ 65535 }
+            → IsLoadedFrom out.old.image v.program }
+        ensures value { self.new ≡ state_after_back self.old cpu lease.slot out.old }
+        ensures few { out.old.count ≤ 65535 }
     {
         self.table.sound();
         come_home(&mut self.table, lease.slot, out);

@@ -8,6 +8,7 @@ use crate::decoded::Decoded;
 use mx_exec::Image;
 use mx_image::Stop;
 use mx_proc::Slot;
+use std::alloc::Global;
 
 /// A process that is on a processor.
 pub struct Out {
@@ -36,18 +37,15 @@ impl Drop for Out {
 }
 
 impl Out {
-    /// Its image, which goes home. The rest is dropped.
-    pub(crate) fn into_image(self) -> Image
-        ensures { result ≡ self.image }
-    {
-        let Out {
-            image,
-            budget: _,
-            count: _,
-            stop: _,
-            decoded: _,
-        } = self;
-        image
+    /// What is where no process is held: a blank image, without steps. Takes no memory.
+    pub(crate) fn idle(alloc: Global) -> Out {
+        Out {
+            image: Image::blank(alloc),
+            budget: 0,
+            count: 0,
+            stop: Stop::Spent,
+            decoded: Decoded::nothing(),
+        }
     }
 }
 

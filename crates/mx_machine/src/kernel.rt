@@ -139,12 +139,26 @@ impl Kernel {
         ensures err { IfErr result (λ refusal.
             IsEventRefused self.old self.new cpu events.Take refusal) }
     {
+        let mut out = Out::idle(*self.records.allocator());
+        self.take_into(cpu, &mut out)?;
+        Ok(out)
+    }
+
+    /// As `take`, into a place whose old image and cache are dropped.
+    pub(crate) fn take_into(&mut self, cpu: u8, out: &mut Out) -> Result<(), Refusal>
+        ensures ok { OnOk result (IsEventAccepted self.old self.new cpu events.Take recorded.Take) }
+        ensures lent { OnOk result ((l : HeldProcess)
+            × (held_by (replay self.new) cpu ≡ Some l) × (l.out ≡ out.new)) }
+        ensures err { IfErr result (λ refusal.
+            IsEventRefused self.old self.new cpu events.Take refusal) }
+        ensures same { OnErr result (out.new ≡ out.old) }
+    {
         self.present.facts();
-        let mut out = self.present.take(cpu)?;
+        self.present.take(cpu, out)?;
         self.present.facts();
         note(&mut self.records, cpu, Recorded::Take);
         out.decoded = self.caches.lend(self.present.lease(cpu));
-        Ok(out)
+        Ok(())
     }
 
     /// A processor brings back what it was lent, after a run. Answers the steps of the run. The world that
@@ -158,6 +172,21 @@ impl Kernel {
             (with_held (replay self.old) cpu (Some (record l { out = out }))) cpu events.Back }
         ensures found { (l : HeldProcess) → held_by (replay self.old) cpu ≡ Some l
             → IsSound (with_held (replay self.old) cpu (Some (record l { out = out }))) }
+    {
+        self.back_from(cpu, &mut out)
+    }
+
+    /// As `back`, from a place, which stays.
+    pub(crate) fn back_from(&mut self, cpu: u8, out: &mut Out) -> u32
+        requires { (l : HeldProcess) × (held_by (replay self.old) cpu ≡ Some l)
+            × IsBack l.out out.old }
+        ensures count { result ≡ out.old.count }
+        ensures recorded { self.new ≡ with_record self.old cpu (recorded.Back out.old.count) }
+        ensures world { (l : HeldProcess) → held_by (replay self.old) cpu ≡ Some l
+            → replay self.new ≡ world_after_event
+            (with_held (replay self.old) cpu (Some (record l { out = out.old }))) cpu events.Back }
+        ensures found { (l : HeldProcess) → held_by (replay self.old) cpu ≡ Some l
+            → IsSound (with_held (replay self.old) cpu (Some (record l { out = out.old }))) }
     {
         self.present.facts();
         let count = out.count;

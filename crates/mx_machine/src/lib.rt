@@ -38,6 +38,7 @@ mod history;
 mod holding;
 mod kernel;
 mod machine;
+mod place;
 mod replay_laws;
 mod serving;
 mod steps;

@@ -12,17 +12,17 @@ ghost use Rattle.mx_machine.specs.World.{HeldProcess, actors, held_by, out_count
 ghost use Rattle.mx_machine.specs.KernelState.{is_for_all};
 ghost use Rattle.mx_machine.specs.Machine.{AreSound, HasWorked, IsActor, IsMachineState, kept_after, kept_along, world_of};
 
+use crate::place::{Place, no_outs};
 use crate::steps::{Tool, step_held, work_held};
 use crate::{Answer, Endpoint, Event, Kernel, Out, Refusal, Rules, Slot};
 use mx_exec::Image;
 use mx_word::NoMemory;
 use std::marker::Model;
-use std::mem;
 
 /// The machine of one thread: a kernel, and what each of its processors holds.
 pub struct Machine {
     pub(crate) kernel: Kernel,
-    pub(crate) outs: [Option<Out>; 8],
+    pub(crate) outs: [Place; 8],
 }
 
 // A derived drop would be proved again at each way out of each function that has a machine; this one is a call.
@@ -76,10 +76,8 @@ impl Machine {
         ensures world { world_of result ≡ replay kernel }
     {
         kernel.facts();
-        Machine {
-            kernel,
-            outs: [None, None, None, None, None, None, None, None],
-        }
+        let outs = no_outs(*kernel.records.allocator());
+        Machine { kernel, outs }
     }
 
     /// The kernel that the machine drives.
@@ -121,7 +119,7 @@ impl Machine {
         if cpu as usize >= self.outs.len() {
             return None;
         }
-        match &self.outs[cpu as usize] {
+        match self.outs[cpu as usize].held() {
             Some(out) => Some(out),
             None => None,
         }
@@ -182,11 +180,13 @@ impl Machine {
         ensures moved { move (world_of self.old) cpu events.Take ≡ (result, world_of self.new) }
         ensures recorded { self.new.kernel ≡ kept_after self.old.kernel cpu events.Take result }
     {
-        let out = self.kernel.take(cpu)?;
+        self.facts();
+        if cpu as usize >= self.outs.len() {
+            return Err(Refusal::CpuBusy);
+        }
+        let budget = self.outs[cpu as usize].take(&mut self.kernel, cpu)?;
         self.kernel.facts();
-        let answer = Answer::Taken(endpoint_on(&self.kernel, cpu), out.budget);
-        self.outs[cpu as usize] = Some(out);
-        Ok(answer)
+        Ok(Answer::Taken(endpoint_on(&self.kernel, cpu), budget))
     }
 
     /// A processor's process comes back.
@@ -198,8 +198,8 @@ impl Machine {
         if cpu as usize >= self.outs.len() {
             return Err(Refusal::CpuEmpty);
         }
-        match mem::replace(&mut self.outs[cpu as usize], None) {
-            Some(out) => Ok(Answer::Returned(self.kernel.back(cpu, out))),
+        match self.outs[cpu as usize].back(&mut self.kernel, cpu) {
+            Some(count) => Ok(Answer::Returned(count)),
             None => Err(Refusal::CpuEmpty),
         }
     }

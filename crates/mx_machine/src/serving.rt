@@ -14,17 +14,17 @@ use mx_exec::Image;
 use mx_ipc::{TrapAnswer, enqueue, trap};
 use mx_proc::{DeathCause, Slot, State, Table};
 
-/// Moves the image of a ready process out.
+/// Moves the image of a ready process out, into a place whose old image is dropped.
 #[tactic(auto, unfolding(crate::specs::Move::table_after_sending_out), using(crate::proofs::ServingLemmas::is_sent))]
-pub(crate) fn send_out(table: &mut Table, slot: Slot) -> Image
+pub(crate) fn send_out(table: &mut Table, slot: Slot, place: &mut Image)
     requires slot { slot < length table.old.slots }
     requires ready { is_ready (process_at table.old slot).state ≡ true }
     ensures value { table.new ≡ table_after_sending_out table.old slot }
-    ensures image { result ≡ (process_at table.old slot).image }
+    ensures image { place.new ≡ (process_at table.old slot).image }
     ensures sent { IsSent table.old table.new slot }
 {
     table.unqueue(slot);
-    table.lend(slot)
+    table.lend_into(slot, place);
 }
 
 /// A process that has come home traps: its call, or the kernel call that is left to make.
@@ -69,18 +69,19 @@ fn resume(table: &mut Table, slot: Slot, doomed: bool, stop: Stop)
 
 /// Moves an image home, counts its steps, and goes on by its stop.
 #[tactic(auto, unfolding(crate::specs::Move::table_after_coming_home, crate::specs::Move::table_after_back))]
-pub(crate) fn come_home(table: &mut Table, slot: Slot, out: Out)
+pub(crate) fn come_home(table: &mut Table, slot: Slot, out: &mut Out)
     requires slot { slot < length table.old.slots }
     requires out { is_out (process_at table.old slot).state ≡ true }
-    requires ticks { out.count ≤ (process_at table.old slot).schedule.ticks }
-    requires steps { (process_at table.old slot).steps + out.count < 2 ^ 64 }
+    requires ticks { out.old.count ≤ (process_at table.old slot).schedule.ticks }
+    requires steps { (process_at table.old slot).steps + out.old.count < 2 ^ 64 }
     requires room { table.old.devices.console.count + 1 < 2 ^ 32 }
-    ensures value { table.new ≡ table_after_back table.old (record { slot = slot; out = out }) }
-    ensures returned { IsReturned table.old table.new slot out }
+    ensures value { table.new
+        ≡ table_after_back table.old (record { slot = slot; out = out.old }) }
+    ensures returned { IsReturned table.old table.new slot out.old }
 {
     let doomed = matches!(table.process(slot).state, State::Doomed);
     let (count, stop) = (out.count, out.stop);
-    table.take_home(slot, out.into_image());
+    table.take_home_from(slot, &mut out.image);
     table.spend(slot, count);
     resume(table, slot, doomed, stop);
 }

@@ -8,6 +8,7 @@ ghost use Rattle.mx_machine.specs.Held.{held_run, outcome_of_step, out_after_ste
 ghost use Rattle.mx_machine.specs.Move.{at_stop};
 ghost use Rattle.mx_machine.specs.Machine.{hold_after_step};
 
+use crate::place::Place;
 use crate::{Answer, Out, Refusal, Stop};
 use mx_exec::{Outcome, step};
 
@@ -65,27 +66,26 @@ fn step_of(out: &mut Out) -> Result<Answer, Refusal>
 }
 
 /// One step of what a processor holds, if it holds anything.
-pub(crate) fn step_held(held: &mut Option<Out>) -> Result<Answer, Refusal>
+pub(crate) fn step_held(held: &mut Place) -> Result<Answer, Refusal>
     ensures { hold_after_step held.old ≡ (result, held.new) }
 {
-    match held {
-        Some(out) => step_of(out),
-        None => Err(Refusal::CpuEmpty),
+    if held.is_held {
+        step_of(&mut held.out)
+    } else {
+        Err(Refusal::CpuEmpty)
     }
 }
 
 /// Lends what a processor holds to a tool, if it holds anything.
-pub(crate) fn work_held<T: Tool>(tool: &mut T, held: &mut Option<Out>) -> Result<(), Refusal>
+pub(crate) fn work_held<T: Tool>(tool: &mut T, held: &mut Place) -> Result<(), Refusal>
     ensures none { IfErr result (λ refusal. (refusal ≡ CpuEmpty) × (held.old ≡ None)
         × (held.new ≡ None) × (tool.new ≡ tool.old)) }
     ensures some { OnOk result ((o : Out) × (p : Out) × (held.old ≡ Some o) × (held.new ≡ Some p)
         × (p ≡ (held_run (T.steps tool.old o) o).1) × T.Becomes tool.old o tool.new) }
 {
-    match held {
-        Some(out) => {
-            tool.work(out);
-            Ok(())
-        }
-        None => Err(Refusal::CpuEmpty),
+    if !held.is_held {
+        return Err(Refusal::CpuEmpty);
     }
+    tool.work(&mut held.out);
+    Ok(())
 }

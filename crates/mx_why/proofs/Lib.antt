@@ -7,3 +7,12 @@ pub mod Judged
 pub mod PlaceLemmas
 pub mod NoteLemmas
 pub mod AfterLemmas
+pub mod Kept
+pub mod KeptCalls
+pub mod KeptEvents
+pub mod Closing
+pub mod Reaching
+pub mod Staying
+pub mod KernelStaying
+pub mod LostLemmas
+pub mod BegunLemmas

@@ -1,5 +1,5 @@
 -- The notes of records and the calls that they refuse, one record more.
-use Rattle.std.proofs.Common.{◌≡◌, ◌∙◌, ◌<◌, ◌≤◌, ℕ, Bool, ◌+◌, List, [], ◌∷◌, ◌++◌, length, take, get_or, append_assoc, Some, None, ap, sym, subst, arith}
+use Rattle.std.proofs.Common.{Option, ◌≡◌, ◌∙◌, ◌<◌, ◌≤◌, ℕ, Bool, ◌+◌, List, [], ◌∷◌, ◌++◌, length, take, get_or, append_assoc, Some, None, ap, sym, subst, arith}
 use Rattle.std.proofs.lemmas.List.{append-nil, take_more, take_all, length-take-le}
 use Rattle.mx_machine.specs.declared.history.Record.{Record}
 use Rattle.mx_machine.specs.History.{AreAccepted, world_after_events, events_of, events_of_history}
@@ -12,12 +12,12 @@ use Rattle.mx_app_start.specs.Service.{Service}
 use Rattle.mx_machine.specs.declared.events.Refusal.{Refusal}
 use Rattle.mx_machine.specs.Boot.{world_at_boot}
 use Rattle.mx_why.specs.Seeing.{end_of}
-use Rattle.mx_why.specs.Telling.{IsNoted, IsWhyPrinted, lines_text}
+use Rattle.mx_why.specs.Telling.{IsNoted, IsWhyPrinted, told_marked, told_text}
+use Rattle.mx_turns.specs.declared.outside.OutsideLine.{OutsideLine}
 use Rattle.mx_why.specs.declared.failed_calls.FailedCall.{FailedCall}
 use Rattle.mx_why.specs.declared.notes.Note.{Note}
 use Rattle.mx_why.specs.declared.telling.Told.{Told}
 use Rattle.mx_why.specs.declared.telling.Told.TheVariants.{Whole, Refused}
-use Rattle.mx_why.specs.Marks.{is_marked}
 use Rattle.mx_why.specs.FailedCalls.{counted_in, failed_calls, failed_from}
 use Rattle.mx_why.specs.Noting.{notes_from, notes_of, notes_of_records}
 use Rattle.mx_why.specs.RefusedRecords.{refused_record_text}
@@ -85,27 +85,27 @@ all_noted w u records i ns cs over accepted world noted failed =
       failed ∙ ap (λ (rs : List Record). failed_calls w rs) all,
     )
 
-pub why_printed : (Prints : List ℕ → Type 0) (c d : Config) (vs : List Service) (records slice : List Record) (w : World) (how : Told)
-    → slice ≡ take 4294967295 records → w ≡ world_at_boot c vs → d ≡ c → IsWhyPrinted w slice d how Prints
-    → IsWhyPrinted (world_at_boot c vs) (take 4294967295 records) c how Prints
-why_printed Prints c d vs records slice w how same e is h =
-    subst (λ (b : Config). IsWhyPrinted (world_at_boot c vs) (take 4294967295 records) b how Prints) is
-    (subst (λ (v : World). IsWhyPrinted v (take 4294967295 records) d how Prints) e (subst (λ (rs : List Record). IsWhyPrinted w rs d how Prints) same h))
+pub why_printed : (Prints : List ℕ → Type 0) (c d : Config) (vs : List Service) (records slice : List Record) (w : World) (said lines : List (Option OutsideLine)) (how : Told)
+    → slice ≡ take 4294967295 records → w ≡ world_at_boot c vs → d ≡ c → lines ≡ said → IsWhyPrinted w slice d lines how Prints
+    → IsWhyPrinted (world_at_boot c vs) (take 4294967295 records) c said how Prints
+why_printed Prints c d vs records slice w said lines how same e is alike h =
+    subst (λ (ls : List (Option OutsideLine)). IsWhyPrinted (world_at_boot c vs) (take 4294967295 records) c ls how Prints) alike
+    (subst (λ (b : Config). IsWhyPrinted (world_at_boot c vs) (take 4294967295 records) b lines how Prints) is
+    (subst (λ (v : World). IsWhyPrinted v (take 4294967295 records) d lines how Prints) e (subst (λ (rs : List Record). IsWhyPrinted w rs d lines how Prints) same h)))
 
-pub lines_printed : (Prints : List ℕ → Type 0) (c : Config) (w u : World) (records : List Record) (ns slice : List Note) (cs calls : List FailedCall) (count : ℕ) (marked : Bool)
-    → slice ≡ ns → calls ≡ cs → count ≡ length records
-    → IsNoted w u records None ns cs → marked ≡ is_marked c (end_of u) slice count → Prints (lines_text c (end_of u) slice calls count)
-    → IsWhyPrinted w records c (Whole marked) Prints
-lines_printed Prints c w u records ns slice cs calls count marked same alike many (accepted, world, noted, failed) mark h = (
+pub lines_printed : (Prints : List ℕ → Type 0) (c : Config) (w u : World) (records : List Record) (ns slice : List Note) (cs calls : List FailedCall) (said : List (Option OutsideLine)) (marked : Bool)
+    → slice ≡ ns → calls ≡ cs
+    → IsNoted w u records None ns cs → marked ≡ told_marked c (end_of u) slice records said → Prints (told_text c (end_of u) slice calls records said)
+    → IsWhyPrinted w records c said (Whole marked) Prints
+lines_printed Prints c w u records ns slice cs calls said marked same alike (accepted, world, noted, failed) mark h = (
   accepted,
-  mark ∙ ap (λ (ms : List Note). is_marked c (end_of u) ms count) (same ∙ noted) ∙ ap (λ n. is_marked c (end_of u) (notes_of_records w records) n) many
-      ∙ ap (λ (v : World). is_marked c (end_of v) (notes_of_records w records) (length records)) world,
-  subst (λ (v : World). Prints (lines_text c (end_of v) (notes_of_records w records) (failed_calls w records) (length records))) world
-      (subst (λ n. Prints (lines_text c (end_of u) (notes_of_records w records) (failed_calls w records) n)) many
-      (subst (λ (ds : List FailedCall). Prints (lines_text c (end_of u) (notes_of_records w records) ds count)) (alike ∙ failed)
-      (subst (λ (ms : List Note). Prints (lines_text c (end_of u) ms calls count)) (same ∙ noted) h))),
+  mark ∙ ap (λ (ms : List Note). told_marked c (end_of u) ms records said) (same ∙ noted)
+      ∙ ap (λ (v : World). told_marked c (end_of v) (notes_of_records w records) records said) world,
+  subst (λ (v : World). Prints (told_text c (end_of v) (notes_of_records w records) (failed_calls w records) records said)) world
+      (subst (λ (ds : List FailedCall). Prints (told_text c (end_of u) (notes_of_records w records) ds records said)) (alike ∙ failed)
+      (subst (λ (ms : List Note). Prints (told_text c (end_of u) ms calls records said)) (same ∙ noted) h)),
 )
 
-pub refusal_printed : (Prints : List ℕ → Type 0) (c : Config) (w u : World) (records : List Record) (ns : List Note) (cs : List FailedCall) (n : ℕ) (r : Refusal)
-    → IsNoted w u records (Some (n, r)) ns cs → Prints (refused_record_text records n r) → IsWhyPrinted w records c Refused Prints
-refusal_printed Prints c w u records ns cs n r refused h = (n, r, refused, h)
+pub refusal_printed : (Prints : List ℕ → Type 0) (c : Config) (w u : World) (records : List Record) (ns : List Note) (cs : List FailedCall) (said : List (Option OutsideLine)) (n : ℕ) (r : Refusal)
+    → IsNoted w u records (Some (n, r)) ns cs → Prints (refused_record_text records n r) → IsWhyPrinted w records c said Refused Prints
+refusal_printed Prints c w u records ns cs said n r refused h = (n, r, refused, h)

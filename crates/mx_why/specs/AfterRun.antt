@@ -10,20 +10,25 @@ use Rattle.mx_machine.specs.declared.history.Recorded.{Recorded}
 use Rattle.mx_machine.specs.declared.history.Recorded.TheVariants as recorded
 use Rattle.mx_machine.specs.History.{AreAccepted, events_of_history}
 use Rattle.mx_machine.specs.World.{World}
+use Rattle.mx_turns.specs.declared.outside.OutsideLine.{OutsideLine}
 use Rattle.mx_why.specs.declared.after_run.AfterRun.{AfterRun}
 use Rattle.mx_why.specs.declared.after_run.AfterRun.TheVariants as after
 use Rattle.mx_why.specs.declared.deaths.Death.{Death}
 use Rattle.mx_why.specs.declared.notes.Note.{Note}
+use Rattle.mx_why.specs.declared.outside.LostLine.{LostLine}
 use Rattle.mx_why.specs.declared.seats.End.{End}
+use Rattle.mx_why.specs.Begun.{FileNames}
 use Rattle.mx_why.specs.Busy.{busy, busy_lines}
 use Rattle.mx_why.specs.Deaths.{deaths}
 use Rattle.mx_why.specs.Endings.{death_text, ending, ending_by}
 use Rattle.mx_why.specs.Lines.{idle_text, waits_text}
 use Rattle.mx_why.specs.Marks.{is_faulted, is_marked}
 use Rattle.mx_why.specs.Noting.{notes_of_records}
+use Rattle.mx_why.specs.Outside.{lost_lines, outside_text}
 use Rattle.mx_why.specs.Telling.{end_after}
 use Rattle.mx_why.specs.Unfit.{unfit}
 use Rattle.mx_why.specs.UnfitLines.{unfit_lines}
+use Rattle.mx_why.specs.Unheard.{unheard, unheard_lines}
 use Rattle.mx_why.specs.Verdicts.{verdicts}
 
 -- ---- the lines with a mark, but for the first
@@ -45,14 +50,14 @@ fault_lines e ns = flat_map (fault_line e ns) (deaths ns)
 unfoldable pub idle_if_at_rest : End → List Note → List ℕ
 idle_if_at_rest e ns = if e.at_rest then idle_text e ns else []
 
-unfoldable pub marked_lines : Config → End → List Note → List ℕ
-marked_lines c e ns =
-    waits_text e ns (verdicts e) true ++ busy_lines e (busy e ns) ++ fault_lines e ns ++ idle_if_at_rest e ns
-    ++ unfit_lines c (unfit c e)
+unfoldable pub marked_lines : Config → End → List Note → List LostLine → List ℕ
+marked_lines c e ns os =
+    waits_text e ns (verdicts e) true ++ unheard_lines e ns (unheard e ns) ++ busy_lines e (busy e ns)
+    ++ fault_lines e ns ++ outside_text e os ++ idle_if_at_rest e ns ++ unfit_lines c (unfit c e)
 
 -- of a machine that has done nothing there are none
-unfoldable pub marked_if_any : Config → End → List Note → ℕ → List ℕ
-marked_if_any c e ns n = if n == 0 then [] else marked_lines c e ns
+unfoldable pub marked_if_any : Config → End → List Note → List LostLine → ℕ → List ℕ
+marked_if_any c e ns os n = if n == 0 then [] else marked_lines c e ns os
 
 -- ---- the line
 
@@ -64,35 +69,42 @@ up_to text (Some i) = take i text
 abbrev pub first_line : List ℕ → List ℕ
 first_line text = up_to text (position (λ b. b == 10) text)
 
+-- the file of outside events, if one is named
+abbrev pub events_word : Option (List ℕ) → List ℕ
+events_word None = []
+events_word (Some name) = codes " --events " ++ name
+
 -- the words that show all
-unfoldable pub command_text : List ℕ → List ℕ → List ℕ
-command_text config log = codes " more: mx why " ++ config ++ codes " " ++ log
+unfoldable pub command_text : FileNames → List ℕ
+command_text f = codes " more: mx why " ++ f.config ++ codes " " ++ f.log ++ events_word f.events
 
 -- how many lines more than one there are, and how to see them
-unfoldable pub more_text : ℕ → List ℕ → List ℕ → List ℕ
-more_text k config log =
-    if nat_le k 1 then [] else codes "; " ++ decimal (k - 1) ++ command_text config log
+unfoldable pub more_text : ℕ → FileNames → List ℕ
+more_text k f = if nat_le k 1 then [] else codes "; " ++ decimal (k - 1) ++ command_text f
 
-unfoldable pub told_marks : List ℕ → List ℕ → List ℕ → List ℕ
-told_marks lines config log =
+unfoldable pub told_marks : List ℕ → FileNames → List ℕ
+told_marks lines f =
     if length lines == 0 then [] else
-    codes "; " ++ first_line lines ++ more_text (count_by (λ b. b == 10) lines) config log
+    codes "; " ++ first_line lines ++ more_text (count_by (λ b. b == 10) lines) f
 
 -- by the lines with a mark, of a history of n records
-unfoldable pub line_after : Config → End → List ℕ → ℕ → List ℕ → List ℕ → List ℕ
-line_after c e lines n config log =
-    codes "mx: " ++ ending_by e n c.log (ending e n c.log) ++ told_marks lines config log ++ codes "\n"
+unfoldable pub line_after : Config → End → List ℕ → ℕ → FileNames → List ℕ
+line_after c e lines n f =
+    codes "mx: " ++ ending_by e n c.log (ending e n c.log) ++ told_marks lines f ++ codes "\n"
 
 -- WHAT IS TOLD OF A HISTORY of n records: nothing, if it has no mark
-unfoldable pub line_if_marked : Config → End → List Note → ℕ → List ℕ → List ℕ → Option (List ℕ)
-line_if_marked c e ns n config log =
-    if is_marked c e ns n then Some (line_after c e (marked_if_any c e ns n) n config log) else None
+unfoldable pub line_if_marked : Config → End → List Note → List LostLine → ℕ → FileNames → Option (List ℕ)
+line_if_marked c e ns os n f =
+    if is_marked c e ns os n then Some (line_after c e (marked_if_any c e ns os n) n f) else None
+
+-- of these records, and of a file of outside events whose lines say this
+abbrev pub line_told : Config → End → List Note → List Record → List (Option OutsideLine) → FileNames → Option (List ℕ)
+line_told c e ns records said f = line_if_marked c e ns (lost_lines c e records said) (length records) f
 
 -- WHAT IS TOLD OF RECORDS, by the names of their files: of a history of which one is refused nothing
-abbrev pub IsToldOf : World → List Record → Config → List ℕ → List ℕ → Option (List ℕ) → Type 0
-IsToldOf w records c config log line =
-    (AreAccepted w (events_of_history records)
-    × (line ≡ line_if_marked c (end_after w records) (notes_of_records w records) (length records) config log))
+abbrev pub IsToldOf : World → List Record → Config → List (Option OutsideLine) → FileNames → Option (List ℕ) → Type 0
+IsToldOf w records c said f line =
+    (AreAccepted w (events_of_history records) × (line ≡ line_told c (end_after w records) (notes_of_records w records) records said f))
     ⊎ ((n : ℕ) × (r : Refusal) × IsRefusedAt w records n r × (line ≡ None))
 
 -- ---- histories that aren't run again unasked
@@ -107,9 +119,9 @@ abbrev pub are_many : List Record → Bool
 are_many records = nat_lt 20000 (length records) || nat_lt 10000000 (sum_by (λ (x : Record). steps_of x.event) records)
 
 -- WHAT IS TOLD OF A HISTORY: of many records nothing is known, unless all are to be made
-abbrev pub IsToldWithin : Bool → World → List Record → Config → List ℕ → List ℕ → AfterRun → Type 0
-IsToldWithin all w records c config log after.Unknown = (not all && are_many records) ≡ true
-IsToldWithin all w records c config log after.Nothing =
-    ((not all && are_many records) ≡ false) × IsToldOf w records c config log None
-IsToldWithin all w records c config log (after.Line line) =
-    ((not all && are_many records) ≡ false) × IsToldOf w records c config log (Some line.items)
+abbrev pub IsToldWithin : Bool → World → List Record → Config → List (Option OutsideLine) → FileNames → AfterRun → Type 0
+IsToldWithin all w records c said f after.Unknown = (not all && are_many records) ≡ true
+IsToldWithin all w records c said f after.Nothing =
+    ((not all && are_many records) ≡ false) × IsToldOf w records c said f None
+IsToldWithin all w records c said f (after.Line line) =
+    ((not all && are_many records) ≡ false) × IsToldOf w records c said f (Some line.items)

@@ -1,25 +1,24 @@
 -- WHO COMPUTES WITHOUT A CALL at the end of a history (our own).
-use Rattle.std.specs.Prelude.{ℕ, ◌==◌, ◌&&◌, nat_lt, nat_le, if◌then◌else◌, Bool, true, false, List, [], ◌++◌, codes, count_by, filter, map, Option, Some, None, is_some, slice_index_or}
+use Rattle.std.specs.Prelude.{ℕ, ◌==◌, ◌&&◌, ◌||◌, nat_lt, nat_le, if◌then◌else◌, Bool, true, false, List, [], ◌++◌, codes, count_by, filter, map, Option, Some, None, is_some, slice_index_or}
 use Rattle.std.specs.Fmt.{decimal}
 use Rattle.std.specs.List.{flat_map, range_with_len}
 use Rattle.mx_why.specs.declared.busy.Pace.{Pace}
 use Rattle.mx_why.specs.declared.ends.Unfinished.TheVariants.{Running}
 use Rattle.mx_why.specs.declared.notes.Deed.{Deed}
-use Rattle.mx_why.specs.declared.notes.Deed.TheVariants.{Respawned, Called, Spent}
+use Rattle.mx_why.specs.declared.notes.Deed.TheVariants.{Respawned, Spent}
 use Rattle.mx_why.specs.declared.notes.Note.{Note}
 use Rattle.mx_why.specs.declared.seats.End.{End}
 use Rattle.mx_why.specs.Endings.{is_listed}
 use Rattle.mx_why.specs.Lines.{left_out_text}
-use Rattle.mx_why.specs.Notes.{is_died, last_number}
+use Rattle.mx_why.specs.Notes.{is_call, is_died, last_number}
 use Rattle.mx_why.specs.Reasons.{slot_text}
 
 -- ---- since when, and how long
 
 -- a call, a death and a new process each begin the count anew
 abbrev pub is_start : Deed → Bool
-is_start Called = true
 is_start Respawned = true
-is_start d = is_died d
+is_start d = is_call d || is_died d
 
 abbrev pub is_spent : Deed → Bool
 is_spent Spent = true

@@ -2,6 +2,7 @@ pub mod Seats
 pub mod Seeing
 pub mod Waiting
 pub mod Verdicts
+pub mod Never
 pub mod Notes
 pub mod Noting
 pub mod Deaths
@@ -11,7 +12,11 @@ pub mod FailedCalls
 pub mod Lines
 pub mod Endings
 pub mod Busy
+pub mod Unheard
 pub mod FailedLines
+pub mod EventFiles
+pub mod Begun
+pub mod Outside
 pub mod Unfit
 pub mod UnfitLines
 pub mod Checking

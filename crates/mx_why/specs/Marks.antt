@@ -8,11 +8,14 @@ use Rattle.mx_why.specs.declared.ends.Ending.TheVariants.{Nothing, Rest, Full, O
 use Rattle.mx_why.specs.declared.notes.Deed.{Deed}
 use Rattle.mx_why.specs.declared.notes.Deed.TheVariants.{Faulted}
 use Rattle.mx_why.specs.declared.notes.Note.{Note}
+use Rattle.mx_why.specs.declared.outside.LostLine.{LostLine}
 use Rattle.mx_why.specs.declared.seats.End.{End}
 use Rattle.mx_why.specs.Busy.{busy, is_busy}
 use Rattle.mx_why.specs.Endings.{ending}
 use Rattle.mx_why.specs.Lines.{is_idle, is_said}
+use Rattle.mx_why.specs.Outside.{has_lost}
 use Rattle.mx_why.specs.Unfit.{unfit}
+use Rattle.mx_why.specs.Unheard.{is_unheard, unheard}
 use Rattle.mx_why.specs.Verdicts.{verdicts}
 
 -- the history has no room, or it has nothing
@@ -25,6 +28,10 @@ is_marked_end Open = false
 -- somebody waits for ever
 unfoldable pub has_never : End → Bool
 has_never e = not (count_by (is_said (verdicts e) true) (range_with_len 0 32) == 0)
+
+-- somebody isn't heard
+unfoldable pub has_unheard : End → List Note → Bool
+has_unheard e ns = not (count_by (is_unheard (unheard e ns)) (range_with_len 0 32) == 0)
 
 -- somebody computes without a call
 unfoldable pub has_busy : End → List Note → Bool
@@ -47,7 +54,7 @@ unfoldable pub has_unfit : Config → End → Bool
 has_unfit c e = not (length (unfit c e) == 0)
 
 -- A HISTORY of n records HAS A MARK
-unfoldable pub is_marked : Config → End → List Note → ℕ → Bool
-is_marked c e ns n =
+unfoldable pub is_marked : Config → End → List Note → List LostLine → ℕ → Bool
+is_marked c e ns os n =
     is_marked_end (ending e n c.log)
-    || (has_never e || (has_busy e ns || (has_faulted ns || (has_idle e ns || has_unfit c e))))
+    || (has_never e || (has_unheard e ns || (has_busy e ns || (has_faulted ns || (has_lost os || (has_idle e ns || has_unfit c e))))))

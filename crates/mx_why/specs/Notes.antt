@@ -2,7 +2,7 @@
 use Rattle.std.specs.Prelude.{ℕ, ◌==◌, ◌&&◌, Bool, true, false, List, [], ◌∷◌, filter}
 use Rattle.std.specs.List.{list_any}
 use Rattle.mx_why.specs.declared.notes.Deed.{Deed}
-use Rattle.mx_why.specs.declared.notes.Deed.TheVariants.{Taken, Changed, Killed, Faulted, Respawned}
+use Rattle.mx_why.specs.declared.notes.Deed.TheVariants.{Taken, Changed, Killed, Faulted, Respawned, Called, Received, Missed}
 use Rattle.mx_why.specs.declared.notes.Note.{Note}
 
 abbrev pub is_taken : Deed → Bool
@@ -21,6 +21,13 @@ abbrev pub is_died : Deed → Bool
 is_died Killed = true
 is_died Faulted = true
 is_died _ = false
+
+-- a call
+abbrev pub is_call : Deed → Bool
+is_call Called = true
+is_call Received = true
+is_call Missed = true
+is_call _ = false
 
 abbrev pub is_respawned : Deed → Bool
 is_respawned Respawned = true

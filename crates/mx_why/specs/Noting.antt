@@ -1,5 +1,5 @@
 -- THE NOTES that are taken of a history: what became of its slots, record by record (our own).
-use Rattle.std.specs.Prelude.{ℕ, ◌+◌, ◌==◌, nat_le, false, if◌then◌else◌, Bool, List, [], ◌∷◌, ◌++◌, codes, Option, Some, None}
+use Rattle.std.specs.Prelude.{ℕ, ◌+◌, ◌==◌, ◌&&◌, ◌||◌, not, nat_le, false, if◌then◌else◌, Bool, List, [], ◌∷◌, ◌++◌, codes, Option, Some, None}
 use Rattle.std.specs.List.{flat_map, range_with_len}
 use Rattle.mx_image.specs.declared.runs.Stop.{Stop}
 use Rattle.mx_image.specs.declared.runs.Stop.TheVariants as stop
@@ -19,14 +19,15 @@ use Rattle.mx_look.specs.declared.reasons.FaultReason.{FaultReason}
 use Rattle.mx_look.specs.declared.reasons.FaultReason.TheVariants.{Outside}
 use Rattle.mx_look.specs.declared.slot_glances.SlotGlance.{SlotGlance}
 use Rattle.mx_look.specs.declared.transition.Transition.{Transition}
+use Rattle.mx_look.specs.Calls.{asks_kernel}
 use Rattle.mx_look.specs.Doings.{is_down}
 use Rattle.mx_look.specs.FaultLines.{fault_text}
-use Rattle.mx_look.specs.Going.{acting, is_acted}
+use Rattle.mx_look.specs.Going.{acting, gone_on, is_acted}
 use Rattle.mx_look.specs.Slots.{has_changed}
 use Rattle.mx_look.specs.Transition.{about, fault_in, held_before, slot_in}
 use Rattle.mx_app_step.specs.Traces.{transition_of}
 use Rattle.mx_why.specs.declared.notes.Deed.{Deed}
-use Rattle.mx_why.specs.declared.notes.Deed.TheVariants.{Taken, Changed, Killed, Faulted, Respawned, Called, Spent}
+use Rattle.mx_why.specs.declared.notes.Deed.TheVariants.{Taken, Changed, Killed, Faulted, Respawned, Called, Received, Missed, Spent}
 use Rattle.mx_why.specs.declared.notes.Note.{Note}
 
 -- a note of a record
@@ -128,9 +129,21 @@ spent_by h _ = false
 abbrev pub has_spent : CpuGlance → Bool
 has_spent h = spent_by h h.stop
 
+-- a call takes a message: RECEIVE, which is 2, or SENDREC, 3, to another process
+abbrev pub takes_message : CpuGlance → Bool
+takes_message h = (h.image.ecx == 2) || ((h.image.ecx == 3) && not (asks_kernel h))
+
+abbrev pub is_error : Option ℕ → Bool
+is_error None = false
+is_error (Some r) = not (r == 0)
+
+-- what a note of a call is of
+abbrev pub call_deed : Transition → CpuGlance → Deed
+call_deed x h = if takes_message h then (if is_error (gone_on x h.slot) then Missed else Received) else Called
+
 abbrev pub return_of : Transition → CpuGlance → List Note
 return_of x h =
-    if is_acted x h.slot then noted x h.slot Called [] ∷ [] else
+    if is_acted x h.slot then noted x h.slot (call_deed x h) [] ∷ [] else
     if has_spent h then noted x h.slot Spent [] ∷ [] else
     []
 

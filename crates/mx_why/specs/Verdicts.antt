@@ -1,6 +1,5 @@
 -- WHAT IS SAID OF A SLOT whose process waits: whether it can ever go on (our own). One that never does
--- is meant to go on by no events, unless a process is killed, from outside or by a kernel call. That is
--- tested: no law says it, but for machines at rest in which nobody owns a line or has an alarm.
+-- goes on by no events, unless a process is killed, from outside or by a kernel call: a law says it (`Never`).
 use Rattle.std.specs.Prelude.{ℕ, ◌-◌, ◌==◌, ◌&&◌, not, nat_le, if◌then◌else◌, Bool, true, false, List, [], ◌∷◌, length, map, Option, Some, None, is_none, slice_get}
 use Rattle.std.specs.List.{range_with_len, list_any, list_all}
 use Rattle.mx_print_report.specs.declared.doing.Awaited.{Awaited}

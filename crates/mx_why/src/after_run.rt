@@ -1,44 +1,38 @@
 //! What is told after a run: how it ended, and the first line of `mx why` that has a mark.
 
-ghost use Rattle.std.specs.Prelude.{◌≡◌, ◌<◌, ◌^◌, ◌++◌, ◌==◌, ◌&&◌, List, All, IfErr, IfOk, OnOk, count_by, length, not, option_map, position, take, true};
+ghost use Rattle.std.specs.Prelude.{◌≡◌, ◌<◌, ◌^◌, ◌++◌, ◌==◌, ◌&&◌, List, All, IfErr, IfOk, OnOk, Option, count_by, length, not, option_map, position, take, true};
 ghost use Rattle.std.specs.List.{flat_map, sum_by};
 ghost use Rattle.mx_app_start.specs.Machine.{world_of};
 ghost use Rattle.mx_app_start.specs.Asked.{Asked};
 ghost use Rattle.mx_app_start.specs.Config.{Config};
-ghost use Rattle.mx_app_start.specs.Course.{IsSaved, TellsSaved};
-ghost use Rattle.mx_app_start.specs.Failure.{IsWanting};
 ghost use Rattle.mx_app_start.specs.Service.{Service};
-ghost use Rattle.mx_app_start.specs.Setup.{IsStart};
-ghost use Rattle.mx_app_start.specs.Telling.{IsTold};
 ghost use Rattle.mx_machine.specs.declared.history.Record.{Record as Noted};
 ghost use Rattle.mx_machine.specs.Boot.{world_at_boot};
 ghost use Rattle.mx_machine.specs.World.{actors};
-ghost use Rattle.mx_why.specs.AfterRun.{IsToldOf, IsToldWithin, are_many, command_text, fault_line, fault_lines, first_line, idle_if_at_rest, is_fault, line_after, line_if_marked, marked_if_any, marked_lines, more_text, steps_of, told_marks};
+ghost use Rattle.mx_turns.specs.declared.outside.OutsideLine.{OutsideLine as Event};
+ghost use Rattle.mx_why.specs.AfterRun.{IsToldOf, IsToldWithin, are_many, command_text, events_word, fault_line, fault_lines, first_line, idle_if_at_rest, is_fault, line_after, line_if_marked, line_told, marked_if_any, marked_lines, more_text, steps_of, told_marks};
+ghost use Rattle.mx_why.specs.Begun.{IsBegun, IsUntold, names_of};
 ghost use Rattle.mx_why.specs.Deaths.{deaths};
 ghost use Rattle.mx_why.specs.Lines.{waits_text};
 ghost use Rattle.mx_why.specs.Seeing.{end_of};
 ghost use Rattle.mx_why.specs.Verdicts.{verdicts};
 
+use crate::begun::{HistoryNames, begin};
 use crate::deaths::{Death, deaths_of};
 use crate::ends::{ending_of, push_death, push_ending_by};
 use crate::lines::{push_idle, push_waits};
 use crate::marks::{is_faulted, is_marked};
 use crate::notes::Note;
+use crate::outside::{LostLine, lost_lines, push_outside};
 use crate::seats::End;
 use crate::seeing::end_of;
-use crate::telling::{note_records, push_busy_lines, push_lacking_lines};
+use crate::telling::{note_records, push_busy_lines, push_lacking_lines, push_unheard_lines};
 use crate::verdicts::verdicts_on;
-use mx_app_step::{Failure, History, Reader, first_records, start};
+use mx_app_step::{Failure, Reader, first_records};
 use mx_machine::{Config, Machine, Record, Recorded};
 use mx_print_report::push_long;
+use mx_turns::OutsideLine;
 use std::alloc::{AllocError, Global};
-
-/// The files of a run: what `mx why` is called with.
-#[derive(Clone, Copy)]
-pub struct HistoryNames<'a> {
-    pub config: &'a str,
-    pub log: &'a str,
-}
 
 /// What is told after a run.
 #[derive(Drop)]
@@ -165,13 +159,16 @@ fn push_marked_lines(
     config: &Config,
     end: &End,
     notes: &[Note],
+    lost: &[LostLine],
 ) -> Result<(), AllocError>
     ensures { OnOk result (out.new.items ≡ out.old.items
-        ++ marked_lines config.now end.now notes.now) }
+        ++ marked_lines config.now end.now notes.now lost.now) }
 {
     push_never(out, alloc, end, notes)?;
+    push_unheard_lines(out, end, notes)?;
     push_busy_lines(out, end, notes)?;
     push_faults(out, alloc, end, notes)?;
+    push_outside(out, end, lost)?;
     push_idle_at_rest(out, end, notes)?;
     push_lacking_lines(out, alloc, config, end)
 }
@@ -183,16 +180,17 @@ fn marked_lines(
     config: &Config,
     end: &End,
     notes: &[Note],
+    lost: &[LostLine],
     records: usize,
 ) -> Result<Vec<u8>, AllocError>
     ensures { IfOk result (λ lines. lines.items
-        ≡ marked_if_any config.now end.now notes.now records) }
+        ≡ marked_if_any config.now end.now notes.now lost.now records) }
 {
     let mut lines = Vec::new(alloc);
     if records == 0 {
         return Ok(lines);
     }
-    push_marked_lines(&mut lines, alloc, config, end, notes)?;
+    push_marked_lines(&mut lines, alloc, config, end, notes, lost)?;
     Ok(lines)
 }
 
@@ -227,23 +225,37 @@ fn count_lines(text: &[u8]) -> usize
     text.iter().filter(|byte| ends_line(**byte)).count()
 }
 
+/// Appends the words that name the file of outside events, if one is named.
+fn push_events(out: &mut Vec<u8>, events: Option<&str>) -> Result<(), AllocError>
+    ensures { OnOk result (out.new.items ≡ out.old.items
+        ++ events_word (option_map (λ s. s.now) events.entry)) }
+{
+    match events {
+        Some(name) => {
+            out.extend_from_slice(b" --events ")?;
+            out.extend_from_slice(name.as_bytes())
+        }
+        None => Ok(()),
+    }
+}
+
 /// Appends the words that show all lines.
 #[tactic(auto, unfolding(crate::specs::AfterRun::command_text))]
-fn push_command(out: &mut Vec<u8>, names: HistoryNames<'_>) -> Result<(), AllocError>
-    ensures { OnOk result (out.new.items ≡ out.old.items
-        ++ command_text names.entry.config.now names.entry.log.now) }
+pub fn push_command(out: &mut Vec<u8>, names: HistoryNames<'_>) -> Result<(), AllocError>
+    ensures { OnOk result (out.new.items ≡ out.old.items ++ command_text (names_of names.entry)) }
 {
     out.extend_from_slice(b" more: mx why ")?;
     out.extend_from_slice(names.config.as_bytes())?;
     out.extend_from_slice(b" ")?;
-    out.extend_from_slice(names.log.as_bytes())
+    out.extend_from_slice(names.log.as_bytes())?;
+    push_events(out, names.events)
 }
 
 /// Appends how many lines more there are, and how to see them.
 #[tactic(auto, unfolding(crate::specs::AfterRun::more_text))]
 fn push_more(out: &mut Vec<u8>, count: usize, names: HistoryNames<'_>) -> Result<(), AllocError>
     ensures { OnOk result (out.new.items ≡ out.old.items
-        ++ more_text count names.entry.config.now names.entry.log.now) }
+        ++ more_text count (names_of names.entry)) }
 {
     if count <= 1 {
         return Ok(());
@@ -257,7 +269,7 @@ fn push_more(out: &mut Vec<u8>, count: usize, names: HistoryNames<'_>) -> Result
 #[tactic(auto, unfolding(crate::specs::AfterRun::told_marks))]
 fn push_marks(out: &mut Vec<u8>, lines: &[u8], names: HistoryNames<'_>) -> Result<(), AllocError>
     ensures { OnOk result (out.new.items ≡ out.old.items
-        ++ told_marks lines.now names.entry.config.now names.entry.log.now) }
+        ++ told_marks lines.now (names_of names.entry)) }
 {
     if lines.is_empty() {
         return Ok(());
@@ -279,8 +291,7 @@ fn push_line_after(
     names: HistoryNames<'_>,
 ) -> Result<(), AllocError>
     ensures { OnOk result (out.new.items ≡ out.old.items
-        ++ line_after config.now end.now lines.now records names.entry.config.now
-        names.entry.log.now) }
+        ++ line_after config.now end.now lines.now records (names_of names.entry)) }
 {
     out.extend_from_slice(b"mx: ")?;
     push_ending_by(
@@ -298,23 +309,49 @@ fn push_line_after(
 fn line_if_marked(
     alloc: Global,
     config: &Config,
-    machine: &Machine,
+    end: &End,
     notes: &[Note],
+    lost: &[LostLine],
     records: usize,
     names: HistoryNames<'_>,
 ) -> Result<Option<Vec<u8>>, AllocError>
     ensures { IfOk result (λ line. option_map (λ l. l.items) line
-        ≡ line_if_marked config.now (end_of (world_of machine.now)) notes.now records
-        names.entry.config.now names.entry.log.now) }
+        ≡ line_if_marked config.now end.now notes.now lost.now records (names_of names.entry)) }
 {
-    let end = end_of(machine);
-    if !is_marked(alloc, config, &end, notes, records)? {
+    if !is_marked(alloc, config, end, notes, lost, records)? {
         return Ok(None);
     }
-    let lines = marked_lines(alloc, config, &end, notes, records)?;
+    let lines = marked_lines(alloc, config, end, notes, lost, records)?;
     let mut line = Vec::new(alloc);
-    push_line_after(&mut line, config, &end, lines.as_slice(), records, names)?;
+    push_line_after(&mut line, config, end, lines.as_slice(), records, names)?;
     Ok(Some(line))
+}
+
+/// What is told of a machine that has made these records, with a file of outside events whose lines say this.
+fn line_told(
+    alloc: Global,
+    config: &Config,
+    machine: &Machine,
+    notes: &[Note],
+    records: &[Record],
+    said: &[Option<OutsideLine>],
+    names: HistoryNames<'_>,
+) -> Result<Option<Vec<u8>>, AllocError>
+    ensures { IfOk result (λ line. option_map (λ l. l.items) line
+        ≡ line_told config.now (end_of (world_of machine.now)) notes.now records.now said.now
+        (names_of names.entry)) }
+{
+    let end = end_of(machine);
+    let lost = lost_lines(alloc, config, &end, records, said)?;
+    line_if_marked(
+        alloc,
+        config,
+        &end,
+        notes,
+        lost.as_slice(),
+        records.len(),
+        names,
+    )
 }
 
 /// Makes records, and answers what is told of them.
@@ -323,22 +360,24 @@ fn line_of(
     config: &Config,
     machine: &mut Machine,
     records: &[Record],
+    said: &[Option<OutsideLine>],
     names: HistoryNames<'_>,
 ) -> Result<Option<Vec<u8>>, AllocError>
     requires few { length records.now < 2 ^ 32 }
     requires actors { All (λ (x : Noted). x.actor < actors (world_of machine.old)) records.now }
-    ensures { IfOk result (λ line. IsToldOf (world_of machine.old) records.now config.now
-        names.entry.config.now names.entry.log.now (option_map (λ l. l.items) line)) }
+    ensures { IfOk result (λ line. IsToldOf (world_of machine.old) records.now config.now said.now
+        (names_of names.entry) (option_map (λ l. l.items) line)) }
 {
     let mut notes = Vec::new(alloc);
     let mut calls = Vec::new(alloc);
     match note_records(machine, records, &mut notes, &mut calls)? {
-        None => line_if_marked(
+        None => line_told(
             alloc,
             config,
             machine,
             notes.as_slice(),
-            records.len(),
+            records,
+            said,
             names,
         ),
         Some(_) => Ok(None),
@@ -358,18 +397,19 @@ fn told_within(
     config: &Config,
     machine: &mut Machine,
     records: &[Record],
+    said: &[Option<OutsideLine>],
     names: HistoryNames<'_>,
     all: bool,
 ) -> Result<AfterRun, AllocError>
     requires few { length records.now < 2 ^ 32 }
     requires actors { All (λ (x : Noted). x.actor < actors (world_of machine.old)) records.now }
     ensures { IfOk result (λ told. IsToldWithin all (world_of machine.old) records.now config.now
-        names.entry.config.now names.entry.log.now told) }
+        said.now (names_of names.entry) told) }
 {
     if are_left_out(records, all) {
         return Ok(AfterRun::Unknown);
     }
-    match line_of(alloc, config, machine, records, names)? {
+    match line_of(alloc, config, machine, records, said, names)? {
         Some(line) => Ok(AfterRun::Line(line)),
         None => Ok(AfterRun::Nothing),
     }
@@ -384,21 +424,23 @@ pub fn line_after_run<R: Reader>(
     all: bool,
 ) -> Result<AfterRun, Failure>
     ensures told { IfOk result (λ told. (qs : List Asked) × (c : Config) × (vs : List Service)
-        × (records : List Noted) × (R.asked reader.new ≡ R.asked reader.old ++ qs)
-        × IsStart IsSaved names.entry.config.now names.entry.log.now qs c vs records
-        × IsToldWithin all (world_at_boot c vs) (take 4294967295 records) c names.entry.config.now
-        names.entry.log.now told) }
+        × (records : List Noted) × (said : List (Option Event))
+        × (R.asked reader.new ≡ R.asked reader.old ++ qs)
+        × IsBegun (names_of names.entry) qs c vs records said
+        × IsToldWithin all (world_at_boot c vs) (take 4294967295 records) c said
+        (names_of names.entry) told) }
     ensures fault { IfErr result (λ f. (qs : List Asked)
         × (R.asked reader.new ≡ R.asked reader.old ++ qs)
-        × IsTold IsSaved TellsSaved names.entry.config.now names.entry.log.now qs f) }
+        × IsUntold (names_of names.entry) qs f) }
 {
-    let mut started = start::<History, R>(alloc, reader, names.config, names.log)?;
-    let records = first_records(started.lines.as_slice(), u32::MAX);
+    let mut begun = begin(alloc, reader, names)?;
+    let records = first_records(begun.started.lines.as_slice(), u32::MAX);
     let told = told_within(
         alloc,
-        &started.config,
-        &mut started.machine,
+        &begun.started.config,
+        &mut begun.started.machine,
         records,
+        begun.said.as_slice(),
         names,
         all,
     )?;

@@ -6,7 +6,7 @@ ghost use Rattle.mx_why.specs.Busy.{budgets_spent, busy, busy_at, busy_line_at, 
 
 use crate::ends::{Unfinished, is_listed};
 use crate::lines::{MOST_LINES, push_left_out};
-use crate::notes::{Deed, Note, is_died};
+use crate::notes::{Deed, Note, is_call, is_died};
 use crate::reasons::push_slot;
 use crate::seats::End;
 use mx_print_report::{push_counted, push_long};
@@ -28,7 +28,7 @@ const LEAST_SPENT: usize = 2;
 fn is_start(deed: Deed) -> bool
     ensures { result ≡ is_start deed }
 {
-    matches!(deed, Deed::Called | Deed::Respawned) || is_died(deed)
+    is_call(deed) || matches!(deed, Deed::Respawned) || is_died(deed)
 }
 
 /// Whether the process of a slot computes anew from a note on.
@@ -80,7 +80,7 @@ fn pace_of(notes: &[Note], slot: u32) -> Pace
 
 /// How long the process of a slot has computed without a call, if it is one that is told.
 #[tactic(auto, unfolding(crate::specs::Busy::busy_at))]
-fn busy_at(end: &End, notes: &[Note], slot: u32) -> Option<Pace>
+pub(crate) fn busy_at(end: &End, notes: &[Note], slot: u32) -> Option<Pace>
     ensures { result ≡ busy_at end.now notes.now slot }
 {
     if !is_listed(end, Unfinished::Running, slot) {

@@ -1,14 +1,16 @@
 //! Which histories have a mark: a line that no right machine has.
 
 ghost use Rattle.std.specs.Prelude.{◌≡◌, IfOk};
-ghost use Rattle.mx_why.specs.Marks.{has_busy, has_faulted, has_idle, has_never, has_unfit, is_faulted, is_marked, is_marked_end};
+ghost use Rattle.mx_why.specs.Marks.{has_busy, has_faulted, has_idle, has_never, has_unfit, has_unheard, is_faulted, is_marked, is_marked_end};
 
 use crate::busy::{busy_of, count_busy};
 use crate::ends::{Ending, ending_of};
 use crate::lines::{count_idle, count_said};
 use crate::notes::{Deed, Note};
+use crate::outside::{LostLine, has_lost};
 use crate::seats::End;
 use crate::unfit::unfit_by;
+use crate::unheard::{count_unheard, unheard_of};
 use crate::verdicts::verdicts_on;
 use mx_machine::Config;
 use std::alloc::{AllocError, Global};
@@ -27,6 +29,14 @@ fn has_never(alloc: Global, end: &End) -> Result<bool, AllocError>
 {
     let said = verdicts_on(alloc, end)?;
     Ok(count_said(&said, true, 32) != 0)
+}
+
+/// Whether somebody isn't heard.
+#[tactic(auto, unfolding(crate::specs::Marks::has_unheard))]
+fn has_unheard(end: &End, notes: &[Note]) -> bool
+    ensures { result ≡ has_unheard end.now notes.now }
+{
+    count_unheard(&unheard_of(end, notes), 32) != 0
 }
 
 /// Whether somebody computes without a call.
@@ -75,17 +85,21 @@ pub(crate) fn is_marked(
     config: &Config,
     end: &End,
     notes: &[Note],
+    lost: &[LostLine],
     records: usize,
 ) -> Result<bool, AllocError>
-    ensures { IfOk result (λ marked. marked ≡ is_marked config.now end.now notes.now records) }
+    ensures { IfOk result (λ marked. marked
+        ≡ is_marked config.now end.now notes.now lost.now records) }
 {
     let never = has_never(alloc, end)?;
     let unfit = has_unfit(alloc, config, end)?;
     Ok(
         is_marked_end(ending_of(end, records, config.log))
             || never
+            || has_unheard(end, notes)
             || has_busy(end, notes)
             || has_faulted(notes)
+            || has_lost(lost)
             || has_idle(end, notes)
             || unfit,
     )

@@ -1,7 +1,7 @@
 //! Notes of what became of the slots in a history, and what they tell.
 
 ghost use Rattle.std.specs.Prelude.{◌≡◌};
-ghost use Rattle.mx_why.specs.Notes.{has_run, is_change_of, is_changed, is_died, is_respawn_of, is_respawned, is_take_of, is_taken, since};
+ghost use Rattle.mx_why.specs.Notes.{has_run, is_call, is_change_of, is_changed, is_died, is_respawn_of, is_respawned, is_take_of, is_taken, since};
 
 use std::marker::Model;
 
@@ -18,8 +18,12 @@ pub enum Deed {
     Faulted,
     /// The slot has a new process.
     Respawned,
-    /// The process makes a call: its trap is acted.
+    /// The process makes a call that takes no message: its trap is acted.
     Called,
+    /// It makes one that takes a message: RECEIVE, or SENDREC to another process.
+    Received,
+    /// It makes such a one, and is refused.
+    Missed,
     /// It comes back with its budget spent.
     Spent,
 }
@@ -84,6 +88,13 @@ pub(crate) fn is_died(deed: Deed) -> bool
     ensures { result ≡ is_died deed }
 {
     matches!(deed, Deed::Killed | Deed::Faulted)
+}
+
+/// Whether this is a call.
+pub(crate) fn is_call(deed: Deed) -> bool
+    ensures { result ≡ is_call deed }
+{
+    matches!(deed, Deed::Called | Deed::Received | Deed::Missed)
 }
 
 /// Whether a note is that a slot has a new process.

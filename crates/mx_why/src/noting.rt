@@ -1,12 +1,17 @@
 //! Taking notes of a transition.
 
 ghost use Rattle.std.specs.Prelude.{◌≡◌, ◌++◌, ◌∷◌, [], OnOk};
-ghost use Rattle.mx_why.specs.Noting.{change_note, change_notes, deed_of, died_text, has_spent, noted, notes_of, of_change, of_down, return_note, return_of, take_note};
+ghost use Rattle.mx_look.specs.Going.{gone_on};
+ghost use Rattle.mx_why.specs.Noting.{call_deed, change_note, change_notes, deed_of, died_text, has_spent, is_error, noted, notes_of, of_change, of_down, return_note, return_of, take_note, takes_message};
 
 use crate::notes::{Deed, Note, NoteText};
 use crate::place::push_death;
+use crate::waiting::{RECEIVE, SENDREC};
 use mx_image::Stop;
-use mx_look::{CpuGlance, Transition, about, has_changed, held_before, is_acted, is_down, slot_in};
+use mx_look::{
+    CpuGlance, Transition, about, asks_kernel, gone_on, has_changed, held_before, is_acted,
+    is_down, slot_in,
+};
 use mx_machine::Recorded;
 use mx_print_report::Doing;
 use mx_proc::DeathCause;
@@ -146,6 +151,36 @@ fn has_spent(held: &CpuGlance) -> bool
     matches!(held.stop, Stop::Spent) && held.budget <= held.count
 }
 
+/// Whether a call takes a message: RECEIVE, or SENDREC to another process.
+fn takes_message(held: &CpuGlance) -> bool
+    ensures { result ≡ takes_message held.now }
+{
+    held.image.ecx == RECEIVE || held.image.ecx == SENDREC && !asks_kernel(held)
+}
+
+/// Whether the process of a slot has gone on with an error.
+fn is_error(transition: &Transition, slot: u32) -> bool
+    ensures { result ≡ is_error (gone_on transition.now slot) }
+{
+    match gone_on(transition, slot) {
+        Some(result) => result != 0,
+        None => false,
+    }
+}
+
+/// What a note of a call is of.
+fn call_deed(transition: &Transition, held: &CpuGlance) -> Deed
+    ensures { result ≡ call_deed transition.now held.now }
+{
+    if !takes_message(held) {
+        Deed::Called
+    } else if is_error(transition, u32::from(held.slot)) {
+        Deed::Missed
+    } else {
+        Deed::Received
+    }
+}
+
 /// Appends the note of how a process comes back, if it makes a call or its budget is spent.
 fn push_return_of(
     notes: &mut Vec<Note>,
@@ -157,7 +192,7 @@ fn push_return_of(
 {
     let slot = u32::from(held.slot);
     if is_acted(transition, slot) {
-        push_bare(notes, transition, slot, Deed::Called)
+        push_bare(notes, transition, slot, call_deed(transition, held))
     } else if has_spent(held) {
         push_bare(notes, transition, slot, Deed::Spent)
     } else {

@@ -1,29 +1,30 @@
 //! What became of a saved history, from files' names to the lines.
 
-ghost use Rattle.std.specs.Prelude.{◌≡◌, ◌<◌, ◌≤◌, ◌^◌, ◌++◌, ◌⊎◌, [], List, All, IfOk, IfErr, IfSome, OnOk, false, length, take, true};
+ghost use Rattle.std.specs.Prelude.{◌≡◌, ◌<◌, ◌≤◌, ◌^◌, ◌++◌, ◌⊎◌, [], List, All, IfOk, IfErr, IfSome, OnOk, Option, false, length, take, true};
 ghost use Rattle.std.specs.Io.KnownBytes.{Appends};
 ghost use Rattle.mx_app_start.specs.Failure.{IsWanting, PrintsFront};
 ghost use Rattle.mx_app_start.specs.Machine.{world_of};
 ghost use Rattle.mx_app_start.specs.Service.{Service};
 ghost use Rattle.mx_app_start.specs.Config.{Config};
 ghost use Rattle.mx_app_start.specs.Asked.{Asked};
-ghost use Rattle.mx_app_start.specs.Course.{IsSaved, TellsSaved};
-ghost use Rattle.mx_app_start.specs.Setup.{IsStart};
-ghost use Rattle.mx_app_start.specs.Telling.{IsTold, PrintsBefore};
 ghost use Rattle.mx_machine.specs.declared.history.Record.{Record as Noted};
 ghost use Rattle.mx_machine.specs.Boot.{world_at_boot};
 ghost use Rattle.mx_machine.specs.World.{actors};
+ghost use Rattle.mx_turns.specs.declared.outside.OutsideLine.{OutsideLine as Event};
+ghost use Rattle.mx_why.specs.Begun.{IsBegun, IsUntold, names_of};
 ghost use Rattle.mx_why.specs.Deaths.{deaths};
 ghost use Rattle.mx_why.specs.Endings.{deaths_text};
 ghost use Rattle.mx_why.specs.Busy.{busy, busy_lines};
 ghost use Rattle.mx_why.specs.Lines.{idle_text, waits_text};
 ghost use Rattle.mx_why.specs.Marks.{is_marked};
 ghost use Rattle.mx_why.specs.Seeing.{end_of};
-ghost use Rattle.mx_why.specs.Telling.{IsNoted, IsWhyBegun, IsWhyPrinted, later_lines, lines_text};
+ghost use Rattle.mx_why.specs.Telling.{IsNoted, IsWhyBegun, IsWhyPrinted, later_lines, lines_text, told_marked, told_text};
 ghost use Rattle.mx_why.specs.Unfit.{unfit};
 ghost use Rattle.mx_why.specs.UnfitLines.{unfit_lines};
+ghost use Rattle.mx_why.specs.Unheard.{unheard, unheard_lines};
 ghost use Rattle.mx_why.specs.Verdicts.{verdicts};
 
+use crate::begun::{HistoryNames, begin};
 use crate::busy::{busy_of, push_busy};
 use crate::deaths::deaths_of;
 use crate::ends::{push_deaths, push_ending};
@@ -33,16 +34,17 @@ use crate::lines::{push_idle, push_waits};
 use crate::marks::is_marked;
 use crate::notes::Note;
 use crate::noting::push_notes;
+use crate::outside::{LostLine, lost_lines, push_outside};
 use crate::refused_record::print_refused_record;
 use crate::seats::End;
 use crate::seeing::end_of;
 use crate::unfit::unfit_by;
 use crate::unfit_lines::push_unfit_lines;
+use crate::unheard::{push_unheard, unheard_of};
 use crate::verdicts::verdicts_on;
-use mx_app_step::{
-    Failure, History, Reader, first_records, look_record, print_text, resting_transition, start,
-};
+use mx_app_step::{Failure, Reader, first_records, look_record, print_text, resting_transition};
 use mx_machine::{Config, Machine, Record, Refusal};
+use mx_turns::OutsideLine;
 use std::alloc::{AllocError, Global};
 use std::io::Write;
 
@@ -101,6 +103,19 @@ fn push_waiting_lines(
     push_waits(out, end, notes, &said, false)
 }
 
+/// Appends the lines of those that aren't heard.
+pub(crate) fn push_unheard_lines(
+    out: &mut Vec<u8>,
+    end: &End,
+    notes: &[Note],
+) -> Result<(), AllocError>
+    ensures { OnOk result (out.new.items ≡ out.old.items
+        ++ unheard_lines end.now notes.now (unheard end.now notes.now)) }
+{
+    let found = unheard_of(end, notes);
+    push_unheard(out, end, notes, &found)
+}
+
 /// Appends the lines of deaths.
 fn push_death_lines(
     out: &mut Vec<u8>,
@@ -151,14 +166,17 @@ fn push_later(
     end: &End,
     notes: &[Note],
     calls: &[FailedCall],
+    lost: &[LostLine],
 ) -> Result<(), AllocError>
     ensures { OnOk result (out.new.items ≡ out.old.items
-        ++ later_lines config.now end.now notes.now calls.now) }
+        ++ later_lines config.now end.now notes.now calls.now lost.now) }
 {
     push_waiting_lines(out, alloc, end, notes)?;
+    push_unheard_lines(out, end, notes)?;
     push_busy_lines(out, end, notes)?;
     push_death_lines(out, alloc, end, notes)?;
     push_failed_lines(out, end, calls)?;
+    push_outside(out, end, lost)?;
     push_idle(out, end, notes)?;
     push_lacking_lines(out, alloc, config, end)
 }
@@ -172,62 +190,69 @@ fn push_lines(
     end: &End,
     notes: &[Note],
     calls: &[FailedCall],
+    lost: &[LostLine],
     records: usize,
 ) -> Result<(), AllocError>
     ensures { OnOk result (out.new.items ≡ out.old.items
-        ++ lines_text config.now end.now notes.now calls.now records) }
+        ++ lines_text config.now end.now notes.now calls.now lost.now records) }
 {
     push_ending(out, end, records, config.log)?;
     if records == 0 {
         return Ok(());
     }
-    push_later(out, alloc, config, end, notes, calls)
+    push_later(out, alloc, config, end, notes, calls, lost)
 }
 
-/// Prints all lines of a machine that has made so many records, of which these are the notes and the refused calls.
-/// Answers whether one has a mark.
+/// Prints all lines of a machine that has made these records, of which these are the notes and the refused calls, with
+/// a file of outside events whose lines say this. Answers whether one has a mark.
 fn print_lines<W: Write>(
     alloc: Global,
     config: &Config,
     machine: &Machine,
     notes: &[Note],
     calls: &[FailedCall],
-    records: usize,
+    records: &[Record],
+    said: &[Option<OutsideLine>],
     out: &mut W,
 ) -> Result<bool, Failure>
     ensures err { IfErr result IsWanting }
     ensures front { IfErr result (λ _. PrintsFront
         (λ front. Appends (W.contents out.old) (W.contents out.new) front)
-        (lines_text config.now (end_of (world_of machine.now)) notes.now calls.now records)) }
+        (told_text config.now (end_of (world_of machine.now)) notes.now calls.now records.now said.now)) }
     ensures bytes { OnOk result (Appends (W.contents out.old) (W.contents out.new)
-        (lines_text config.now (end_of (world_of machine.now)) notes.now calls.now records)) }
+        (told_text config.now (end_of (world_of machine.now)) notes.now calls.now records.now said.now)) }
     ensures marked { IfOk result (λ marked. marked
-        ≡ is_marked config.now (end_of (world_of machine.now)) notes.now records) }
+        ≡ told_marked config.now (end_of (world_of machine.now)) notes.now records.now said.now) }
 {
     let end = end_of(machine);
+    let found = lost_lines(alloc, config, &end, records, said)?;
+    let lost = found.as_slice();
+    let count = records.len();
     let mut text = Vec::new(alloc);
-    push_lines(&mut text, alloc, config, &end, notes, calls, records)?;
-    let marked = is_marked(alloc, config, &end, notes, records)?;
+    push_lines(&mut text, alloc, config, &end, notes, calls, lost, count)?;
+    let marked = is_marked(alloc, config, &end, notes, lost, count)?;
     print_text(text.as_slice(), out)?;
     Ok(marked)
 }
 
-/// Makes records and prints the lines. At an event that is refused it prints which record it is of, and the refusal.
+/// Makes records, which a file of outside events has led to whose lines say this, and prints the lines. At an event that
+/// is refused it prints which record it is of, and the refusal.
 fn print_history<W: Write>(
     alloc: Global,
     config: &Config,
     machine: &mut Machine,
     records: &[Record],
+    said: &[Option<OutsideLine>],
     out: &mut W,
 ) -> Result<Told, Failure>
     requires few { length records.now < 2 ^ 32 }
     requires actors { All (λ (x : Noted). x.actor < actors (world_of machine.old)) records.now }
     ensures err { IfErr result IsWanting }
     ensures begun { IfErr result (λ _. Appends (W.contents out.old) (W.contents out.new) []
-        ⊎ IsWhyBegun (world_of machine.old) records.now config.now (λ text.
+        ⊎ IsWhyBegun (world_of machine.old) records.now config.now said.now (λ text.
         Appends (W.contents out.old) (W.contents out.new) text)) }
     ensures printed { IfOk result (λ told.
-        IsWhyPrinted (world_of machine.old) records.now config.now told (λ text.
+        IsWhyPrinted (world_of machine.old) records.now config.now said.now told (λ text.
         Appends (W.contents out.old) (W.contents out.new) text)) }
 {
     let mut notes = Vec::new(alloc);
@@ -236,7 +261,7 @@ fn print_history<W: Write>(
         None => {
             let noted = notes.as_slice();
             let counted = calls.as_slice();
-            let marked = print_lines(alloc, config, machine, noted, counted, records.len(), out)?;
+            let marked = print_lines(alloc, config, machine, noted, counted, records, said, out)?;
             Ok(Told::Whole(marked))
         }
         Some((number, refusal)) => {
@@ -247,30 +272,39 @@ fn print_history<W: Write>(
 }
 
 /// Starts the machine of a saved history, makes its records (of more than 4,294,967,295 the first), and
-/// prints what became of it. At an event that is refused it prints which record it is of, and the refusal. Before a failure a front of this is printed; nothing, if no machine is started.
+/// prints what became of it, and which lines of the file of outside events were refused, if one is named. At an event
+/// that is refused it prints which record it is of, and the refusal. Before a failure a front of this is printed; nothing,
+/// if no machine is started.
 pub fn why<R: Reader, W: Write>(
     alloc: Global,
     reader: &mut R,
-    config: &str,
-    log: &str,
+    names: HistoryNames<'_>,
     out: &mut W,
 ) -> Result<Told, Failure>
     ensures printed { IfOk result (λ told. (qs : List Asked) × (c : Config)
-        × (vs : List Service) × (records : List Noted)
+        × (vs : List Service) × (records : List Noted) × (said : List (Option Event))
         × (R.asked reader.new ≡ R.asked reader.old ++ qs)
-        × IsStart IsSaved config.now log.now qs c vs records
-        × IsWhyPrinted (world_at_boot c vs) (take 4294967295 records) c told (λ text.
+        × IsBegun (names_of names.entry) qs c vs records said
+        × IsWhyPrinted (world_at_boot c vs) (take 4294967295 records) c said told (λ text.
         Appends (W.contents out.old) (W.contents out.new) text)) }
     ensures fault { IfErr result (λ f. (qs : List Asked)
         × (R.asked reader.new ≡ R.asked reader.old ++ qs)
-        × IsTold IsSaved TellsSaved config.now log.now qs f) }
-    ensures begun { IfErr result (λ _. PrintsBefore IsSaved config.now log.now
-        (R.asked reader.old) (R.asked reader.new)
-        (λ text. Appends (W.contents out.old) (W.contents out.new) text)
-        (λ c vs records. IsWhyBegun (world_at_boot c vs) (take 4294967295 records) c
-        (λ text. Appends (W.contents out.old) (W.contents out.new) text))) }
+        × IsUntold (names_of names.entry) qs f) }
+    ensures begun { IfErr result (λ _. Appends (W.contents out.old) (W.contents out.new) []
+        ⊎ ((qs : List Asked) × (c : Config) × (vs : List Service) × (records : List Noted)
+        × (said : List (Option Event)) × (R.asked reader.new ≡ R.asked reader.old ++ qs)
+        × IsBegun (names_of names.entry) qs c vs records said
+        × IsWhyBegun (world_at_boot c vs) (take 4294967295 records) c said (λ text.
+        Appends (W.contents out.old) (W.contents out.new) text))) }
 {
-    let mut started = start::<History, R>(alloc, reader, config, log)?;
-    let records = first_records(started.lines.as_slice(), u32::MAX);
-    print_history(alloc, &started.config, &mut started.machine, records, out)
+    let mut begun = begin(alloc, reader, names)?;
+    let records = first_records(begun.started.lines.as_slice(), u32::MAX);
+    print_history(
+        alloc,
+        &begun.started.config,
+        &mut begun.started.machine,
+        records,
+        begun.said.as_slice(),
+        out,
+    )
 }

@@ -1,19 +1,20 @@
-use Rattle.std.proofs.Common.{◌≡◌, ◌∙◌, ℕ, List, [], ◌++◌, Option, None, Some, Ok, ap, refl, subst, sym}
+use Rattle.std.proofs.Common.{◌≡◌, ◌∙◌, List, [], ◌++◌, Option, None, Some, Ok, ap, refl, subst, sym}
 use Rattle.std.specs.Prelude.{option_map}
 use Rattle.std.proofs.lemmas.List.{append-nil}
 use Rattle.mx_app_db.specs.Asked.{Asked}
 use Rattle.mx_why.specs.declared.after_run.AfterRun.TheVariants as after
-use Rattle.mx_app.specs.AfterRun.{TellsAfter, made_by, names_of}
+use Rattle.mx_why.specs.Begun.{FileNames, names_of}
+use Rattle.mx_app.specs.AfterRun.{TellsAfter, made_by}
 use Rattle.mx_app.proofs.Afterwards.{tells}
 use Rattle.mx_app.proofs.after_run.told_after.Goals as goal
 
 pub returns-in-Some : goal.returns-in-Some
 returns-in-Some g c =
     let is : Some (names_of c.in-Some.names) ≡ made_by c.args.request = ap (option_map names_of) (sym c.in-Some.is) ∙ c.made_by.ensures in
-    subst (λ (m : Option (List ℕ × List ℕ)). (qs : List Asked) × (g.R.Reader.asked c.line_after_run.new.reader ≡ g.R.Reader.asked c.args.reader.now ++ qs) × TellsAfter c.args.strict m qs c.line_after_run.result) is
-    (tells c.args.strict _ _ c.in-Some.names.config.now c.in-Some.names.log.now c.line_after_run.result c.line_after_run.ensures.told c.line_after_run.ensures.fault)
+    subst (λ (m : Option FileNames). (qs : List Asked) × (g.R.Reader.asked c.line_after_run.new.reader ≡ g.R.Reader.asked c.args.reader.now ++ qs) × TellsAfter c.args.strict m qs c.line_after_run.result) is
+    (tells c.args.strict _ _ (names_of c.in-Some.names) c.line_after_run.result c.line_after_run.ensures.told c.line_after_run.ensures.fault)
 
 pub returns-in-None : goal.returns-in-None
 returns-in-None g c =
     let is : None ≡ made_by c.args.request = ap (option_map names_of) (sym c.in-None.is) ∙ c.made_by.ensures in
-    ([], sym (append-nil _), subst (λ (m : Option (List ℕ × List ℕ)). TellsAfter c.args.strict m [] (Ok after.Nothing)) is (refl, refl))
+    ([], sym (append-nil _), subst (λ (m : Option FileNames). TellsAfter c.args.strict m [] (Ok after.Nothing)) is (refl, refl))

@@ -1,5 +1,6 @@
 use Rattle.std.proofs.Common.{◌∙◌, ap, is_some, nat_lt, Option, refl}
 use Rattle.std.specs.Prelude.{option_map}
+use Rattle.mx_why.specs.Begun.{file_names}
 use Rattle.mx_app_command.specs.declared.command_line.CommandRequest.TheVariants.{Step}
 use Rattle.mx_app_program.specs.One.{IsPrinted}
 use Rattle.mx_app_program.specs.Shown.{IsListingOf, IsShown}
@@ -103,7 +104,7 @@ pub returns-in-Why-clause-done : goal.returns-in-Why-clause-done
 returns-in-Why-clause-done g c =
     as_asked (g.P.SharedProgress.was_shown c.args.io.now.progress) c.args.io.now.asks _ _ _ _ _ _ c.args.request
     (as_known _ _ _ _ _ _ _ _ c.in-Why.is
-    (whys _ _ _ c.in-Why.config.now c.in-Why.log.now _ _ c.in-Why.strict c.why.result c.done_after_why.result c.why.ensures.printed c.why.ensures.fault c.done_after_why.ensures))
+    (whys _ _ _ (file_names c.in-Why.config.now c.in-Why.log.now (option_map (λ s. s.now) c.in-Why.events)) _ _ c.in-Why.strict c.why.result c.done_after_why.result c.why.ensures.printed c.why.ensures.fault c.done_after_why.ensures))
 
 pub returns-in-SweptPage-clause-done : goal.returns-in-SweptPage-clause-done
 returns-in-SweptPage-clause-done g c =

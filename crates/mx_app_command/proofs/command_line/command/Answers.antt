@@ -8,7 +8,7 @@ use Rattle.clap.specs.declared.parser.matches.ArgMatches.TheViews.{out-ArgMatche
 use Rattle.mx_app_command.specs.declared.command_line.Mistake.{Mistake}
 use Rattle.mx_app_command.specs.declared.command_line.Mistake.TheVariants.{Grammar, TicksAndEvents, LiveWithCourse, NotLive, NoFault}
 use Rattle.mx_app_command.specs.Mistakes.{IsMistake, IsOutOfMemory, has_both, has_course, lacks_fault, lacks_live, mistake_given, mistake_in}
-use Rattle.mx_app_command.specs.Words.{Asks, AsksBy, AsksForForce, AsksForSilence, AsksForSums, AsksToBeStrict, AsksToExplain, IsAsked, IsFlag, MayHaveText, is_on, mx_grammar}
+use Rattle.mx_app_command.specs.Words.{Asks, AsksBy, AsksForForce, AsksForSilence, AsksForSums, AsksToBeStrict, AsksToExplain, IsAsked, IsFlag, is_on, mx_grammar, sums_asked}
 use Rattle.mx_app_command.proofs.AskedWords.{words_asked}
 use Rattle.mx_app_command.proofs.command_line.command.Goals as goal
 
@@ -127,8 +127,8 @@ returns-clause-sums c =
     let entered : subcommand_rows_of c.in_ok-matches.matches ≡ Some (asked.0, asked.1) = (c.in_ok-matches.ensures.matches refl).1 ∙ asked.2 in
     let rows = rows_of (found_of c.in-Some.found.now) in
     let rows_same = rows_is c.in_ok-matches.matches (asked.0, asked.1) entered c.in-Some.name.now rows c.in-Some.ensures.name c.in-Some.ensures.rows in
-    let sums : Option Text = option_map (λ s. s.now) c.value_if_asked.result in
-    let by : MayHaveText (codes "SUMS") asked.1 sums = subst (λ (r : List Row). MayHaveText (codes "SUMS") r sums) rows_same c.value_if_asked.ensures in
+    let sums : Option Text = option_map (λ s. s.now) c.sums_asked.result in
+    let by : sums ≡ sums_asked asked.1 = subst (λ (r : List Row). sums ≡ sums_asked r) rows_same c.sums_asked.ensures in
     subst (AsksForSums sums) (sym asked.2) by
 
 pub returns-clause-force : goal.returns-clause-force

@@ -6,7 +6,7 @@ use Rattle.mx_app_look.specs.Before.{why_text}
 use Rattle.mx_app_look.specs.Answers.{processes_text}
 use Rattle.mx_app_look.specs.Verbs.{help_text}
 use Rattle.mx_app_look.specs.Places.{place_text}
-use Rattle.mx_app_look.specs.Seeking.{point_made, point_text}
+use Rattle.mx_app_look.specs.Seeking.{point_answer, point_made}
 use Rattle.mx_app_look.specs.Showing.{query_text}
 use Rattle.mx_app_look.proofs.Making.{made_as}
 use Rattle.mx_app_look.proofs.ShownMore.{err_always, grown_none, nothing_shown, stayed_shown, why_asked}
@@ -84,7 +84,7 @@ pub returns-in-Point-clause-made : goal.returns-in-Point-clause-made
 returns-in-Point-clause-made g c =
     let s = c.args.sight in
     let p = c.in-Point.request in
-    made_as c.perform_point.result s c.args.request.now (Point p) (record s { points = (point_made s p).1 }) (point_text (point_made s p).1 (point_made s p).0) c.in-Point.is (λ v t e h. (e, h)) c.perform_point.ensures.sight c.perform_point.ensures.text
+    made_as c.perform_point.result s c.args.request.now (Point p) (record s { points = (point_made s p).1 }) (point_answer s p) c.in-Point.is (λ v t e h. (e, h)) c.perform_point.ensures.sight c.perform_point.ensures.text
 
 pub returns-in-Help-clause-made : goal.returns-in-Help-clause-made
 returns-in-Help-clause-made g c =

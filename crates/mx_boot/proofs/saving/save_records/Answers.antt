@@ -10,7 +10,7 @@ returns-in_err-put_all-clause-front g c =
     let i = c.loop-entry.entry-index in
     let below = history_text (drop (i + 1) xs) in
     let front = c.in_err-put_all.ensures.front in
-    let parts = parted_text xs i _ c.as_slice.result.now (take_more xs i _ c.loop-entry-test.true) (c.as_slice.ensures.value ∙ c.line_of.ensures) in
+    let parts = parted_text xs i _ c.as_slice.result.now (take_more xs i _ c.loop-entry-test.true) (c.as_slice.ensures.value ∙ c.push_record.ensures) in
     on_err c.from_residual.result _ (
       front.0 ++ below,
       lines_taken _ _ _ c.as_slice.result.now front.0 (history_text (take i xs)) below (history_text xs) c.loop-entry.invariant.taken parts front.1,

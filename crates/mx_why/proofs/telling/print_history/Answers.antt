@@ -1,4 +1,4 @@
-use Rattle.std.proofs.Common.{List, ℕ, Option, inl, inr, length, refl, subst}
+use Rattle.std.proofs.Common.{List, ℕ, Option, inl, inr, refl, subst}
 use Rattle.std.proofs.KnownBytes.{Appends-nil}
 use Rattle.std.specs.Io.KnownBytes.{Appends}
 use Rattle.mx_app_start.specs.Failure.{PrintsFront}
@@ -6,9 +6,8 @@ use Rattle.mx_app_start.specs.Machine.{world_of}
 use Rattle.mx_app_step.proofs.FrontLemmas.{err_always}
 use Rattle.mx_machine.specs.declared.events.Refusal.{Refusal}
 use Rattle.mx_why.specs.declared.telling.Told.TheVariants.{Whole, Refused}
-use Rattle.mx_why.specs.Marks.{is_marked}
 use Rattle.mx_why.specs.Seeing.{end_of}
-use Rattle.mx_why.specs.Telling.{IsNoted}
+use Rattle.mx_why.specs.Telling.{IsNoted, told_marked}
 use Rattle.mx_why.proofs.NoteLemmas.{lines_printed, refusal_printed}
 use Rattle.mx_why.proofs.telling.print_history.Goals as goal
 
@@ -25,9 +24,9 @@ returns-in_err-marked-in-None-clause-begun g c =
     let noted = subst (λ (o : Option (ℕ × Refusal)). IsNoted w u c.args.records.now o ns cs) c.in-None.is c.in_ok-note_records.ensures.noted in
     err_always c.from_residual-in_err-marked-in-None.result _
     (inr (
-      Whole (is_marked c.args.config.now (end_of u) c.as_slice-noted.result.now (length c.args.records.now)),
-      lines_printed front c.args.config.now w u c.args.records.now ns c.as_slice-noted.result.now cs c.as_slice-counted.result.now (length c.args.records.now) _
-          c.as_slice-noted.ensures.value c.as_slice-counted.ensures.value refl noted refl c.in_err-marked-in-None.ensures.front,
+      Whole (told_marked c.args.config.now (end_of u) c.as_slice-noted.result.now c.args.records.now c.args.said.now),
+      lines_printed front c.args.config.now w u c.args.records.now ns c.as_slice-noted.result.now cs c.as_slice-counted.result.now c.args.said.now _
+          c.as_slice-noted.ensures.value c.as_slice-counted.ensures.value noted refl c.in_err-marked-in-None.ensures.front,
     ))
 
 pub returns-in-None-clause-printed : goal.returns-in-None-clause-printed
@@ -37,8 +36,8 @@ returns-in-None-clause-printed g c =
     let ns = c.note_records.new.notes.items in
     let cs = c.note_records.new.calls.items in
     let noted = subst (λ (o : Option (ℕ × Refusal)). IsNoted w u c.args.records.now o ns cs) c.in-None.is c.in_ok-note_records.ensures.noted in
-    lines_printed (λ (t : List ℕ). Appends (g.W.Write.contents c.args.out.now) (g.W.Write.contents c.print_lines.new.out) t) c.args.config.now w u c.args.records.now ns c.as_slice-noted.result.now cs c.as_slice-counted.result.now (length c.args.records.now) _
-    c.as_slice-noted.ensures.value c.as_slice-counted.ensures.value refl noted c.in_ok-marked-in-None.ensures.marked c.in_ok-marked-in-None.ensures.bytes
+    lines_printed (λ (t : List ℕ). Appends (g.W.Write.contents c.args.out.now) (g.W.Write.contents c.print_lines.new.out) t) c.args.config.now w u c.args.records.now ns c.as_slice-noted.result.now cs c.as_slice-counted.result.now c.args.said.now _
+    c.as_slice-noted.ensures.value c.as_slice-counted.ensures.value noted c.in_ok-marked-in-None.ensures.marked c.in_ok-marked-in-None.ensures.bytes
 
 pub returns-in_err-print_refused_record-in-Some-clause-begun : goal.returns-in_err-print_refused_record-in-Some-clause-begun
 returns-in_err-print_refused_record-in-Some-clause-begun g c =
@@ -50,7 +49,7 @@ returns-in_err-print_refused_record-in-Some-clause-begun g c =
     let front : List ℕ → Type 0 = λ text. PrintsFront (λ t. Appends (g.W.Write.contents c.args.out.now) (g.W.Write.contents c.print_refused_record.new.out) t) text in
     let noted = subst (λ (o : Option (ℕ × Refusal)). IsNoted w u c.args.records.now o ns cs) c.in-Some.is c.in_ok-note_records.ensures.noted in
     err_always c.from_residual-in_err-print_refused_record-in-Some.result _
-    (inr (Refused, refusal_printed front c.args.config.now w u c.args.records.now ns cs n c.in-Some.refusal noted c.in_err-print_refused_record-in-Some.ensures.front))
+    (inr (Refused, refusal_printed front c.args.config.now w u c.args.records.now ns cs c.args.said.now n c.in-Some.refusal noted c.in_err-print_refused_record-in-Some.ensures.front))
 
 pub returns-clause-printed : goal.returns-clause-printed
 returns-clause-printed g c =
@@ -60,4 +59,4 @@ returns-clause-printed g c =
     let cs = c.note_records.new.calls.items in
     let n = c.in-Some.number in
     let noted = subst (λ (o : Option (ℕ × Refusal)). IsNoted w u c.args.records.now o ns cs) c.in-Some.is c.in_ok-note_records.ensures.noted in
-    refusal_printed (λ (t : List ℕ). Appends (g.W.Write.contents c.args.out.now) (g.W.Write.contents c.print_refused_record.new.out) t) c.args.config.now w u c.args.records.now ns cs n c.in-Some.refusal noted c.in_ok-print_refused_record-in-Some.ensures.bytes
+    refusal_printed (λ (t : List ℕ). Appends (g.W.Write.contents c.args.out.now) (g.W.Write.contents c.print_refused_record.new.out) t) c.args.config.now w u c.args.records.now ns cs c.args.said.now n c.in-Some.refusal noted c.in_ok-print_refused_record-in-Some.ensures.bytes

@@ -1,14 +1,17 @@
-use Rattle.std.proofs.Common.{◌≡◌, ◌++◌, List, ℕ, true, false}
+use Rattle.std.proofs.Common.{◌≡◌, ◌++◌, List, ℕ, codes}
+use Rattle.std.specs.Prelude.{true, false}
 use Rattle.mx_why.specs.Busy.{busy, busy_lines}
 use Rattle.mx_why.specs.Deaths.{deaths}
 use Rattle.mx_why.specs.Endings.{deaths_text}
 use Rattle.mx_why.specs.FailedLines.{failed_lines}
 use Rattle.mx_why.specs.Lines.{idle_text, waits_text}
+use Rattle.mx_why.specs.Outside.{outside_text}
 use Rattle.mx_why.specs.Telling.{later_lines}
 use Rattle.mx_why.specs.Unfit.{unfit}
 use Rattle.mx_why.specs.UnfitLines.{unfit_lines}
+use Rattle.mx_why.specs.Unheard.{unheard, unheard_lines}
 use Rattle.mx_why.specs.Verdicts.{verdicts}
-use Rattle.mx_why.proofs.Pieces.{extended, joined, joined_is, last_joined}
+use Rattle.mx_why.proofs.Pieces.{joined, last_joined}
 use Rattle.mx_why.proofs.telling.push_later.Goals as goal
 
 pub returns : goal.returns
@@ -16,12 +19,16 @@ unfolding later_lines
 returns c =
     let a0 : List ℕ = waits_text c.args.end.now c.args.notes.now (verdicts c.args.end.now) true ++ waits_text c.args.end.now c.args.notes.now (verdicts c.args.end.now) false in
     let h0 : c.push_waiting_lines.new.out.items ≡ c.args.out.now.items ++ a0 = c.in_ok-push_waiting_lines.ensures in
-    let a1 : List ℕ = a0 ++ (busy_lines c.args.end.now (busy c.args.end.now c.args.notes.now)) in
-    let h1 : c.push_busy_lines.new.out.items ≡ c.args.out.now.items ++ a1 = joined c.args.out.now.items a0 (busy_lines c.args.end.now (busy c.args.end.now c.args.notes.now)) h0 c.in_ok-push_busy_lines.ensures in
-    let a2 : List ℕ = a1 ++ (deaths_text c.args.end.now c.args.notes.now (deaths c.args.notes.now)) in
-    let h2 : c.push_death_lines.new.out.items ≡ c.args.out.now.items ++ a2 = joined c.args.out.now.items a1 (deaths_text c.args.end.now c.args.notes.now (deaths c.args.notes.now)) h1 c.in_ok-push_death_lines.ensures in
-    let a3 : List ℕ = a2 ++ (failed_lines c.args.end.now c.args.calls.now) in
-    let h3 : c.push_failed_lines.new.out.items ≡ c.args.out.now.items ++ a3 = joined c.args.out.now.items a2 (failed_lines c.args.end.now c.args.calls.now) h2 c.in_ok-push_failed_lines.ensures in
-    let a4 : List ℕ = a3 ++ (idle_text c.args.end.now c.args.notes.now) in
-    let h4 : c.push_idle.new.out.items ≡ c.args.out.now.items ++ a4 = joined c.args.out.now.items a3 (idle_text c.args.end.now c.args.notes.now) h3 c.in_ok-push_idle.ensures in
-    last_joined c.push_lacking_lines.result c.args.out.now.items a4 (unfit_lines c.args.config.now (unfit c.args.config.now c.args.end.now)) c.push_idle.new.out.items c.push_lacking_lines.new.out.items h4 c.push_lacking_lines.ensures
+    let a1 : List ℕ = a0 ++ (unheard_lines c.args.end.now c.args.notes.now (unheard c.args.end.now c.args.notes.now)) in
+    let h1 : c.push_unheard_lines.new.out.items ≡ c.args.out.now.items ++ a1 = joined c.args.out.now.items a0 (unheard_lines c.args.end.now c.args.notes.now (unheard c.args.end.now c.args.notes.now)) h0 c.in_ok-push_unheard_lines.ensures in
+    let a2 : List ℕ = a1 ++ (busy_lines c.args.end.now (busy c.args.end.now c.args.notes.now)) in
+    let h2 : c.push_busy_lines.new.out.items ≡ c.args.out.now.items ++ a2 = joined c.args.out.now.items a1 (busy_lines c.args.end.now (busy c.args.end.now c.args.notes.now)) h1 c.in_ok-push_busy_lines.ensures in
+    let a3 : List ℕ = a2 ++ (deaths_text c.args.end.now c.args.notes.now (deaths c.args.notes.now)) in
+    let h3 : c.push_death_lines.new.out.items ≡ c.args.out.now.items ++ a3 = joined c.args.out.now.items a2 (deaths_text c.args.end.now c.args.notes.now (deaths c.args.notes.now)) h2 c.in_ok-push_death_lines.ensures in
+    let a4 : List ℕ = a3 ++ (failed_lines c.args.end.now c.args.calls.now) in
+    let h4 : c.push_failed_lines.new.out.items ≡ c.args.out.now.items ++ a4 = joined c.args.out.now.items a3 (failed_lines c.args.end.now c.args.calls.now) h3 c.in_ok-push_failed_lines.ensures in
+    let a5 : List ℕ = a4 ++ (outside_text c.args.end.now c.args.lost.now) in
+    let h5 : c.push_outside.new.out.items ≡ c.args.out.now.items ++ a5 = joined c.args.out.now.items a4 (outside_text c.args.end.now c.args.lost.now) h4 c.in_ok-push_outside.ensures in
+    let a6 : List ℕ = a5 ++ (idle_text c.args.end.now c.args.notes.now) in
+    let h6 : c.push_idle.new.out.items ≡ c.args.out.now.items ++ a6 = joined c.args.out.now.items a5 (idle_text c.args.end.now c.args.notes.now) h5 c.in_ok-push_idle.ensures in
+    last_joined c.push_lacking_lines.result c.args.out.now.items a6 (unfit_lines c.args.config.now (unfit c.args.config.now c.args.end.now)) c.push_idle.new.out.items c.push_lacking_lines.new.out.items h6 c.push_lacking_lines.ensures

@@ -13,7 +13,7 @@ come_home-requires-clause-ticks c = let k = leased_known _ _ c.args.cpu c.args.l
 
 pub invariant_of-self : goal.invariant_of-self
 invariant_of-self c = let k = leased_known _ _ c.args.cpu c.args.lease c.self.view_is c.self.invariant c.sound.ensures c.requires.lease in
-    returned_holds _ _ _ c.args.cpu c.args.lease c.args.out c.self.view_is c.self.invariant c.requires.lease c.requires.loaded c.come_home.ensures.returned (omega (arith, k.few, c.requires.count))
+    returned_holds _ _ _ c.args.cpu c.args.lease c.args.out.now c.self.view_is c.self.invariant c.requires.lease c.requires.loaded c.come_home.ensures.returned (omega (arith, k.few, c.requires.count))
 
 pub returns-clause-few : goal.returns-clause-few
 returns-clause-few c = let k = leased_known _ _ c.args.cpu c.args.lease c.self.view_is c.self.invariant c.sound.ensures c.requires.lease in omega (arith, k.few, c.requires.count)

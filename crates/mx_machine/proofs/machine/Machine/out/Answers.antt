@@ -13,14 +13,14 @@ returns-in-Some c =
     let k = c.self.inside.kernel in
     let os = c.self.inside.outs in
     let below : c.args.cpu < length os = omega (arith, c.self.invariant.places) in
-    let at = any_default os c.args.cpu None c.index-self-cpu.result below ∙ c.in-Some.is in
-    let l = lends k os c.args.cpu c.in-Some.out c.self.invariant at in
-    subst (λ (m : MachineState). (x : HeldProcess) × held_by (world_of m) c.args.cpu ≡ Some x × c.in-Some.out ≡ x.out) c.self.view_is
-    (record l.lent { out = c.in-Some.out }, held-now k os c.args.cpu l.lent c.in-Some.out l.is at, refl)
+    let at = any_default os c.args.cpu None c.index-self-cpu.result below ∙ c.in-Some.ensures in
+    let l = lends k os c.args.cpu c.in-Some.out.now c.self.invariant at in
+    subst (λ (m : MachineState). (x : HeldProcess) × held_by (world_of m) c.args.cpu ≡ Some x × c.in-Some.out.now ≡ x.out) c.self.view_is
+    (record l.lent { out = c.in-Some.out.now }, held-now k os c.args.cpu l.lent c.in-Some.out.now l.is at, refl)
 
 pub returns-in-None : goal.returns-in-None
 returns-in-None c =
     let os = c.self.inside.outs in
     let below : c.args.cpu < length os = omega (arith, c.self.invariant.places) in
     subst (λ (m : MachineState). held_by (world_of m) c.args.cpu ≡ None) c.self.view_is
-    (lends_none c.self.inside.kernel os c.args.cpu c.self.invariant (any_default os c.args.cpu None c.index-self-cpu.result below ∙ c.in-None.is))
+    (lends_none c.self.inside.kernel os c.args.cpu c.self.invariant (any_default os c.args.cpu None c.index-self-cpu.result below ∙ c.in-None.ensures))

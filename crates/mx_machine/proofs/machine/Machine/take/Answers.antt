@@ -1,52 +1,56 @@
-use Rattle.std.proofs.Common.{◌≡◌, ◌∙◌, ◌<◌, length, Option, Some, Result, Ok, IfSome, slice_set, ap, subst, arith}
+use Rattle.std.proofs.Common.{◌≡◌, ◌∙◌, ◌<◌, get_or, length, None, Ok, Err, slice_set, refl, ap, subst, arith}
 use Rattle.std.proofs.lemmas.Result.{err_from_is_err_and}
-use Rattle.mx_machine.specs.Proc.TableState.{endpoint_of}
-use Rattle.mx_machine.specs.declared.events.Answer.{Answer}
 use Rattle.mx_machine.specs.declared.events.Answer.TheVariants.{Taken}
 use Rattle.mx_machine.specs.declared.events.Event.TheVariants.{Take}
-use Rattle.mx_machine.specs.declared.events.Refusal.{Refusal}
 use Rattle.mx_machine.specs.declared.history.Recorded.TheVariants.{Take as Taking}
-use Rattle.mx_machine.specs.History.{replay, with_record}
+use Rattle.mx_machine.specs.History.{with_record}
 use Rattle.mx_machine.specs.Move.{move}
-use Rattle.mx_machine.specs.World.{HeldProcess, World}
 use Rattle.mx_machine.proofs.LentLemmas.{run_none}
 use Rattle.mx_machine.specs.Machine.{MachineState, world_of}
-use Rattle.mx_machine.proofs.DoneLemmas.{on, take-err, take-running, took-below}
-use Rattle.mx_machine.proofs.MachineLemmas.{take-accepted, taken-answer}
+use Rattle.mx_machine.proofs.DoneLemmas.{any_default, on}
+use Rattle.mx_machine.proofs.PlaceLemmas.{busy_beyond, refused_running, refused_take, taken_moved, taken_running}
 use Rattle.mx_machine.proofs.machine.Machine.take.Goals as goal
 
-pub returns-in_err-out-clause-moved : goal.returns-in_err-out-clause-moved
-returns-in_err-out-clause-moved c =
+pub returns-then-cpu-ge8-clause-moved : goal.returns-then-cpu-ge8-clause-moved
+returns-then-cpu-ge8-clause-moved c = busy_beyond c.args.self.now.kernel c.args.self.now.outs c.args.cpu c.facts.ensures (omega arith)
+
+pub invariant_of-self : goal.invariant_of-self
+invariant_of-self c =
+    let os = c.self.inside.outs in
+    let below : c.args.cpu < length os = omega (arith, c.self.invariant.places) in
+    refused_running c.self.inside.kernel c.take.new.kernel os c.args.cpu (get_or os c.args.cpu c.index-self-cpu.result) c.take.new.self _ c.self.invariant (any_default os c.args.cpu None c.index-self-cpu.result below) c.in_err-budget.ensures.same c.in_err-budget.ensures.err
+
+pub returns-in_err-budget-clause-moved : goal.returns-in_err-budget-clause-moved
+returns-in_err-budget-clause-moved c =
     let p = err_from_is_err_and c.from_residual.result c.from_residual.ensures.1 in
-    rw (p.1, p.2) (take-err c.self.inside.kernel c.take.new.self c.self.inside.outs c.args.cpu _ c.args.self.now c.self.view_is c.in_err-out.ensures.err)
+    let k = c.self.inside.kernel in
+    let os = c.self.inside.outs in
+    let below : c.args.cpu < length os = omega (arith, c.self.invariant.places) in
+    rw (p.1, p.2) (subst (λ (m : MachineState). move (world_of m) c.args.cpu Take ≡ (Err c.in_err-budget.field-0.0, world_of (on c.take.new.kernel (slice_set os c.args.cpu c.take.new.self)))) c.self.view_is
+    (refused_take k c.take.new.kernel os c.args.cpu (get_or os c.args.cpu c.index-self-cpu.result) c.take.new.self c.in_err-budget.field-0.0 (any_default os c.args.cpu None c.index-self-cpu.result below) c.in_err-budget.ensures.same c.in_err-budget.ensures.err))
+
+pub returns-in_err-budget-clause-recorded : goal.returns-in_err-budget-clause-recorded
+returns-in_err-budget-clause-recorded c =
+    let p = err_from_is_err_and c.from_residual.result c.from_residual.ensures.1 in
+    rw p.1 (c.in_err-budget.ensures.err.1 ∙ ap (λ (m : MachineState). m.kernel) c.self.view_is)
 
 pub invariant_of-self-2 : goal.invariant_of-self-2
 invariant_of-self-2 c =
-    let l = c.in_ok-out.ensures.lent in
-    let below : c.args.cpu < length c.self.inside.outs = omega (arith, c.self.invariant.places, took-below c.self.inside.kernel c.take.new.self c.self.inside.outs c.args.cpu l.0 c.facts.ensures.few l.1) in
-    let fresh = c.facts.ensures.fresh c.args.cpu l.0 l.1 in
-    take-running c.self.inside.kernel c.take.new.self c.self.inside.outs c.args.cpu l.0 c.in_ok-out.out below c.self.invariant c.in_ok-out.ensures.ok.world l.1 (run_none l.0.out c.in_ok-out.out l.2 fresh.count fresh.stop)
+    let os = c.self.inside.outs in
+    let below : c.args.cpu < length os = omega (arith, c.self.invariant.places) in
+    let l = c.in_ok-budget.ensures.lent in
+    let fresh = c.facts-2.ensures.fresh c.args.cpu l.0 l.1 in
+    taken_running c.self.inside.kernel c.take.new.kernel os c.args.cpu l.0 c.take.new.self below c.self.invariant c.in_ok-budget.ensures.ok l.1 l.2 (run_none l.0.out l.0.out refl fresh.count fresh.stop)
 
 pub returns-clause-moved : goal.returns-clause-moved
 returns-clause-moved c =
     let k = c.self.inside.kernel in
-    let n = c.take.new.self in
+    let n = c.take.new.kernel in
     let os = c.self.inside.outs in
-    let out = c.in_ok-out.out in
-    let ok = c.in_ok-out.ensures.ok in
-    let l = c.in_ok-out.ensures.lent in
-    let below : c.args.cpu < length os = omega (arith, c.self.invariant.places, took-below k n os c.args.cpu l.0 c.facts.ensures.few l.1) in
-    let endpoint : c.endpoint_on.result ≡ endpoint_of (replay n).table l.0.slot =
-    subst (λ (x : Option HeldProcess). IfSome x (λ (y : HeldProcess). c.endpoint_on.result ≡ endpoint_of (replay n).table y.slot)) l.1 c.endpoint_on.ensures in
-    let answer = taken-answer k n c.args.cpu c.endpoint_on.result l.0 out ok.accepted ok.world l.1 l.2 endpoint in
-    subst (λ (m : MachineState). move (world_of m) c.args.cpu Take ≡ (Ok (Taken c.endpoint_on.result out.budget), world_of (on n (slice_set os c.args.cpu (Some out))))) c.self.view_is
-    (take-accepted k n os c.args.cpu l.0 out below ok.accepted ok.world l.1 l.2
-    ∙ ap (λ (y : Answer). let p : Result Answer Refusal × World = (Ok y, world_of (on n (slice_set os c.args.cpu (Some out)))) in p) answer)
-
-pub returns-in_err-out-clause-recorded : goal.returns-in_err-out-clause-recorded
-returns-in_err-out-clause-recorded c =
-    let p = err_from_is_err_and c.from_residual.result c.from_residual.ensures.1 in
-    rw p.1 (c.in_err-out.ensures.err.1 ∙ ap (λ (m : MachineState). m.kernel) c.self.view_is)
+    let below : c.args.cpu < length os = omega (arith, c.self.invariant.places) in
+    let l = c.in_ok-budget.ensures.lent in
+    subst (λ (m : MachineState). move (world_of m) c.args.cpu Take ≡ (Ok (Taken c.endpoint_on.result c.in_ok-budget.budget), world_of (on n (slice_set os c.args.cpu c.take.new.self)))) c.self.view_is
+    (taken_moved k n os c.args.cpu c.endpoint_on.result c.in_ok-budget.budget l.0 c.take.new.self below c.in_ok-budget.ensures.ok l.1 l.2 l.3 c.endpoint_on.ensures)
 
 pub returns-clause-recorded : goal.returns-clause-recorded
-returns-clause-recorded c = c.in_ok-out.ensures.ok.recorded ∙ ap (λ (m : MachineState). with_record m.kernel c.args.cpu Taking) c.self.view_is
+returns-clause-recorded c = c.in_ok-budget.ensures.ok.recorded ∙ ap (λ (m : MachineState). with_record m.kernel c.args.cpu Taking) c.self.view_is

@@ -1,0 +1,14 @@
+use Rattle.std.proofs.Common.{◌≡◌, ◌++◌, List, ℕ, codes}
+use Rattle.mx_why.specs.Reasons.{slot_text}
+use Rattle.mx_why.specs.Unheard.{why_unheard}
+use Rattle.mx_why.proofs.Pieces.{extended, joined, last_joined}
+use Rattle.mx_why.proofs.unheard.push_refused.Goals as goal
+
+pub returns : goal.returns
+unfolding why_unheard
+returns c =
+    let a0 : List ℕ = codes "each RECEIVE of " in
+    let h0 : c.extend_from_slice.new.self.items ≡ c.args.out.now.items ++ a0 = c.in_ok-extend_from_slice.ensures.items in
+    let a1 : List ℕ = a0 ++ (slot_text c.args.end.now c.args.slot) in
+    let h1 : c.push_slot.new.out.items ≡ c.args.out.now.items ++ a1 = joined c.args.out.now.items a0 (slot_text c.args.end.now c.args.slot) h0 c.in_ok-push_slot.ensures in
+    last_joined c.extend_from_slice-2.result c.args.out.now.items a1 (codes " since is refused") c.push_slot.new.out.items c.extend_from_slice-2.new.self.items h1 (extended c.extend_from_slice-2.result c.extend_from_slice-2.new.self.items (c.push_slot.new.out.items ++ (codes " since is refused")) c.push_slot.new.out.items c.extend_from_slice-2.ensures.items)
