@@ -449,10 +449,10 @@ abbrev why_whole : Shape
 why_whole = whole_of why_shape
 
 only_why_config : IsOnly config_rule why_whole.rules
-only_why_config = ((λ e. refl), ((λ e. never e), ((λ e. never e), ((λ e. never e), ((λ e. never e), ((λ e. never e), ((λ e. never e), ((λ e. never e), tt))))))))
+only_why_config = ((λ e. refl), ((λ e. never e), ((λ e. never e), ((λ e. never e), ((λ e. never e), ((λ e. never e), ((λ e. never e), ((λ e. never e), ((λ e. never e), tt)))))))))
 
 only_why_log : IsOnly log_rule why_whole.rules
-only_why_log = ((λ e. never e), ((λ e. refl), ((λ e. never e), ((λ e. never e), ((λ e. never e), ((λ e. never e), ((λ e. never e), ((λ e. never e), tt))))))))
+only_why_log = ((λ e. never e), ((λ e. refl), ((λ e. never e), ((λ e. never e), ((λ e. never e), ((λ e. never e), ((λ e. never e), ((λ e. never e), ((λ e. never e), tt)))))))))
 
 why_fits : Fits why_whole
 why_fits words fine =
