@@ -524,7 +524,9 @@ static HISTORY_COMMANDS: [Subcommand<'static>; 8] = [
     Subcommand {
         name: "why",
         help: "Says what became of a saved history: who waits for ever, who died, what was refused",
-        arguments: &[CONFIG, LOG, EVENTS_WHY, STRICT_WHY, SUMS, ANY_SUMS, EXPLAIN, SILENT],
+        arguments: &[
+            CONFIG, LOG, EVENTS_WHY, STRICT_WHY, SUMS, ANY_SUMS, EXPLAIN, SILENT,
+        ],
         example: Example::Why,
     },
     Subcommand {
