@@ -93,7 +93,7 @@ fn explained_line(
 
 /// The complaint of a failure, with the line that explains it if that is asked for.
 #[tactic(auto, using(crate::proofs::Complaints::complaint_plain, crate::proofs::Complaints::complaint_unexplained))]
-fn complaint_of(
+pub fn complaint_of(
     alloc: Global,
     line: CommandLine<'_>,
     shows: bool,

@@ -7,10 +7,11 @@ ghost use Rattle.mx_app.specs.Words.{words_failure_of};
 use crate::after_run::{status_after, told_after, unknown_line, wants_marks};
 use crate::asking::{begin_with, texts_asked};
 use crate::command_io::CommandIo;
-use crate::command_status::perform_words;
+use crate::command_status::{complaint_of, perform_words};
 use crate::complaint::Complaint;
 use crate::ending::{NotingOutput, PrintedText, Terminals};
 use crate::performing::Done;
+use crate::summing::LineFailure;
 use mx_app_command::{CommandLine, command};
 use mx_app_failure::Failure;
 use mx_app_live::Seat;
@@ -69,28 +70,54 @@ struct Marks {
     line: Option<String>,
     /// Whether a mark is an error.
     strict: bool,
+    /// Why nobody knows whether there is one, if a mark is an error.
+    failure: Option<Complaint>,
 }
 
 /// The line of the history that a request has made, if it has a mark and somebody wants to know it, or if it is so long
-/// that this isn't known.
+/// that this isn't known. Fails if the history can't be read again.
 fn marked_line<R: Reader>(
     alloc: Global,
     reader: &mut R,
     terminals: Terminals,
     line: CommandLine<'_>,
     done: Done,
-) -> Option<String> {
+) -> Result<Option<String>, Failure> {
     if !wants_marks(done.ending, terminals.err, line.strict) {
-        return None;
+        return Ok(None);
     }
-    match told_after(alloc, reader, line.request, line.strict) {
-        Ok(AfterRun::Line(text)) => String::from_utf8(text).ok(),
-        Ok(AfterRun::Unknown) => match unknown_line(alloc, line.request, done.ending) {
-            Ok(Some(text)) => String::from_utf8(text).ok(),
-            _ => None,
+    match told_after(alloc, reader, line.request, line.strict)? {
+        AfterRun::Line(text) => Ok(String::from_utf8(text).ok()),
+        AfterRun::Unknown => match unknown_line(alloc, line.request, done.ending)? {
+            Some(text) => Ok(String::from_utf8(text).ok()),
+            None => Ok(None),
         },
-        _ => None,
+        AfterRun::Nothing => Ok(None),
     }
+}
+
+/// What is told of the history that a request has made. That it can't be read again is an error only if a mark is one:
+/// nobody can say then that there is none.
+fn marks_of<R: Reader>(
+    alloc: Global,
+    reader: &mut R,
+    terminals: Terminals,
+    line: CommandLine<'_>,
+    done: Done,
+) -> Marks {
+    let mut marks = Marks {
+        line: None,
+        strict: line.strict,
+        failure: None,
+    };
+    match marked_line(alloc, reader, terminals, line, done) {
+        Ok(told) => marks.line = told,
+        Err(failure) => if line.strict {
+            let failure = LineFailure::Request(failure);
+            marks.failure = Some(complaint_of(alloc, line, terminals.err, failure));
+        },
+    }
+    marks
 }
 
 /// What is told after a command with this answer of the history that it has made.
@@ -102,13 +129,11 @@ fn marks_after<R: Reader>(
     answer: &Result<Done, Complaint>,
 ) -> Marks {
     match (answer, command(alloc, words)) {
-        (Ok(done), Ok(line)) => Marks {
-            line: marked_line(alloc, reader, terminals, line, *done),
-            strict: line.strict,
-        },
+        (Ok(done), Ok(line)) => marks_of(alloc, reader, terminals, line, *done),
         _ => Marks {
             line: None,
             strict: false,
+            failure: None,
         },
     }
 }
@@ -227,7 +252,10 @@ where
     );
     tell_untested(rt, &answer);
     let status = status_of(answer)?;
-    Ok(status_after(status, marks.strict, marks.line.is_some()))
+    match marks.failure {
+        Some(complaint) => Err(complaint),
+        None => Ok(status_after(status, marks.strict, marks.line.is_some())),
+    }
 }
 
 /// Does what the program's words ask for, and answers the status to end with, or why it isn't done.
