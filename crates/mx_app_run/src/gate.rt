@@ -75,7 +75,7 @@ impl<'a> RunPlan<'a> {
         ensures respawner { result.respawner ≡ cpus }
         ensures calls { result.has_calls ≡ not (length outside.entry.calls.now == 0) }
         ensures log { result.log ≡ log }
-        ensures stop { is_some result.stop ≡ is_some stop.entry }
+        ensures stop { result.stop ≡ stop.entry }
     {
         RunPlan {
             respawner: cpus,

@@ -74,10 +74,12 @@ where
     ensures driven { IfOk result (λ v. AreDrivenWith (length M.boot.cpus) outside.entry.ticks
         outside.entry.calls.now seats.items v.0.items) }
     ensures served { IfOk result (λ v. AreServedWith M.boot
-        (shows (P.was_shown place.now.progress.now) log (is_some place.now.stop)) (length M.boot.cpus)
+        (shows (P.was_shown place.now.progress.now) log (is_some place.now.stop))
+        (length M.boot.cpus)
         outside.entry.ticks outside.entry.calls.now seats.items v.0.items) }
     ensures whole { IfOk result (λ v. AreWholeWith M.boot
-        (shows (P.was_shown place.now.progress.now) log (is_some place.now.stop)) (length M.boot.cpus)
+        (shows (P.was_shown place.now.progress.now) log (is_some place.now.stop))
+        (length M.boot.cpus)
         outside.entry.calls.now seats.items v.0.items v.1) }
     ensures tables { IfOk result (λ v. All (λ s. s.table ≡ M.table) v.0.items) }
 {
@@ -323,7 +325,8 @@ where
     ensures reader { channels.new.reader ≡ channels.old.reader }
     ensures reported { (ws : List Written)
         × (F.written channels.new.files ≡ F.written channels.old.files ++ ws)
-        × ComesTo (P.was_shown progress.old) (is_some wanted.entry.stop) begun.config begun.services.items begun.calls.items wanted.entry.log.now
+        × ComesTo (P.was_shown progress.old) (is_some wanted.entry.stop)
+        begun.config begun.services.items begun.calls.items wanted.entry.log.now
         wanted.entry.ticks ws (λ text. Appends (W.contents channels.old.out)
         (W.contents channels.new.out) text) result }
     ensures shown { P.shown progress.new ≡ P.shown progress.old }
@@ -364,7 +367,8 @@ where
     ensures done { (qs : List Asked) × (ws : List Written)
         × (R.asked channels.new.reader ≡ R.asked channels.old.reader ++ qs)
         × (F.written channels.new.files ≡ F.written channels.old.files ++ ws)
-        × Runs (P.was_shown progress.old) (is_some wanted.entry.stop) wanted.entry.config.now (option_map (λ s. s.now) wanted.entry.events)
+        × Runs (P.was_shown progress.old) (is_some wanted.entry.stop)
+        wanted.entry.config.now (option_map (λ s. s.now) wanted.entry.events)
         wanted.entry.log.now wanted.entry.ticks qs ws
         (λ text. Appends (W.contents channels.old.out) (W.contents channels.new.out) text) result }
     ensures shown { P.shown progress.new ≡ P.shown progress.old }

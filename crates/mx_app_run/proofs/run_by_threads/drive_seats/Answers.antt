@@ -11,7 +11,7 @@ returns-clause-served g c =
     let plan = c.new-gate.result.plan in
     let cpus = length g.M.Naming.boot.cpus in
     subst (λ b. IfOk c.drive_with.result (λ v. AreServedWith g.M.Naming.boot (shows (W now) c.args.log b) cpus c.args.outside.ticks c.args.outside.calls.now c.args.seats.items v.0.items))
-    (ap (λ p. is_some p.stop) c.new-gate.ensures.plan ∙ c.new-plan.ensures.stop)
+    (ap (λ p. is_some p.stop) c.new-gate.ensures.plan ∙ ap is_some c.new-plan.ensures.stop)
     (subst (λ n. IfOk c.drive_with.result (λ v. AreServedWith g.M.Naming.boot (shows (W now) n (is_some plan.stop)) cpus c.args.outside.ticks c.args.outside.calls.now c.args.seats.items v.0.items))
     (ap (λ p. p.log) c.new-gate.ensures.plan ∙ c.new-plan.ensures.log)
     (subst (λ p. IfOk c.drive_with.result (λ v. AreServedWith g.M.Naming.boot (shows (W p) plan.log (is_some plan.stop)) cpus c.args.outside.ticks c.args.outside.calls.now c.args.seats.items v.0.items))
@@ -24,7 +24,7 @@ returns-clause-whole g c =
     let plan = c.new-gate.result.plan in
     let cpus = length g.M.Naming.boot.cpus in
     subst (λ b. IfOk c.drive_with.result (λ v. AreWholeWith g.M.Naming.boot (shows (W now) c.args.log b) cpus c.args.outside.calls.now c.args.seats.items v.0.items v.1))
-    (ap (λ p. is_some p.stop) c.new-gate.ensures.plan ∙ c.new-plan.ensures.stop)
+    (ap (λ p. is_some p.stop) c.new-gate.ensures.plan ∙ ap is_some c.new-plan.ensures.stop)
     (subst (λ n. IfOk c.drive_with.result (λ v. AreWholeWith g.M.Naming.boot (shows (W now) n (is_some plan.stop)) cpus c.args.outside.calls.now c.args.seats.items v.0.items v.1))
     (ap (λ p. p.log) c.new-gate.ensures.plan ∙ c.new-plan.ensures.log)
     (subst (λ p. IfOk c.drive_with.result (λ v. AreWholeWith g.M.Naming.boot (shows (W p) plan.log (is_some plan.stop)) cpus c.args.outside.calls.now c.args.seats.items v.0.items v.1))
