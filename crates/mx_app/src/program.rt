@@ -252,9 +252,14 @@ where
     );
     tell_untested(rt, &answer);
     let status = status_of(answer)?;
-    match marks.failure {
+    let Marks {
+        line,
+        strict,
+        failure,
+    } = marks;
+    match failure {
         Some(complaint) => Err(complaint),
-        None => Ok(status_after(status, marks.strict, marks.line.is_some())),
+        None => Ok(status_after(status, strict, line.is_some())),
     }
 }
 
