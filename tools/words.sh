@@ -327,6 +327,108 @@ tell_statements() {
     tell_comments "$text"
 }
 
+# What the program says of a command that it refuses, both lines: it is asked once more, and what it prints is left out.
+failure_of() {
+    case " $* " in *' --explain '*) ;; *) set -- "$@" --explain ;; esac
+    (start_program "$@" </dev/null) 2>&1 >/dev/null
+}
+
+# For awk: a line of a text without quoted texts, comment and spaces at its ends, and without its labels; the last of
+# these is in `label`.
+plain_line='
+    function plain(line) {
+        gsub(/"([^"\\]|\\.)*"/, "\"", line)
+        sub(/;.*/, "", line)
+        gsub(/[ \t\r]+/, " ", line)
+        sub(/^ /, "", line)
+        sub(/ $/, "", line)
+        label = ""
+        while (match(line, /^[A-Za-z_][A-Za-z_0-9]* ?: ?/)) {
+            label = substr(line, 1, RLENGTH)
+            gsub(/[ :]/, "", label)
+            line = substr(line, RLENGTH + 1)
+        }
+        return line
+    }'
+
+# Says of the line at which a text is refused what its second line can't, which sees no other line and no whole form:
+# tell_statement TEXT LINE PROBLEM.
+tell_statement() {
+    awk -v file="$1" -v line="$2" -v problem="$3" "$plain_line"'
+        function tell(words) { if (!told++) print "mx: " file " line " line ": " words }
+        function tell_operands(code) {
+            if (match(code, /^\.(stack|space) -/)) tell("wanted a number without a sign, stands \"" substr(code, RLENGTH) "\"")
+            if (match(code, /\[[^\]]*\* ?[0-9][0-9A-Za-z]*/)) {
+                scale = substr(code, RSTART, RLENGTH)
+                sub(/.*\* ?/, "", scale)
+                if (scale !~ /^(0x0*)?[1248]$/) tell("wanted 1, 2, 4 or 8 after *, stands \"" scale "\"")
+            }
+            if (match(code, /(^|[ ,])(byte|word|dword) [^\[]/)) tell("byte, word and dword stand before a bracket alone")
+            if (code ~ /^(mov|add|adc|sub|sbb|and|or|xor|cmp|test) -?[0-9][0-9A-Za-z]* ?,/)
+                tell("wanted the number as the second operand: the first is a register or an address")
+            outside = code
+            gsub(/\[[^\]]*\]/, "", outside)
+            if (outside ~ /[ ,]e?(ax|cx|dx|bx|sp|bp|si|di) ?[-+]/)
+                tell("a register is added in brackets alone: lea eax, [ebx+4] makes eax ebx+4")
+            if (outside ~ /[ ,][c-gs]s($|[ ,:])/) tell("there are no segment registers: wanted the address alone")
+        }
+        function tell_word(word) {
+            if (word == "enter") tell("wanted push ebp, mov ebp, esp and sub esp, N in place of enter N, 0")
+            if (word == "loopz") tell("wanted loope")
+            if (word == "loopnz") tell("wanted loopne")
+            if (word == "syscall" || word == "sysenter") tell("wanted int 33, with what is asked in ecx")
+            if (word ~ /^set(n?a?e|n?c)$/) tell("wanted " named[substr(word, 4)] " in place of " word)
+            if (word ~ /^cmov/) tell("wanted a jump over a mov: the 80386 has no " word)
+            if (word ~ /^(bswap|cmpxchg|xadd|cpuid|rdtsc|ud2)$/) tell("the 80386 has no " word)
+            if (word ~ /^f(ld|st|stp|add|sub|mul|div|ild|ist|istp|com|init|chs|abs|sqrt)$/)
+                tell("there is no floating point: wanted whole numbers")
+            if (word == "times") tell(".space N makes N zero bytes; other statements are written out")
+            if (word in directive) tell("wanted " directive[word] " in place of " word)
+        }
+        BEGIN {
+            split("e setz ne setnz c setb nae setb nc setnb ae setnb", pairs, " ")
+            for (at = 1; at in pairs; at += 2) named[pairs[at]] = pairs[at + 1]
+            directive[".byte"] = ".data1"
+            directive[".word"] = directive[".short"] = directive[".value"] = ".data2"
+            directive[".long"] = directive[".int"] = ".data4"
+            directive[".asciz"] = directive[".string"] = ".ascii, and \\0 at the end of the text,"
+            directive[".skip"] = directive[".zero"] = ".space"
+        }
+        { code = plain($0) }
+        label != "" && !(label in first) { first[label] = NR }
+        NR == line && problem == "BadOperands" { tell_operands(code) }
+        NR == line && problem == "UnknownWord" { split(code, words, " "); tell_word(words[1]) }
+        NR == line && problem == "Twice" && first[label] < NR { tell(label " is in line " first[label] " already") }
+        NR == line && problem == "TooFar" && code ~ / short / { tell("without short it reaches any place") }
+        NR == line && problem == "TooFar" && code ~ /^loop / { tell("wanted sub ecx, 1 and jnz, which reach any place") }
+        problem == "TooLarge" && code ~ /^\.(stack|space) [0-9]+$/ {
+            split(code, words, " ")
+            if (words[2] + 0 > 4194304) { line = NR; tell(code " alone is more than all may be") }
+        }' "$1" >&2
+}
+
+# Says of a text that was assembled where the address of a number is counted with, as if it were the number: right after
+# it was put in a register that is no address anywhere in the text.
+tell_addresses() {
+    awk -v file="$1" "$plain_line"'
+        { code = plain($0) }
+        label != "" { named = label; is_number[named] = 0 }
+        code == "" { next }
+        code ~ /^\.data[124] -?[0-9][0-9A-Fa-fx]*$/ { is_number[named] = label != ""; next }
+        code ~ /^\.(data[124]|ascii|space) / { is_number[named] = 0 }
+        code !~ /^\./ { text[++count] = code; line[count] = NR; whole = whole "\n" code }
+        END {
+            for (at = 1; at < count; at++) {
+                if (text[at] !~ /^mov e(ax|cx|dx|si|di|bp), ?[A-Za-z_][A-Za-z_0-9]*$/) continue
+                split(text[at], words, /[ ,]+/)
+                if (!is_number[words[3]] || whole ~ ("\\[[^\\]]*" words[2])) continue
+                if (text[at + 1] !~ ("^(add|sub|and|or|xor|cmp|test|imul|shl|shr|inc|dec|neg|not) " words[2] "(,|$)")) continue
+                print "mx: " file " line " line[at] ": " words[3] " is an address here; what stands there is [" words[3] "]"
+                exit
+            }
+        }' "$1" >&2
+}
+
 # Says of the configuration of these words that a comment in it begins otherwise.
 tell_comment_sign() {
     case $1 in one | as | dis | nm) return 0 ;; esac
@@ -463,8 +565,10 @@ tell_words() {
     tell_code "$@"
     tell_machine "$@"
     tell_log "$@"
+    tell_empty "$@"
     case $* in *-*) ;; *) return 0 ;; esac
     tell_option "$@"
+    tell_sign "$@"
     tell_slot "$@"
     tell_range "$@"
     tell_stop "$@"
@@ -588,6 +692,20 @@ missing_ticks() {
     [ -n "$(value_of --ticks "$@")$(value_of --events "$@")" ] || echo "--ticks T"
 }
 
+# Says what isn't told yet of a run or of turns that ended so: tell_ended STATUS WORDS.
+tell_ended() {
+    ended=$1
+    shift
+    case $ended in
+        0)
+            tell_history "$(nth_word 1 "$@")" "$(nth_word 2 "$@")" "$(missing_ticks "$@")"
+            tell_console "$(nth_word 1 "$@")" "$(nth_word 2 "$@")" ;;
+        1 | 3) tell_failure "$@" ;;
+        130) [ ! -f "$(nth_word 2 "$@")" ] ||
+            echo "mx: what it did until then: mx why $(nth_word 1 "$@") $(nth_word 2 "$@")" >&2 ;;
+    esac
+}
+
 # Whether these words are those of a run or of turns, in which nobody types.
 can_stop() {
     case ${1-} in run | turns) ;; *) return 1 ;; esac
@@ -611,29 +729,160 @@ run_stoppable() {
     (trap '' INT TERM HUP; start_program "$@") <&3 3<&- &
     child=$!
     wait_for_child
-    if [ "$status" = 0 ] && [ -n "$(explains_words "$@")" ]; then
-        tell_history "$(nth_word 1 "$@")" "$(nth_word 2 "$@")" "$(missing_ticks "$@")"
-        tell_console "$(nth_word 1 "$@")" "$(nth_word 2 "$@")"
-    fi
+    [ -z "$(explains_words "$@")" ] || tell_ended "$status" "$@"
     return "$status"
 }
 
-# Whether these words are those of a `step` of which something is to be told afterwards.
+# Whether these words are those of a command of which something is to be told afterwards.
 is_told_after() {
     case " $* " in *' --help '* | *' -h '*) return 1 ;; esac
-    [ "${1-}" = step ] && [ -n "$(explains_words "$@")" ]
+    case ${1-} in as | step | db | replay | trace | draw | page | sweep | explain) ;; *) return 1 ;; esac
+    [ -n "$(explains_words "$@")" ]
 }
 
-# Makes a step of these words, by start_program of the script that calls it, and says that its history goes nowhere, or
-# what was refused in it. The status is the program's.
+# Runs these words, by start_program of the script that calls it, and says what isn't told yet: of a failure how it is
+# mended, of a step that its history goes nowhere, and what was refused. The status is the program's.
 run_told() {
-    (start_program "$@") || return
-    log=$(value_of --save "$@")
-    if [ -n "$log" ]; then
-        tell_history "$(nth_word 1 "$@")" "$log" ''
-    else
-        echo "mx: the history isn't saved: --save LOG" >&2
+    (start_program "$@")
+    status=$?
+    case $status in
+        0) tell_done "$@" ;;
+        1 | 3) tell_failure "$@" ;;
+    esac
+    return "$status"
+}
+
+# Says what isn't told yet of a command that ended well.
+tell_done() {
+    case $1 in
+        as) tell_addresses "$(nth_word 1 "$@")" ;;
+        step)
+            tell_answers "$(nth_word 1 "$@")" "$(nth_word 2 "$@")"
+            log=$(value_of --save "$@")
+            if [ -n "$log" ]; then
+                tell_history "$(nth_word 1 "$@")" "$log" ''
+            else
+                echo "mx: the history isn't saved: --save LOG" >&2
+            fi ;;
+    esac
+}
+
+# Says what isn't told yet of a command that failed.
+tell_failure() {
+    config=$(nth_word 1 "$@") second=$(nth_word 2 "$@")
+    if [ "$1" = as ]; then
+        tell_faulty "$config" "$(failure_of "$@")"
+        return
     fi
+    said=$(failure_of explain "$config" --check)
+    if [ -n "$said" ]; then
+        tell_config "$config" "$said"
+        return
+    fi
+    case $1 in
+        step | db) tell_script "$config" "$second" "$(failure_of "$1" "$config" "$second")" ;;
+        run | turns) tell_script "$config" "$(value_of --events "$@")" '' ;;
+        replay | trace | draw | page) tell_refused "$config" "$second" ;;
+        sweep) tell_fault "$config" "$second" "$(nth_word 3 "$@")" ;;
+    esac
+}
+
+# Says of a text that is refused with these lines what its mistake is.
+tell_faulty() {
+    fault=$(printf '%s\n' "$2" | sed -n '1s/^mx: [0-9]* \([A-Za-z]*\) line \([0-9]*\)$/\2 \1/p')
+    [ -z "$fault" ] || [ ! -f "$1" ] || tell_statement "$1" "${fault% *}" "${fault#* }"
+}
+
+# Says of a configuration that is refused with these lines what a program's file is, or its name.
+tell_config() {
+    file=$(printf '%s\n' "$2" | sed -n "s/^mx: a service's program \(.*\): wanted .*/\1/p")
+    name=${file#[\"\']}
+    name=${name%[\"\']}
+    if [ "$name" != "$file" ] && [ -f "$name" ]; then
+        echo "mx: $1: wanted the program's name without quotes: $name is there" >&2
+    fi
+    case $2 in
+        *'this is an ELF file'*) echo "mx: mx new NAME --c makes a folder in which make makes such programs of C" >&2 ;;
+    esac
+}
+
+# How many processors a configuration has.
+cpus_of() {
+    awk '{ sub(/#.*/, "") } $1 == "cpus" { print $2; exit }' "$1"
+}
+
+# Says of a script that is refused with these lines which number was wanted for a name.
+tell_script() {
+    line=$(printf '%s\n' "$3" | sed -n '1s/^mx: 73 BadRecord line \([0-9]*\)$/\1/p')
+    { [ -n "$line" ] && [ -f "$2" ]; } || return 0
+    awk -v line="$line" -v cpus="$(cpus_of "$1")" -v at="mx: $2 line $line: " '
+        NR == line && $1 ~ /^(take|step|back|go)$/ && $2 ~ /^[A-Za-z_]/ {
+            print at "C is the number of a processor, 0 to " cpus - 1 ", and no service: stands \"" $2 "\""
+        }' "$2" >&2
+}
+
+# Says of the events of a script that were refused why, the first three: they are made once more, and each answer has the
+# number of its line then.
+tell_answers() {
+    { [ -f "$1" ] && [ -f "$2" ]; } || return 0
+    ask_program step "$1" "$2" --numbered | awk -v script="$2" -v cpus="$(cpus_of "$1")" \
+        -v services="$(programs_of "$1" | wc -l)" '
+        NR == FNR {
+            if ($2 == "refused") code[$1 + 0] = $3
+            next
+        }
+        !(FNR in code) || said[$0]++ { next }
+        { why = "" }
+        code[FNR] ~ /^5[01]$/ && $2 + 0 >= cpus { why = "there is no processor " $2 ", since CONFIG has cpus " cpus }
+        code[FNR] == 50 && $2 + 0 < cpus { why = "processor " $2 " has a process: back " $2 " comes before" }
+        code[FNR] == 51 && $2 + 0 < cpus { why = "processor " $2 " has no process: take " $2 " comes before" }
+        code[FNR] == 53 { why = $2 + 0 > 15 ? "lines are 0 to 15" : "no process has taken line " $2 }
+        code[FNR] == 54 { why = "no process that lives has the endpoint " $2 }
+        code[FNR] == 42 { why = "S is a slot, 0 to " services - 1 }
+        code[FNR] == 41 { why = "the restarts of CONFIG are used up" }
+        why { print "mx: " script " line " FNR " (" $0 "): " why; if (++count == 3) exit }' - "$2" >&2
+}
+
+# Says of a history that is refused where it is none of this machine's, or that a number in it is too large.
+tell_refused() {
+    [ -f "$2" ] || return 0
+    awk -v file="$2" '
+        $2 == "back" && $3 ~ /^[0-9]+$/ && $3 + 0 > 2147483647 {
+            print "mx: " file " line " NR ": wanted N of at most 2147483647, stands \"" $3 "\""
+            exit
+        }' "$2" >&2
+    ! is_short "$2" || ask_program why "$1" "$2" | sed -n 's/^ends: \(record .* is refused, .*\)/mx: \1/p' >&2
+}
+
+# Says of a sweep that failed which events FAULT may have, or what its history is.
+tell_fault() {
+    tell_refused "$1" "$2"
+    [ -f "$3" ] || return 0
+    awk -v file="$3" '
+        { sub(/#.*/, "") }
+        NF && $1 !~ /^(take|step|back|line|tick|kill|respawn)$/ {
+            print "mx: " file " line " NR ": an event is take C, step C K, back C, line L, tick, kill E or respawn S"
+            exit
+        }' "$3" >&2
+}
+
+# Says of a history without a record, which a command reads, how one is made.
+tell_empty() {
+    case $1 in replay | trace | draw | page | look | gdb | why | sweep) ;; *) return 0 ;; esac
+    log=$(nth_word 2 "$@")
+    { [ -f "$log" ] && ! grep -q -v -e '^rules [12]$' -e '^$' "$log"; } || return 0
+    echo "mx: $log has no record: mx turns $(nth_word 1 "$@") LOG makes a history" >&2
+}
+
+# Says of a number with a sign that no option takes one.
+tell_sign() {
+    before=''
+    for word in "$@"; do
+        case $before$word in
+            --*' '-[0-9]*) echo "mx: ${before% }: wanted a number without a sign, stands \"$word\"" >&2 ;;
+        esac
+        before="$word "
+    done
 }
 
 # Whether a file begins as sums do: with the line of a configuration's.
