@@ -667,16 +667,40 @@ is_short() {
 
 # Says of a history that was just made which calls no right machine makes were refused in it: by a mask, to nobody, or since
 # there is no such call. Others are refused by what happens, as if the other process dies. If the clock could have ticked,
-# says who waits for it too: tell_history CONFIG LOG TICKS, where TICKS is what would make it tick.
+# says who waits for it too: tell_history CONFIG LOG TICKS, where TICKS is what would make it tick. Of who died, says what
+# the instruction is that the machine hasn't, and that nothing says where it begins.
 tell_history() {
     { [ -f "$1" ] && is_short "$2"; } || return 0
-    ask_program why "$1" "$2" | awk -v asking="mx why $1 $2" -v ticks="$3" '
+    became=$(ask_program why "$1" "$2")
+    printf '%s\n' "$became" | awk -v asking="mx why $1 $2" -v ticks="$3" '
         /^refused: .*: -10[347] / { if (!count++) first = $0 }
         /^waits: .* from CLOCK .* alarm is due / { alarm = $0 }
+        /^died: .* of fault 6 at .* \.data1 0xf0(;|$)/ {
+            print "mx: 0xf0 is the prefix LOCK, which the machine hasn\047t: gcc makes it of _Atomic and __sync"
+        }
+        /^died: .* of fault 6 at .* \.data1 0xd[89a-f](;|$)/ { print "mx: there is no floating point: wanted whole numbers" }
         END {
             if (count) print "mx: " first "; " (count > 1 ? count - 1 " more: " : "") asking
             if (alarm && ticks) print "mx: " alarm "; the clock made no tick: " ticks
         }' >&2
+    printf '%s\n' "$became" | sed -n 's/^died: \([A-Za-z0-9_]*\),.* (the stack is empty: .*/\1/p' | while read -r name; do
+        tell_entry "$1" "$name"
+    done
+}
+
+# Says of a service of a configuration that its text doesn't say where it begins.
+tell_entry() {
+    file=$(awk -v name="$2" '{ sub(/#.*/, "") } $1 == "service" && $2 == name { print $3; exit }' "$1")
+    text=${file%.out}.s
+    { [ "$text" != "$file.s" ] && [ -f "$text" ] && is_made_of "$text" "$file"; } || return 0
+    awk -v file="$text" -v name="$2" "$plain_line"'
+        { code = plain($0) }
+        code ~ /^\.entry/ { has_entry = 1 }
+        code ~ /^[^.]/ && !line { line = NR }
+        END {
+            if (line && !has_entry)
+                print "mx: " file " has no .entry, so " name " begins at its first instruction, line " line
+        }' "$text" >&2
 }
 
 # Says of a history that was just made that what is on the console can't be seen, if that is so of all its bytes.
