@@ -356,47 +356,114 @@ plain_line='
 tell_statement() {
     awk -v file="$1" -v line="$2" -v problem="$3" "$plain_line"'
         function tell(words) { if (!told++) print "mx: " file " line " line ": " words }
-        function tell_operands(code) {
-            if (match(code, /^\.(stack|space) -/)) tell("wanted a number without a sign, stands \"" substr(code, RLENGTH) "\"")
-            if (match(code, /\[[^\]]*\* ?[0-9][0-9A-Za-z]*/)) {
-                scale = substr(code, RSTART, RLENGTH)
-                sub(/.*\* ?/, "", scale)
+        # How many bits a register or a size has; 0 of another word.
+        function bits(word) {
+            if (word ~ /^([abcd][lh]|byte)$/) return 8
+            if (word ~ /^([abcd]x|[sb]p|[sd]i|word)$/) return 16
+            return word ~ /^(e([abcd]x|[sb]p|[sd]i)|dword)$/ ? 32 : 0
+        }
+        function tell_bracket(code) {
+            if (!match(code, /\[[^\]]*\]/)) return
+            inside = substr(code, RSTART, RLENGTH)
+            if (match(inside, /\* ?[0-9][0-9A-Za-z]*/)) {
+                scale = substr(inside, RSTART + 1, RLENGTH - 1)
+                sub(/^ /, "", scale)
                 if (scale !~ /^(0x0*)?[1248]$/) tell("wanted 1, 2, 4 or 8 after *, stands \"" scale "\"")
             }
-            if (match(code, /(^|[ ,])(byte|word|dword) [^\[]/)) tell("byte, word and dword stand before a bracket alone")
+            if (inside ~ /esp ?\*/) tell("esp has no scale: wanted another register before *")
+            count = 0
+            split(inside, words, /[^a-z0-9_]+/)
+            for (at in words) count += bits(words[at]) == 32
+            if (count > 2) tell("wanted two registers at most in a bracket")
+        }
+        function tell_sizes(code) {
+            if (code !~ /^(mov|add|adc|sub|sbb|and|or|xor|cmp|test|xchg) /) return
+            sub(/^[a-z]+ /, "", code)
+            if (split(code, sides, / ?, ?/) != 2) return
+            for (at = 1; at <= 2; at++) {
+                sized = sides[at]
+                sub(/ .*/, "", sized)
+                if (sides[at] ~ /\[/ && bits(sized) && bits(sides[3 - at]) && bits(sized) != bits(sides[3 - at]))
+                    tell("wanted one size: " sized " has " bits(sized) " bits, and " sides[3 - at] " " bits(sides[3 - at]))
+            }
+        }
+        function tell_count(code) {
+            two = "^(mov|add|adc|sub|sbb|and|or|xor|cmp|test|xchg|lea|movzx|movsx|shl|shr|sar|rol|ror)( [^,]*)?$"
+            one = "^(push|pop|inc|dec|neg|not|mul|div|idiv|int|jmp|call|loop|loope|loopne|j[a-z]+)"
+            if (code ~ two) tell("wanted two operands, with a comma between them")
+            if (code ~ (one "$")) tell("wanted an operand after " code)
+            if (code ~ (one " .*,")) tell("wanted one operand")
+            if (code ~ /^(nop|leave|hlt|cdq|cbw|cwd|cwde|pushad|popad|pushfd|popfd|cld|std|clc|stc|cmc|lahf|sahf) /)
+                tell("wanted no operand")
+            if (code ~ /^(movs|cmps|stos|lods|scas)[bwd] /) tell("wanted no operand: the addresses are in esi and edi")
+            if (code ~ /^\.(space|stack|entry|ascii|data[124])$/) tell("wanted an operand after " code)
+        }
+        function tell_number(code) {
+            if (match(code, /^\.(stack|space) -/)) tell("wanted a number without a sign, stands \"" substr(code, RLENGTH) "\"")
+            most = code ~ /^\.data1 / ? 255 : code ~ /^\.data2 / ? 65535 : code ~ /^int [0-9]+$/ ? 255 : 0
+            sub(/^[^ ]* /, "", code)
+            for (at = split(code, words, / ?, ?/); most && at; at--)
+                if (words[at] ~ /^[0-9]+$/ && words[at] + 0 > most) tell("wanted at most " most ", stands \"" words[at] "\"")
+        }
+        function tell_operands(code) {
+            tell_number(code)
+            tell_count(code)
+            tell_bracket(code)
+            tell_sizes(code)
+            if (match(code, /(^|[ ,])r([abcd]x|[sb]p|[sd]i|[89]|1[0-5])[dwb]?($|[^A-Za-z0-9_])/))
+                tell("registers have 32 bits at most: eax, ecx, edx, ebx, esp, ebp, esi, edi")
+            if (code ~ /(^|[ ,])(byte|word|dword) [^\[]/) tell("byte, word and dword stand before a bracket alone")
+            if (code ~ /^(jmp|call|j[a-z]+) (near|far) /) tell("wanted the label alone, without near and far")
+            if (code ~ /^test [a-z]+ ?, ?\[/) tell("wanted the bracket first, as test [b], eax")
             if (code ~ /^(mov|add|adc|sub|sbb|and|or|xor|cmp|test) -?[0-9][0-9A-Za-z]* ?,/)
                 tell("wanted the number as the second operand: the first is a register or an address")
-            outside = code
-            gsub(/\[[^\]]*\]/, "", outside)
-            if (outside ~ /[ ,]e?(ax|cx|dx|bx|sp|bp|si|di) ?[-+]/)
+            gsub(/\[[^\]]*\]/, "", code)
+            if (code ~ /[ ,]e?(ax|cx|dx|bx|sp|bp|si|di) ?[-+]/)
                 tell("a register is added in brackets alone: lea eax, [ebx+4] makes eax ebx+4")
-            if (outside ~ /[ ,][c-gs]s($|[ ,:])/) tell("there are no segment registers: wanted the address alone")
+            if (code ~ /[ ,][c-gs]s($|[ ,:])/) tell("there are no segment registers: wanted the address alone")
+        }
+        function tell_byte(code) {
+            if (code ~ /^e?[abcd]x ?[-+*]?=/) tell("wanted an instruction, as mov eax, 5 or add eax, 5")
+            if (code ~ /\(/ && code !~ /[$%]/) tell("wanted [ and ] around an address, and no ( and )")
+            if (code ~ /[0-9A-Za-z_] ?(\/|<<|>>|&|\|) ?[0-9A-Za-z_]/) tell("wanted the number itself: only name+n and name-n are computed")
         }
         function tell_word(word) {
             if (word == "enter") tell("wanted push ebp, mov ebp, esp and sub esp, N in place of enter N, 0")
-            if (word == "loopz") tell("wanted loope")
-            if (word == "loopnz") tell("wanted loopne")
-            if (word == "syscall" || word == "sysenter") tell("wanted int 33, with what is asked in ecx")
-            if (word ~ /^set(n?a?e|n?c)$/) tell("wanted " named[substr(word, 4)] " in place of " word)
             if (word ~ /^cmov/) tell("wanted a jump over a mov: the 80386 has no " word)
             if (word ~ /^(bswap|cmpxchg|xadd|cpuid|rdtsc|ud2)$/) tell("the 80386 has no " word)
             if (word ~ /^f(ld|st|stp|add|sub|mul|div|ild|ist|istp|com|init|chs|abs|sqrt)$/)
                 tell("there is no floating point: wanted whole numbers")
             if (word == "times") tell(".space N makes N zero bytes; other statements are written out")
-            if (word in directive) tell("wanted " directive[word] " in place of " word)
+            if (word ~ /^\.?(globl|global|extern|extrn|public|bits|use32|cpu|align|balign|org|type|size|file|model|proc|endp|end)$/)
+                tell("there is no " word ": wanted the line left out")
+            if (word ~ /^set/ && substr(word, 4) in condition) tell("wanted set" condition[substr(word, 4)] " in place of " word)
+            if (word ~ /^(mov|add|adc|sub|sbb|and|or|xor|cmp|test|lea|push|pop|inc|dec|neg|not|shl|shr|sar|imul|idiv|mul|div)[bwlq]$/)
+                tell("wanted " substr(word, 1, length(word) - 1) ", without the size in its name: registers, or byte, word and dword, say it")
+            if (word in instead) tell("wanted " instead[word] " in place of " word)
         }
         BEGIN {
-            split("e setz ne setnz c setb nae setb nc setnb ae setnb", pairs, " ")
-            for (at = 1; at in pairs; at += 2) named[pairs[at]] = pairs[at + 1]
-            directive[".byte"] = ".data1"
-            directive[".word"] = directive[".short"] = directive[".value"] = ".data2"
-            directive[".long"] = directive[".int"] = ".data4"
-            directive[".asciz"] = directive[".string"] = ".ascii, and \\0 at the end of the text,"
-            directive[".skip"] = directive[".zero"] = ".space"
+            pairs = "e z ne nz c b nae b nc nb ae nb g nle ge nl nge l ng le na be a nbe pe p po np"
+            count = split(pairs, words, " ")
+            for (at = 1; at < count; at += 2) condition[words[at]] = words[at + 1]
+            instead[".byte"] = ".data1"
+            instead[".word"] = instead[".short"] = instead[".value"] = ".data2"
+            instead[".long"] = instead[".int"] = instead[".dword"] = ".data4"
+            instead[".asciz"] = instead[".string"] = ".ascii, and \\0 at the end of the text,"
+            instead[".skip"] = instead[".zero"] = ".space"
+            instead[".code"] = ".text"
+            instead["loopz"] = "loope"
+            instead["loopnz"] = "loopne"
+            instead["jpe"] = "jp"
+            instead["jpo"] = "jnp"
+            instead["syscall"] = instead["sysenter"] = "int 33, with the trap in ecx,"
+            instead["move"] = instead["load"] = instead["ld"] = instead["store"] = "mov"
+            instead["return"] = instead["retn"] = "ret"
+            instead["goto"] = "jmp"
         }
         { code = plain($0) }
         label != "" && !(label in first) { first[label] = NR }
         NR == line && problem == "BadOperands" { tell_operands(code) }
+        NR == line && problem == "BadByte" { tell_byte(code) }
         NR == line && problem == "UnknownWord" { split(code, words, " "); tell_word(words[1]) }
         NR == line && problem == "Twice" && first[label] < NR { tell(label " is in line " first[label] " already") }
         NR == line && problem == "TooFar" && code ~ / short / { tell("without short it reaches any place") }
