@@ -783,12 +783,20 @@ missing_ticks() {
     [ -n "$(value_of --ticks "$@")$(value_of --events "$@")" ] || echo "--ticks T"
 }
 
+# Says of a configuration that its history has no room for a service's first turn.
+tell_room() {
+    [ ! -f "$1" ] || awk '
+        { sub(/#.*/, "") }
+        $1 == "log" && $2 == 1 { print "mx: wanted log 2 or more: a service is taken and comes back, which are 2 records" }' "$1" >&2
+}
+
 # Says what isn't told yet of a run or of turns that ended so: tell_ended STATUS WORDS.
 tell_ended() {
     ended=$1
     shift
     case $ended in
         0)
+            tell_room "$(nth_word 1 "$@")"
             tell_history "$(nth_word 1 "$@")" "$(nth_word 2 "$@")" "$(missing_ticks "$@")"
             tell_console "$(nth_word 1 "$@")" "$(nth_word 2 "$@")" ;;
         1 | 3) tell_failure "$@" ;;
@@ -847,6 +855,7 @@ run_told() {
 tell_done() {
     case $1 in
         as) tell_addresses "$(nth_word 1 "$@")" ;;
+        db) tell_looks "$(nth_word 1 "$@")" "$(nth_word 2 "$@")" ;;
         step)
             tell_answers "$(nth_word 1 "$@")" "$(nth_word 2 "$@")"
             log=$(value_of --save "$@")
@@ -884,17 +893,48 @@ tell_faulty() {
     [ -z "$fault" ] || [ ! -f "$1" ] || tell_statement "$1" "${fault% *}" "${fault#* }"
 }
 
-# Says of a configuration that is refused with these lines what a program's file is, or its name.
+# Says of a configuration that is refused with these lines what a program's file is, or its name, or how an item's word is.
 tell_config() {
     file=$(printf '%s\n' "$2" | sed -n "s/^mx: a service's program \(.*\): wanted .*/\1/p")
     name=${file#[\"\']}
     name=${name%[\"\']}
-    if [ "$name" != "$file" ] && [ -f "$name" ]; then
+    if [ -z "$file" ]; then
+        tell_item "$1" "$(printf '%s\n' "$2" | sed -n '1s/^mx: 70 BadLine line \([0-9]*\)$/\1/p')"
+    elif [ "$name" != "$file" ] && [ -f "$name" ]; then
         echo "mx: $1: wanted the program's name without quotes: $name is there" >&2
+    elif [ ! -e "$file" ]; then
+        tell_programs "$file"
     fi
     case $2 in
         *'this is an ELF file'*) echo "mx: mx new NAME --c makes a folder in which make makes such programs of C" >&2 ;;
     esac
+}
+
+# Says of a line of a configuration that its item's word has a colon, or is in upper case.
+tell_item() {
+    { [ -n "$2" ] && [ -f "$1" ]; } || return 0
+    awk -v line="$2" -v at="mx: $1 line $2: " '
+        NR == line {
+            word = tolower($1)
+            colon = sub(/:$/, "", word)
+            if (word !~ /^(cpus|others|log|rules|service)$/ || word == $1) exit
+            print at "wanted " word (colon ? ", without :" : ", in lower case")
+        }' "$1" >&2
+}
+
+# Says what makes a program that isn't there, if its text is; else which programs are in its folder, if they are few.
+tell_programs() {
+    folder=$(dirname "$1") stem=${1%.out}
+    [ ! -f "$stem.c" ] || return 0
+    if [ "$stem" != "$1" ] && [ -f "$stem.s" ]; then
+        echo "mx: $stem.s is there: mx as $stem.s $1" >&2
+        return
+    fi
+    there=''
+    for file in "$folder"/*.out; do
+        [ ! -f "$file" ] || there="$there ${file#./}"
+    done
+    [ -z "$there" ] || [ "$(echo "$there" | wc -w)" -gt 8 ] || echo "mx: these are there:$there" >&2
 }
 
 # How many processors a configuration has.
@@ -934,6 +974,20 @@ tell_answers() {
         why { print "mx: " script " line " FNR " (" $0 "): " why; if (++count == 3) exit }' - "$2" >&2
 }
 
+# Says of a debugger's script which of its numbers are decimal, though they look as a listing's, and whom `regs C` is of, if
+# somebody wasn't there.
+tell_looks() {
+    { [ -f "$1" ] && [ -f "$2" ]; } || return 0
+    awk -v at="mx: $2 line " '
+        $1 == "break" && $3 ~ /^0[0-9]+$/ {
+            print at NR ": " $3 " is decimal here, as all numbers: " $3 + 0
+            exit
+        }' "$2" >&2
+    if grep -Eq '^(regs|mem) [0-9]' "$2" && ask_program db "$1" "$2" | grep -q '^refused 61 NotHere'; then
+        echo "mx: regs C and mem C are of who is on processor C: of slot S they are regs of S and mem of S" >&2
+    fi
+}
+
 # Says of a history that is refused where it is none of this machine's, or that a number in it is too large.
 tell_refused() {
     [ -f "$2" ] || return 0
@@ -965,7 +1019,7 @@ tell_empty() {
     echo "mx: $log has no record: mx turns $(nth_word 1 "$@") LOG makes a history" >&2
 }
 
-# Says of a number with a sign that no option takes one.
+# Says of a number with a sign that no option takes one, nor `one`.
 tell_sign() {
     before=''
     for word in "$@"; do
@@ -974,6 +1028,9 @@ tell_sign() {
         esac
         before="$word "
     done
+    case ${1-}' '${3-} in
+        'one -'[0-9]*) echo "mx: N: wanted a number without a sign, stands \"$3\"" >&2 ;;
+    esac
 }
 
 # Whether a file begins as sums do: with the line of a configuration's.
