@@ -906,6 +906,7 @@ tell_config() {
         tell_programs "$file"
     fi
     case $2 in
+        *'mx: 26 TooLarge'*) echo "mx: a program has at most 1048576 bytes of text, and 4194304 in all, with its stack" >&2 ;;
         *'this is an ELF file'*) echo "mx: mx new NAME --c makes a folder in which make makes such programs of C" >&2 ;;
     esac
 }
