@@ -582,6 +582,22 @@ tell_machine() {
     done
 }
 
+# Says of a configuration that two services have each other's programs, by their names.
+tell_swapped() {
+    case $1 in step | db | run | turns | explain) ;; *) return 0 ;; esac
+    config=$(nth_word 1 "$@")
+    [ ! -f "$config" ] || awk -v at="mx: $config: " '
+        { sub(/#.*/, "") }
+        $1 == "service" { program = $3; sub(/.*\//, "", program); sub(/\.out$/, "", program); has[$2] = program }
+        END {
+            for (name in has) {
+                other = has[name]
+                if (name < other && has[other] == name)
+                    print at name " has the program of " other ", and " other " that of " name
+            }
+        }' "$config" >&2
+}
+
 # Says that a history goes into a file named -.
 tell_log() {
     case $1 in
@@ -631,6 +647,7 @@ tell_words() {
     tell_comment_sign "$@"
     tell_code "$@"
     tell_machine "$@"
+    tell_swapped "$@"
     tell_log "$@"
     tell_empty "$@"
     case $* in *-*) ;; *) return 0 ;; esac
@@ -742,6 +759,9 @@ tell_history() {
     printf '%s\n' "$became" | awk -v asking="mx why $1 $2" -v ticks="$3" '
         /^refused: .*: -10[347] / { if (!count++) first = $0 }
         /^waits: .* from CLOCK .* alarm is due / { alarm = $0 }
+        /^refused: .*: kernel call, type 0: -107 / {
+            print "mx: the answer of a call overwrites its message, and its type is 0 then: wanted the type set again"
+        }
         /^died: .* of fault 6 at .* \.data1 0xf0(;|$)/ {
             print "mx: 0xf0 is the prefix LOCK, which the machine hasn\047t: gcc makes it of _Atomic and __sync"
         }
@@ -750,9 +770,48 @@ tell_history() {
             if (count) print "mx: " first "; " (count > 1 ? count - 1 " more: " : "") asking
             if (alarm && ticks) print "mx: " alarm "; the clock made no tick: " ticks
         }' >&2
+    tell_course "$1" "$2" "$became"
     printf '%s\n' "$became" | sed -n 's/^died: \([A-Za-z0-9_]*\),.* (the stack is empty: .*/\1/p' | while read -r name; do
         tell_entry "$1" "$name"
     done
+}
+
+# Says of a short history that was just made what its trace shows of calls that end well: a service that ends and comes back,
+# a kernel call's type that went to a process, words for another register than the console's; if it is full, which calls
+# were made most: tell_course CONFIG LOG ENDS, where ENDS is how it ended, as `mx why` has it.
+tell_course() {
+    [ "$(wc -l <"$2")" -le 5000 ] || return 0
+    ask_program trace "$1" "$2" | awk -v ends="$3" '
+        $3 == "back" && $7 == "trap" {
+            made = $5 " " $8 " " $9
+            if ($9 == "SYSTEM,") made = made " " $10
+            register = $10 == "DEVIO" && $11 == 1 ? $12 : 0
+            writer = $5
+            if (!times[made]++) order[++kinds] = made
+        }
+        $2 == "answer" && $3 == 0 && register > 0 && !other { other = writer " wrote register " register }
+        $2 == "console" { is_written = 1 }
+        / -> down exit$/ { if (!exits[$2]++) enders[++ended] = $2 }
+        /: down exit -> ready$/ { returns[$2]++ }
+        $2 == "message" && $8 == "type" && $9 >= 1536 && $9 <= 1544 && !sent {
+            sent = $3 " sent " $6 " the type " sprintf("0x%x", $9) ", a call of SYSTEM, at record " $1
+        }
+        END {
+            for (at = 1; at <= ended; at++)
+                if ((name = enders[at]) in returns) print "mx: " name " ended by EXIT, " exits[name] " times, and came back, as after a death: restarts 0 lets it end"
+            if (sent) print "mx: " sent ": SYSTEM is -2 in EAX"
+            if (other && !is_written) print "mx: nothing is on the console, which is register 0: " other
+            if (ends !~ /^ends: full/) exit
+            for (count = 0; count < 3; count++) {
+                most = ""
+                for (at = 1; at <= kinds; at++)
+                    if (times[order[at]] > 1 && (most == "" || times[order[at]] > times[most])) most = order[at]
+                if (most == "") break
+                list = list (list ? "; " : "") most ", " times[most] " times"
+                times[most] = 0
+            }
+            if (list) print "mx: made most: " list
+        }' >&2
 }
 
 # Says of a service of a configuration that its text doesn't say where it begins.
