@@ -757,10 +757,20 @@ tell_history() {
     { [ -f "$1" ] && is_short "$2"; } || return 0
     became=$(ask_program why "$1" "$2")
     printf '%s\n' "$became" | awk -v asking="mx why $1 $2" -v ticks="$3" '
-        /^refused: .*: -10[347] / { if (!count++) first = $0 }
+        /^refused: .*: (-10[347] |-14 EFAULT .buffer.)/ { if (!count++) first = $0 }
         /^waits: .* from CLOCK .* alarm is due / { alarm = $0 }
         /^refused: .*: kernel call, type 0: -107 / {
             print "mx: the answer of a call overwrites its message, and its type is 0 then: wanted the type set again"
+        }
+        /^died: .* of fault 0 at / { print "mx: fault 0 is a division by 0, or one whose result doesn\047t fit" }
+        /^died: .* of fault 13 at .* int 0x[0-9a-f]*: no process may do this/ { print "mx: a trap is int 33, which is int 0x21" }
+        /^died: .* of fault 13 at .* no code: the code ends at / {
+            place = $0
+            sub(/.* of fault 13 at /, "", place)
+            end = place
+            sub(/.* the code ends at /, "", end)
+            if (substr(place, 1, 8) == substr(end, 1, 8))
+                print "mx: it came to the end of its code: wanted EXIT, a jmp or a ret before that"
         }
         /^died: .* of fault 6 at .* \.data1 0xf0(;|$)/ {
             print "mx: 0xf0 is the prefix LOCK, which the machine hasn\047t: gcc makes it of _Atomic and __sync"
@@ -787,6 +797,7 @@ tell_course() {
             if ($9 == "SYSTEM,") made = made " " $10
             register = $10 == "DEVIO" && $11 == 1 ? $12 : 0
             writer = $5
+            if ($10 == "DEVIO" && $11 == 0 && $12 == 0 && !reader) reader = $5
             if (!times[made]++) order[++kinds] = made
         }
         $2 == "answer" && $3 == 0 && register > 0 && !other { other = writer " wrote register " register }
@@ -800,6 +811,7 @@ tell_course() {
             for (at = 1; at <= ended; at++)
                 if ((name = enders[at]) in returns) print "mx: " name " ended by EXIT, " exits[name] " times, and came back, as after a death: restarts 0 lets it end"
             if (sent) print "mx: " sent ": SYSTEM is -2 in EAX"
+            if (reader && !is_written) print "mx: nothing is on the console: " reader " read register 0, since p0 was 0; 1 writes"
             if (other && !is_written) print "mx: nothing is on the console, which is register 0: " other
             if (ends !~ /^ends: full/) exit
             for (count = 0; count < 3; count++) {
