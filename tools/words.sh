@@ -769,14 +769,14 @@ tell_history() {
             sub(/.* of fault 13 at /, "", place)
             end = place
             sub(/.* the code ends at /, "", end)
-            if (substr(place, 1, 8) == substr(end, 1, 8))
-                print "mx: it came to the end of its code: wanted EXIT, a jmp or a ret before that"
+            if (substr(place, 1, 8) == substr(end, 1, 8)) came = 1
         }
         /^died: .* of fault 6 at .* \.data1 0xf0(;|$)/ {
             print "mx: 0xf0 is the prefix LOCK, which the machine hasn\047t: gcc makes it of _Atomic and __sync"
         }
         /^died: .* of fault 6 at .* \.data1 0xd[89a-f](;|$)/ { print "mx: there is no floating point: wanted whole numbers" }
         END {
+            if (came && !count) print "mx: it came to the end of its code: wanted EXIT, a jmp or a ret before that"
             if (count) print "mx: " first "; " (count > 1 ? count - 1 " more: " : "") asking
             if (alarm && ticks) print "mx: " alarm "; the clock made no tick: " ticks
         }' >&2
