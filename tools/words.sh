@@ -327,6 +327,175 @@ tell_statements() {
     tell_comments "$text"
 }
 
+# What the program says of a command that it refuses, both lines: it is asked once more, and what it prints is left out.
+failure_of() {
+    case " $* " in *' --explain '*) ;; *) set -- "$@" --explain ;; esac
+    (start_program "$@" </dev/null) 2>&1 >/dev/null
+}
+
+# For awk: a line of a text without quoted texts, comment and spaces at its ends, and without its labels; the last of
+# these is in `label`.
+plain_line='
+    function plain(line) {
+        gsub(/"([^"\\]|\\.)*"/, "\"", line)
+        sub(/;.*/, "", line)
+        gsub(/[ \t\r]+/, " ", line)
+        sub(/^ /, "", line)
+        sub(/ $/, "", line)
+        label = ""
+        while (match(line, /^[A-Za-z_][A-Za-z_0-9]* ?: ?/)) {
+            label = substr(line, 1, RLENGTH)
+            gsub(/[ :]/, "", label)
+            line = substr(line, RLENGTH + 1)
+        }
+        return line
+    }'
+
+# Says of the line at which a text is refused what its second line can't, which sees no other line and no whole form:
+# tell_statement TEXT LINE PROBLEM.
+tell_statement() {
+    awk -v file="$1" -v line="$2" -v problem="$3" "$plain_line"'
+        function tell(words) { if (!told++) print "mx: " file " line " line ": " words }
+        # How many bits a register or a size has; 0 of another word.
+        function bits(word) {
+            if (word ~ /^([abcd][lh]|byte)$/) return 8
+            if (word ~ /^([abcd]x|[sb]p|[sd]i|word)$/) return 16
+            return word ~ /^(e([abcd]x|[sb]p|[sd]i)|dword)$/ ? 32 : 0
+        }
+        function tell_bracket(code) {
+            if (!match(code, /\[[^\]]*\]/)) return
+            inside = substr(code, RSTART, RLENGTH)
+            if (match(inside, /\* ?[0-9][0-9A-Za-z]*/)) {
+                scale = substr(inside, RSTART + 1, RLENGTH - 1)
+                sub(/^ /, "", scale)
+                if (scale !~ /^(0x0*)?[1248]$/) tell("wanted 1, 2, 4 or 8 after *, stands \"" scale "\"")
+            }
+            if (inside ~ /esp ?\*/) tell("esp has no scale: wanted another register before *")
+            count = 0
+            split(inside, words, /[^a-z0-9_]+/)
+            for (at in words) count += bits(words[at]) == 32
+            if (count > 2) tell("wanted two registers at most in a bracket")
+        }
+        function tell_sizes(code) {
+            if (code !~ /^(mov|add|adc|sub|sbb|and|or|xor|cmp|test|xchg) /) return
+            sub(/^[a-z]+ /, "", code)
+            if (split(code, sides, / ?, ?/) != 2) return
+            for (at = 1; at <= 2; at++) {
+                sized = sides[at]
+                sub(/ .*/, "", sized)
+                if (sides[at] ~ /\[/ && bits(sized) && bits(sides[3 - at]) && bits(sized) != bits(sides[3 - at]))
+                    tell("wanted one size: " sized " has " bits(sized) " bits, and " sides[3 - at] " " bits(sides[3 - at]))
+            }
+        }
+        function tell_count(code) {
+            two = "^(mov|add|adc|sub|sbb|and|or|xor|cmp|test|xchg|lea|movzx|movsx|shl|shr|sar|rol|ror)( [^,]*)?$"
+            one = "^(push|pop|inc|dec|neg|not|mul|div|idiv|int|jmp|call|loop|loope|loopne|j[a-z]+)"
+            if (code ~ two) tell("wanted two operands, with a comma between them")
+            if (code ~ (one "$")) tell("wanted an operand after " code)
+            if (code ~ (one " .*,")) tell("wanted one operand")
+            if (code ~ /^(nop|leave|hlt|cdq|cbw|cwd|cwde|pushad|popad|pushfd|popfd|cld|std|clc|stc|cmc|lahf|sahf) /)
+                tell("wanted no operand")
+            if (code ~ /^(movs|cmps|stos|lods|scas)[bwd] /) tell("wanted no operand: the addresses are in esi and edi")
+            if (code ~ /^\.(space|stack|entry|ascii|data[124])$/) tell("wanted an operand after " code)
+        }
+        function tell_number(code) {
+            if (match(code, /^\.(stack|space) -/)) tell("wanted a number without a sign, stands \"" substr(code, RLENGTH) "\"")
+            most = code ~ /^\.data1 / ? 255 : code ~ /^\.data2 / ? 65535 : code ~ /^int [0-9]+$/ ? 255 : 0
+            sub(/^[^ ]* /, "", code)
+            for (at = split(code, words, / ?, ?/); most && at; at--)
+                if (words[at] ~ /^[0-9]+$/ && words[at] + 0 > most) tell("wanted at most " most ", stands \"" words[at] "\"")
+        }
+        function tell_operands(code) {
+            tell_number(code)
+            tell_count(code)
+            tell_bracket(code)
+            tell_sizes(code)
+            if (match(code, /(^|[ ,])r([abcd]x|[sb]p|[sd]i|[89]|1[0-5])[dwb]?($|[^A-Za-z0-9_])/))
+                tell("registers have 32 bits at most: eax, ecx, edx, ebx, esp, ebp, esi, edi")
+            if (code ~ /(^|[ ,])(byte|word|dword) [^\[]/) tell("byte, word and dword stand before a bracket alone")
+            if (code ~ /^(jmp|call|j[a-z]+) (near|far) /) tell("wanted the label alone, without near and far")
+            if (code ~ /^test [a-z]+ ?, ?\[/) tell("wanted the bracket first, as test [b], eax")
+            if (code ~ /^(mov|add|adc|sub|sbb|and|or|xor|cmp|test) -?[0-9][0-9A-Za-z]* ?,/)
+                tell("wanted the number as the second operand: the first is a register or an address")
+            gsub(/\[[^\]]*\]/, "", code)
+            if (code ~ /[ ,]e?(ax|cx|dx|bx|sp|bp|si|di) ?[-+]/)
+                tell("a register is added in brackets alone: lea eax, [ebx+4] makes eax ebx+4")
+            if (code ~ /[ ,][c-gs]s($|[ ,:])/) tell("there are no segment registers: wanted the address alone")
+        }
+        function tell_byte(code) {
+            if (code ~ /^e?[abcd]x ?[-+*]?=/) tell("wanted an instruction, as mov eax, 5 or add eax, 5")
+            if (code ~ /\(/ && code !~ /[$%]/) tell("wanted [ and ] around an address, and no ( and )")
+            if (code ~ /[0-9A-Za-z_] ?(\/|<<|>>|&|\|) ?[0-9A-Za-z_]/) tell("wanted the number itself: only name+n and name-n are computed")
+        }
+        function tell_word(word) {
+            if (word == "enter") tell("wanted push ebp, mov ebp, esp and sub esp, N in place of enter N, 0")
+            if (word ~ /^cmov/) tell("wanted a jump over a mov: the 80386 has no " word)
+            if (word ~ /^(bswap|cmpxchg|xadd|cpuid|rdtsc|ud2)$/) tell("the 80386 has no " word)
+            if (word ~ /^f(ld|st|stp|add|sub|mul|div|ild|ist|istp|com|init|chs|abs|sqrt)$/)
+                tell("there is no floating point: wanted whole numbers")
+            if (word == "times") tell(".space N makes N zero bytes; other statements are written out")
+            if (word ~ /^\.?(globl|global|extern|extrn|public|bits|use32|cpu|align|balign|org|type|size|file|model|proc|endp|end)$/)
+                tell("there is no " word ": wanted the line left out")
+            if (word ~ /^set/ && substr(word, 4) in condition) tell("wanted set" condition[substr(word, 4)] " in place of " word)
+            if (word ~ /^(mov|add|adc|sub|sbb|and|or|xor|cmp|test|lea|push|pop|inc|dec|neg|not|shl|shr|sar|imul|idiv|mul|div)[bwlq]$/)
+                tell("wanted " substr(word, 1, length(word) - 1) ", without the size in its name: registers, or byte, word and dword, say it")
+            if (word in instead) tell("wanted " instead[word] " in place of " word)
+        }
+        BEGIN {
+            pairs = "e z ne nz c b nae b nc nb ae nb g nle ge nl nge l ng le na be a nbe pe p po np"
+            count = split(pairs, words, " ")
+            for (at = 1; at < count; at += 2) condition[words[at]] = words[at + 1]
+            instead[".byte"] = ".data1"
+            instead[".word"] = instead[".short"] = instead[".value"] = ".data2"
+            instead[".long"] = instead[".int"] = instead[".dword"] = ".data4"
+            instead[".asciz"] = instead[".string"] = ".ascii, and \\0 at the end of the text,"
+            instead[".skip"] = instead[".zero"] = ".space"
+            instead[".code"] = ".text"
+            instead["loopz"] = "loope"
+            instead["loopnz"] = "loopne"
+            instead["jpe"] = "jp"
+            instead["jpo"] = "jnp"
+            instead["syscall"] = instead["sysenter"] = "int 33, with the trap in ecx,"
+            instead["move"] = instead["load"] = instead["ld"] = instead["store"] = "mov"
+            instead["return"] = instead["retn"] = "ret"
+            instead["goto"] = "jmp"
+        }
+        { code = plain($0) }
+        label != "" && !(label in first) { first[label] = NR }
+        NR == line && problem == "BadOperands" { tell_operands(code) }
+        NR == line && problem == "BadByte" { tell_byte(code) }
+        NR == line && problem == "UnknownWord" { split(code, words, " "); tell_word(words[1]) }
+        NR == line && problem == "Twice" && first[label] < NR { tell(label " is in line " first[label] " already") }
+        NR == line && problem == "TooFar" && code ~ / short / { tell("without short it reaches any place") }
+        NR == line && problem == "TooFar" && code ~ /^loop / { tell("wanted sub ecx, 1 and jnz, which reach any place") }
+        problem == "TooLarge" && code ~ /^\.(stack|space) [0-9]+$/ {
+            split(code, words, " ")
+            if (words[2] + 0 > 4194304) { line = NR; tell(code " alone is more than all may be") }
+        }' "$1" >&2
+}
+
+# Says of a text that was assembled where the address of a number is counted with, as if it were the number: right after
+# it was put in a register that is no address anywhere in the text.
+tell_addresses() {
+    awk -v file="$1" "$plain_line"'
+        { code = plain($0) }
+        label != "" { named = label; is_number[named] = 0 }
+        code == "" { next }
+        code ~ /^\.data[124] -?[0-9][0-9A-Fa-fx]*$/ { is_number[named] = label != ""; next }
+        code ~ /^\.(data[124]|ascii|space) / { is_number[named] = 0 }
+        code !~ /^\./ { text[++count] = code; line[count] = NR; whole = whole "\n" code }
+        END {
+            for (at = 1; at < count; at++) {
+                if (text[at] !~ /^mov e(ax|cx|dx|si|di|bp), ?[A-Za-z_][A-Za-z_0-9]*$/) continue
+                split(text[at], words, /[ ,]+/)
+                if (!is_number[words[3]] || whole ~ ("\\[[^\\]]*" words[2])) continue
+                if (text[at + 1] !~ ("^(add|sub|and|or|xor|cmp|test|imul|shl|shr|inc|dec|neg|not) " words[2] "(,|$)")) continue
+                print "mx: " file " line " line[at] ": " words[3] " is an address here; what stands there is [" words[3] "]"
+                exit
+            }
+        }' "$1" >&2
+}
+
 # Says of the configuration of these words that a comment in it begins otherwise.
 tell_comment_sign() {
     case $1 in one | as | dis | nm) return 0 ;; esac
@@ -413,6 +582,22 @@ tell_machine() {
     done
 }
 
+# Says of a configuration that two services have each other's programs, by their names.
+tell_swapped() {
+    case $1 in step | db | run | turns | explain) ;; *) return 0 ;; esac
+    config=$(nth_word 1 "$@")
+    [ ! -f "$config" ] || awk -v at="mx: $config: " '
+        { sub(/#.*/, "") }
+        $1 == "service" { program = $3; sub(/.*\//, "", program); sub(/\.out$/, "", program); has[$2] = program }
+        END {
+            for (name in has) {
+                other = has[name]
+                if (name < other && has[other] == name)
+                    print at name " has the program of " other ", and " other " that of " name
+            }
+        }' "$config" >&2
+}
+
 # Says that a history goes into a file named -.
 tell_log() {
     case $1 in
@@ -462,9 +647,12 @@ tell_words() {
     tell_comment_sign "$@"
     tell_code "$@"
     tell_machine "$@"
+    tell_swapped "$@"
     tell_log "$@"
+    tell_empty "$@"
     case $* in *-*) ;; *) return 0 ;; esac
     tell_option "$@"
+    tell_sign "$@"
     tell_slot "$@"
     tell_range "$@"
     tell_stop "$@"
@@ -563,16 +751,94 @@ is_short() {
 
 # Says of a history that was just made which calls no right machine makes were refused in it: by a mask, to nobody, or since
 # there is no such call. Others are refused by what happens, as if the other process dies. If the clock could have ticked,
-# says who waits for it too: tell_history CONFIG LOG TICKS, where TICKS is what would make it tick.
+# says who waits for it too: tell_history CONFIG LOG TICKS, where TICKS is what would make it tick. Of who died, says what
+# the instruction is that the machine hasn't, and that nothing says where it begins.
 tell_history() {
     { [ -f "$1" ] && is_short "$2"; } || return 0
-    ask_program why "$1" "$2" | awk -v asking="mx why $1 $2" -v ticks="$3" '
-        /^refused: .*: -10[347] / { if (!count++) first = $0 }
+    became=$(ask_program why "$1" "$2")
+    printf '%s\n' "$became" | awk -v asking="mx why $1 $2" -v ticks="$3" '
+        /^refused: .*: (-10[347] |-14 EFAULT .buffer.)/ { if (!count++) first = $0 }
         /^waits: .* from CLOCK .* alarm is due / { alarm = $0 }
+        /^refused: .*: kernel call, type 0: -107 / {
+            print "mx: the answer of a call overwrites its message, and its type is 0 then: wanted the type set again"
+        }
+        /^died: .* of fault 0 at / { print "mx: fault 0 is a division by 0, or one whose result doesn\047t fit" }
+        /^died: .* of fault 13 at .* int 0x[0-9a-f]*: no process may do this/ { print "mx: a trap is int 33, which is int 0x21" }
+        /^died: .* of fault 13 at .* no code: the code ends at / {
+            place = $0
+            sub(/.* of fault 13 at /, "", place)
+            end = place
+            sub(/.* the code ends at /, "", end)
+            if (substr(place, 1, 8) == substr(end, 1, 8)) came = 1
+        }
+        /^died: .* of fault 6 at .* \.data1 0xf0(;|$)/ {
+            print "mx: 0xf0 is the prefix LOCK, which the machine hasn\047t: gcc makes it of _Atomic and __sync"
+        }
+        /^died: .* of fault 6 at .* \.data1 0xd[89a-f](;|$)/ { print "mx: there is no floating point: wanted whole numbers" }
         END {
+            if (came && !count) print "mx: it came to the end of its code: wanted EXIT, a jmp or a ret before that"
             if (count) print "mx: " first "; " (count > 1 ? count - 1 " more: " : "") asking
             if (alarm && ticks) print "mx: " alarm "; the clock made no tick: " ticks
         }' >&2
+    tell_course "$1" "$2" "$became"
+    printf '%s\n' "$became" | sed -n 's/^died: \([A-Za-z0-9_]*\),.* (the stack is empty: .*/\1/p' | while read -r name; do
+        tell_entry "$1" "$name"
+    done
+}
+
+# Says of a short history that was just made what its trace shows of calls that end well: a service that ends and comes back,
+# a kernel call's type that went to a process, words for another register than the console's; if it is full, which calls
+# were made most: tell_course CONFIG LOG ENDS, where ENDS is how it ended, as `mx why` has it.
+tell_course() {
+    [ "$(wc -l <"$2")" -le 5000 ] || return 0
+    ask_program trace "$1" "$2" | awk -v ends="$3" '
+        $3 == "back" && $7 == "trap" {
+            made = $5 " " $8 " " $9
+            if ($9 == "SYSTEM,") made = made " " $10
+            register = $10 == "DEVIO" && $11 == 1 ? $12 : 0
+            writer = $5
+            if ($10 == "DEVIO" && $11 == 0 && $12 == 0 && !reader) reader = $5
+            if (!times[made]++) order[++kinds] = made
+        }
+        $2 == "answer" && $3 == 0 && register > 0 && !other { other = writer " wrote register " register }
+        $2 == "console" { is_written = 1 }
+        / -> down exit$/ { if (!exits[$2]++) enders[++ended] = $2 }
+        /: down exit -> ready$/ { returns[$2]++ }
+        $2 == "message" && $8 == "type" && $9 >= 1536 && $9 <= 1544 && !sent {
+            sent = $3 " sent " $6 " the type " sprintf("0x%x", $9) ", a call of SYSTEM, at record " $1
+        }
+        END {
+            for (at = 1; at <= ended; at++)
+                if ((name = enders[at]) in returns) print "mx: " name " ended by EXIT, " exits[name] " times, and came back, as after a death: restarts 0 lets it end"
+            if (sent) print "mx: " sent ": SYSTEM is -2 in EAX"
+            if (reader && !is_written) print "mx: nothing is on the console: " reader " read register 0, since p0 was 0; 1 writes"
+            if (other && !is_written) print "mx: nothing is on the console, which is register 0: " other
+            if (ends !~ /^ends: full/) exit
+            for (count = 0; count < 3; count++) {
+                most = ""
+                for (at = 1; at <= kinds; at++)
+                    if (times[order[at]] > 1 && (most == "" || times[order[at]] > times[most])) most = order[at]
+                if (most == "") break
+                list = list (list ? "; " : "") most ", " times[most] " times"
+                times[most] = 0
+            }
+            if (list) print "mx: made most: " list
+        }' >&2
+}
+
+# Says of a service of a configuration that its text doesn't say where it begins.
+tell_entry() {
+    file=$(awk -v name="$2" '{ sub(/#.*/, "") } $1 == "service" && $2 == name { print $3; exit }' "$1")
+    text=${file%.out}.s
+    { [ "$text" != "$file.s" ] && [ -f "$text" ] && is_made_of "$text" "$file"; } || return 0
+    awk -v file="$text" -v name="$2" "$plain_line"'
+        { code = plain($0) }
+        code ~ /^\.entry/ { has_entry = 1 }
+        code ~ /^[^.]/ && !line { line = NR }
+        END {
+            if (line && !has_entry)
+                print "mx: " file " has no .entry, so " name " begins at its first instruction, line " line
+        }' "$text" >&2
 }
 
 # Says of a history that was just made that what is on the console can't be seen, if that is so of all its bytes.
@@ -586,6 +852,28 @@ tell_console() {
 # The option that makes the clock tick, if these words have none.
 missing_ticks() {
     [ -n "$(value_of --ticks "$@")$(value_of --events "$@")" ] || echo "--ticks T"
+}
+
+# Says of a configuration that its history has no room for a service's first turn.
+tell_room() {
+    [ ! -f "$1" ] || awk '
+        { sub(/#.*/, "") }
+        $1 == "log" && $2 == 1 { print "mx: wanted log 2 or more: a service is taken and comes back, which are 2 records" }' "$1" >&2
+}
+
+# Says what isn't told yet of a run or of turns that ended so: tell_ended STATUS WORDS.
+tell_ended() {
+    ended=$1
+    shift
+    case $ended in
+        0)
+            tell_room "$(nth_word 1 "$@")"
+            tell_history "$(nth_word 1 "$@")" "$(nth_word 2 "$@")" "$(missing_ticks "$@")"
+            tell_console "$(nth_word 1 "$@")" "$(nth_word 2 "$@")" ;;
+        1 | 3) tell_failure "$@" ;;
+        130) [ ! -f "$(nth_word 2 "$@")" ] ||
+            echo "mx: what it did until then: mx why $(nth_word 1 "$@") $(nth_word 2 "$@")" >&2 ;;
+    esac
 }
 
 # Whether these words are those of a run or of turns, in which nobody types.
@@ -611,29 +899,210 @@ run_stoppable() {
     (trap '' INT TERM HUP; start_program "$@") <&3 3<&- &
     child=$!
     wait_for_child
-    if [ "$status" = 0 ] && [ -n "$(explains_words "$@")" ]; then
-        tell_history "$(nth_word 1 "$@")" "$(nth_word 2 "$@")" "$(missing_ticks "$@")"
-        tell_console "$(nth_word 1 "$@")" "$(nth_word 2 "$@")"
-    fi
+    [ -z "$(explains_words "$@")" ] || tell_ended "$status" "$@"
     return "$status"
 }
 
-# Whether these words are those of a `step` of which something is to be told afterwards.
+# Whether these words are those of a command of which something is to be told afterwards.
 is_told_after() {
     case " $* " in *' --help '* | *' -h '*) return 1 ;; esac
-    [ "${1-}" = step ] && [ -n "$(explains_words "$@")" ]
+    case ${1-} in as | step | db | replay | trace | draw | page | sweep | explain) ;; *) return 1 ;; esac
+    [ -n "$(explains_words "$@")" ]
 }
 
-# Makes a step of these words, by start_program of the script that calls it, and says that its history goes nowhere, or
-# what was refused in it. The status is the program's.
+# Runs these words, by start_program of the script that calls it, and says what isn't told yet: of a failure how it is
+# mended, of a step that its history goes nowhere, and what was refused. The status is the program's.
 run_told() {
-    (start_program "$@") || return
-    log=$(value_of --save "$@")
-    if [ -n "$log" ]; then
-        tell_history "$(nth_word 1 "$@")" "$log" ''
-    else
-        echo "mx: the history isn't saved: --save LOG" >&2
+    (start_program "$@")
+    status=$?
+    case $status in
+        0) tell_done "$@" ;;
+        1 | 3) tell_failure "$@" ;;
+    esac
+    return "$status"
+}
+
+# Says what isn't told yet of a command that ended well.
+tell_done() {
+    case $1 in
+        as) tell_addresses "$(nth_word 1 "$@")" ;;
+        db) tell_looks "$(nth_word 1 "$@")" "$(nth_word 2 "$@")" ;;
+        step)
+            tell_answers "$(nth_word 1 "$@")" "$(nth_word 2 "$@")"
+            log=$(value_of --save "$@")
+            if [ -n "$log" ]; then
+                tell_history "$(nth_word 1 "$@")" "$log" ''
+            else
+                echo "mx: the history isn't saved: --save LOG" >&2
+            fi ;;
+    esac
+}
+
+# Says what isn't told yet of a command that failed.
+tell_failure() {
+    config=$(nth_word 1 "$@") second=$(nth_word 2 "$@")
+    if [ "$1" = as ]; then
+        tell_faulty "$config" "$(failure_of "$@")"
+        return
     fi
+    said=$(failure_of explain "$config" --check)
+    if [ -n "$said" ]; then
+        tell_config "$config" "$said"
+        return
+    fi
+    case $1 in
+        step | db) tell_script "$config" "$second" "$(failure_of "$1" "$config" "$second")" ;;
+        run | turns) tell_script "$config" "$(value_of --events "$@")" '' ;;
+        replay | trace | draw | page) tell_refused "$config" "$second" ;;
+        sweep) tell_fault "$config" "$second" "$(nth_word 3 "$@")" ;;
+    esac
+}
+
+# Says of a text that is refused with these lines what its mistake is.
+tell_faulty() {
+    fault=$(printf '%s\n' "$2" | sed -n '1s/^mx: [0-9]* \([A-Za-z]*\) line \([0-9]*\)$/\2 \1/p')
+    [ -z "$fault" ] || [ ! -f "$1" ] || tell_statement "$1" "${fault% *}" "${fault#* }"
+}
+
+# Says of a configuration that is refused with these lines what a program's file is, or its name, or how an item's word is.
+tell_config() {
+    file=$(printf '%s\n' "$2" | sed -n "s/^mx: a service's program \(.*\): wanted .*/\1/p")
+    name=${file#[\"\']}
+    name=${name%[\"\']}
+    if [ -z "$file" ]; then
+        tell_item "$1" "$(printf '%s\n' "$2" | sed -n '1s/^mx: 70 BadLine line \([0-9]*\)$/\1/p')"
+    elif [ "$name" != "$file" ] && [ -f "$name" ]; then
+        echo "mx: $1: wanted the program's name without quotes: $name is there" >&2
+    elif [ ! -e "$file" ]; then
+        tell_programs "$file"
+    fi
+    case $2 in
+        *'mx: 26 TooLarge'*) echo "mx: a program has at most 1048576 bytes of text, and 4194304 in all, with its stack" >&2 ;;
+        *'this is an ELF file'*) echo "mx: mx new NAME --c makes a folder in which make makes such programs of C" >&2 ;;
+    esac
+}
+
+# Says of a line of a configuration that its item's word has a colon, or is in upper case.
+tell_item() {
+    { [ -n "$2" ] && [ -f "$1" ]; } || return 0
+    awk -v line="$2" -v at="mx: $1 line $2: " '
+        NR == line {
+            word = tolower($1)
+            colon = sub(/:$/, "", word)
+            if (word !~ /^(cpus|others|log|rules|service)$/ || word == $1) exit
+            print at "wanted " word (colon ? ", without :" : ", in lower case")
+        }' "$1" >&2
+}
+
+# Says what makes a program that isn't there, if its text is; else which programs are in its folder, if they are few.
+tell_programs() {
+    folder=$(dirname "$1") stem=${1%.out}
+    [ ! -f "$stem.c" ] || return 0
+    if [ "$stem" != "$1" ] && [ -f "$stem.s" ]; then
+        echo "mx: $stem.s is there: mx as $stem.s $1" >&2
+        return
+    fi
+    there=''
+    for file in "$folder"/*.out; do
+        [ ! -f "$file" ] || there="$there ${file#./}"
+    done
+    [ -z "$there" ] || [ "$(echo "$there" | wc -w)" -gt 8 ] || echo "mx: these are there:$there" >&2
+}
+
+# How many processors a configuration has.
+cpus_of() {
+    awk '{ sub(/#.*/, "") } $1 == "cpus" { print $2; exit }' "$1"
+}
+
+# Says of a script that is refused with these lines which number was wanted for a name.
+tell_script() {
+    line=$(printf '%s\n' "$3" | sed -n '1s/^mx: 73 BadRecord line \([0-9]*\)$/\1/p')
+    { [ -n "$line" ] && [ -f "$2" ]; } || return 0
+    awk -v line="$line" -v cpus="$(cpus_of "$1")" -v at="mx: $2 line $line: " '
+        NR == line && $1 ~ /^(take|step|back|go)$/ && $2 ~ /^[A-Za-z_]/ {
+            print at "C is the number of a processor, 0 to " cpus - 1 ", and no service: stands \"" $2 "\""
+        }' "$2" >&2
+}
+
+# Says of the events of a script that were refused why, the first three: they are made once more, and each answer has the
+# number of its line then.
+tell_answers() {
+    { [ -f "$1" ] && [ -f "$2" ]; } || return 0
+    ask_program step "$1" "$2" --numbered | awk -v script="$2" -v cpus="$(cpus_of "$1")" \
+        -v services="$(programs_of "$1" | wc -l)" '
+        NR == FNR {
+            if ($2 == "refused") code[$1 + 0] = $3
+            next
+        }
+        !(FNR in code) || said[$0]++ { next }
+        { why = "" }
+        code[FNR] ~ /^5[01]$/ && $2 + 0 >= cpus { why = "there is no processor " $2 ", since CONFIG has cpus " cpus }
+        code[FNR] == 50 && $2 + 0 < cpus { why = "processor " $2 " has a process: back " $2 " comes before" }
+        code[FNR] == 51 && $2 + 0 < cpus { why = "processor " $2 " has no process: take " $2 " comes before" }
+        code[FNR] == 53 { why = $2 + 0 > 15 ? "lines are 0 to 15" : "no process has taken line " $2 }
+        code[FNR] == 54 { why = "no process that lives has the endpoint " $2 }
+        code[FNR] == 42 { why = "S is a slot, 0 to " services - 1 }
+        code[FNR] == 41 { why = "the restarts of CONFIG are used up" }
+        why { print "mx: " script " line " FNR " (" $0 "): " why; if (++count == 3) exit }' - "$2" >&2
+}
+
+# Says of a debugger's script which of its numbers are decimal, though they look as a listing's, and whom `regs C` is of, if
+# somebody wasn't there.
+tell_looks() {
+    { [ -f "$1" ] && [ -f "$2" ]; } || return 0
+    awk -v at="mx: $2 line " '
+        $1 == "break" && $3 ~ /^0[0-9]+$/ {
+            print at NR ": " $3 " is decimal here, as all numbers: " $3 + 0
+            exit
+        }' "$2" >&2
+    if grep -Eq '^(regs|mem) [0-9]' "$2" && ask_program db "$1" "$2" | grep -q '^refused 61 NotHere'; then
+        echo "mx: regs C and mem C are of who is on processor C: of slot S they are regs of S and mem of S" >&2
+    fi
+}
+
+# Says of a history that is refused where it is none of this machine's, or that a number in it is too large.
+tell_refused() {
+    [ -f "$2" ] || return 0
+    awk -v file="$2" '
+        $2 == "back" && $3 ~ /^[0-9]+$/ && $3 + 0 > 2147483647 {
+            print "mx: " file " line " NR ": wanted N of at most 2147483647, stands \"" $3 "\""
+            exit
+        }' "$2" >&2
+    ! is_short "$2" || ask_program why "$1" "$2" | sed -n 's/^ends: \(record .* is refused, .*\)/mx: \1/p' >&2
+}
+
+# Says of a sweep that failed which events FAULT may have, or what its history is.
+tell_fault() {
+    tell_refused "$1" "$2"
+    [ -f "$3" ] || return 0
+    awk -v file="$3" '
+        { sub(/#.*/, "") }
+        NF && $1 !~ /^(take|step|back|line|tick|kill|respawn)$/ {
+            print "mx: " file " line " NR ": an event is take C, step C K, back C, line L, tick, kill E or respawn S"
+            exit
+        }' "$3" >&2
+}
+
+# Says of a history without a record, which a command reads, how one is made.
+tell_empty() {
+    case $1 in replay | trace | draw | page | look | gdb | why | sweep) ;; *) return 0 ;; esac
+    log=$(nth_word 2 "$@")
+    { [ -f "$log" ] && ! grep -q -v -e '^rules [12]$' -e '^$' "$log"; } || return 0
+    echo "mx: $log has no record: mx turns $(nth_word 1 "$@") LOG makes a history" >&2
+}
+
+# Says of a number with a sign that no option takes one, nor `one`.
+tell_sign() {
+    before=''
+    for word in "$@"; do
+        case $before$word in
+            --*' '-[0-9]*) echo "mx: ${before% }: wanted a number without a sign, stands \"$word\"" >&2 ;;
+        esac
+        before="$word "
+    done
+    case ${1-}' '${3-} in
+        'one -'[0-9]*) echo "mx: N: wanted a number without a sign, stands \"$3\"" >&2 ;;
+    esac
 }
 
 # Whether a file begins as sums do: with the line of a configuration's.
