@@ -1039,6 +1039,8 @@ tell_answers() {
         code[FNR] ~ /^5[01]$/ && $2 + 0 >= cpus { why = "there is no processor " $2 ", since CONFIG has cpus " cpus }
         code[FNR] == 50 && $2 + 0 < cpus { why = "processor " $2 " has a process: back " $2 " comes before" }
         code[FNR] == 51 && $2 + 0 < cpus { why = "processor " $2 " has no process: take " $2 " comes before" }
+        code[FNR] == 55 { why = "its process has stopped: back " $2 " comes before" }
+        code[FNR] == 40 { why = "the process of slot " $2 " lives: a kill comes before" }
         code[FNR] == 53 { why = $2 + 0 > 15 ? "lines are 0 to 15" : "no process has taken line " $2 }
         code[FNR] == 54 { why = "no process that lives has the endpoint " $2 }
         code[FNR] == 42 { why = "S is a slot, 0 to " services - 1 }
@@ -1083,12 +1085,24 @@ tell_fault() {
         }' "$3" >&2
 }
 
-# Says of a history without a record, which a command reads, how one is made.
+# Says of a history that a command reads, and that isn't there or has no record, how one is made; of a sweep whose turns are
+# fewer than those of its history, that they are.
 tell_empty() {
     case $1 in replay | trace | draw | page | look | gdb | why | sweep) ;; *) return 0 ;; esac
-    log=$(nth_word 2 "$@")
-    { [ -f "$log" ] && ! grep -q -v -e '^rules [12]$' -e '^$' "$log"; } || return 0
-    echo "mx: $log has no record: mx turns $(nth_word 1 "$@") LOG makes a history" >&2
+    config=$(nth_word 1 "$@") log=$(nth_word 2 "$@")
+    if [ -f "$config" ] && [ -n "$log" ] && [ ! -e "$log" ]; then
+        echo "mx: $log isn't there: mx turns $config $log makes it" >&2
+    fi
+    [ -f "$log" ] || return 0
+    grep -q -v -e '^rules [12]$' -e '^$' "$log" || echo "mx: $log has no record: mx turns $config LOG makes a history" >&2
+    turns=$(value_of --turns "$@")
+    case $1$turns in sweep[0-9]*) ;; *) return 0 ;; esac
+    awk -v file="$log" -v turns="$turns" '
+        $2 == "take" { taken++ }
+        END {
+            if (turns ~ /^[0-9]+$/ && turns + 0 < taken)
+                print "mx: --turns " turns ": " file " has " taken " turns, so positions may end before they are at rest"
+        }' "$log" >&2
 }
 
 # Says of a number with a sign that no option takes one, nor `one`.
