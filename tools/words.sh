@@ -477,7 +477,7 @@ tell_statement() {
 # Says of a text that was assembled where the address of a number is counted with, as if it were the number: right after
 # it was put in a register that is no address anywhere in the text.
 tell_addresses() {
-    awk -v file="$1" "$plain_line"'
+    [ ! -f "$1" ] || awk -v file="$1" "$plain_line"'
         { code = plain($0) }
         label != "" { named = label; is_number[named] = 0 }
         code == "" { next }
@@ -650,6 +650,7 @@ tell_words() {
     tell_swapped "$@"
     tell_log "$@"
     tell_empty "$@"
+    tell_look "$@"
     case $* in *-*) ;; *) return 0 ;; esac
     tell_option "$@"
     tell_sign "$@"
@@ -942,7 +943,7 @@ tell_done() {
 tell_failure() {
     config=$(nth_word 1 "$@") second=$(nth_word 2 "$@")
     if [ "$1" = as ]; then
-        tell_faulty "$config" "$(failure_of "$@")"
+        [ ! -f "$config" ] || tell_faulty "$config" "$(failure_of "$@")"
         return
     fi
     said=$(failure_of explain "$config" --check)
@@ -961,7 +962,7 @@ tell_failure() {
 # Says of a text that is refused with these lines what its mistake is.
 tell_faulty() {
     fault=$(printf '%s\n' "$2" | sed -n '1s/^mx: [0-9]* \([A-Za-z]*\) line \([0-9]*\)$/\2 \1/p')
-    [ -z "$fault" ] || [ ! -f "$1" ] || tell_statement "$1" "${fault% *}" "${fault#* }"
+    [ -z "$fault" ] || tell_statement "$1" "${fault% *}" "${fault#* }"
 }
 
 # Says of a configuration that is refused with these lines what a program's file is, or its name, or how an item's word is.
@@ -1103,6 +1104,13 @@ tell_empty() {
             if (turns ~ /^[0-9]+$/ && turns + 0 < taken)
                 print "mx: --turns " turns ": " file " has " taken " turns, so positions may end before they are at rest"
         }' "$log" >&2
+}
+
+# Says as a session of `look` begins what its commands are, of those that other debuggers name otherwise.
+tell_look() {
+    { [ "$1" = look ] && [ -f "$(nth_word 2 "$@")" ]; } || return 0
+    echo "mx: help lists the commands: forward and step go on, until 1 EXIT finds a call and until death 1 an end," \
+        "watch SLOT ADDRESS N takes N of 1 to 16, quit ends" >&2
 }
 
 # Says of a number with a sign that no option takes one, nor `one`.
