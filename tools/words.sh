@@ -474,8 +474,8 @@ tell_statement() {
         }' "$1" >&2
 }
 
-# Says of a text that was assembled where the address of a number is counted with, as if it were the number: right after
-# it was put in a register that is no address anywhere in the text.
+# Says of a text that was assembled that it has no instruction, or where the address of a number is counted with, as if it
+# were the number: right after it was put in a register that is no address anywhere in the text.
 tell_addresses() {
     [ ! -f "$1" ] || awk -v file="$1" "$plain_line"'
         { code = plain($0) }
@@ -485,6 +485,7 @@ tell_addresses() {
         code ~ /^\.(data[124]|ascii|space) / { is_number[named] = 0 }
         code !~ /^\./ { text[++count] = code; line[count] = NR; whole = whole "\n" code }
         END {
+            if (!count) print "mx: " file " has no instruction"
             for (at = 1; at < count; at++) {
                 if (text[at] !~ /^mov e(ax|cx|dx|si|di|bp), ?[A-Za-z_][A-Za-z_0-9]*$/) continue
                 split(text[at], words, /[ ,]+/)
@@ -757,8 +758,10 @@ is_short() {
 tell_history() {
     { [ -f "$1" ] && is_short "$2"; } || return 0
     became=$(ask_program why "$1" "$2")
-    printf '%s\n' "$became" | awk -v asking="mx why $1 $2" -v ticks="$3" '
+    slots=$(awk '{ sub(/#.*/, "") } $1 == "service" { printf " %d %s", slot++, $2 }' "$1")
+    printf '%s\n' "$became" | awk -v asking="mx why $1 $2" -v ticks="$3" -v slots="$slots" '
         /^refused: .*: (-10[347] |-14 EFAULT .buffer.)/ { if (!count++) first = $0 }
+        /^refused: / && $3 ~ /^(SEND|SENDREC|NOTIFY)$/ && $2 == $4 && !self { self = $2; sub(/:$/, "", self) }
         /^waits: .* from CLOCK .* alarm is due / { alarm = $0 }
         /^refused: .*: kernel call, type 0: -107 / {
             print "mx: the answer of a call overwrites its message, and its type is 0 then: wanted the type set again"
@@ -770,15 +773,17 @@ tell_history() {
             sub(/.* of fault 13 at /, "", place)
             end = place
             sub(/.* the code ends at /, "", end)
-            if (substr(place, 1, 8) == substr(end, 1, 8)) came = 1
+            if (substr(place, 1, 8) == substr(end, 1, 8)) came = $2
         }
         /^died: .* of fault 6 at .* \.data1 0xf0(;|$)/ {
             print "mx: 0xf0 is the prefix LOCK, which the machine hasn\047t: gcc makes it of _Atomic and __sync"
         }
         /^died: .* of fault 6 at .* \.data1 0xd[89a-f](;|$)/ { print "mx: there is no floating point: wanted whole numbers" }
         END {
-            if (came && !count) print "mx: it came to the end of its code: wanted EXIT, a jmp or a ret before that"
+            sub(/,$/, "", came)
+            if (came && !count) print "mx: " came " came to the end of its code: wanted EXIT, a jmp or a ret before that"
             if (count) print "mx: " first "; " (count > 1 ? count - 1 " more: " : "") asking
+            if (self) print "mx: " self " calls itself: slots are in the order of the services in CONFIG:" slots
             if (alarm && ticks) print "mx: " alarm "; the clock made no tick: " ticks
         }' >&2
     tell_course "$1" "$2" "$became"
