@@ -957,7 +957,7 @@ tell_failure() {
         return
     fi
     case $1 in
-        step | db) tell_script "$config" "$second" "$(failure_of "$1" "$config" "$second")" ;;
+        step | db) ! is_short_script "$second" || tell_script "$config" "$second" "$(failure_of "$1" "$config" "$second")" ;;
         run | turns) tell_script "$config" "$(value_of --events "$@")" '' ;;
         replay | trace | draw | page) tell_refused "$config" "$second" ;;
         sweep) tell_fault "$config" "$second" "$(nth_word 3 "$@")" ;;
@@ -1030,10 +1030,15 @@ tell_script() {
         }' "$2" >&2
 }
 
+# Whether a script is as short as to be made once more.
+is_short_script() {
+    [ -f "$1" ] && awk '$1 == "step" || $1 == "go" { steps += $3 } END { exit NR > 20000 || steps > 10000000 }' "$1"
+}
+
 # Says of the events of a script that were refused why, the first three: they are made once more, and each answer has the
 # number of its line then.
 tell_answers() {
-    { [ -f "$1" ] && [ -f "$2" ]; } || return 0
+    { [ -f "$1" ] && is_short_script "$2"; } || return 0
     ask_program step "$1" "$2" --numbered | awk -v script="$2" -v cpus="$(cpus_of "$1")" \
         -v services="$(programs_of "$1" | wc -l)" '
         NR == FNR {
@@ -1057,7 +1062,7 @@ tell_answers() {
 # Says of a debugger's script which of its numbers are decimal, though they look as a listing's, and whom `regs C` is of, if
 # somebody wasn't there.
 tell_looks() {
-    { [ -f "$1" ] && [ -f "$2" ]; } || return 0
+    { [ -f "$1" ] && is_short_script "$2"; } || return 0
     awk -v at="mx: $2 line " '
         $1 == "break" && $3 ~ /^0[0-9]+$/ {
             print at NR ": " $3 " is decimal here, as all numbers: " $3 + 0
