@@ -474,10 +474,10 @@ tell_statement() {
         }' "$1" >&2
 }
 
-# Says of a text that was assembled where the address of a number is counted with, as if it were the number: right after
-# it was put in a register that is no address anywhere in the text.
+# Says of a text that was assembled that it has no instruction, or where the address of a number is counted with, as if it
+# were the number: right after it was put in a register that is no address anywhere in the text.
 tell_addresses() {
-    awk -v file="$1" "$plain_line"'
+    [ ! -f "$1" ] || awk -v file="$1" "$plain_line"'
         { code = plain($0) }
         label != "" { named = label; is_number[named] = 0 }
         code == "" { next }
@@ -485,6 +485,7 @@ tell_addresses() {
         code ~ /^\.(data[124]|ascii|space) / { is_number[named] = 0 }
         code !~ /^\./ { text[++count] = code; line[count] = NR; whole = whole "\n" code }
         END {
+            if (!count) print "mx: " file " has no instruction"
             for (at = 1; at < count; at++) {
                 if (text[at] !~ /^mov e(ax|cx|dx|si|di|bp), ?[A-Za-z_][A-Za-z_0-9]*$/) continue
                 split(text[at], words, /[ ,]+/)
@@ -650,6 +651,7 @@ tell_words() {
     tell_swapped "$@"
     tell_log "$@"
     tell_empty "$@"
+    tell_look "$@"
     case $* in *-*) ;; *) return 0 ;; esac
     tell_option "$@"
     tell_sign "$@"
@@ -756,8 +758,10 @@ is_short() {
 tell_history() {
     { [ -f "$1" ] && is_short "$2"; } || return 0
     became=$(ask_program why "$1" "$2")
-    printf '%s\n' "$became" | awk -v asking="mx why $1 $2" -v ticks="$3" '
+    slots=$(awk '{ sub(/#.*/, "") } $1 == "service" { printf " %d %s", slot++, $2 }' "$1")
+    printf '%s\n' "$became" | awk -v asking="mx why $1 $2" -v ticks="$3" -v slots="$slots" '
         /^refused: .*: (-10[347] |-14 EFAULT .buffer.)/ { if (!count++) first = $0 }
+        /^refused: / && $3 ~ /^(SEND|SENDREC|NOTIFY)$/ && $2 == $4 && !self { self = $2; sub(/:$/, "", self) }
         /^waits: .* from CLOCK .* alarm is due / { alarm = $0 }
         /^refused: .*: kernel call, type 0: -107 / {
             print "mx: the answer of a call overwrites its message, and its type is 0 then: wanted the type set again"
@@ -769,15 +773,17 @@ tell_history() {
             sub(/.* of fault 13 at /, "", place)
             end = place
             sub(/.* the code ends at /, "", end)
-            if (substr(place, 1, 8) == substr(end, 1, 8)) came = 1
+            if (substr(place, 1, 8) == substr(end, 1, 8)) came = $2
         }
         /^died: .* of fault 6 at .* \.data1 0xf0(;|$)/ {
             print "mx: 0xf0 is the prefix LOCK, which the machine hasn\047t: gcc makes it of _Atomic and __sync"
         }
         /^died: .* of fault 6 at .* \.data1 0xd[89a-f](;|$)/ { print "mx: there is no floating point: wanted whole numbers" }
         END {
-            if (came && !count) print "mx: it came to the end of its code: wanted EXIT, a jmp or a ret before that"
+            sub(/,$/, "", came)
+            if (came && !count) print "mx: " came " came to the end of its code: wanted EXIT, a jmp or a ret before that"
             if (count) print "mx: " first "; " (count > 1 ? count - 1 " more: " : "") asking
+            if (self) print "mx: " self " calls itself: slots are in the order of the services in CONFIG:" slots
             if (alarm && ticks) print "mx: " alarm "; the clock made no tick: " ticks
         }' >&2
     tell_course "$1" "$2" "$became"
@@ -942,7 +948,7 @@ tell_done() {
 tell_failure() {
     config=$(nth_word 1 "$@") second=$(nth_word 2 "$@")
     if [ "$1" = as ]; then
-        tell_faulty "$config" "$(failure_of "$@")"
+        [ ! -f "$config" ] || tell_faulty "$config" "$(failure_of "$@")"
         return
     fi
     said=$(failure_of explain "$config" --check)
@@ -951,7 +957,7 @@ tell_failure() {
         return
     fi
     case $1 in
-        step | db) tell_script "$config" "$second" "$(failure_of "$1" "$config" "$second")" ;;
+        step | db) ! is_short_script "$second" || tell_script "$config" "$second" "$(failure_of "$1" "$config" "$second")" ;;
         run | turns) tell_script "$config" "$(value_of --events "$@")" '' ;;
         replay | trace | draw | page) tell_refused "$config" "$second" ;;
         sweep) tell_fault "$config" "$second" "$(nth_word 3 "$@")" ;;
@@ -961,7 +967,7 @@ tell_failure() {
 # Says of a text that is refused with these lines what its mistake is.
 tell_faulty() {
     fault=$(printf '%s\n' "$2" | sed -n '1s/^mx: [0-9]* \([A-Za-z]*\) line \([0-9]*\)$/\2 \1/p')
-    [ -z "$fault" ] || [ ! -f "$1" ] || tell_statement "$1" "${fault% *}" "${fault#* }"
+    [ -z "$fault" ] || tell_statement "$1" "${fault% *}" "${fault#* }"
 }
 
 # Says of a configuration that is refused with these lines what a program's file is, or its name, or how an item's word is.
@@ -1024,10 +1030,15 @@ tell_script() {
         }' "$2" >&2
 }
 
+# Whether a script is as short as to be made once more.
+is_short_script() {
+    [ -f "$1" ] && awk '$1 == "step" || $1 == "go" { steps += $3 } END { exit NR > 20000 || steps > 10000000 }' "$1"
+}
+
 # Says of the events of a script that were refused why, the first three: they are made once more, and each answer has the
 # number of its line then.
 tell_answers() {
-    { [ -f "$1" ] && [ -f "$2" ]; } || return 0
+    { [ -f "$1" ] && is_short_script "$2"; } || return 0
     ask_program step "$1" "$2" --numbered | awk -v script="$2" -v cpus="$(cpus_of "$1")" \
         -v services="$(programs_of "$1" | wc -l)" '
         NR == FNR {
@@ -1039,6 +1050,8 @@ tell_answers() {
         code[FNR] ~ /^5[01]$/ && $2 + 0 >= cpus { why = "there is no processor " $2 ", since CONFIG has cpus " cpus }
         code[FNR] == 50 && $2 + 0 < cpus { why = "processor " $2 " has a process: back " $2 " comes before" }
         code[FNR] == 51 && $2 + 0 < cpus { why = "processor " $2 " has no process: take " $2 " comes before" }
+        code[FNR] == 55 { why = "its process has stopped: back " $2 " comes before" }
+        code[FNR] == 40 { why = "the process of slot " $2 " lives: a kill comes before" }
         code[FNR] == 53 { why = $2 + 0 > 15 ? "lines are 0 to 15" : "no process has taken line " $2 }
         code[FNR] == 54 { why = "no process that lives has the endpoint " $2 }
         code[FNR] == 42 { why = "S is a slot, 0 to " services - 1 }
@@ -1049,7 +1062,7 @@ tell_answers() {
 # Says of a debugger's script which of its numbers are decimal, though they look as a listing's, and whom `regs C` is of, if
 # somebody wasn't there.
 tell_looks() {
-    { [ -f "$1" ] && [ -f "$2" ]; } || return 0
+    { [ -f "$1" ] && is_short_script "$2"; } || return 0
     awk -v at="mx: $2 line " '
         $1 == "break" && $3 ~ /^0[0-9]+$/ {
             print at NR ": " $3 " is decimal here, as all numbers: " $3 + 0
@@ -1083,12 +1096,31 @@ tell_fault() {
         }' "$3" >&2
 }
 
-# Says of a history without a record, which a command reads, how one is made.
+# Says of a history that a command reads, and that isn't there or has no record, how one is made; of a sweep whose turns are
+# fewer than those of its history, that they are.
 tell_empty() {
     case $1 in replay | trace | draw | page | look | gdb | why | sweep) ;; *) return 0 ;; esac
-    log=$(nth_word 2 "$@")
-    { [ -f "$log" ] && ! grep -q -v -e '^rules [12]$' -e '^$' "$log"; } || return 0
-    echo "mx: $log has no record: mx turns $(nth_word 1 "$@") LOG makes a history" >&2
+    config=$(nth_word 1 "$@") log=$(nth_word 2 "$@")
+    if [ -f "$config" ] && [ -n "$log" ] && [ ! -e "$log" ]; then
+        echo "mx: $log isn't there: mx turns $config $log makes it" >&2
+    fi
+    [ -f "$log" ] || return 0
+    grep -q -v -e '^rules [12]$' -e '^$' "$log" || echo "mx: $log has no record: mx turns $config LOG makes a history" >&2
+    turns=$(value_of --turns "$@")
+    case $1$turns in sweep[0-9]*) ;; *) return 0 ;; esac
+    awk -v file="$log" -v turns="$turns" '
+        $2 == "take" { taken++ }
+        END {
+            if (turns ~ /^[0-9]+$/ && turns + 0 < taken)
+                print "mx: --turns " turns ": " file " has " taken " turns, so positions may end before they are at rest"
+        }' "$log" >&2
+}
+
+# Says as a session of `look` begins what its commands are, of those that other debuggers name otherwise.
+tell_look() {
+    { [ "$1" = look ] && [ -f "$(nth_word 2 "$@")" ]; } || return 0
+    echo "mx: help lists the commands: forward and step go on, until 1 EXIT finds a call and until death 1 an end," \
+        "watch SLOT ADDRESS N takes N of 1 to 16, quit ends" >&2
 }
 
 # Says of a number with a sign that no option takes one, nor `one`.
