@@ -9,15 +9,18 @@ use Rattle.mx_machine.specs.declared.history.Record.{Record}
 use Rattle.mx_machine.specs.History.{events_of, world_after_events}
 use Rattle.mx_machine.specs.World.{World}
 use Rattle.mx_why.specs.declared.failed_calls.FailedCall.{FailedCall}
+use Rattle.mx_why.specs.declared.wants.Want.{Want}
 use Rattle.mx_why.specs.Failing.{call_place, failed_text}
+use Rattle.mx_why.specs.Wants.{want_of}
 
 -- it is of a slot, with this text: the call, its result, and why
 abbrev pub is_alike : ℕ → List ℕ → FailedCall → Bool
 is_alike s text c = (c.slot == s) && bytes_eq c.text text
 
 -- the first one
-abbrev pub first_call : ℕ → ℕ → List ℕ → List ℕ → FailedCall
-first_call n s text place = record { slot = s; number = n; times = 1; text = text; place = place }
+abbrev pub first_call : ℕ → ℕ → List ℕ → List ℕ → Want → FailedCall
+first_call n s text place want =
+    record { slot = s; number = n; times = 1; text = text; place = place; want = want }
 
 -- one more, of as many as are counted
 abbrev pub once_more : FailedCall → FailedCall
@@ -28,17 +31,17 @@ counted_at cs c None = cs ++ c ∷ []
 counted_at cs c (Some i) = slice_set cs i (once_more (slice_index_or cs i c))
 
 -- one is counted with those that are alike, or as the first
-abbrev pub counted : List FailedCall → ℕ → ℕ → List ℕ → List ℕ → List FailedCall
-counted cs n s text place =
-    counted_at cs (first_call n s text place) (position (is_alike s text) cs)
+abbrev pub counted : List FailedCall → ℕ → ℕ → List ℕ → List ℕ → Want → List FailedCall
+counted cs n s text place want =
+    counted_at cs (first_call n s text place want) (position (is_alike s text) cs)
 
-abbrev pub counted_if : World → ℕ → ℕ → List FailedCall → List ℕ → List FailedCall
-counted_if w n s cs [] = cs
-counted_if w n s cs text = counted cs n s text (call_place w s)
+abbrev pub counted_if : World → Transition → ℕ → List FailedCall → List ℕ → List FailedCall
+counted_if w x s cs [] = cs
+counted_if w x s cs text = counted cs x.number s text (call_place w s) (want_of x s)
 
 -- what a slot's process is refused in a record, after which the world is so
 unfoldable pub counted_of : World → Transition → List FailedCall → ℕ → List FailedCall
-counted_of w x cs s = counted_if w x.number s cs (failed_text x s)
+counted_of w x cs s = counted_if w x s cs (failed_text x s)
 
 -- what is refused in a record
 unfoldable pub counted_in : World → Transition → List FailedCall → List FailedCall

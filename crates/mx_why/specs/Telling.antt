@@ -35,7 +35,7 @@ unfoldable pub later_lines : Config → End → List Note → List FailedCall �
 later_lines c e ns cs os =
     waits_text e ns (verdicts e) true ++ waits_text e ns (verdicts e) false ++ unheard_lines e ns (unheard e ns)
     ++ busy_lines e (busy e ns)
-    ++ deaths_text e ns (deaths ns) ++ failed_lines e cs ++ outside_text e os ++ idle_text e ns
+    ++ deaths_text e ns (deaths ns) ++ failed_lines c e cs ++ outside_text e os ++ idle_text e ns
     ++ unfit_lines c (unfit c e)
 
 -- ALL LINES of a history of n records: of a machine that has done nothing, how it ended alone

@@ -4,9 +4,11 @@ ghost use Rattle.std.specs.Prelude.{◌≡◌, ◌<◌, ◌++◌, ◌∷◌, [],
 ghost use Rattle.mx_machine.specs.Machine.{world_of};
 ghost use Rattle.mx_why.specs.FailedCalls.{counted, counted_in, counted_of, first_call, is_alike, once_more};
 ghost use Rattle.mx_why.specs.Failing.{call_place};
+ghost use Rattle.mx_why.specs.Wants.{want_of};
 
 use crate::failing::{push_call_place, push_failed_text};
 use crate::notes::NoteText;
+use crate::wants::{Want, want_of};
 use mx_look::Transition;
 use mx_machine::Machine;
 use mx_proc::Slot;
@@ -24,6 +26,8 @@ pub struct FailedCall {
     pub text: NoteText,
     /// Where the first was made.
     pub place: NoteText,
+    /// What the first wanted.
+    pub want: Want,
 }
 
 /// Whether a call is one of a slot with this text.
@@ -58,7 +62,7 @@ fn push_first(
 ) -> Result<(), AllocError>
     ensures { OnOk result (calls.new.items ≡ calls.old.items
         ++ first_call transition.now.number slot text.items (call_place (world_of machine.now) slot)
-        ∷ []) }
+        (want_of transition.now slot) ∷ []) }
 {
     let mut place = Vec::new(*calls.allocator());
     push_call_place(&mut place, machine, slot)?;
@@ -68,6 +72,7 @@ fn push_first(
         times: 1,
         text: NoteText::from_vec(text),
         place: NoteText::from_vec(place),
+        want: want_of(transition, u32::from(slot)),
     })?;
     Ok(())
 }
@@ -82,7 +87,7 @@ fn count_call(
 ) -> Result<(), AllocError>
     ensures { OnOk result (calls.new.items
         ≡ counted calls.old.items transition.now.number slot text.items
-        (call_place (world_of machine.now) slot)) }
+        (call_place (world_of machine.now) slot) (want_of transition.now slot)) }
 {
     match place_of(calls.as_slice(), slot, text.as_slice()) {
         Some(index) => {

@@ -42,6 +42,8 @@ mod unfit_lines;
 mod unheard;
 mod verdicts;
 mod waiting;
+mod want_lines;
+mod wants;
 
 pub use after_run::{AfterRun, line_after_run, push_command};
 pub use begun::HistoryNames;
@@ -58,3 +60,4 @@ pub use telling::{Told, why};
 pub use unfit::{Lack, Pair, Unfit};
 pub use unheard::{Unheard, unheard_of};
 pub use verdicts::{Verdict, verdicts_on};
+pub use wants::Want;

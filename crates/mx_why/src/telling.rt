@@ -175,7 +175,7 @@ fn push_later(
     push_unheard_lines(out, end, notes)?;
     push_busy_lines(out, end, notes)?;
     push_death_lines(out, alloc, end, notes)?;
-    push_failed_lines(out, end, calls)?;
+    push_failed_lines(out, config, end, calls)?;
     push_outside(out, end, lost)?;
     push_idle(out, end, notes)?;
     push_lacking_lines(out, alloc, config, end)
