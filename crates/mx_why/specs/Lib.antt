@@ -9,6 +9,9 @@ pub mod Deaths
 pub mod Reasons
 pub mod Failing
 pub mod Wants
+pub mod Uses
+pub mod Cells
+pub mod Readings
 pub mod FailedCalls
 pub mod Lines
 pub mod Endings

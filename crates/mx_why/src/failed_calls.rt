@@ -4,10 +4,12 @@ ghost use Rattle.std.specs.Prelude.{◌≡◌, ◌<◌, ◌++◌, ◌∷◌, [],
 ghost use Rattle.mx_machine.specs.Machine.{world_of};
 ghost use Rattle.mx_why.specs.FailedCalls.{counted, counted_in, counted_of, first_call, is_alike, once_more};
 ghost use Rattle.mx_why.specs.Failing.{call_place};
+ghost use Rattle.mx_why.specs.Readings.{cell_of};
 ghost use Rattle.mx_why.specs.Wants.{want_of};
 
 use crate::failing::{push_call_place, push_failed_text};
 use crate::notes::NoteText;
+use crate::readings::{Cell, Reading, cell_of};
 use crate::wants::{Want, want_of};
 use mx_look::Transition;
 use mx_machine::Machine;
@@ -28,6 +30,8 @@ pub struct FailedCall {
     pub place: NoteText,
     /// What the first wanted.
     pub want: Want,
+    /// What is known of their results.
+    pub reading: Reading,
 }
 
 /// Whether a call is one of a slot with this text.
@@ -45,11 +49,12 @@ fn place_of(calls: &[FailedCall], slot: Slot, text: &[u8]) -> Option<usize>
     calls.iter().position(|call| is_alike(call, slot, text))
 }
 
-/// Counts a call once more.
-fn count_again(call: &mut FailedCall)
-    ensures { call.new ≡ once_more call.old }
+/// Counts a call once more, whose result is there.
+fn count_again(call: &mut FailedCall, cell: Cell)
+    ensures { call.new ≡ once_more cell call.old }
 {
     call.times = call.times.saturating_add(1);
+    call.reading.open(cell);
 }
 
 /// Appends a call of a slot with this text, as the first.
@@ -62,7 +67,7 @@ fn push_first(
 ) -> Result<(), AllocError>
     ensures { OnOk result (calls.new.items ≡ calls.old.items
         ++ first_call transition.now.number slot text.items (call_place (world_of machine.now) slot)
-        (want_of transition.now slot) ∷ []) }
+        (want_of transition.now slot) (cell_of (world_of machine.now) transition.now slot) ∷ []) }
 {
     let mut place = Vec::new(*calls.allocator());
     push_call_place(&mut place, machine, slot)?;
@@ -73,6 +78,7 @@ fn push_first(
         text: NoteText::from_vec(text),
         place: NoteText::from_vec(place),
         want: want_of(transition, u32::from(slot)),
+        reading: Reading::new(cell_of(machine, transition, slot)),
     })?;
     Ok(())
 }
@@ -87,11 +93,12 @@ fn count_call(
 ) -> Result<(), AllocError>
     ensures { OnOk result (calls.new.items
         ≡ counted calls.old.items transition.now.number slot text.items
-        (call_place (world_of machine.now) slot) (want_of transition.now slot)) }
+        (call_place (world_of machine.now) slot) (want_of transition.now slot)
+        (cell_of (world_of machine.now) transition.now slot)) }
 {
     match place_of(calls.as_slice(), slot, text.as_slice()) {
         Some(index) => {
-            count_again(&mut calls[index]);
+            count_again(&mut calls[index], cell_of(machine, transition, slot));
             Ok(())
         }
         None => push_first(calls, machine, transition, slot, text),

@@ -34,6 +34,7 @@ fn push_failed(
     push_decimal(out, call.number)?;
     out.extend_from_slice(call.place.as_slice())?;
     push_details(out, config, end, call.slot, call.want)?;
+    out.extend_from_slice(call.reading.text())?;
     out.extend_from_slice(b"\n")
 }
 

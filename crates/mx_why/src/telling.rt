@@ -35,6 +35,7 @@ use crate::marks::is_marked;
 use crate::notes::Note;
 use crate::noting::push_notes;
 use crate::outside::{LostLine, lost_lines, push_outside};
+use crate::readings::follow;
 use crate::refused_record::print_refused_record;
 use crate::seats::End;
 use crate::seeing::end_of;
@@ -76,6 +77,7 @@ pub(crate) fn note_records(
     let mut transition = resting_transition(machine);
     for (index, entry) in records.iter().enumerate() {
         let number = index as u32 + 1;
+        follow(calls, machine, *entry)?;
         match look_record(machine, number, *entry, &mut transition) {
             Ok(()) => {
                 push_notes(notes, &transition)?;

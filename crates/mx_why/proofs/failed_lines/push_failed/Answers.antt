@@ -1,5 +1,6 @@
 use Rattle.std.proofs.Common.{◌≡◌, ◌++◌, List, ℕ, codes}
 use Rattle.std.specs.Fmt.{decimal}
+use Rattle.mx_why.specs.Readings.{unread_text}
 use Rattle.mx_why.specs.Reasons.{slot_text}
 use Rattle.mx_why.specs.Endings.{times_text}
 use Rattle.mx_why.specs.FailedLines.{failed_line}
@@ -29,4 +30,6 @@ returns c =
     let d : List ℕ = details_text c.args.config.now c.args.end.now c.args.call.now.slot c.args.call.now.want in
     let a8 : List ℕ = a7 ++ d in
     let h8 : c.push_details.new.out.items ≡ c.args.out.now.items ++ a8 = joined c.args.out.now.items a7 d h7 c.in_ok-push_details.ensures in
-    last_joined c.extend_from_slice-6.result c.args.out.now.items a8 (codes "\n") c.push_details.new.out.items c.extend_from_slice-6.new.self.items h8 (extended c.extend_from_slice-6.result c.extend_from_slice-6.new.self.items (c.push_details.new.out.items ++ (codes "\n")) c.push_details.new.out.items c.extend_from_slice-6.ensures.items)
+    let a9 : List ℕ = a8 ++ (unread_text c.args.call.now.reading) in
+    let h9 : c.extend_from_slice-6.new.self.items ≡ c.args.out.now.items ++ a9 = joined_is c.args.out.now.items a8 c.text.result.now (unread_text c.args.call.now.reading) h8 c.text.ensures c.in_ok-extend_from_slice-6.ensures.items in
+    last_joined c.extend_from_slice-7.result c.args.out.now.items a9 (codes "\n") c.extend_from_slice-6.new.self.items c.extend_from_slice-7.new.self.items h9 (extended c.extend_from_slice-7.result c.extend_from_slice-7.new.self.items (c.extend_from_slice-6.new.self.items ++ (codes "\n")) c.extend_from_slice-6.new.self.items c.extend_from_slice-7.ensures.items)
