@@ -96,12 +96,13 @@ why_printed Prints c d vs records slice w said lines how same e is alike h =
 
 pub lines_printed : (Prints : List ℕ → Type 0) (c : Config) (w u : World) (records : List Record) (ns slice : List Note) (cs calls : List FailedCall) (said : List (Option OutsideLine)) (marked : Bool)
     → slice ≡ ns → calls ≡ cs
-    → IsNoted w u records None ns cs → marked ≡ told_marked c (end_of u) slice records said → Prints (told_text c (end_of u) slice calls records said)
+    → IsNoted w u records None ns cs → marked ≡ told_marked c (end_of u) slice calls records said → Prints (told_text c (end_of u) slice calls records said)
     → IsWhyPrinted w records c said (Whole marked) Prints
 lines_printed Prints c w u records ns slice cs calls said marked same alike (accepted, world, noted, failed) mark h = (
   accepted,
-  mark ∙ ap (λ (ms : List Note). told_marked c (end_of u) ms records said) (same ∙ noted)
-      ∙ ap (λ (v : World). told_marked c (end_of v) (notes_of_records w records) records said) world,
+  mark ∙ ap (λ (ms : List Note). told_marked c (end_of u) ms calls records said) (same ∙ noted)
+      ∙ ap (λ (ds : List FailedCall). told_marked c (end_of u) (notes_of_records w records) ds records said) (alike ∙ failed)
+      ∙ ap (λ (v : World). told_marked c (end_of v) (notes_of_records w records) (failed_calls w records) records said) world,
   subst (λ (v : World). Prints (told_text c (end_of v) (notes_of_records w records) (failed_calls w records) records said)) world
       (subst (λ (ds : List FailedCall). Prints (told_text c (end_of u) (notes_of_records w records) ds records said)) (alike ∙ failed)
       (subst (λ (ms : List Note). Prints (told_text c (end_of u) ms calls records said)) (same ∙ noted) h)),

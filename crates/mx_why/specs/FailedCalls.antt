@@ -9,10 +9,10 @@ use Rattle.mx_machine.specs.declared.history.Record.{Record}
 use Rattle.mx_machine.specs.History.{events_of, world_after_events}
 use Rattle.mx_machine.specs.World.{World}
 use Rattle.mx_why.specs.declared.failed_calls.FailedCall.{FailedCall}
-use Rattle.mx_why.specs.declared.readings.Cell.{Cell}
+use Rattle.mx_why.specs.declared.readings.Reading.{Reading}
 use Rattle.mx_why.specs.declared.wants.Want.{Want}
 use Rattle.mx_why.specs.Failing.{call_place, failed_text}
-use Rattle.mx_why.specs.Readings.{cell_of, followed, new_reading, opened}
+use Rattle.mx_why.specs.Readings.{followed, opened, reading_of}
 use Rattle.mx_why.specs.Wants.{want_of}
 
 -- it is of a slot, with this text: the call, its result, and why
@@ -20,33 +20,33 @@ abbrev pub is_alike : ℕ → List ℕ → FailedCall → Bool
 is_alike s text c = (c.slot == s) && bytes_eq c.text text
 
 -- the first one
-abbrev pub first_call : ℕ → ℕ → List ℕ → List ℕ → Want → Cell → FailedCall
-first_call n s text place want cell = record {
+abbrev pub first_call : ℕ → ℕ → List ℕ → List ℕ → Want → Reading → FailedCall
+first_call n s text place want g = record {
   slot = s;
   number = n;
   times = 1;
   text = text;
   place = place;
   want = want;
-  reading = new_reading cell;
+  reading = g;
 }
 
 -- one more, of as many as are counted
-abbrev pub once_more : Cell → FailedCall → FailedCall
-once_more cell c = record c { times = min (c.times + 1) 4294967295; reading = opened c.reading cell }
+abbrev pub once_more : Reading → FailedCall → FailedCall
+once_more g c = record c { times = min (c.times + 1) 4294967295; reading = opened c.reading g.cell }
 
-abbrev pub counted_at : List FailedCall → FailedCall → Cell → Option ℕ → List FailedCall
-counted_at cs c cell None = cs ++ c ∷ []
-counted_at cs c cell (Some i) = slice_set cs i (once_more cell (slice_index_or cs i c))
+abbrev pub counted_at : List FailedCall → FailedCall → Option ℕ → List FailedCall
+counted_at cs c None = cs ++ c ∷ []
+counted_at cs c (Some i) = slice_set cs i (once_more c.reading (slice_index_or cs i c))
 
 -- one is counted with those that are alike, or as the first
-abbrev pub counted : List FailedCall → ℕ → ℕ → List ℕ → List ℕ → Want → Cell → List FailedCall
-counted cs n s text place want cell =
-    counted_at cs (first_call n s text place want cell) cell (position (is_alike s text) cs)
+abbrev pub counted : List FailedCall → ℕ → ℕ → List ℕ → List ℕ → Want → Reading → List FailedCall
+counted cs n s text place want g =
+    counted_at cs (first_call n s text place want g) (position (is_alike s text) cs)
 
 abbrev pub counted_if : World → Transition → ℕ → List FailedCall → List ℕ → List FailedCall
 counted_if w x s cs [] = cs
-counted_if w x s cs text = counted cs x.number s text (call_place w s) (want_of x s) (cell_of w x s)
+counted_if w x s cs text = counted cs x.number s text (call_place w s) (want_of x s) (reading_of w x s)
 
 -- what a slot's process is refused in a record, after which the world is so
 unfoldable pub counted_of : World → Transition → List FailedCall → ℕ → List FailedCall

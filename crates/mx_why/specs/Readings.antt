@@ -9,6 +9,13 @@ use Rattle.mx_exec.specs.Image.{code_bytes, dword_sum, register_of}
 use Rattle.mx_exec.specs.Step.{one_step}
 use Rattle.mx_insn.specs.declared.insn.Insn.{Insn}
 use Rattle.mx_look.specs.Calls.{kernel_call}
+use Rattle.mx_look.specs.Going.{acting, gone_on}
+use Rattle.mx_look.specs.Transition.{slot_in}
+use Rattle.mx_look.specs.declared.slot_glances.SlotGlance.{SlotGlance}
+use Rattle.mx_print_report.specs.declared.doing.Doing.{Doing}
+use Rattle.mx_print_report.specs.declared.doing.Doing.TheVariants.{Sending}
+use Rattle.mx_proc.specs.Errors.{errno_bits}
+use Rattle.mx_proc.specs.declared.errors.Errno.TheVariants.{Dead, NotReady}
 use Rattle.mx_look.specs.declared.glance.CpuGlance.{CpuGlance}
 use Rattle.mx_look.specs.declared.transition.Transition.{Transition}
 use Rattle.mx_machine.specs.Proc.TableState.{process_at}
@@ -55,8 +62,6 @@ use_in c (suc n) m = or_later (use_at c m) (use_in c n (one_step m).1)
 abbrev pub opened : Reading → Cell → Reading
 opened g c = record g { cell = c; is_open = true }
 
-abbrev pub new_reading : Cell → Reading
-new_reading c = record { cell = c; is_open = true; is_read = false; is_lost = false }
 
 abbrev pub closed : Reading → Reading
 closed g = record g { is_open = false }
@@ -99,10 +104,45 @@ cell_by w s _ _ = cells.Eax
 unfoldable pub cell_of : World → Transition → ℕ → Cell
 cell_of w x s = cell_by w s (kernel_call x) (slice_get w.services s)
 
+-- EDEADDST and ENOTREADY
+abbrev pub is_absent : ℕ → Bool
+is_absent r = (r == errno_bits Dead) || (r == errno_bits NotReady)
+
+abbrev pub is_sending : Doing → Bool
+is_sending (Sending n) = true
+is_sending _ = false
+
+-- by SEND or NOTIFY, the calls 1 and 4
+abbrev pub sends_by : ℕ → SlotGlance → Option CpuGlance → Bool
+sends_by s v None = is_sending v.doing
+sends_by s v (Some h) = if h.slot == s then (h.image.ecx == 1) || (h.image.ecx == 4) else is_sending v.doing
+
+abbrev pub is_excused_by : Transition → ℕ → Option ℕ → Option SlotGlance → Bool
+is_excused_by x s (Some r) (Some v) = is_absent r && sends_by s v (acting x)
+is_excused_by x s _ _ = false
+
+-- who sends to one that isn't there, or not ready, needn't care for it
+unfoldable pub is_excused : Transition → ℕ → Bool
+is_excused x s = is_excused_by x s (gone_on x s) (slot_in x.before s)
+
+-- what is known of a first result
+abbrev pub reading_of : World → Transition → ℕ → Reading
+reading_of w x s = record {
+  cell = cell_of w x s;
+  is_open = true;
+  is_read = false;
+  is_lost = false;
+  is_excused = is_excused x s;
+}
+
 -- ---- in words
 
 abbrev pub is_unread : Reading → Bool
 is_unread g = g.is_lost && not g.is_read
+
+-- one that its process had to read
+abbrev pub is_careless : FailedCall → Bool
+is_careless c = is_unread c.reading && not c.reading.is_excused
 
 abbrev pub where_text : Cell → List ℕ
 where_text cells.Eax = codes "; the result in EAX is never read"

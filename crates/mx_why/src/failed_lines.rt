@@ -16,7 +16,7 @@ use std::alloc::AllocError;
 
 /// Appends the line of calls that are alike.
 #[tactic(auto, unfolding(crate::specs::FailedLines::failed_line))]
-fn push_failed(
+pub(crate) fn push_failed(
     out: &mut Vec<u8>,
     config: &Config,
     end: &End,

@@ -5,17 +5,20 @@ ghost use Rattle.std.specs.Option.{option_map};
 ghost use Rattle.mx_decode.specs.Decode.{front};
 ghost use Rattle.mx_exec.specs.Image.{code_bytes};
 ghost use Rattle.mx_machine.specs.Machine.{world_of};
+ghost use Rattle.mx_look.specs.Going.{acting};
 ghost use Rattle.mx_machine.specs.World.{held_by};
-ghost use Rattle.mx_why.specs.Readings.{cell_of, closed, followed, followed_by, followed_call, forgotten, is_unread, new_reading, opened, read_on, unread_text, use_at, use_in, use_of, used, where_text};
+ghost use Rattle.mx_why.specs.Readings.{cell_of, closed, followed, followed_by, followed_call, forgotten, is_absent, is_careless, is_excused, is_sending, is_unread, opened, read_on, reading_of, sends_by, unread_text, use_at, use_in, use_of, used, where_text};
 
 use crate::cells::use_of_cell;
 use crate::failed_calls::FailedCall;
 use crate::uses::{Use, use_of_eax};
+use crate::waiting::{NOTIFY, SEND};
 use mx_exec::{CopyFor, Image, copy_image, step};
 use mx_insn::{Insn, Plain};
-use mx_look::{Transition, kernel_call};
+use mx_look::{SlotGlance, Transition, acting, gone_on, kernel_call, slot_in};
 use mx_machine::{Machine, Record, Recorded};
-use mx_proc::Slot;
+use mx_print_report::Doing;
+use mx_proc::{Errno, Slot};
 use mx_word::Register;
 use std::alloc::{AllocError, Global};
 
@@ -39,6 +42,8 @@ pub struct Reading {
     pub is_read: bool,
     /// Whether one of them was overwritten, and hadn't been read.
     pub is_lost: bool,
+    /// Whether its process needn't care for it.
+    pub is_excused: bool,
 }
 
 /// What an instruction does with a result.
@@ -80,18 +85,6 @@ fn use_in(cell: Cell, steps: u32, image: &mut Image) -> Use
 }
 
 impl Reading {
-    /// What is known of the first result.
-    pub(crate) fn new(cell: Cell) -> Reading
-        ensures { result ≡ new_reading cell }
-    {
-        Reading {
-            cell,
-            is_open: true,
-            is_read: false,
-            is_lost: false,
-        }
-    }
-
     /// There is a further result.
     pub(crate) fn open(&mut self, cell: Cell)
         ensures { self.new ≡ opened self.old cell }
@@ -157,6 +150,13 @@ impl Reading {
             b""
         }
     }
+}
+
+/// Whether a call is one whose result its process had to read, and didn't.
+pub(crate) fn is_careless(call: &FailedCall) -> bool
+    ensures { result ≡ is_careless call.now }
+{
+    call.reading.is_unread() && !call.reading.is_excused
 }
 
 /// That a result is never read, and where it was.
@@ -254,5 +254,55 @@ pub(crate) fn cell_of(machine: &Machine, transition: &Transition, slot: Slot) ->
             Cell::Word(image.register(Register::Ebx).wrapping_add(4))
         }
         _ => Cell::Eax,
+    }
+}
+
+/// Whether this is that the other one isn't there, or not ready.
+fn is_absent(outcome: u32) -> bool
+    ensures { result ≡ is_absent outcome }
+{
+    outcome == Errno::Dead.bits() || outcome == Errno::NotReady.bits()
+}
+
+/// Whether a process waits in a SEND.
+fn is_sending(doing: Doing) -> bool
+    ensures { result ≡ is_sending doing }
+{
+    matches!(doing, Doing::Sending(_))
+}
+
+/// Whether a slot's process, which has gone on, sent by SEND or NOTIFY.
+fn sends(transition: &Transition, slot: u32, seen: &SlotGlance) -> bool
+    ensures { result ≡ sends_by slot seen.now (acting transition.now) }
+{
+    match acting(transition) {
+        Some(held) if u32::from(held.slot) == slot => {
+            held.image.ecx == SEND || held.image.ecx == NOTIFY
+        }
+        _ => is_sending(seen.doing),
+    }
+}
+
+/// Whether a slot's process, whose trap is refused, needn't care for it.
+#[tactic(auto, unfolding(crate::specs::Readings::is_excused))]
+fn is_excused(transition: &Transition, slot: u32) -> bool
+    ensures { result ≡ is_excused transition.now slot }
+{
+    match (gone_on(transition, slot), slot_in(&transition.before, slot)) {
+        (Some(outcome), Some(seen)) => is_absent(outcome) && sends(transition, slot, seen),
+        _ => false,
+    }
+}
+
+/// What is known of the first result of calls that are alike, by the machine after the record that answers it.
+pub(crate) fn reading_of(machine: &Machine, transition: &Transition, slot: Slot) -> Reading
+    ensures { result ≡ reading_of (world_of machine.now) transition.now slot }
+{
+    Reading {
+        cell: cell_of(machine, transition, slot),
+        is_open: true,
+        is_read: false,
+        is_lost: false,
+        is_excused: is_excused(transition, u32::from(slot)),
     }
 }

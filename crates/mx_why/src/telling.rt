@@ -224,7 +224,7 @@ fn print_lines<W: Write>(
     ensures bytes { OnOk result (Appends (W.contents out.old) (W.contents out.new)
         (told_text config.now (end_of (world_of machine.now)) notes.now calls.now records.now said.now)) }
     ensures marked { IfOk result (λ marked. marked
-        ≡ told_marked config.now (end_of (world_of machine.now)) notes.now records.now said.now) }
+        ≡ told_marked config.now (end_of (world_of machine.now)) notes.now calls.now records.now said.now) }
 {
     let end = end_of(machine);
     let found = lost_lines(alloc, config, &end, records, said)?;
@@ -232,7 +232,7 @@ fn print_lines<W: Write>(
     let count = records.len();
     let mut text = Vec::new(alloc);
     push_lines(&mut text, alloc, config, &end, notes, calls, lost, count)?;
-    let marked = is_marked(alloc, config, &end, notes, lost, count)?;
+    let marked = is_marked(alloc, config, &end, notes, calls, lost, count)?;
     print_text(text.as_slice(), out)?;
     Ok(marked)
 }
