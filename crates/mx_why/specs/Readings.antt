@@ -62,7 +62,6 @@ use_in c (suc n) m = or_later (use_at c m) (use_in c n (one_step m).1)
 abbrev pub opened : Reading → Cell → Reading
 opened g c = record g { cell = c; is_open = true }
 
-
 abbrev pub closed : Reading → Reading
 closed g = record g { is_open = false }
 

@@ -70,9 +70,7 @@ fn operand_meets(cell: u32, insn: &Insn, image: &Image) -> bool
     ensures { result ≡ operand_meets cell image.now (one_operand insn.now) }
 {
     match one_operand(insn) {
-        Some((Operand::Memory(memory), _)) => {
-            meets(cell, DWORD, address(&memory, &image.regs))
-        }
+        Some((Operand::Memory(memory), _)) => { meets(cell, DWORD, address(&memory, &image.regs)) }
         _ => false,
     }
 }

@@ -182,7 +182,11 @@ fn follow_steps(
 {
     match (machine.slot_on(actor), machine.out(actor)) {
         (Some(slot), Some(out)) if call.slot == u32::from(slot) => {
-            let made = if steps < out.budget { steps } else { out.budget };
+            let made = if steps < out.budget {
+                steps
+            } else {
+                out.budget
+            };
             call.reading.read_on(alloc, made, &out.image)
         }
         _ => Ok(()),
@@ -238,7 +242,13 @@ pub(crate) fn follow(
         ≡ followed (world_of machine.now) entry.actor entry.event calls.old.items) }
 {
     let alloc = *calls.allocator();
-    follow_each(alloc, calls.as_mut_slice(), machine, entry.actor, entry.event)
+    follow_each(
+        alloc,
+        calls.as_mut_slice(),
+        machine,
+        entry.actor,
+        entry.event,
+    )
 }
 
 /// Where the result is of a call of a slot that a record answers, by the machine after it.
@@ -248,7 +258,10 @@ pub(crate) fn cell_of(machine: &Machine, transition: &Transition, slot: Slot) ->
 {
     let kernel = machine.kernel();
     kernel.facts();
-    match (kernel_call(transition), kernel.services().get(slot as usize)) {
+    match (
+        kernel_call(transition),
+        kernel.services().get(slot as usize),
+    ) {
         (Some(held), Some(_)) if held.slot == slot => {
             let image = &kernel.table().process(slot).image;
             Cell::Word(image.register(Register::Ebx).wrapping_add(4))

@@ -5,9 +5,7 @@ ghost use Rattle.mx_look.specs.Operands.{one_operand};
 ghost use Rattle.mx_why.specs.Uses.{addresses, clears, extends_over, has_eax, inner_names, is_base, is_dword, is_eax, is_high, is_index, is_itself, is_part, is_whole, is_wide, moves_over, names_by, operand_names, overwrites_eax, plain_has, plain_overwrites, register_names, use_of_eax};
 
 use crate::operands::one_operand;
-use mx_insn::{
-    Comparison, Extension, Index, Insn, Memory, Operand, Operands, Plain, Transfer,
-};
+use mx_insn::{Comparison, Extension, Index, Insn, Memory, Operand, Operands, Plain, Transfer};
 use mx_word::{Arithmetic, Register, Size};
 
 /// What an instruction does with a result.

@@ -74,7 +74,14 @@ fn push_partner(
     let mut name = Vec::new(*out.allocator());
     push_name(&mut name, &found.name.bytes)?;
     out.extend_from_slice(b": ")?;
-    push_lacking(out, line, b"'s send ", line.terms.masks.sends, name.as_slice(), other)
+    push_lacking(
+        out,
+        line,
+        b"'s send ",
+        line.terms.masks.sends,
+        name.as_slice(),
+        other,
+    )
 }
 
 /// Appends that a service may not make a kernel call.
@@ -100,7 +107,14 @@ fn push_trap(out: &mut Vec<u8>, line: &ServiceLine, call: u32) -> Result<(), All
     ensures { OnOk result (out.new.items ≡ out.old.items ++ trap_text line.now call) }
 {
     out.extend_from_slice(b": ")?;
-    push_lacking(out, line, b"'s traps ", line.terms.masks.traps, call_name(call), call)
+    push_lacking(
+        out,
+        line,
+        b"'s traps ",
+        line.terms.masks.traps,
+        call_name(call),
+        call,
+    )
 }
 
 /// Appends the endpoint of a slot's process.

@@ -6,13 +6,12 @@ ghost use Rattle.mx_look.specs.Refusals.{asked_call};
 ghost use Rattle.mx_look.specs.Transition.{slot_in};
 ghost use Rattle.mx_why.specs.Wants.{answered_want, asked_want, denied_want, is_line_call, line_want, made_want, partner_want, trap_want, waited_want, want_of, went_want};
 
+use crate::waiting::RECEIVE;
 use mx_kcall::{CallName, call_row};
 use mx_look::{CpuGlance, Glance, SlotGlance, Transition, acting, gone_on, kernel_call, slot_in};
 use mx_print_report::{Awaited, Doing};
 use mx_proc::{Errno, slot_of};
 use mx_word::has_bit;
-
-use crate::waiting::RECEIVE;
 
 /// What a refused call wanted that its process didn't have, if it can be told.
 #[derive(Clone, Copy)]
@@ -61,7 +60,9 @@ fn made_want(held: &CpuGlance, seen: &SlotGlance, outcome: u32) -> Want
         denied_want(seen.traps, call, party)
     } else if outcome == Errno::Dead.bits() {
         Want::Living(party)
-    } else if outcome == Errno::BadEndpoint.bits() && call == RECEIVE && party == ANY_IN_HEXADECIMAL
+    } else if outcome == Errno::BadEndpoint.bits()
+        && call == RECEIVE
+        && party == ANY_IN_HEXADECIMAL
     {
         Want::Any
     } else {
