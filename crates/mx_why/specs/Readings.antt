@@ -3,7 +3,7 @@
 -- reply, which is the second dword of the message.
 use Rattle.std.specs.Prelude.{ℕ, zero, suc, ◌+◌, ◌==◌, ◌&&◌, ◌||◌, not, Bool, true, false, if◌then◌else◌, List, [], codes, map, min, drop, Option, Some, None, Result, Ok, Err, slice_get}
 use Rattle.mx_decode.specs.Decode.{front}
-use Rattle.mx_decode.specs.declared.faults.DecodeFault.{DecodeFault}
+use Rattle.mx_decode.specs.declared.DecodeFault.{DecodeFault}
 use Rattle.mx_exec.specs.declared.image.Image.{Image}
 use Rattle.mx_exec.specs.Image.{code_bytes, dword_sum, register_of}
 use Rattle.mx_exec.specs.Step.{one_step}

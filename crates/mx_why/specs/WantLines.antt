@@ -30,9 +30,12 @@ bit_for_text what bit = codes " has no bit for " ++ what ++ bit_text bit
 unfoldable pub lacking_text : ServiceLine → List ℕ → ℕ → List ℕ → ℕ → List ℕ
 lacking_text l field mask what bit = mask_text l field mask ++ bit_for_text what bit ++ codes "; masks are hexadecimal"
 
+unfoldable pub partner_text : ServiceLine → ℕ → ServiceLine → List ℕ
+partner_text l t o = codes ": " ++ lacking_text l (codes "'s send ") l.terms.masks.sends (name_of o) t
+
 abbrev pub partner_by : ServiceLine → ℕ → Option ServiceLine → List ℕ
 partner_by l t None = []
-partner_by l t (Some o) = codes ": " ++ lacking_text l (codes "'s send ") l.terms.masks.sends (name_of o) t
+partner_by l t (Some o) = partner_text l t o
 
 -- the call of a type, which is 600 hex and its bit
 unfoldable pub call_text : Config → ServiceLine → ℕ → List ℕ

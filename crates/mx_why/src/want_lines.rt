@@ -1,8 +1,9 @@
 //! What a refused call wanted, in words.
 
 ghost use Rattle.std.specs.Prelude.{◌≡◌, ◌++◌, OnOk, slice_get};
+ghost use Rattle.mx_proc.specs.EndpointNumbers.{slot_of};
 ghost use Rattle.mx_why.specs.Seats.{seat_in};
-ghost use Rattle.mx_why.specs.WantLines.{bit_for_text, call_text, details_text, file_text, instead_text, lacking_text, living_by, living_text, mask_text, owner_text, partner_by, successor_text, trap_text, want_line};
+ghost use Rattle.mx_why.specs.WantLines.{bit_for_text, call_text, details_text, file_text, instead_text, lacking_text, living_by, living_text, mask_text, owner_text, partner_by, partner_text, successor_text, trap_text, want_line};
 
 use crate::hexadecimal::push_mask;
 use crate::reasons::{push_bit, push_slot};
@@ -58,19 +59,17 @@ fn push_lacking(
     out.extend_from_slice(b"; masks are hexadecimal")
 }
 
-/// Appends that a service may not send to another.
-fn push_partner(
+/// Appends that a service may not send to another, which is there.
+#[tactic(auto, unfolding(crate::specs::WantLines::partner_text))]
+fn push_partner_there(
     out: &mut Vec<u8>,
-    config: &Config,
     line: &ServiceLine,
     other: u32,
+    found: &ServiceLine,
 ) -> Result<(), AllocError>
     ensures { OnOk result (out.new.items ≡ out.old.items
-        ++ partner_by line.now other (slice_get config.now.lines other)) }
+        ++ partner_text line.now other found.now) }
 {
-    let Some(found) = config.lines.as_slice().get(other as usize) else {
-        return Ok(());
-    };
     let mut name = Vec::new(*out.allocator());
     push_name(&mut name, &found.name.bytes)?;
     out.extend_from_slice(b": ")?;
@@ -82,6 +81,22 @@ fn push_partner(
         name.as_slice(),
         other,
     )
+}
+
+/// Appends that a service may not send to another.
+fn push_partner(
+    out: &mut Vec<u8>,
+    config: &Config,
+    line: &ServiceLine,
+    other: u32,
+) -> Result<(), AllocError>
+    ensures { OnOk result (out.new.items ≡ out.old.items
+        ++ partner_by line.now other (slice_get config.now.lines other)) }
+{
+    match config.lines.as_slice().get(other as usize) {
+        Some(found) => push_partner_there(out, line, other, found),
+        None => Ok(()),
+    }
 }
 
 /// Appends that a service may not make a kernel call.
