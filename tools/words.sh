@@ -497,6 +497,54 @@ tell_addresses() {
         }' "$1" >&2
 }
 
+# Says of a text that was assembled, with its code apart, which data of it is among the code, if something else than a jump
+# names it.
+tell_data() {
+    [ ! -f "$1" ] || awk -v file="$1" "$plain_line"'
+        { code = plain($0) }
+        label != "" { named = label }
+        code == "" { next }
+        code == ".sep" { is_apart = 1 }
+        code ~ /^\.(text|data)$/ { is_data = code == ".data"; next }
+        code ~ /^\.(data[124]|ascii|space) / && !is_data && named != "" { labels[++count] = named; line[count] = NR }
+        code !~ /^\./ && code !~ /^(j[a-z]+|call|loop[a-z]*) / { whole = whole "\n" code }
+        { named = "" }
+        END {
+            for (at = 1; is_apart && at <= count; at++) {
+                if (whole !~ ("[^A-Za-z0-9_]" labels[at] "([^A-Za-z0-9_]|$)")) continue
+                print "mx: " file " line " line[at] ": " labels[at] \
+                    " is among the code, which a program with .sep can neither read nor write: wanted it below .data"
+                exit
+            }
+        }' "$1" >&2
+}
+
+# Says of a text that was assembled which subroutine of it doesn't take back what it pushed, or takes more: the first without
+# jumps, calls, other uses of ESP, and a push of an address for its ret.
+tell_pushes() {
+    [ ! -f "$1" ] || awk -v file="$1" "$plain_line"'
+        { code = plain($0) }
+        label != "" { routine = label; more = 0; is_plain = 1 }
+        code == "" || code ~ /^\./ { next }
+        code ~ /^call / { is_called[substr(code, 6)] = 1 }
+        code ~ /esp|^(j|loop|call|int 3$|leave|push[af]|pop[af]|push [^e]|pop [^e])/ { is_plain = 0 }
+        code ~ /^push e/ { more++ }
+        code ~ /^pop e/ { more-- }
+        code == "ret" {
+            if (is_plain && more && !is_push && routine != "") { wrong[++count] = routine; line[count] = NR; by[count] = more }
+            routine = ""
+        }
+        { is_push = code ~ /^push/ }
+        END {
+            for (at = 1; at <= count; at++) {
+                if (!is_called[wrong[at]]) continue
+                print "mx: " file " line " line[at] ": " wrong[at] (by[at] > 0 ? " pushes " by[at] " more than it pops" : \
+                    " pops " (-by[at]) " more than it pushes") ", so this ret doesn\047t go back to who called it"
+                exit
+            }
+        }' "$1" >&2
+}
+
 # Says of the configuration of these words that a comment in it begins otherwise.
 tell_comment_sign() {
     case $1 in one | as | dis | nm) return 0 ;; esac
@@ -627,6 +675,22 @@ tell_names() {
     done
 }
 
+# Says to gdb that it was given a program's code at 0, where there is one beside it that has it where `mx gdb` does.
+tell_elf() {
+    [ "$1" = gdb ] || return 0
+    above=$PPID
+    for _ in 1 2 3; do
+        [ -r "/proc/$above/cmdline" ] || return 0
+        tr '\0' '\n' <"/proc/$above/cmdline" | while read -r word; do
+            made=${word%.elf}.gdb
+            if [ "$made" != "$word.gdb" ] && [ -f "$word" ] && [ -f "$made" ]; then
+                echo "mx: $word has its code at 0, and mx gdb at 80000000, as $made: gdb $made" >&2
+            fi
+        done
+        above=$(sed -n 's/^PPid:[^0-9]*//p' "/proc/$above/status")
+    done
+}
+
 # Says of a session that nobody can type, if no service of its machine may take a line; else, at a terminal, how to leave.
 tell_session() {
     [ -n "$(explains_words "$@")" ] || return 0
@@ -641,7 +705,12 @@ tell_session() {
 # Says of these words what the program doesn't, which sees neither other files nor the other commands: if it explains.
 tell_words() {
     case " $* " in *' --help '* | *' -h '*) return 0 ;; esac
-    case " $* " in *' --no-explain '*) ;; *) tell_names "$@" ;; esac
+    case " $* " in
+        *' --no-explain '*) ;;
+        *)
+            tell_names "$@"
+            tell_elf "$@" ;;
+    esac
     [ -n "$(explains_words "$@")" ] || return 0
     tell_text "$@"
     tell_statements "$@"
@@ -731,6 +800,20 @@ run_live() {
     fi
     child=$!
     wait_for_child
+    [ -z "$(explains_words "$@")" ] || tell_typed "$(nth_word 1 "$@")" "$(nth_word 2 "$@")"
+    return "$status"
+}
+
+# Says of a session in which a byte was typed that no service has counted it: tell_typed CONFIG LOG.
+tell_typed() {
+    { [ -f "$1" ] && is_short "$2" && [ "$(wc -l <"$2")" -le 5000 ]; } || return 0
+    ask_program trace "$1" "$2" | awk '
+        $3 == "line" && $4 == "7:" { owner = $5 }
+        / trap SENDREC SYSTEM, DEVIO 1 255 / { is_counted = 1 }
+        END {
+            if (owner && !is_counted)
+                print "mx: " owner " has not written to register 255 (DEVIO) how many bytes it took, and no other byte comes before"
+        }' >&2
 }
 
 # The status of the program that was started, also if a signal wakes who waits for it.
@@ -751,16 +834,52 @@ is_short() {
     [ -f "$1" ] && awk '$2 == "back" { steps += $3 } END { exit NR > 20000 || steps > 10000000 }' "$1"
 }
 
-# Says of a history that was just made which calls no right machine makes were refused in it: by a mask, to nobody, or since
-# there is no such call. Others are refused by what happens, as if the other process dies. If the clock could have ticked,
-# says who waits for it too: tell_history CONFIG LOG TICKS, where TICKS is what would make it tick. Of who died, says what
-# the instruction is that the machine hasn't, and that nothing says where it begins.
+# For awk: a line of `mx why` on a call that no right machine makes: refused by a mask, to nobody, with no such number or with
+# a buffer outside. Others are refused by what happens too, as if the other process dies.
+mistaken='^refused: .*: (-10[347] |-14 EFAULT .buffer.)'
+
+# Prints `= NAME MEANING` of each result of a call, as the table of $reference has it.
+result_meanings() {
+    [ ! -f "${reference-}" ] || awk -F ' *[|] *' '
+        NF == 6 && $2 ~ /^-[0-9]+$/ && length($3) == 8 && $4 ~ /^E[A-Z]+$/ { print "= " $4 " " $5 }' "$reference"
+}
+
+# Says of a history of which `mx why` says $became which calls were refused in it: the first that no right machine makes, or
+# else the first, and what its result means, if the line doesn't say it: tell_calls CONFIG LOG.
+tell_calls() {
+    { result_meanings; printf '%s\n' "$became"; } | awk -v asking="mx why $1 $2" -v mistaken="$mistaken" '
+        $1 == "=" { name = $2; sub(/^= [A-Z]* /, ""); means[name] = $0; next }
+        /^died: .*; respawned at / { name = $2; sub(/,$/, ":", name); is_back[name] = 1 }
+        /^refused: and [0-9]+ more$/ { groups += $3; next }
+        !/^refused: / { next }
+        { groups++ }
+        !any { any = $0; partner = $4 }
+        $0 ~ mistaken && !first { first = $0 }
+        END {
+            if (!first) first = any
+            if (!first) exit
+            print "mx: " first "; " (groups > 1 ? groups - 1 " more: " : "") asking
+            if (!match(first, /: -[0-9]+ E[A-Z]+(,| while )/)) exit
+            split(substr(first, RSTART + 2, RLENGTH - 2), result, /[ ,]/)
+            if (!(result[2] in means)) exit
+            if (result[2] == "EDEADDST" && partner in is_back) who = ": WHOIS tells who is there now"
+            print "mx: " result[2] ": " means[result[2]] who
+        }' >&2
+}
+
+# Says of a history that was just made which calls were refused in it. If the clock could have ticked, says who waits for it
+# too: tell_history CONFIG LOG TICKS, where TICKS is what would make it tick. Of who died, says what the instruction is that
+# the machine hasn't, and that nothing says where it begins. Leaves in `became` what `mx why` says, and in `shown` what `mx
+# trace` does, both empty for a long history.
 tell_history() {
+    became='' shown=''
     { [ -f "$1" ] && is_short "$2"; } || return 0
     became=$(ask_program why "$1" "$2")
+    [ "$(wc -l <"$2")" -gt 5000 ] || shown=$(ask_program trace "$1" "$2")
     slots=$(awk '{ sub(/#.*/, "") } $1 == "service" { printf " %d %s", slot++, $2 }' "$1")
-    printf '%s\n' "$became" | awk -v asking="mx why $1 $2" -v ticks="$3" -v slots="$slots" '
-        /^refused: .*: (-10[347] |-14 EFAULT .buffer.)/ { if (!count++) first = $0 }
+    tell_calls "$1" "$2"
+    printf '%s\n' "$became" | awk -v mistaken="$mistaken" -v ticks="$3" -v slots="$slots" '
+        $0 ~ mistaken { is_mistaken = 1 }
         /^refused: / && $3 ~ /^(SEND|SENDREC|NOTIFY)$/ && $2 == $4 && !self { self = $2; sub(/:$/, "", self) }
         /^waits: .* from CLOCK .* alarm is due / { alarm = $0 }
         /^refused: .*: kernel call, type 0: -107 / {
@@ -781,23 +900,26 @@ tell_history() {
         /^died: .* of fault 6 at .* \.data1 0xd[89a-f](;|$)/ { print "mx: there is no floating point: wanted whole numbers" }
         END {
             sub(/,$/, "", came)
-            if (came && !count) print "mx: " came " came to the end of its code: wanted EXIT, a jmp or a ret before that"
-            if (count) print "mx: " first "; " (count > 1 ? count - 1 " more: " : "") asking
+            if (came && !is_mistaken) print "mx: " came " came to the end of its code: wanted EXIT, a jmp or a ret before that"
             if (self) print "mx: " self " calls itself: slots are in the order of the services in CONFIG:" slots
             if (alarm && ticks) print "mx: " alarm "; the clock made no tick: " ticks
         }' >&2
-    tell_course "$1" "$2" "$became"
+    tell_course "$3"
+    tell_windows
+    tell_answered
     printf '%s\n' "$became" | sed -n 's/^died: \([A-Za-z0-9_]*\),.* (the stack is empty: .*/\1/p' | while read -r name; do
         tell_entry "$1" "$name"
     done
+    tell_stacks "$1" "$2"
+    tell_ud2 "$1"
 }
 
 # Says of a short history that was just made what its trace shows of calls that end well: a service that ends and comes back,
 # a kernel call's type that went to a process, words for another register than the console's; if it is full, which calls
-# were made most: tell_course CONFIG LOG ENDS, where ENDS is how it ended, as `mx why` has it.
+# were made most, and that the clock didn't tick for who reads it: tell_course TICKS.
 tell_course() {
-    [ "$(wc -l <"$2")" -le 5000 ] || return 0
-    ask_program trace "$1" "$2" | awk -v ends="$3" '
+    [ -n "$shown" ] || return 0
+    printf '%s\n' "$shown" | awk -v ends="$became" -v ticks="$1" '
         $3 == "back" && $7 == "trap" {
             made = $5 " " $8 " " $9
             if ($9 == "SYSTEM,") made = made " " $10
@@ -808,6 +930,7 @@ tell_course() {
         }
         $2 == "answer" && $3 == 0 && register > 0 && !other { other = writer " wrote register " register }
         $2 == "console" { is_written = 1 }
+        $3 == "tick" { ticks = "" }
         / -> down exit$/ { if (!exits[$2]++) enders[++ended] = $2 }
         /: down exit -> ready$/ { returns[$2]++ }
         $2 == "message" && $8 == "type" && $9 >= 1536 && $9 <= 1544 && !sent {
@@ -815,7 +938,7 @@ tell_course() {
         }
         END {
             for (at = 1; at <= ended; at++)
-                if ((name = enders[at]) in returns) print "mx: " name " ended by EXIT, " exits[name] " times, and came back, as after a death: restarts 0 lets it end"
+                if ((name = enders[at]) in returns) print "mx: " name " ended by EXIT, " (exits[name] > 1 ? exits[name] " times" : "once") ", and came back, as after a death: restarts 0 lets it end"
             if (sent) print "mx: " sent ": SYSTEM is -2 in EAX"
             if (reader && !is_written) print "mx: nothing is on the console: " reader " read register 0, since p0 was 0; 1 writes"
             if (other && !is_written) print "mx: nothing is on the console, which is register 0: " other
@@ -829,12 +952,119 @@ tell_course() {
                 times[most] = 0
             }
             if (list) print "mx: made most: " list
+            if (list ~ /^[^;]* SENDREC SYSTEM, TIMES, / && ticks) print "mx: the clock made no tick: " ticks
         }' >&2
+}
+
+# Says of the copies in $shown that were refused for a window which window there was then, the first of each kind.
+tell_windows() {
+    printf '%s\n' "$shown" | awk '
+        # Whether a window of the owner is there, for reading (1) or for writing (2). If not, says what there is.
+        function is_open(owner, kind, from, count) {
+            at = owner " " copier
+            owner_name = name[owner] " " name[copier]
+            held = access[at] + 0
+            if (held == 0) {
+                tell(owner_name " none", name[owner] " had opened no window to " name[copier] " by record " $1 ": GRANT opens one")
+            } else if (held != 3 && held != kind) {
+                tell(owner_name " kind", "the window of " name[owner] " to " name[copier] ", since record " since[at] ", is for " \
+                    (held == 1 ? "reading" : "writing") ", and the copy of record " $1 " wants " \
+                    (kind == 1 ? "reading" : "writing"))
+            } else if (from < begin[at] || from + count > begin[at] + size[at]) {
+                tell(owner_name " size", "the window of " name[owner] " to " name[copier] ", since record " since[at] ", has " size[at] \
+                    " bytes from " begin[at] " on, and the copy of record " $1 " wants " count " from " from " on")
+            } else return 1
+            return 0
+        }
+        function tell(kind, words) { if (!told[kind]++ && count_told++ < 3) print "mx: " words }
+        $3 == "take:" { name[$5] = $4 }
+        $3 == "back" { call = $10; copier = $6; for (word = 1; word <= 5; word++) p[word - 1] = $(word + 10) + 0 }
+        $2 == "answer" && $3 == 0 && call == "GRANT" {
+            at = p[0] < 0 ? "" : copier " " p[0]
+            access[at] = p[3]; begin[at] = p[1]; size[at] = p[2]; since[at] = $1
+        }
+        $2 == "answer" && $3 == -1 && call == "VIRCOPY" {
+            is_source = p[0] == copier || is_open(p[0], 1, p[1], p[4])
+            if (is_source && p[2] != copier) is_open(p[2], 2, p[3], p[4])
+        }' >&2
+}
+
+# Says of lines of $shown that were raised again before their owner had the notification of the time before, the first three,
+# by the words for each of all lines, if there are any: tell_raised NAMES.
+tell_raised() {
+    { printf '%s\n' "$1" | sed 's/^/= /'; printf '%s\n' "$shown"; } | awk '
+        function place(number) { return number in words ? words[number] : "record " record[number] }
+        function tell() {
+            if (!is_raised || is_noted) return
+            if (before[line] && count++ < 3)
+                print "mx: " place(raised) " (line " line ") came before " owner " had the notification of " \
+                    place(before[line]) ": it gets one for both"
+        }
+        $1 == "=" { if (NF > 1) { sub(/^= /, ""); words[++named] = $0 } next }
+        $2 == "notify" && is_raised && $1 == record[raised] { is_noted = 1; before[line] = raised }
+        $1 == last { next }
+        { tell(); last = $1; is_raised = is_noted = 0 }
+        $3 == "line" { is_raised = 1; record[++raised] = $1; line = $4; sub(/:/, "", line); owner = $5 }
+        END { tell() }' >&2
+}
+
+# Says of the first message in $shown that has the type of a notification from whom it goes to that it is one.
+tell_answered() {
+    printf '%s\n' "$shown" | awk '
+        $2 == "notify" && $5 == "to" && $8 == "type" { told[$7] = $4 }
+        $2 == "message" && $8 == "type" {
+            if ($9 == 4096 && ($4 in told) && told[$4] == $7) {
+                print "mx: " $3 " sends " $6 " its notification back, type 0x1000, at record " $1 \
+                    ": a NOTIFY carries no words, and p0 is the uptime"
+                exit
+            }
+            delete told[$7]
+        }' >&2
+}
+
+# The program of a service of a configuration: program_of CONFIG NAME.
+program_of() {
+    awk -v name="$2" '{ sub(/#.*/, "") } $1 == "service" && $2 == name { print $3; exit }' "$1"
+}
+
+# Says of who died since its stack was used up, by $became, where its size stands: tell_stacks CONFIG LOG. Of fault 13 it asks
+# for ESP.
+tell_stacks() {
+    printf '%s\n' "$became" | sed -n 's/^died: \([A-Za-z0-9_]*\),.* at record \([0-9]*\), of fault 1\([23]\) at .*: [0-9a-f]* is past the limit \([0-9a-f]*\)\(.*\)/\1 \2 \3 \4 \5/p' |
+        while read -r name record fault limit rest; do
+            case $fault$rest in
+                2*'the stack is used up'*) ;;
+                3*)
+                    [ -n "$shown" ] || continue
+                    esp=$(printf 'goto %s\nregs %s\n' "$record" "$name" | ask_program look "$1" "$2" | sed -n 's/^ESP \([0-9a-f]*\) .*/\1/p')
+                    case $esp in [89a-f]???????) ;; *) continue ;; esac ;;
+                *) continue ;;
+            esac
+            file=$(program_of "$1" "$name")
+            stem=${file%.out}
+            if [ -f "$stem.c" ]; then more="stack_$(basename "$stem") = N in the Makefile gives it more"
+            else more=".stack N in its text gives it more"; fi
+            echo "mx: $name's stack is used up${esp:+ (ESP is $esp, outside of its memory)}: $more" >&2
+        done
+}
+
+# Says of who died at an instruction of gcc for what can't be, by $became, which line of its source that is: tell_ud2 CONFIG.
+tell_ud2() {
+    printf '%s\n' "$became" | sed -n 's/^died: \([A-Za-z0-9_]*\),.* of fault 6 at \([0-9a-f]*\) .*\.data1 0xf;.*/\1 \2/p' |
+        while read -r name place; do
+            file=$(program_of "$1" "$name")
+            is_program "$file" || continue
+            [ "$(od -An -tx1 -j $((0x$place + 32)) -N2 "$file" | tr -d ' ')" = 0f0b ] || continue
+            made=$(dirname "$file")/out/$(basename "$file" .out).elf
+            where=''
+            [ ! -f "$made" ] || where=": addr2line -e ${made#./} 0x$place says which"
+            echo "mx: 0f 0b is ud2, which gcc writes where a line can only go wrong, as by a null pointer$where" >&2
+        done
 }
 
 # Says of a service of a configuration that its text doesn't say where it begins.
 tell_entry() {
-    file=$(awk -v name="$2" '{ sub(/#.*/, "") } $1 == "service" && $2 == name { print $3; exit }' "$1")
+    file=$(program_of "$1" "$2")
     text=${file%.out}.s
     { [ "$text" != "$file.s" ] && [ -f "$text" ] && is_made_of "$text" "$file"; } || return 0
     awk -v file="$text" -v name="$2" "$plain_line"'
@@ -867,6 +1097,57 @@ tell_room() {
         $1 == "log" && $2 == 1 { print "mx: wanted log 2 or more: a service is taken and comes back, which are 2 records" }' "$1" >&2
 }
 
+# Says that the turns of these words are made, and who is ready, if that ended them, by $became.
+tell_turns() {
+    turns=$(value_of --turns "$@") stopping=$(stop_named "$@")
+    { [ "$1" = turns ] && [ -n "$turns" ]; } || return 0
+    [ -z "$stopping" ] || [ ! -e "$stopping" ] || return 0
+    printf '%s\n' "$became" | sed -n "s/^ends: open after [0-9]* records\\(.*\\)/mx: the turns of --turns $turns are made\\1/p" >&2
+    tell_events "$turns" "$@"
+}
+
+# Says of the first `kill E` in the EVENTS of these words that was refused, if more turns were made than it has events: event
+# N is made in turn N, so it is refused if that turn adds no record of it. tell_events TURNS WORDS
+tell_events() {
+    turns=$1
+    shift
+    config=$(nth_word 1 "$@") log=$(nth_word 2 "$@") events=$(value_of --events "$@")
+    case $became in 'ends: open '*) [ -f "$events" ] || return 0 ;; *) return 0 ;; esac
+    cpus=$(cpus_of "$config") room=$(mktemp -d) || return 0
+    awk -v turns="$turns" -v actor="${cpus:-1}" '
+        NR == FNR { if ($1 == actor && $2 == "kill") made[$3]++; next }
+        { sub(/#.*/, "") }
+        NF { event++ }
+        event <= turns && $1 == "kill" && $2 ~ /^[0-9]+$/ { line[++count] = FNR; at[count] = event; whom[count] = $2; asked[$2]++ }
+        END {
+            for (each = 1; each <= count; each++)
+                if (asked[whom[each]] > made[whom[each]] + 0) { print line[each], at[each], whom[each]; if (++told == 8) exit }
+        }' "$log" "$events" | while read -r line event whom; do
+        ask_program turns "$config" "$room/before" --events "$events" --turns $((event - 1)) --no-sums --force >"$room/report" &&
+            ask_program turns "$config" "$room/after" --events "$events" --turns "$event" --no-sums --force >/dev/null || break
+        ! tail -n "+$(($(wc -l <"$room/before") + 1))" "$room/after" | grep -q ' kill ' || continue
+        awk -v at="mx: $events line $line (kill $whom) was refused: " -v whom="$whom" '
+            $1 ~ /^[0-9]+$/ && $1 == whom % 1024 && $3 != whom {
+                print at "slot " $1 " has the endpoint " $3 " then; kill " $2 " finds it"
+            }' "$room/report" >&2
+        break
+    done
+    rm -rf "$room"
+}
+
+# Names once what shows the records of a new history, if nothing else is said of it.
+tell_first() {
+    case $became in
+        *'
+'*) return 0 ;;
+        'ends: rest '*) ;;
+        *) return 0 ;;
+    esac
+    debugs=''
+    [ "$1 $2" != "machine.config machine.log" ] || ! grep -q '^debug:' Makefile 2>/dev/null || debugs='; in gdb: make debug'
+    echo "mx: each call and message of it: mx trace $1 $2$debugs" >&2
+}
+
 # Says what isn't told yet of a run or of turns that ended so: tell_ended STATUS WORDS.
 tell_ended() {
     ended=$1
@@ -874,8 +1155,18 @@ tell_ended() {
     case $ended in
         0)
             tell_room "$(nth_word 1 "$@")"
-            tell_history "$(nth_word 1 "$@")" "$(nth_word 2 "$@")" "$(missing_ticks "$@")"
-            tell_console "$(nth_word 1 "$@")" "$(nth_word 2 "$@")" ;;
+            # In a subshell, as what is said is kept until all is.
+            (
+                said=$(mktemp) || exit
+                exec 4>&2 2>"$said"
+                tell_history "$(nth_word 1 "$@")" "$(nth_word 2 "$@")" "$(missing_ticks "$@")"
+                [ -z "$(value_of --events "$@")" ] || tell_raised ''
+                tell_turns "$@"
+                tell_console "$(nth_word 1 "$@")" "$(nth_word 2 "$@")"
+                [ -z "$fresh" ] || [ -s "$said" ] || tell_first "$(nth_word 1 "$@")" "$(nth_word 2 "$@")"
+                cat "$said" >&4
+                rm -f "$said"
+            ) ;;
         1 | 3) tell_failure "$@" ;;
         130) [ ! -f "$(nth_word 2 "$@")" ] ||
             echo "mx: what it did until then: mx why $(nth_word 1 "$@") $(nth_word 2 "$@")" >&2 ;;
@@ -898,6 +1189,8 @@ run_stoppable() {
     room=$(mktemp -d) || return 3
     stop=$(stop_named "$@")
     [ -n "$stop" ] || { stop=$room/stop; set -- "$@" --stop "$stop"; }
+    fresh=''
+    [ -e "$(nth_word 2 "$@")" ] || fresh=yes
     # What runs beside the shell has no input but what it is given, if there is one.
     if [ -e /dev/fd/0 ]; then exec 3<&0; else exec 3</dev/null; fi
     trap leave_session EXIT
@@ -912,7 +1205,12 @@ run_stoppable() {
 # Whether these words are those of a command of which something is to be told afterwards.
 is_told_after() {
     case " $* " in *' --help '* | *' -h '*) return 1 ;; esac
-    case ${1-} in as | step | db | replay | trace | draw | page | sweep | explain) ;; *) return 1 ;; esac
+    case ${1-} in
+        as | step | db | replay | trace | draw | page | sweep | explain) ;;
+        # It is made twice, so it has to be short.
+        one) [ "$(nth_word 2 "$@")" -le 1000000 ] 2>/dev/null || return 1 ;;
+        *) return 1 ;;
+    esac
     [ -n "$(explains_words "$@")" ]
 }
 
@@ -931,7 +1229,12 @@ run_told() {
 # Says what isn't told yet of a command that ended well.
 tell_done() {
     case $1 in
-        as) tell_addresses "$(nth_word 1 "$@")" ;;
+        as)
+            tell_addresses "$(nth_word 1 "$@")"
+            tell_data "$(nth_word 1 "$@")"
+            tell_pushes "$(nth_word 1 "$@")" ;;
+        one) tell_kernel "$@" ;;
+        sweep) tell_replaced "$@" ;;
         db) tell_looks "$(nth_word 1 "$@")" "$(nth_word 2 "$@")" ;;
         step)
             tell_answers "$(nth_word 1 "$@")" "$(nth_word 2 "$@")"
@@ -942,6 +1245,43 @@ tell_done() {
                 echo "mx: the history isn't saved: --save LOG" >&2
             fi ;;
     esac
+}
+
+# Says of a program that was run alone and stopped at a call for another process that nobody answers it here.
+tell_kernel() {
+    ask_program "$@" | awk '
+        { for (at = 1; at < NF; at += 2) has[$at] = $(at + 1) }
+        /^stop trap / { is_trap = 1 }
+        END {
+            split("SEND RECEIVE SENDREC NOTIFY", call, " ")
+            number = has["ECX"] ~ /^0000000[1-4]$/ ? substr(has["ECX"], 8) : 0
+            whom = has["EAX"] == "00007ace" ? "any" : has["EAX"] ~ /^0000000[0-9]$/ ? "slot " substr(has["EAX"], 8) : ""
+            if (is_trap && number && whom)
+                print "mx: it stopped at its call " call[number] " " whom \
+                    ", which nobody answers, as mx one has no kernel: mx turns CONFIG LOG runs a machine"
+        }' >&2
+}
+
+# Says of a kill in FAULT whose endpoint no process of the history has any more from a position on that it is refused there.
+tell_replaced() {
+    config=$(nth_word 1 "$@") log=$(nth_word 2 "$@") fault=$(nth_word 3 "$@") to=$(value_of --to "$@")
+    { [ -f "$config" ] && [ -f "$log" ] && [ -f "$fault" ] && is_short "$log"; } || return 0
+    awk -v file="$fault" -v to="$to" -v names="$(names_of "$config")" '
+        BEGIN { services = split(names, name, " ") }
+        NR == FNR {
+            if ($1 ~ /^[0-9]/ && NF > 1) records++
+            if ($2 == "respawn") { slot = $3 + 0; position[slot, ++generation[slot]] = records }
+            next
+        }
+        { sub(/#.*/, "") }
+        $1 == "kill" && $2 ~ /^[0-9]+$/ && NF == 2 {
+            slot = $2 % 1024; at = position[slot, int($2 / 1024) + 1]
+            if (at && slot < services && (to == "" || at <= to + 0)) {
+                print "mx: " file " line " FNR " (kill " $2 ") is refused from position " at " on, as slot " slot \
+                    " has the endpoint " $2 + 1024 " there: kill " name[slot + 1] " finds it at each"
+                exit
+            }
+        }' "$log" "$fault" >&2
 }
 
 # Says what isn't told yet of a command that failed.
@@ -1015,6 +1355,11 @@ tell_programs() {
     [ -z "$there" ] || [ "$(echo "$there" | wc -w)" -gt 8 ] || echo "mx: these are there:$there" >&2
 }
 
+# The names of a configuration's services, in the order of their slots.
+names_of() {
+    awk '{ sub(/#.*/, "") } $1 == "service" { printf "%s ", $2 }' "$1"
+}
+
 # How many processors a configuration has.
 cpus_of() {
     awk '{ sub(/#.*/, "") } $1 == "cpus" { print $2; exit }' "$1"
@@ -1035,10 +1380,28 @@ is_short_script() {
     [ -f "$1" ] && awk '$1 == "step" || $1 == "go" { steps += $3 } END { exit NR > 20000 || steps > 10000000 }' "$1"
 }
 
+# Whether a line of a script is raised twice.
+raises_again() {
+    awk '$1 == "line" && is_raised[$2]++ { again = 1 } END { exit !again }' "$1"
+}
+
+# Says of the lines of a script that is made once more which were raised before their owner had the time before.
+tell_script_lines() {
+    raises_again "$2" || return 0
+    made=$(mktemp) || return 0
+    answers=$(ask_program step "$1" "$2" --numbered --save "$made" --no-sums --force)
+    shown=$(ask_program trace "$1" "$made")
+    rm -f "$made"
+    tell_raised "$(printf '%s\n' "$answers" | awk -v script="$2" '
+        NR == FNR { if ($2 == "refused") is_refused[$1 + 0] = 1; next }
+        $1 == "line" && !(FNR in is_refused) { print script " line " FNR }' - "$2")"
+}
+
 # Says of the events of a script that were refused why, the first three: they are made once more, and each answer has the
 # number of its line then.
 tell_answers() {
     { [ -f "$1" ] && is_short_script "$2"; } || return 0
+    tell_script_lines "$1" "$2"
     ask_program step "$1" "$2" --numbered | awk -v script="$2" -v cpus="$(cpus_of "$1")" \
         -v services="$(programs_of "$1" | wc -l)" '
         NR == FNR {
@@ -1053,7 +1416,7 @@ tell_answers() {
         code[FNR] == 55 { why = "its process has stopped: back " $2 " comes before" }
         code[FNR] == 40 { why = "the process of slot " $2 " lives: a kill comes before" }
         code[FNR] == 53 { why = $2 + 0 > 15 ? "lines are 0 to 15" : "no process has taken line " $2 }
-        code[FNR] == 54 { why = "no process that lives has the endpoint " $2 }
+        code[FNR] == 54 { why = $1 == "take" ? "no process is ready" : "no process that lives has the endpoint " $2 }
         code[FNR] == 42 { why = "S is a slot, 0 to " services - 1 }
         code[FNR] == 41 { why = "the restarts of CONFIG are used up" }
         why { print "mx: " script " line " FNR " (" $0 "): " why; if (++count == 3) exit }' - "$2" >&2
@@ -1071,6 +1434,29 @@ tell_looks() {
     if grep -Eq '^(regs|mem) [0-9]' "$2" && ask_program db "$1" "$2" | grep -q '^refused 61 NotHere'; then
         echo "mx: regs C and mem C are of who is on processor C: of slot S they are regs of S and mem of S" >&2
     fi
+    tell_passed "$1" "$2"
+}
+
+# Says of a debugger's script which `step` passed a breakpoint: of the first four below a `break`, with `go` in place of one
+# at a time.
+tell_passed() {
+    lines=$(awk '$1 == "break" { is_set = 1 } is_set && $1 == "step" && count++ < 4 { print NR }' "$2")
+    { [ -n "$lines" ] && changed=$(mktemp); } || return 0
+    answers=$(ask_program db "$1" "$2")
+    for line in $lines; do
+        sed "${line}s/step/go/" "$2" >"$changed"
+        place=$({ printf '%s\n=\n' "$answers"; ask_program db "$1" "$changed"; } | awk '
+            !is_second && $1 == "=" { is_second = 1; next }
+            !is_second { was[++lines] = $0; next }
+            { at++ }
+            was[at] == $0 { next }
+            $0 ~ /^stopped at / && was[at] ~ /^stepped / { split(was[at], old, " "); if ($5 + 0 < old[2] + 0) print $3 }
+            { exit }')
+        [ -n "$place" ] || continue
+        echo "mx: $2 line $line ($(sed -n "${line}p" "$2")): a step passes the breakpoint at $place, a go stops there" >&2
+        break
+    done
+    rm -f "$changed"
 }
 
 # Says of a history that is refused where it is none of this machine's, or that a number in it is too large.
