@@ -1135,6 +1135,16 @@ tell_events() {
     rm -rf "$room"
 }
 
+# Says why an outside event of a run that rests has no record, which `mx why` names, if the history has room for more: tell_lost CONFIG LOG EVENTS.
+tell_lost() {
+    case $became in 'ends: rest '*) [ -f "$3" ] || return 0 ;; *) return 0 ;; esac
+    room=$(awk '{ sub(/#.*/, "") } $1 == "log" { print $2; exit }' "$1")
+    [ "$(grep -c '^[0-9]' "$2")" -lt "${room:-0}" ] || return 0
+    ask_program why "$1" "$2" --events "$3" | sed -n \
+        -e 's/^outside: EVENTS line \([0-9]*\) (line \([0-9]*\)) .*/mx: EVENTS line \1: no process owned line \2 then: IRQCTL makes it one'"'"'s/p' \
+        -e 's/^outside: EVENTS line \([0-9]*\) (kill \([0-9]*\)) .*/mx: EVENTS line \1: no process that lives had the endpoint \2 then: kill NAME finds a service/p' >&2
+}
+
 # Names once what shows the records of a new history, if nothing else is said of it.
 tell_first() {
     case $became in
@@ -1161,6 +1171,7 @@ tell_ended() {
                 exec 4>&2 2>"$said"
                 tell_history "$(nth_word 1 "$@")" "$(nth_word 2 "$@")" "$(missing_ticks "$@")"
                 [ -z "$(value_of --events "$@")" ] || tell_raised ''
+                tell_lost "$(nth_word 1 "$@")" "$(nth_word 2 "$@")" "$(value_of --events "$@")"
                 tell_turns "$@"
                 tell_console "$(nth_word 1 "$@")" "$(nth_word 2 "$@")"
                 [ -z "$fresh" ] || [ -s "$said" ] || tell_first "$(nth_word 1 "$@")" "$(nth_word 2 "$@")"
@@ -1297,11 +1308,21 @@ tell_failure() {
         return
     fi
     case $1 in
-        step | db) ! is_short_script "$second" || tell_script "$config" "$second" "$(failure_of "$1" "$config" "$second")" ;;
+        step | db)
+            if is_program "$second"; then tell_script_form "$1" "$config"
+            else ! is_short_script "$second" || tell_script "$config" "$second" "$(failure_of "$1" "$config" "$second")"; fi ;;
         run | turns) tell_script "$config" "$(value_of --events "$@")" '' ;;
         replay | trace | draw | page) tell_refused "$config" "$second" ;;
         sweep) tell_fault "$config" "$second" "$(nth_word 3 "$@")" ;;
     esac
+}
+
+# Says what the lines of a script of `step` or `db` are, as the program says it of a line that is none.
+tell_script_form() {
+    none=$(mktemp) || return 0
+    echo '?' >"$none"
+    failure_of "$1" "$2" "$none" | sed -n 's/^mx: SCRIPT .*: wanted \(.*\), stands "?"$/mx: a script is a text; a line of it is \1/p' >&2
+    rm -f "$none"
 }
 
 # Says of a text that is refused with these lines what its mistake is.
