@@ -675,7 +675,7 @@ tell_names() {
     done
 }
 
-# Says to gdb that it was given a program's code at 0, where there is one beside it that has it where `mx gdb` does.
+# Says to gdb that it was given a file that hasn't the code where `mx gdb` has it, if there is one beside it that has.
 tell_elf() {
     [ "$1" = gdb ] || return 0
     above=$PPID
@@ -684,7 +684,7 @@ tell_elf() {
         tr '\0' '\n' <"/proc/$above/cmdline" | while read -r word; do
             made=${word%.elf}.gdb
             if [ "$made" != "$word.gdb" ] && [ -f "$word" ] && [ -f "$made" ]; then
-                echo "mx: $word has its code at 0, and mx gdb at 80000000, as $made: gdb $made" >&2
+                echo "mx: mx gdb has the code at 80000000, as $made has it and $word hasn't: gdb $made" >&2
             fi
         done
         above=$(sed -n 's/^PPid:[^0-9]*//p' "/proc/$above/status")
@@ -961,6 +961,7 @@ tell_windows() {
     printf '%s\n' "$shown" | awk '
         # Whether a window of the owner is there, for reading (1) or for writing (2). If not, says what there is.
         function is_open(owner, kind, from, count) {
+            if (!(owner in name)) return 0
             at = owner " " copier
             owner_name = name[owner] " " name[copier]
             held = access[at] + 0
@@ -1014,8 +1015,8 @@ tell_answered() {
         $2 == "notify" && $5 == "to" && $8 == "type" { told[$7] = $4 }
         $2 == "message" && $8 == "type" {
             if ($9 == 4096 && ($4 in told) && told[$4] == $7) {
-                print "mx: " $3 " sends " $6 " its notification back, type 0x1000, at record " $1 \
-                    ": a NOTIFY carries no words, and p0 is the uptime"
+                print "mx: the message of " $3 " to " $6 " at record " $1 " has the type of a notification, 0x1000, as " $6 \
+                    " sent one: a NOTIFY carries no words, and p0 is the uptime"
                 exit
             }
             delete told[$7]
@@ -1128,11 +1129,21 @@ tell_events() {
         ! tail -n "+$(($(wc -l <"$room/before") + 1))" "$room/after" | grep -q ' kill ' || continue
         awk -v at="mx: $events line $line (kill $whom) was refused: " -v whom="$whom" '
             $1 ~ /^[0-9]+$/ && $1 == whom % 1024 && $3 != whom {
-                print at "slot " $1 " has the endpoint " $3 " then; kill " $2 " finds it"
+                print at "slot " $1 " has the endpoint " $3 " then: kill " $2 " takes the one that is there"
             }' "$room/report" >&2
         break
     done
     rm -rf "$room"
+}
+
+# Says why an outside event of a run that rests has no record, which `mx why` names, if the history has room for more: tell_lost CONFIG LOG EVENTS.
+tell_lost() {
+    case $became in 'ends: rest '*) [ -f "$3" ] || return 0 ;; *) return 0 ;; esac
+    room=$(awk '{ sub(/#.*/, "") } $1 == "log" { print $2; exit }' "$1")
+    [ "$(grep -c '^[0-9]' "$2")" -lt "${room:-0}" ] || return 0
+    ask_program why "$1" "$2" --events "$3" | sed -n \
+        -e 's/^outside: EVENTS line \([0-9]*\) (line \([0-9]*\)) .*/mx: EVENTS line \1: no process owned line \2 then: IRQCTL makes it one'"'"'s/p' \
+        -e 's/^outside: EVENTS line \([0-9]*\) (kill \([0-9]*\)) .*/mx: EVENTS line \1: no process that lives had the endpoint \2 then: kill NAME finds a service/p' >&2
 }
 
 # Names once what shows the records of a new history, if nothing else is said of it.
@@ -1161,6 +1172,7 @@ tell_ended() {
                 exec 4>&2 2>"$said"
                 tell_history "$(nth_word 1 "$@")" "$(nth_word 2 "$@")" "$(missing_ticks "$@")"
                 [ -z "$(value_of --events "$@")" ] || tell_raised ''
+                tell_lost "$(nth_word 1 "$@")" "$(nth_word 2 "$@")" "$(value_of --events "$@")"
                 tell_turns "$@"
                 tell_console "$(nth_word 1 "$@")" "$(nth_word 2 "$@")"
                 [ -z "$fresh" ] || [ -s "$said" ] || tell_first "$(nth_word 1 "$@")" "$(nth_word 2 "$@")"
@@ -1278,7 +1290,7 @@ tell_replaced() {
             slot = $2 % 1024; at = position[slot, int($2 / 1024) + 1]
             if (at && slot < services && (to == "" || at <= to + 0)) {
                 print "mx: " file " line " FNR " (kill " $2 ") is refused from position " at " on, as slot " slot \
-                    " has the endpoint " $2 + 1024 " there: kill " name[slot + 1] " finds it at each"
+                    " has the endpoint " $2 + 1024 " there: kill " name[slot + 1] " takes the one that is there"
                 exit
             }
         }' "$log" "$fault" >&2
@@ -1297,11 +1309,21 @@ tell_failure() {
         return
     fi
     case $1 in
-        step | db) ! is_short_script "$second" || tell_script "$config" "$second" "$(failure_of "$1" "$config" "$second")" ;;
+        step | db)
+            if is_program "$second"; then tell_script_form "$1" "$config"
+            else ! is_short_script "$second" || tell_script "$config" "$second" "$(failure_of "$1" "$config" "$second")"; fi ;;
         run | turns) tell_script "$config" "$(value_of --events "$@")" '' ;;
         replay | trace | draw | page) tell_refused "$config" "$second" ;;
         sweep) tell_fault "$config" "$second" "$(nth_word 3 "$@")" ;;
     esac
+}
+
+# Says what the lines of a script of `step` or `db` are, as the program says it of a line that is none.
+tell_script_form() {
+    none=$(mktemp) || return 0
+    echo '?' >"$none"
+    failure_of "$1" "$2" "$none" | sed -n 's/^mx: SCRIPT .*: wanted \(.*\), stands "?"$/mx: a script is a text; a line of it is \1/p' >&2
+    rm -f "$none"
 }
 
 # Says of a text that is refused with these lines what its mistake is.
