@@ -9,7 +9,7 @@ use Rattle.mx_why.proofs.after_run.push_each_careless.Goals as goal
 pub loop-call-preserved : goal.loop-call-preserved
 loop-call-preserved c =
     next_item (careless_line c.args.config.now c.args.end.now) c.args.calls.now c.loop-call.call-index _ c.args.out.now.items c.loop-call.out.items c.push_careless.new.out.items
-    c.loop-call-test.true c.loop-call.invariant c.in_ok-push_careless.ensures
+    c.loop-call-test.true c.loop-call.invariant (c.in_ok-push_careless.ensures ∙ ap (λ (v : FailedCall). c.loop-call.out.items ++ careless_line c.args.config.now c.args.end.now v) c.call-item.is)
 
 pub returns : goal.returns
 returns c =

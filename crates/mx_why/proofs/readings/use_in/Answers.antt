@@ -1,4 +1,4 @@
-use Rattle.std.proofs.Common.{◌≡◌, ℕ, suc, ◌+◌, ◌-◌, ◌<◌, ◌≤◌, ◌∙◌, ap, arith, sym}
+use Rattle.std.proofs.Common.{◌≡◌, ℕ, suc, ◌+◌, ◌-◌, ◌<◌, ◌∙◌, ap, arith, sym}
 use Rattle.mx_exec.specs.declared.image.Image.{Image}
 use Rattle.mx_exec.specs.Step.{one_step}
 use Rattle.mx_why.specs.declared.readings.Cell.{Cell}
@@ -16,11 +16,11 @@ one_more cell n k first m u below h is =
 
 pub returns-in-Reads : goal.returns-in-Reads
 returns-in-Reads c =
-    sym (one_more c.args.cell c.args.steps c.loop.counter c.args.image.now c.loop.image Reads c.loop-test.true c.loop.invariant (sym c.in-Reads.is ∙ c.use_at.ensures))
+    one_more c.args.cell c.args.steps c.loop.counter c.args.image.now c.loop.image Reads c.loop-test.true c.loop.invariant (sym c.in-Reads.is ∙ c.use_at.ensures)
 
 pub returns-in-Overwrites : goal.returns-in-Overwrites
 returns-in-Overwrites c =
-    sym (one_more c.args.cell c.args.steps c.loop.counter c.args.image.now c.loop.image Overwrites c.loop-test.true c.loop.invariant (sym c.in-Overwrites.is ∙ c.use_at.ensures))
+    one_more c.args.cell c.args.steps c.loop.counter c.args.image.now c.loop.image Overwrites c.loop-test.true c.loop.invariant (sym c.in-Overwrites.is ∙ c.use_at.ensures)
 
 pub loop-preserved : goal.loop-preserved
 loop-preserved c =
