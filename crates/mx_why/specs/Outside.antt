@@ -66,12 +66,13 @@ turns_with_line c records =
     count_by is_first_back records - (if nat_le 2 (c.log - length records) then 0 else 1)
 
 -- so many lines, at least, were tried of a file that has n: not at rest it may be none, as the history may have ended
--- before the first; a run comes to rest after all; turns may have been too few for all, and each tries one
+-- before the first; turns may have been too few for all, and each tries one; a run tries all, but for those after one that
+-- is refused since the history is full
 unfoldable pub tried_lines : Config → End → List Record → ℕ → ℕ
 tried_lines c e records n =
     if not e.at_rest then 0 else
-    if has_caller c.cpus records then n else
-    turns_with_line c records
+    if not (has_caller c.cpus records) then turns_with_line c records else
+    if nat_lt (length records) c.log then n else 0
 
 -- a line without a record
 abbrev pub lost_if : Bool → ℕ → OutsideLine → List LostLine

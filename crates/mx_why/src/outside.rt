@@ -129,10 +129,12 @@ fn tried_lines(config: &Config, end: &End, records: &[Record], count: usize) -> 
 {
     if !end.at_rest {
         0
-    } else if has_caller(config.cpus, records) {
+    } else if !has_caller(config.cpus, records) {
+        turns_with_line(config, records)
+    } else if records.len() < config.log as usize {
         count
     } else {
-        turns_with_line(config, records)
+        0
     }
 }
 
