@@ -1,0 +1,9 @@
+use Rattle.std.proofs.Common.{◌∙◌, arith}
+use Rattle.mx_decode.proofs.Map.{escaped_rows, no_rows_below, no_rows_past}
+use Rattle.mx_decode.proofs.table.escaped_rows.Goals as goal
+
+pub rows_from-requires : goal.rows_from-requires
+rows_from-requires c = (escaped_rows c.args.opcode (omega arith) (omega arith)).within
+
+pub returns : goal.returns
+returns c = c.rows_from.ensures ∙ (escaped_rows c.args.opcode (omega arith) (omega arith)).same
