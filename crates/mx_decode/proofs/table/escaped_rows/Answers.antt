@@ -7,3 +7,9 @@ rows_from-requires c = (escaped_rows c.args.opcode (omega arith) (omega arith)).
 
 pub returns : goal.returns
 returns c = c.rows_from.ensures ∙ (escaped_rows c.args.opcode (omega arith) (omega arith)).same
+
+pub returns-then-opcode-lt128 : goal.returns-then-opcode-lt128
+returns-then-opcode-lt128 c = no_rows_below c.args.opcode (omega arith)
+
+pub returns-then-place-ge64 : goal.returns-then-place-ge64
+returns-then-place-ge64 c = no_rows_past c.args.opcode (omega arith) (omega arith)
