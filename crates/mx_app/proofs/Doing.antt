@@ -5,7 +5,7 @@ use Rattle.std.specs.Io.KnownBytes.{Appends}
 use Rattle.std.proofs.lemmas.List.{append-nil}
 use Rattle.mx_app_command.specs.Files.{writes_over}
 use Rattle.mx_app_command.specs.declared.command_line.CommandRequest.{CommandRequest}
-use Rattle.mx_app_command.specs.declared.command_line.CommandRequest.TheVariants.{Gdb, Live, Look, Run, Sweep, SweptPage, Turns}
+use Rattle.mx_app_command.specs.declared.command_line.CommandRequest.TheVariants.{Explore, Gdb, Live, Look, Run, Sweep, SweptPage, Turns}
 use Rattle.mx_app_command.specs.declared.command_line.RecordRange.{RecordRange}
 use Rattle.mx_app_db.specs.ScriptLine.{ScriptLine}
 use Rattle.mx_app_db.specs.declared.script.DebugLine.{DebugLine}
@@ -39,6 +39,8 @@ use Rattle.mx_app_gdb.specs.Talks.{HasTalkFailed, IsTalked}
 use Rattle.mx_app_gdb.specs.declared.talking.TalkEnding.{TalkEnding}
 use Rattle.mx_app_page.specs.Pages.{IsPagePrinted, run_of_files}
 use Rattle.mx_app_page.specs.Strips.{PrintsSweptPage}
+use Rattle.mx_app_explore.specs.Exploring.{Explores}
+use Rattle.mx_app_explore.specs.declared.exploring.Found.{Found}
 use Rattle.mx_app_look.specs.Sessions.{HasFailed, IsBegun, IsSession, IsWhole, begun_text, sight_at}
 use Rattle.mx_app_run.specs.Run.{Runs}
 use Rattle.mx_app_turns.specs.Sweeping.{Sweeps}
@@ -62,7 +64,7 @@ use Rattle.mx_app.specs.Named.{Assembles, ShowsFile}
 use Rattle.mx_app.specs.Sparing.{SparesRequest}
 use Rattle.mx_app.specs.declared.performing.Done.{Done}
 use Rattle.mx_why.specs.declared.telling.Told.{Told}
-use Rattle.mx_app.specs.Requests.{Debugs, Draws, Explains, Looks, Pages, Performs, PerformsApart, PerformsUntyped, Replays, SavesSteps, Shows, Steps, Talks, Traces, Whys, done_after_check, done_after_gdb, done_after_live, done_after_replay, done_after_run, done_after_sweep, done_after_turns, done_after_why, done_after_work, over_read}
+use Rattle.mx_app.specs.Requests.{Debugs, Draws, Explains, Looks, Pages, Performs, PerformsApart, PerformsUntyped, Replays, SavesSteps, Shows, Steps, Talks, Traces, Whys, done_after_explore, done_after_check, done_after_gdb, done_after_live, done_after_replay, done_after_run, done_after_sweep, done_after_turns, done_after_why, done_after_work, over_read}
 
 -- what a request asked for and wrote, and what is done of it
 abbrev pub AsksAndWrites : List Asked → List Asked → List Written → List Written → (List Asked → List Written → Type 0) → Type 0
@@ -85,6 +87,7 @@ untyped WasShown (Turns config log ticks events bound stop) asks qs ws Prints r 
 untyped WasShown (Live config log raw hertz stop) asks qs ws Prints r h = absurd h
 untyped WasShown (Sweep config log fault bound from to jobs strict save) asks qs ws Prints r h = absurd h
 untyped WasShown (SweptPage config log fault bound from to jobs) asks qs ws Prints r h = absurd h
+untyped WasShown (Explore config departures events bound part strict save) asks qs ws Prints r h = absurd h
 untyped WasShown request asks qs ws Prints r h = ((refl, refl), refl, refl, h)
 
 -- what is done of the request that this one is
@@ -197,6 +200,14 @@ pub swept_pages : {given : List (Option (List ℕ))} {heard : List Heard} {told 
     → Grows asked now files files given given heard heard told told shown later (λ did. IsAlone did × (did.written ≡ []) × (did.typed ≡ []) × (e : Result Swept Kind) × PrintsSweptPage config log fault from to bound did.asked did.shown (λ text. Appends x y text) e × (r ≡ done_after_sweep false e))
 swept_pages {given} {heard} {told} asked now files shown later config log fault from to bound x y d r p e =
     (record nothing_done { asked = p.0; shown = p.1 }, p.2, sym (append-nil files), sym (append-nil given), sym (append-nil heard), sym (append-nil told), p.3, ((refl, refl), refl, refl, d, p.4, e))
+
+-- schedules were explored, or they weren't
+pub explored : {given : List (Option (List ℕ))} {heard : List Heard} {told : List Note} (asked now : List Asked) (files written : List Written) (shown later : List Part) (config : List ℕ) (events save : Option (List ℕ)) (departures bound part parts : ℕ) (strict : Bool) (x y : Option (List ℕ)) (d : Result Found Kind) (r : Result Done Kind)
+    → (qs : List Asked) × (ws : List Written) × (ps : List Part) × (now ≡ asked ++ qs) × (written ≡ files ++ ws) × (later ≡ shown ++ ps) × Explores config events save departures bound part parts qs ws ps (λ text. Appends x y text) d
+    → r ≡ done_after_explore strict d
+    → Grows asked now files written given given heard heard told told shown later (λ did. IsAlone did × (did.typed ≡ []) × (e : Result Found Kind) × Explores config events save departures bound part parts did.asked did.written did.shown (λ text. Appends x y text) e × (r ≡ done_after_explore strict e))
+explored {given} {heard} {told} asked now files written shown later config events save departures bound part parts strict x y d r p e =
+    (record { asked = p.0; written = p.1; typed = []; heard = []; told = []; shown = p.2 }, p.3, p.4, sym (append-nil given), sym (append-nil heard), sym (append-nil told), p.5, ((refl, refl), refl, d, p.6, e))
 
 -- a script was done, and its history saved or not
 pub saved : (asked now : List Asked) (files written : List Written) (config script log : List ℕ) (numbered : Bool) (x y : Option (List ℕ)) (d : Result (Unit {0}) Kind) (r : Result Done Kind)

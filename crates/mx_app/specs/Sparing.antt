@@ -1,9 +1,9 @@
 -- What is written over: a file that is empty, or that begins as what is written does; any other is spared (our own).
-use Rattle.std.specs.Prelude.{◌≡◌, ◌⊎◌, ◌==◌, ◌&&◌, ◌||◌, not, ℕ, Bool, true, false, if◌then◌else◌, List, [], ◌∷◌, codes, drop, length, nat_eq, nat_lt, Option, Some, None, Result, Ok, Err, slice_index, take}
+use Rattle.std.specs.Prelude.{◌≡◌, ◌⊎◌, ◌==◌, ◌&&◌, ◌||◌, ◌++◌, not, ℕ, Bool, true, false, if◌then◌else◌, List, [], ◌∷◌, codes, drop, length, nat_eq, nat_lt, Option, Some, None, Result, Ok, Err, slice_index, take}
 use Rattle.std.specs.List.{list_all, starts_with}
 use Rattle.std.specs.Char.{is_ascii_hexdigit}
 use Rattle.std.specs.declared.io.ErrorKind.{ErrorKind}
-use Rattle.mx_app_command.specs.Files.{FileWord, file_written, written_kind}
+use Rattle.mx_app_command.specs.Files.{FileWord, file_written, writes_several, written_kind}
 use Rattle.mx_app_command.specs.declared.command_line.CommandRequest.{CommandRequest}
 use Rattle.mx_app_command.specs.declared.files.FileKind.{FileKind}
 use Rattle.mx_app_command.specs.declared.files.FileKind.TheVariants as kinds
@@ -14,6 +14,7 @@ use Rattle.mx_app_explain.specs.declared.sums_fault.SumsFault.TheVariants as fau
 use Rattle.mx_app_failure.specs.Failure.{failure_if, problem_of_reading}
 use Rattle.mx_app_failure.specs.declared.failure.About.TheVariants.{Written as FileWritten}
 use Rattle.mx_app_failure.specs.declared.failure.Failure.{Failure as Kind}
+use Rattle.mx_app_failure.specs.declared.failure.Failure.TheVariants.{NoMemory}
 use Rattle.mx_app_failure.specs.declared.failure.FileProblem.TheVariants.{OtherKind}
 use Rattle.mx_boot.specs.Log.{begins_history}
 
@@ -55,15 +56,26 @@ abbrev pub file_spared : CommandRequest → Bool → Option FileWord
 file_spared request true = None
 file_spared request false = file_written request
 
-abbrev pub SparesWord : FileKind → Option FileWord → List Asked → Result (Unit {0}) Kind → Type 0
-SparesWord kind None qs r = (qs ≡ []) × (r ≡ Ok tt)
-SparesWord kind (Some w) qs r =
-    (IsFree kind w.name qs × (r ≡ Ok tt))
-    ⊎ ((IsSpared kind w.name qs × (r ≡ Err (failure_if (Some OtherKind) FileWritten)))
-    ⊎ ((k : ErrorKind) × (qs ≡ file_missed w.name k ∷ []) × (r ≡ Err (failure_if (problem_of_reading k) FileWritten))))
+-- one file, by its name
+abbrev pub SparesName : FileKind → List ℕ → List Asked → Result (Unit {0}) Kind → Type 0
+SparesName kind name qs r =
+    (IsFree kind name qs × (r ≡ Ok tt))
+    ⊎ ((IsSpared kind name qs × (r ≡ Err (failure_if (Some OtherKind) FileWritten)))
+    ⊎ ((k : ErrorKind) × (qs ≡ file_missed name k ∷ []) × (r ≡ Err (failure_if (problem_of_reading k) FileWritten))))
 
+-- the first of several, or memory is out before its name is made
+abbrev pub SparesFirst : FileKind → List ℕ → List Asked → Result (Unit {0}) Kind → Type 0
+SparesFirst kind front qs r = SparesName kind (front ++ codes "1") qs r ⊎ ((qs ≡ []) × (r ≡ Err NoMemory))
+
+abbrev pub SparesWord : FileKind → Bool → Option FileWord → List Asked → Result (Unit {0}) Kind → Type 0
+SparesWord kind several None qs r = (qs ≡ []) × (r ≡ Ok tt)
+SparesWord kind several (Some w) qs r =
+    if several then SparesFirst kind w.name qs r else SparesName kind w.name qs r
+
+-- the file that a request writes; of several the first, and no other
 abbrev pub SparesRequest : CommandRequest → Bool → List Asked → Result (Unit {0}) Kind → Type 0
-SparesRequest request force qs r = SparesWord (written_kind request) (file_spared request force) qs r
+SparesRequest request force qs r =
+    SparesWord (written_kind request) (writes_several request) (file_spared request force) qs r
 
 -- the file of sums
 abbrev pub SparesSums : List ℕ → Bool → List Asked → Result (Unit {0}) SumsFault → Type 0

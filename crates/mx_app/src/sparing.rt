@@ -6,7 +6,7 @@ ghost use Rattle.std.specs.Char.{is_ascii_hexdigit};
 ghost use Rattle.std.specs.IoError.{error_kind};
 ghost use Rattle.std.specs.List.{list_all};
 ghost use Rattle.mx_app_db.specs.Asked.{Asked, file_given, file_missed};
-ghost use Rattle.mx_app.specs.Sparing.{SparesRequest, SparesSums, begins_as, begins_program, begins_sums, is_spared};
+ghost use Rattle.mx_app.specs.Sparing.{SparesFirst, SparesName, SparesRequest, SparesSums, begins_as, begins_program, begins_sums, is_spared};
 
 use mx_app_command::{CommandRequest, FileKind};
 use mx_app_explain::{SumsFault, unread};
@@ -78,7 +78,38 @@ fn spares<R: Reader>(alloc: Global, reader: &mut R, kind: FileKind, name: &str) 
     Ok(is_spared(kind, front.as_slice()))
 }
 
-/// Refuses to write the file of a request over one that is spared.
+/// Refuses to write over the file of this name, if it is spared.
+fn spare_name<R: Reader>(
+    alloc: Global,
+    reader: &mut R,
+    kind: FileKind,
+    name: &str,
+) -> Result<(), Failure>
+    ensures { (qs : List Asked) × (R.asked reader.new ≡ R.asked reader.old ++ qs)
+        × SparesName kind name.now qs result }
+{
+    match spares(alloc, reader, kind, name) {
+        Ok(false) => Ok(()),
+        Ok(true) => Err(Failure::of(Some(FileProblem::OtherKind), About::Written)),
+        Err(error) => Err(Failure::unread(&error, About::Written)),
+    }
+}
+
+/// Refuses to write over the first of several files whose names begin so, if it is spared.
+fn spare_first<R: Reader>(
+    alloc: Global,
+    reader: &mut R,
+    kind: FileKind,
+    front: &str,
+) -> Result<(), Failure>
+    ensures { (qs : List Asked) × (R.asked reader.new ≡ R.asked reader.old ++ qs)
+        × SparesFirst kind front.now qs result }
+{
+    let name = format!(in alloc; "{front}1")?;
+    spare_name(alloc, reader, kind, name.as_str())
+}
+
+/// Refuses to write the file of a request over one that is spared; if it writes several, the first of them.
 pub(crate) fn spare_for_request<R: Reader>(
     alloc: Global,
     reader: &mut R,
@@ -94,10 +125,11 @@ pub(crate) fn spare_for_request<R: Reader>(
     let Some(word) = request.writes() else {
         return Ok(());
     };
-    match spares(alloc, reader, request.written_kind(), word.name) {
-        Ok(false) => Ok(()),
-        Ok(true) => Err(Failure::of(Some(FileProblem::OtherKind), About::Written)),
-        Err(error) => Err(Failure::unread(&error, About::Written)),
+    let kind = request.written_kind();
+    if request.writes_several() {
+        spare_first(alloc, reader, kind, word.name)
+    } else {
+        spare_name(alloc, reader, kind, word.name)
     }
 }
 

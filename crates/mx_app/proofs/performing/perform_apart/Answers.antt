@@ -5,7 +5,7 @@ use Rattle.mx_app_command.specs.declared.command_line.CommandRequest.TheVariants
 use Rattle.mx_app_program.specs.One.{IsPrinted}
 use Rattle.mx_app_program.specs.Shown.{IsListingOf, IsShown}
 use Rattle.mx_app.specs.Requests.{done_after_run}
-use Rattle.mx_app.proofs.Doing.{as_asked, as_known, as_typed, assembled, checks, debugs, draws, explains, lived, looks, pages, replays, runs, saved, shows, steps, swept, swept_pages, talked, traces, turned, whys}
+use Rattle.mx_app.proofs.Doing.{as_asked, as_known, as_typed, assembled, checks, debugs, draws, explains, explored, lived, looks, pages, replays, runs, saved, shows, steps, swept, swept_pages, talked, traces, turned, whys}
 use Rattle.mx_app.proofs.performing.perform_apart.Goals as goal
 
 pub returns-in-One-clause-done : goal.returns-in-One-clause-done
@@ -75,6 +75,11 @@ pub returns-in-Sweep-clause-done : goal.returns-in-Sweep-clause-done
 returns-in-Sweep-clause-done g c =
     as_typed (g.P.SharedProgress.was_shown c.args.io.now.progress) _ _ _ _ _ _ _ _ _ _ _ _ _ _ _ _ _ c.in-Sweep.is
     (swept _ _ _ _ _ _ c.in-Sweep.config.now c.in-Sweep.log.now c.in-Sweep.fault.now (option_map (λ s. s.now) c.in-Sweep.save) c.in-Sweep.from c.in-Sweep.to c.in-Sweep.bound c.in-Sweep.strict _ _ c.sweep-swept.result c.done_after_sweep.result c.sweep-swept.ensures c.done_after_sweep.ensures)
+
+pub returns-in-Explore-clause-done : goal.returns-in-Explore-clause-done
+returns-in-Explore-clause-done g c =
+    as_typed (g.P.SharedProgress.was_shown c.args.io.now.progress) _ _ _ _ _ _ _ _ _ _ _ _ _ _ _ _ _ c.in-Explore.is
+    (explored _ _ _ _ _ _ c.in-Explore.config.now (option_map (λ s. s.now) c.in-Explore.events) (option_map (λ s. s.now) c.in-Explore.save) c.in-Explore.departures c.in-Explore.bound c.in-Explore.part.before c.in-Explore.part.after c.in-Explore.strict _ _ c.explore-found.result c.done_after_explore.result c.explore-found.ensures c.done_after_explore.ensures)
 
 pub returns-in-Replay-clause-done : goal.returns-in-Replay-clause-done
 returns-in-Replay-clause-done g c =

@@ -1,0 +1,188 @@
+-- What is printed and saved of outcomes.
+use Rattle.std.proofs.Common.{◌≡◌, ◌∙◌, ◌⊎◌, ℕ, zero, suc, ◌+◌, ◌++◌, true, false, List, [], ◌∷◌, length, take, Option, Some, None, Result, Ok, Err, IfErr, append_assoc, inl, inr, refl, ap, sym, subst, arith}
+use Rattle.std.specs.Prelude.{IfOk, IsErrAnd, replicate, slice_get}
+use Rattle.std.specs.Io.KnownBytes.{Appends}
+use Rattle.std.proofs.KnownBytes.{Appends-nil, Appends-trans}
+use Rattle.std.proofs.lemmas.List.{append-nil}
+use Rattle.mx_app_failure.specs.declared.failure.Failure.{Failure as Kind}
+use Rattle.mx_app_failure.specs.declared.failure.Failure.TheVariants.{NoMemory}
+use Rattle.mx_app_failure.specs.Failure.{IsWanting, PrintsFront}
+use Rattle.mx_app_start.specs.Programs.{over_program}
+use Rattle.mx_app_step.specs.Asked.{Asked}
+use Rattle.mx_app_step.specs.Written.{Written}
+use Rattle.mx_app_step.proofs.FrontLemmas.{front_after, front_more}
+use Rattle.mx_app_turns.specs.Turned.{IsBegun, IsNotBegun}
+use Rattle.mx_machine.specs.declared.config.Config.{Config}
+use Rattle.mx_machine.specs.declared.events.Event.TheVariants.{Tick}
+use Rattle.mx_machine.specs.Boot.{world_at_boot}
+use Rattle.mx_machine.specs.Machine.{MachineState, world_of}
+use Rattle.mx_machine.specs.Service.{Service}
+use Rattle.mx_machine.specs.World.{World}
+use Rattle.mx_turns.specs.Made.{outside_events}
+use Rattle.mx_turns.specs.declared.outside.OutsideLine.{OutsideLine}
+use Rattle.mx_turns.specs.declared.outside.OutsideLine.TheVariants.{Plain}
+use Rattle.mx_walk.specs.declared.progress.Part.{Part as Parts}
+use Rattle.mx_explore.specs.Exploring.{ShowsCounts, setting}
+use Rattle.mx_explore.specs.Passing.{Setting}
+use Rattle.mx_explore.specs.Schedules.{IsExplored}
+use Rattle.mx_explore.specs.declared.exploring.Terms.{Terms}
+use Rattle.mx_explore.specs.declared.outcomes.Outcome.{Outcome}
+use Rattle.mx_explore.specs.declared.outcomes.Tally.{Tally}
+use Rattle.mx_app_explore.specs.declared.exploring.Found.{Found}
+use Rattle.mx_app_explore.specs.FoundText.{found_text, numbered, outcome_lines}
+use Rattle.mx_app_explore.specs.Exploring.{Explores, IsUnsaved, IsUnsavedOne, asking, found_of, history_text, saved_of, saved_one, saves_program}
+
+-- ---- outcomes in a row
+
+-- one more
+numbered_more : {X : Type 0} (f : ℕ → Outcome → List X) (n : ℕ) (os : List Outcome) (k m : ℕ) (o : Outcome) → slice_get os k ≡ Some o → n + k ≡ m → numbered f n (take (suc k) os) ≡ numbered f n (take k os) ++ f m o
+numbered_more f n [] k m o e is = absurd cc
+numbered_more f n (x ∷ os) zero m o e is =
+    let same : x ≡ o = cc in
+    let first : n ≡ m = omega (arith, is) in
+    append-nil (f n x) ∙ ap (f n) same ∙ ap (λ i. f i o) first
+numbered_more f n (x ∷ os) (suc k) m o e is =
+    ap (λ l. f n x ++ l) (numbered_more f (n + 1) os k m o e (omega (arith, is))) ∙ sym (append_assoc (f n x) (numbered f (n + 1) (take k os)) (f m o))
+
+-- the first of them, and the rest
+numbered_rest : {X : Type 0} (f : ℕ → Outcome → List X) (n : ℕ) (os : List Outcome) (k : ℕ) → (rest : List X) × (numbered f n os ≡ numbered f n (take k os) ++ rest)
+numbered_rest f n os zero = (numbered f n os, refl)
+numbered_rest f n [] (suc k) = ([], refl)
+numbered_rest f n (x ∷ os) (suc k) =
+    let h = numbered_rest f (n + 1) os k in
+    (h.0, ap (λ l. f n x ++ l) h.1 ∙ sym (append_assoc (f n x) (numbered f (n + 1) (take k os)) h.0))
+
+-- a front of the first ones is one of all, and of what comes after them
+front_of : (Prints : List ℕ → Type 0) (f : ℕ → Outcome → List ℕ) (os : List Outcome) (k : ℕ) (last : List ℕ) → PrintsFront Prints (numbered f 1 (take k os)) → PrintsFront Prints (numbered f 1 os ++ last)
+front_of Prints f os k last h =
+    let some = numbered_rest f 1 os k in
+    let first = numbered f 1 (take k os) in
+    subst (PrintsFront Prints) (sym (ap (λ l. l ++ last) some.1 ∙ append_assoc first some.0 last)) (front_more Prints first (some.0 ++ last) h)
+
+take_all : {X : Type 0} (xs : List X) → take (length xs) xs ≡ xs
+take_all [] = refl
+take_all (x ∷ xs) = ap (λ l. x ∷ l) (take_all xs)
+
+-- ---- so far
+
+module _ (t : Setting) (save : Option (List ℕ)) (os : List Outcome) where
+  abbrev saves : ℕ → Outcome → List Written
+  saves number o = saved_one save number (history_text t o)
+
+  -- the first m outcomes are saved and printed
+  pub record IsSoFar (m : ℕ) (before now : List Written) (x y : Option (List ℕ)) : Type 0 where
+    pub saved : now ≡ before ++ saved_of t save (take m os)
+    pub printed : Appends x y (numbered (outcome_lines t) 1 (take m os))
+
+  pub none_so_far : (before : List Written) (x : Option (List ℕ)) → IsSoFar 0 before before x x
+  none_so_far before x = record { saved = sym (append-nil before); printed = Appends-nil x }
+
+  module _ (m : ℕ) (o : Outcome) (there : slice_get os m ≡ Some o) where
+    saved_next : saved_of t save (take (m + 1) os) ≡ saved_of t save (take m os) ++ saved_one save (m + 1) (history_text t o)
+    saved_next =
+        let next : m + 1 ≡ suc m = omega arith in
+        ap (λ k. saved_of t save (take k os)) next ∙ numbered_more saves 1 os m (m + 1) o there (omega arith)
+
+    lines_next : numbered (outcome_lines t) 1 (take (m + 1) os) ≡ numbered (outcome_lines t) 1 (take m os) ++ outcome_lines t (m + 1) o
+    lines_next =
+        let next : m + 1 ≡ suc m = omega arith in
+        ap (λ k. numbered (outcome_lines t) 1 (take k os)) next ∙ numbered_more (outcome_lines t) 1 os m (m + 1) o there (omega arith)
+
+    module _ (before now : List Written) (x y : Option (List ℕ)) (h : IsSoFar m before now x y) where
+      saved_then : (more : List Written) → more ≡ now ++ saved_one save (m + 1) (history_text t o) → more ≡ before ++ saved_of t save (take (m + 1) os)
+      saved_then more e =
+          e ∙ ap (λ (l : List Written). l ++ saved_one save (m + 1) (history_text t o)) h.saved
+          ∙ append_assoc before (saved_of t save (take m os)) (saved_one save (m + 1) (history_text t o)) ∙ ap (λ (l : List Written). before ++ l) (sym saved_next)
+
+      -- one more
+      pub one_so_far : (more : List Written) (z : Option (List ℕ)) → more ≡ now ++ saved_one save (m + 1) (history_text t o) → Appends y z (outcome_lines t (m + 1) o) → IsSoFar (m + 1) before more x z
+      one_so_far more z e printed = record {
+        saved = saved_then more e;
+        printed = subst (Appends x z) (sym lines_next) (Appends-trans x y z (numbered (outcome_lines t) 1 (take m os)) (outcome_lines t (m + 1) o) h.printed printed);
+      }
+
+      -- or it isn't, or not whole
+      pub not_so_far : (more ws : List Written) (z : Option (List ℕ)) (f : Kind) (last : List ℕ) → more ≡ now ++ ws → PrintsFront (λ text. Appends y z text) (outcome_lines t (m + 1) o)
+          → ((ws ≡ []) × IsWanting f) ⊎ (IsUnsavedOne save (m + 1) (history_text t o) ws f ⊎ ((ws ≡ saved_one save (m + 1) (history_text t o)) × IsWanting f))
+          → (n : ℕ) × (us : List Written) × (more ≡ before ++ saved_of t save (take n os) ++ us) × (((us ≡ []) × IsWanting f) ⊎ IsUnsaved t save n (slice_get os n) us f)
+          × PrintsFront (λ text. Appends x z text) (numbered (outcome_lines t) 1 os ++ last)
+      not_so_far more ws z f last e front why =
+          let text : PrintsFront (λ text. Appends x z text) (numbered (outcome_lines t) 1 os ++ last) =
+          front_of (λ text. Appends x z text) (outcome_lines t) os (m + 1) last
+          (subst (PrintsFront (λ text. Appends x z text)) (sym lines_next) (front_after x y z (numbered (outcome_lines t) 1 (take m os)) (outcome_lines t (m + 1) o) h.printed front)) in
+          let all : more ≡ before ++ saved_of t save (take m os) ++ ws = e ∙ ap (λ (l : List Written). l ++ ws) h.saved in
+          elim why [
+            | inl none ↦ (m, ws, all, inl none, text)
+            | inr some ↦ elim some [
+              | inl unsaved ↦ (m, ws, all, inr (subst (λ (p : Option Outcome). IsUnsaved t save m p ws f) (sym there) unsaved), text)
+              | inr whole ↦ (m + 1, [], saved_then more (e ∙ ap (λ (l : List Written). now ++ l) whole.0) ∙ sym (append-nil (before ++ saved_of t save (take (m + 1) os))), inl (refl, whole.1), text)
+            ]
+          ]
+
+  -- all are
+  module _ (n : ℕ) (all : n ≡ length os) (before now : List Written) (x y : Option (List ℕ)) (h : IsSoFar n before now x y) where
+    whole : take n os ≡ os
+    whole = ap (λ k. take k os) all ∙ take_all os
+
+    lines : Appends x y (numbered (outcome_lines t) 1 os)
+    lines = subst (λ (l : List Outcome). Appends x y (numbered (outcome_lines t) 1 l)) whole h.printed
+
+    pub all_saved : now ≡ before ++ saved_of t save os
+    all_saved = h.saved ∙ ap (λ (l : List Outcome). before ++ saved_of t save l) whole
+
+    pub all_printed : (z : Option (List ℕ)) (last : List ℕ) → Appends y z last → Appends x z (numbered (outcome_lines t) 1 os ++ last)
+    all_printed z last printed = Appends-trans x y z (numbered (outcome_lines t) 1 os) last lines printed
+
+    pub all_but_last : (z : Option (List ℕ)) (f : Kind) (last : List ℕ) → PrintsFront (λ text. Appends y z text) last → IsWanting f
+        → (m : ℕ) × (us : List Written) × (now ≡ before ++ saved_of t save (take m os) ++ us) × (((us ≡ []) × IsWanting f) ⊎ IsUnsaved t save m (slice_get os m) us f)
+        × PrintsFront (λ text. Appends x z text) (numbered (outcome_lines t) 1 os ++ last)
+    all_but_last z f last front wanting =
+        (n, [], h.saved ∙ sym (append-nil (before ++ saved_of t save (take n os))), inl (refl, wanting), front_after x y z (numbered (outcome_lines t) 1 os) last lines front)
+
+-- ---- all of it
+
+-- what is explored of a machine that was begun
+pub setting_as : (t : Terms) (m : MachineState) (c : Config) (vs : List Service) (xs : List OutsideLine) → t.outside.events.now ≡ xs → t.outside.ticks ≡ 0 → world_of m ≡ world_at_boot c vs
+    → setting t m ≡ record { turns = t.bound; boot = world_at_boot c vs; coming = xs }
+setting_as t m c vs xs events ticks booted =
+    ap (λ (w : World). let s : Setting = record { turns = t.bound; boot = w; coming = outside_events t.outside } in s) booted
+    ∙ ap (λ (l : List OutsideLine). let s : Setting = record { turns = t.bound; boot = world_at_boot c vs; coming = l ++ replicate t.outside.ticks (Plain Tick) } in s) events
+    ∙ ap (λ i. let s : Setting = record { turns = t.bound; boot = world_at_boot c vs; coming = xs ++ replicate i (Plain Tick) } in s) ticks
+    ∙ ap (λ (l : List OutsideLine). let s : Setting = record { turns = t.bound; boot = world_at_boot c vs; coming = l } in s) (append-nil xs)
+
+module _ (config : List ℕ) (events save : Option (List ℕ)) (k n before after : ℕ) (qs : List Asked) (Prints : List ℕ → Type 0) where
+  pub not_begun : (f : Kind) (r : Result Found Kind) → IsNotBegun config events qs f → Prints [] → IsErrAnd r (λ y. y ≡ f) → Explores config events save k n before after qs [] [] Prints r
+  not_begun f (Ok how) why printed h = absurd h
+  not_begun f (Err y) why printed h = inl (refl, refl, printed, subst (λ z. IsNotBegun config events qs z) (sym h) why)
+
+  module _ (c : Config) (vs : List Service) (xs : List OutsideLine) (begun : IsBegun config events qs c vs xs) where
+    -- a program isn't written over
+    pub spared : (f : Kind) (r : Result Found Kind) → saves_program c save ≡ true → f ≡ over_program → Prints [] → IsErrAnd r (λ y. y ≡ f) → Explores config events save k n before after qs [] [] Prints r
+    spared f (Ok how) is why printed h = absurd h
+    spared f (Err y) is why printed h = inr (inl (c, vs, xs, begun, is, refl, refl, printed, h ∙ why))
+
+    module _ (other : saves_program c save ≡ false) (ps : List Parts) where
+      -- memory was out
+      pub unexplored : (m : ℕ) (f : Kind) (r : Result Found Kind) → ShowsCounts 0 ps m → f ≡ NoMemory → Prints [] → IsErrAnd r (λ y. y ≡ f) → Explores config events save k n before after qs [] ps Prints r
+      unexplored m f (Ok how) shown why printed h = absurd h
+      unexplored m f (Err y) shown why printed h = inr (inr (c, vs, xs, begun, other, inl (m, shown, refl, printed, h ∙ why)))
+
+      module _ (found : Tally) (t : Setting) (same : t ≡ (asking c vs xs n k before after save).setting) (explored : IsExplored t k (record { before = before; after = after }) found) (shown : ShowsCounts 0 ps found.schedules) (old now : List Written) where
+        abbrev asked : Setting
+        asked = (asking c vs xs n k before after save).setting
+
+        abbrev os : List Outcome
+        os = found.outcomes.items
+
+        abbrev IsEnd : Setting → Result Found Kind → Type 0
+        IsEnd s r = IfOk r (λ how. (how ≡ found_of found) × (now ≡ old ++ saved_of s save os) × Prints (found_text s k found))
+            × IfErr r (λ f. (m : ℕ) × (us : List Written) × (now ≡ old ++ saved_of s save (take m os) ++ us) × (((us ≡ []) × IsWanting f) ⊎ IsUnsaved s save m (slice_get os m) us f) × PrintsFront Prints (found_text s k found))
+
+        ended : (r : Result Found Kind) → IsExplored asked k (record { before = before; after = after }) found → IsEnd asked r → (ws : List Written) × (now ≡ old ++ ws) × Explores config events save k n before after qs ws ps Prints r
+        ended (Ok how) all (ok, err) = (saved_of asked save os, ok.1, c, vs, xs, begun, other, found, all, shown, ok.0, refl, ok.2)
+        ended (Err f) all (ok, err) =
+            let ws = saved_of asked save (take err.0 os) in
+            (ws ++ err.1, err.2 ∙ append_assoc old ws err.1, inr (inr (c, vs, xs, begun, other, inr (found, err.0, err.1, all, shown, refl, err.3, err.4))))
+
+        pub ends : (r : Result Found Kind) → IsEnd t r → (ws : List Written) × (now ≡ old ++ ws) × Explores config events save k n before after qs ws ps Prints r
+        ends r h = ended r (subst (λ (s : Setting). IsExplored s k (record { before = before; after = after }) found) same explored) (subst (λ (s : Setting). IsEnd s r) same h)

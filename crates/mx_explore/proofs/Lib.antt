@@ -1,0 +1,15 @@
+mod PassageLemmas
+mod TurnLemmas
+mod OrderLemmas
+mod TallyLemmas
+mod RunLemmas
+mod AlongLemmas
+mod FollowLemmas
+mod WaitLemmas
+mod ScheduleLemmas
+mod BoundLemmas
+mod TreeLemmas
+mod CountLemmas
+mod StateLemmas
+mod MeetLemmas
+mod NoneLemmas
