@@ -299,46 +299,46 @@ PerformsUntyped (Db config script) qs ws Prints r =
     (d : Result (Unit {0}) Kind) × (ws ≡ []) × Debugs config.now script.now qs Prints d × (r ≡ done_after_work d)
 
 -- what is done of a request that writes over nothing that it reads, by what a command did, by what is printed, and by
--- how it ends. Only `look` takes lines, and `gdb` bytes; somebody sits only at a live machine; these two, turns, a sweep,
+-- how it ends; it may be forced to write over any file. Only `look` takes lines, and `gdb` bytes; somebody sits only at a live machine; these two, turns, a sweep,
 -- a page with one and `explore` show progress. What the threads of a run show is no list, since they have no order:
 -- WasShown holds of it.
-abbrev pub PerformsApart : (Part → Type 0) → CommandRequest → Bool → Deeds → (List ℕ → Type 0) → Result Done Kind
-    → Type 0
-PerformsApart WasShown (Look config log) asks did Prints r =
+abbrev pub PerformsApart : (Part → Type 0) → CommandRequest → Bool → Bool → Deeds → (List ℕ → Type 0)
+    → Result Done Kind → Type 0
+PerformsApart WasShown (Look config log) force asks did Prints r =
     IsAlone did × (d : Result (Unit {0}) Kind) × (did.written ≡ [])
     × Looks config.now log.now asks did.asked did.typed did.shown Prints d × (r ≡ done_after_work d)
-PerformsApart WasShown (Gdb config log slot) asks did Prints r =
+PerformsApart WasShown (Gdb config log slot) force asks did Prints r =
     IsAlone did × (d : Result TalkEnding Kind) × (did.written ≡ [])
     × Talks config.now log.now slot did.asked did.typed did.shown Prints d × (r ≡ done_after_gdb d)
-PerformsApart WasShown (Run config log ticks events stop) asks did Prints r =
+PerformsApart WasShown (Run config log ticks events stop) force asks did Prints r =
     IsAlone did × (did.typed ≡ []) × (did.shown ≡ []) × (d : Result RunEnding Kind)
     × Runs WasShown (is_some stop) config.now
     (option_map (λ s. s.now) events) log.now ticks did.asked did.written Prints d
     × (r ≡ done_after_run (is_some stop) d)
-PerformsApart WasShown (Turns config log ticks events bound stop) asks did Prints r =
+PerformsApart WasShown (Turns config log ticks events bound stop) force asks did Prints r =
     IsAlone did × (did.typed ≡ []) × (d : Result TurnsEnd Kind)
     × MakesTurns (is_some stop) config.now
     (option_map (λ s. s.now) events) log.now ticks bound did.asked did.written did.shown Prints d
     × (r ≡ done_after_turns d)
-PerformsApart WasShown (Live config log raw hertz stop) asks did Prints r =
+PerformsApart WasShown (Live config log raw hertz stop) force asks did Prints r =
     (did.typed ≡ []) × (did.shown ≡ []) × (d : Result SessionEnding Kind)
     × Lives config.now log.now (nat_lt 0 hertz) did.asked did.written did.heard did.told Prints d
     × (r ≡ done_after_live d)
-PerformsApart WasShown (Sweep config log fault bound from to jobs strict save) asks did Prints r =
+PerformsApart WasShown (Sweep config log fault bound from to jobs strict save) force asks did Prints r =
     IsAlone did × (did.typed ≡ []) × (d : Result Swept Kind)
     × Sweeps config.now log.now fault.now
     (option_map (λ s. s.now) save) from to bound did.asked did.written did.shown Prints d
     × (r ≡ done_after_sweep strict d)
-PerformsApart WasShown (SweptPage config log fault bound from to jobs) asks did Prints r =
+PerformsApart WasShown (SweptPage config log fault bound from to jobs) force asks did Prints r =
     IsAlone did × (did.written ≡ []) × (did.typed ≡ []) × (d : Result Swept Kind)
     × PrintsSweptPage config.now log.now fault.now from to bound did.asked did.shown Prints d
     × (r ≡ done_after_sweep false d)
-PerformsApart WasShown (Explore config departures events bound part strict save) asks did Prints r =
+PerformsApart WasShown (Explore config departures events bound part strict save) force asks did Prints r =
     IsAlone did × (did.typed ≡ []) × (d : Result Found Kind)
-    × Explores config.now (option_map (λ s. s.now) events) (option_map (λ s. s.now) save) departures bound part.before
-    part.after did.asked did.written did.shown Prints d
+    × Explores config.now (option_map (λ s. s.now) events) (option_map (λ s. s.now) save) force departures bound
+    part.before part.after did.asked did.written did.shown Prints d
     × (r ≡ done_after_explore strict d)
-PerformsApart WasShown request asks did Prints r =
+PerformsApart WasShown request force asks did Prints r =
     IsAlone did × (did.typed ≡ []) × (did.shown ≡ []) × PerformsUntyped request did.asked did.written Prints r
 
 -- the failure of a request that would write over what it reads
@@ -352,7 +352,7 @@ abbrev pub PerformsSpared : (Part → Type 0) → CommandRequest → Bool → Bo
 PerformsSpared WasShown request force asks did Prints r =
     ((f : Kind) × IsIdle did Prints × SparesRequest request force did.asked (Err f) × (r ≡ Err f))
     ⊎ ((before after : List Asked) × (did.asked ≡ before ++ after) × SparesRequest request force before (Ok tt)
-    × PerformsApart WasShown request asks (record did { asked = after }) Prints r)
+    × PerformsApart WasShown request force asks (record did { asked = after }) Prints r)
 
 -- WHAT IS DONE OF A REQUEST, which may be forced to write over any file: nothing, if it would write over what it reads
 abbrev pub Performs : (Part → Type 0) → CommandRequest → Bool → Bool → Deeds → (List ℕ → Type 0) → Result Done Kind

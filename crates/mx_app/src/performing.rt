@@ -224,6 +224,7 @@ fn perform_apart<
     alloc: Global,
     io: &mut CommandIo<R, F, W, L, O, P>,
     request: CommandRequest<'_>,
+    force: bool,
 ) -> Result<Done, Failure>
 where
     T::File: Send,
@@ -231,7 +232,7 @@ where
     ensures asks { io.new.asks ≡ io.old.asks }
     ensures done { Does io.old io.new R.asked F.written W.contents L.given O.heard O.told P.shown
         (λ did Prints. PerformsApart (P.was_shown io.old.progress)
-        request.entry io.old.asks did Prints result) }
+        request.entry force io.old.asks did Prints result) }
 {
     let channels = &mut io.channels;
     match request {
@@ -372,6 +373,7 @@ where
                 before: part.before,
                 after: part.after,
                 save,
+                force,
             };
             let found = explore(alloc, channels, names, wanted, &mut io.progress);
             done_after_explore(found, strict)
@@ -476,7 +478,7 @@ where
 /// come. They show their progress, and so do `run`, `turns`, `sweep`, a page with a sweep and `explore`. No file that is
 /// read is written over: nothing is read or written then. Two names of one file aren't seen to be one. Nor is a file
 /// written over that holds something else than what is written, unless that is forced: only its first bytes are read
-/// then. Of the files of `explore` only the first is looked at.
+/// then. Of the files of `explore` the first is looked at then, and all after its schedules.
 pub fn perform<
     T: Threads + Wait + Clock + Files + Sync,
     R: Reader + Drop,
@@ -504,5 +506,5 @@ where
         return Err(Failure::of(Some(FileProblem::OverRead), About::Written));
     }
     spare_for_request(alloc, &mut io.channels.reader, request, force)?;
-    perform_apart(rt, alloc, io, request)
+    perform_apart(rt, alloc, io, request, force)
 }

@@ -132,7 +132,7 @@ file_wanted r a OtherKind = kind_wanted (written_kind r)
 
 -- what is wrong with a file that is there; of several files it is the first
 abbrev pub other_said : CommandRequest → List ℕ
-other_said r = if writes_several r then codes "NAME1 is there and is no history" else kind_said (written_kind r)
+other_said r = if writes_several r then codes "a file NAME1, NAME2 .. is there and is no history" else kind_said (written_kind r)
 
 -- of a file that would be written over it is said first that it is there
 abbrev pub file_label : CommandRequest → FileProblem → List ℕ

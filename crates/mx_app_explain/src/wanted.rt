@@ -119,12 +119,12 @@ pub(crate) fn kind_said(kind: FileKind) -> &'static str
     }
 }
 
-/// What is wrong with the file that is there where a request would write; of several files it is the first.
+/// What is wrong with the file that is there where a request would write, which may be one of several.
 pub(crate) fn other_said(request: CommandRequest<'_>) -> &'static str
     ensures { result.now ≡ other_said request.entry }
 {
     if request.writes_several() {
-        "NAME1 is there and is no history"
+        "a file NAME1, NAME2 .. is there and is no history"
     } else {
         kind_said(request.written_kind())
     }

@@ -1,12 +1,15 @@
 -- What is printed and saved of outcomes.
-use Rattle.std.proofs.Common.{◌≡◌, ◌∙◌, ◌⊎◌, ℕ, zero, suc, ◌+◌, ◌++◌, true, false, List, [], ◌∷◌, length, take, Option, Some, None, Result, Ok, Err, IfErr, append_assoc, inl, inr, refl, ap, sym, subst, arith}
+use Rattle.std.proofs.Common.{◌≡◌, ◌∙◌, ◌⊎◌, ◌<◌, Bool, ℕ, zero, suc, ◌+◌, ◌++◌, true, false, List, [], ◌∷◌, length, take, Option, Some, None, Result, Ok, Err, IfErr, append_assoc, inl, inr, refl, ap, sym, subst, arith}
 use Rattle.std.specs.Prelude.{IfOk, IsErrAnd, replicate, slice_get}
 use Rattle.std.specs.Io.KnownBytes.{Appends}
 use Rattle.std.proofs.KnownBytes.{Appends-nil, Appends-trans}
 use Rattle.std.proofs.lemmas.List.{append-nil}
+use Rattle.std.specs.Fmt.{decimal}
+use Rattle.mx_app_command.specs.declared.files.FileKind.TheVariants.{History}
 use Rattle.mx_app_failure.specs.declared.failure.Failure.{Failure as Kind}
 use Rattle.mx_app_failure.specs.declared.failure.Failure.TheVariants.{NoMemory}
 use Rattle.mx_app_failure.specs.Failure.{IsWanting, PrintsFront}
+use Rattle.mx_app_spare.specs.Sparing.{IsFree, SparesNumbered}
 use Rattle.mx_app_start.specs.Programs.{over_program}
 use Rattle.mx_app_step.specs.Asked.{Asked}
 use Rattle.mx_app_step.specs.Written.{Written}
@@ -30,7 +33,7 @@ use Rattle.mx_explore.specs.declared.outcomes.Outcome.{Outcome}
 use Rattle.mx_explore.specs.declared.outcomes.Tally.{Tally}
 use Rattle.mx_app_explore.specs.declared.exploring.Found.{Found}
 use Rattle.mx_app_explore.specs.FoundText.{found_text, numbered, outcome_lines}
-use Rattle.mx_app_explore.specs.Exploring.{Explores, IsUnsaved, IsUnsavedOne, asking, found_of, history_text, saved_of, saved_one, saves_program}
+use Rattle.mx_app_explore.specs.Exploring.{AreAllFree, AreFree, Explores, IsOneSpared, IsUnsaved, IsUnsavedOne, asking, found_of, history_text, name_spared, saved_of, saved_one, saves_program}
 
 -- ---- outcomes in a row
 
@@ -139,6 +142,29 @@ module _ (t : Setting) (save : Option (List ℕ)) (os : List Outcome) where
     all_but_last z f last front wanting =
         (n, [], h.saved ∙ sym (append-nil (before ++ saved_of t save (take n os))), inl (refl, wanting), front_after x y z (numbered (outcome_lines t) 1 os) last lines front)
 
+-- ---- files that were looked at
+
+-- one more
+pub one_free : (name : List ℕ) (k m : ℕ) (read now more qs : List Asked) → k + 1 ≡ m → (us : List Asked) × (now ≡ read ++ us) × AreFree name k us → more ≡ now ++ qs → SparesNumbered History name m qs (Ok tt) → (us : List Asked) × (more ≡ read ++ us) × AreFree name m us
+one_free name k m read now more qs is h e one =
+    let free : IsFree History (name ++ decimal (k + 1)) qs = elim one [
+      | inl this ↦ elim this [
+        | inl ok ↦ subst (λ i. IsFree History (name ++ decimal i) qs) (sym is) ok.0
+        | inr others ↦ elim others [
+          | inl spared ↦ absurd spared.1
+          | inr missed ↦ absurd missed.2
+        ]
+      ]
+      | inr none ↦ absurd none.1
+    ] in
+    let next : suc k ≡ m = omega (arith, is) in
+    (h.0 ++ qs, e ∙ ap (λ (l : List Asked). l ++ qs) h.1 ∙ append_assoc read h.0 qs, subst (λ i. AreFree name i (h.0 ++ qs)) next (h.0, qs, refl, h.2, free))
+
+-- or it is spared
+pub one_spared : (name : List ℕ) (n k m : ℕ) (read now more qs : List Asked) (f : Kind) → k < n → k + 1 ≡ m → (us : List Asked) × (now ≡ read ++ us) × AreFree name k us → more ≡ now ++ qs → SparesNumbered History name m qs (Err f) → (us : List Asked) × (more ≡ read ++ us) × IsOneSpared (Some name) n us f
+one_spared name n k m read now more qs f below is h e one =
+    (h.0 ++ qs, e ∙ ap (λ (l : List Asked). l ++ qs) h.1 ∙ append_assoc read h.0 qs, k, h.0, qs, below, refl, h.2, subst (λ i. SparesNumbered History name i qs (Err f)) (sym is) one)
+
 -- ---- all of it
 
 -- what is explored of a machine that was begun
@@ -150,39 +176,49 @@ setting_as t m c vs xs events ticks booted =
     ∙ ap (λ i. let s : Setting = record { turns = t.bound; boot = world_at_boot c vs; coming = xs ++ replicate i (Plain Tick) } in s) ticks
     ∙ ap (λ (l : List OutsideLine). let s : Setting = record { turns = t.bound; boot = world_at_boot c vs; coming = l } in s) (append-nil xs)
 
-module _ (config : List ℕ) (events save : Option (List ℕ)) (k n before after : ℕ) (qs : List Asked) (Prints : List ℕ → Type 0) where
-  pub not_begun : (f : Kind) (r : Result Found Kind) → IsNotBegun config events qs f → Prints [] → IsErrAnd r (λ y. y ≡ f) → Explores config events save k n before after qs [] [] Prints r
+module _ (config : List ℕ) (events save : Option (List ℕ)) (force : Bool) (k n before after : ℕ) (read : List Asked) (Prints : List ℕ → Type 0) where
+  pub not_begun : (f : Kind) (r : Result Found Kind) → IsNotBegun config events read f → Prints [] → IsErrAnd r (λ y. y ≡ f) → Explores config events save force k n before after read [] [] Prints r
   not_begun f (Ok how) why printed h = absurd h
-  not_begun f (Err y) why printed h = inl (refl, refl, printed, subst (λ z. IsNotBegun config events qs z) (sym h) why)
+  not_begun f (Err y) why printed h = inl (refl, refl, printed, subst (λ z. IsNotBegun config events read z) (sym h) why)
 
-  module _ (c : Config) (vs : List Service) (xs : List OutsideLine) (begun : IsBegun config events qs c vs xs) where
+  module _ (c : Config) (vs : List Service) (xs : List OutsideLine) (begun : IsBegun config events read c vs xs) where
     -- a program isn't written over
-    pub spared : (f : Kind) (r : Result Found Kind) → saves_program c save ≡ true → f ≡ over_program → Prints [] → IsErrAnd r (λ y. y ≡ f) → Explores config events save k n before after qs [] [] Prints r
+    pub spared : (f : Kind) (r : Result Found Kind) → saves_program c save ≡ true → f ≡ over_program → Prints [] → IsErrAnd r (λ y. y ≡ f) → Explores config events save force k n before after read [] [] Prints r
     spared f (Ok how) is why printed h = absurd h
     spared f (Err y) is why printed h = inr (inl (c, vs, xs, begun, is, refl, refl, printed, h ∙ why))
 
     module _ (other : saves_program c save ≡ false) (ps : List Parts) where
       -- memory was out
-      pub unexplored : (m : ℕ) (f : Kind) (r : Result Found Kind) → ShowsCounts 0 ps m → f ≡ NoMemory → Prints [] → IsErrAnd r (λ y. y ≡ f) → Explores config events save k n before after qs [] ps Prints r
+      pub unexplored : (m : ℕ) (f : Kind) (r : Result Found Kind) → ShowsCounts 0 ps m → f ≡ NoMemory → Prints [] → IsErrAnd r (λ y. y ≡ f) → Explores config events save force k n before after read [] ps Prints r
       unexplored m f (Ok how) shown why printed h = absurd h
-      unexplored m f (Err y) shown why printed h = inr (inr (c, vs, xs, begun, other, inl (m, shown, refl, printed, h ∙ why)))
+      unexplored m f (Err y) shown why printed h = inr (inr (c, vs, xs, read, [], sym (append-nil read), begun, other, inl (m, shown, refl, refl, printed, h ∙ why)))
 
-      module _ (found : Tally) (t : Setting) (same : t ≡ (asking c vs xs n k before after save).setting) (explored : IsExplored t k (record { before = before; after = after }) found) (shown : ShowsCounts 0 ps found.schedules) (old now : List Written) where
+      module _ (found : Tally) (t : Setting) (same : t ≡ (asking c vs xs n k before after save force).setting) (explored : IsExplored t k (record { before = before; after = after }) found) (shown : ShowsCounts 0 ps found.schedules) (looked : List Asked) where
         abbrev asked : Setting
-        asked = (asking c vs xs n k before after save).setting
+        asked = (asking c vs xs n k before after save force).setting
 
         abbrev os : List Outcome
         os = found.outcomes.items
 
-        abbrev IsEnd : Setting → Result Found Kind → Type 0
-        IsEnd s r = IfOk r (λ how. (how ≡ found_of found) × (now ≡ old ++ saved_of s save os) × Prints (found_text s k found))
-            × IfErr r (λ f. (m : ℕ) × (us : List Written) × (now ≡ old ++ saved_of s save (take m os) ++ us) × (((us ≡ []) × IsWanting f) ⊎ IsUnsaved s save m (slice_get os m) us f) × PrintsFront Prints (found_text s k found))
+        all : IsExplored asked k (record { before = before; after = after }) found
+        all = subst (λ (s : Setting). IsExplored s k (record { before = before; after = after }) found) same explored
 
-        ended : (r : Result Found Kind) → IsExplored asked k (record { before = before; after = after }) found → IsEnd asked r → (ws : List Written) × (now ≡ old ++ ws) × Explores config events save k n before after qs ws ps Prints r
-        ended (Ok how) all (ok, err) = (saved_of asked save os, ok.1, c, vs, xs, begun, other, found, all, shown, ok.0, refl, ok.2)
-        ended (Err f) all (ok, err) =
-            let ws = saved_of asked save (take err.0 os) in
-            (ws ++ err.1, err.2 ∙ append_assoc old ws err.1, inr (inr (c, vs, xs, begun, other, inr (found, err.0, err.1, all, shown, refl, err.3, err.4))))
+        -- a file is spared
+        pub held_back : (f : Kind) (r : Result Found Kind) → IsOneSpared (name_spared force save) (length os) looked f → Prints [] → IsErrAnd r (λ y. y ≡ f) → Explores config events save force k n before after (read ++ looked) [] ps Prints r
+        held_back f (Ok how) why printed h = absurd h
+        held_back f (Err y) why printed h =
+            inr (inr (c, vs, xs, read, looked, refl, begun, other, inr (inl (found, all, shown, subst (λ z. IsOneSpared (name_spared force save) (length os) looked z) (sym h) why, refl, printed))))
 
-        pub ends : (r : Result Found Kind) → IsEnd t r → (ws : List Written) × (now ≡ old ++ ws) × Explores config events save k n before after qs ws ps Prints r
-        ends r h = ended r (subst (λ (s : Setting). IsExplored s k (record { before = before; after = after }) found) same explored) (subst (λ (s : Setting). IsEnd s r) same h)
+        module _ (free : AreAllFree (name_spared force save) (length os) looked) (old now : List Written) where
+          abbrev IsEnd : Setting → Result Found Kind → Type 0
+          IsEnd s r = IfOk r (λ how. (how ≡ found_of found) × (now ≡ old ++ saved_of s save os) × Prints (found_text s k found))
+              × IfErr r (λ f. (m : ℕ) × (us : List Written) × (now ≡ old ++ saved_of s save (take m os) ++ us) × (((us ≡ []) × IsWanting f) ⊎ IsUnsaved s save m (slice_get os m) us f) × PrintsFront Prints (found_text s k found))
+
+          ended : (r : Result Found Kind) → IsEnd asked r → (ws : List Written) × (now ≡ old ++ ws) × Explores config events save force k n before after (read ++ looked) ws ps Prints r
+          ended (Ok how) (ok, err) = (saved_of asked save os, ok.1, c, vs, xs, read, looked, refl, begun, other, found, all, shown, free, ok.0, refl, ok.2)
+          ended (Err f) (ok, err) =
+              let ws = saved_of asked save (take err.0 os) in
+              (ws ++ err.1, err.2 ∙ append_assoc old ws err.1, inr (inr (c, vs, xs, read, looked, refl, begun, other, inr (inr (found, err.0, err.1, all, shown, free, refl, err.3, err.4)))))
+
+          pub ends : (r : Result Found Kind) → IsEnd t r → (ws : List Written) × (now ≡ old ++ ws) × Explores config events save force k n before after (read ++ looked) ws ps Prints r
+          ends r h = ended r (subst (λ (s : Setting). IsEnd s r) same h)

@@ -1,11 +1,13 @@
 -- WHAT `mx explore` DOES (our own).
-use Rattle.std.specs.Prelude.{◌≡◌, ◌⊎◌, ℕ, ◌+◌, nat_lt, if◌then◌else◌, Bool, false, true, List, [], ◌∷◌, ◌++◌, length, take, Option, Some, None, Result, Ok, Err, slice_get}
+use Rattle.std.specs.Prelude.{◌≡◌, ◌⊎◌, ◌<◌, zero, suc, ℕ, ◌+◌, nat_lt, if◌then◌else◌, Bool, false, true, List, [], ◌∷◌, ◌++◌, length, take, Option, Some, None, Result, Ok, Err, slice_get}
 use Rattle.std.specs.Fmt.{decimal}
 use Rattle.std.specs.List.{list_any}
 use Rattle.mx_app_command.specs.Files.{is_numbered}
+use Rattle.mx_app_command.specs.declared.files.FileKind.TheVariants.{History}
 use Rattle.mx_app_failure.specs.declared.failure.Failure.{Failure as Kind}
 use Rattle.mx_app_failure.specs.declared.failure.Failure.TheVariants.{NoMemory}
 use Rattle.mx_app_failure.specs.Failure.{IsWanting, PrintsFront}
+use Rattle.mx_app_spare.specs.Sparing.{IsFree, SparesNumbered}
 use Rattle.mx_app_start.specs.Programs.{over_program}
 use Rattle.mx_app_step.specs.Asked.{Asked}
 use Rattle.mx_app_step.specs.Kept.{IsUnwritten, text_kept}
@@ -28,26 +30,54 @@ use Rattle.mx_app_explore.specs.declared.exploring.Found.TheVariants.{One, Sever
 
 -- ---- what is asked for
 
--- Schedules of a setting with at most so many departures, of a part of them; and how the files begin that histories are
--- saved in, if they are.
+-- Schedules of a setting with at most so many departures, of a part of them; how the files begin that histories are
+-- saved in, if they are; and whether they are written over files that hold something else.
 pub record Asking : Type 0 where
   pub setting : Setting
   pub most : ℕ
   pub part : Part
   pub save : Option (List ℕ)
+  pub force : Bool
 
-abbrev pub asking : Config → List Service → List OutsideLine → ℕ → ℕ → ℕ → ℕ → Option (List ℕ) → Asking
-asking c vs xs n k before after save = record {
+abbrev pub asking : Config → List Service → List OutsideLine → ℕ → ℕ → ℕ → ℕ → Option (List ℕ) → Bool → Asking
+asking c vs xs n k before after save force = record {
   setting = record { turns = n; boot = world_at_boot c vs; coming = xs };
   most = k;
   part = record { before = before; after = after };
   save = save;
+  force = force;
 }
 
 -- a service's program has such a name, so it could be written over
 abbrev pub saves_program : Config → Option (List ℕ) → Bool
 saves_program c None = false
 saves_program c (Some name) = list_any (λ (l : ServiceLine). is_numbered name l.file) c.lines
+
+-- ---- what is spared
+
+-- the name of the files that are spared if they hold something else
+abbrev pub name_spared : Bool → Option (List ℕ) → Option (List ℕ)
+name_spared true save = None
+name_spared false save = save
+
+-- the first k files of a name were looked at, and none is spared
+abbrev pub AreFree : List ℕ → ℕ → List Asked → Type 0
+AreFree name zero qs = qs ≡ []
+AreFree name (suc k) qs =
+    (before after : List Asked) × (qs ≡ before ++ after) × AreFree name k before
+    × IsFree History (name ++ decimal (k + 1)) after
+
+-- so of n outcomes, if their files have a name
+abbrev pub AreAllFree : Option (List ℕ) → ℕ → List Asked → Type 0
+AreAllFree None n qs = qs ≡ []
+AreAllFree (Some name) n qs = AreFree name n qs
+
+-- or the next one is spared, or can't be looked at
+abbrev pub IsOneSpared : Option (List ℕ) → ℕ → List Asked → Kind → Type 0
+IsOneSpared None n qs f = ⊥
+IsOneSpared (Some name) n qs f =
+    (k : ℕ) × (before after : List Asked) × (k < n) × (qs ≡ before ++ after) × AreFree name k before
+    × SparesNumbered History name (k + 1) after (Err f)
 
 -- ---- what is saved
 
@@ -79,34 +109,53 @@ IsUnsaved t save m (Some o) ws f = IsUnsavedOne save (m + 1) (history_text t o) 
 abbrev pub found_of : Tally → Found
 found_of found = if nat_lt 1 (length found.outcomes.items) then Several else One
 
--- ALL SCHEDULES WERE RUN: it was shown how many, the outcomes are printed, and their histories are saved
-abbrev pub IsTold : Asking → List Written → List Parts → (List ℕ → Type 0) → Found → Type 0
-IsTold a ws ps Prints how =
+-- ALL SCHEDULES WERE RUN: it was shown how many, no file is spared, the outcomes are printed, and their histories are
+-- saved
+abbrev pub IsTold : Asking → List Asked → List Written → List Parts → (List ℕ → Type 0) → Found → Type 0
+IsTold a looked ws ps Prints how =
     (found : Tally) × IsExplored a.setting a.most a.part found × ShowsCounts 0 ps found.schedules
+    × AreAllFree (name_spared a.force a.save) (length found.outcomes.items) looked
     × (how ≡ found_of found)
     × (ws ≡ saved_of a.setting a.save found.outcomes.items) × Prints (found_text a.setting a.most found)
 
--- why it isn't finished: memory was out before all were run, and nothing is printed or saved; or then memory, standard
--- output or a file was wanting, and the first outcomes are saved
-abbrev pub IsUntold : Asking → List Written → List Parts → (List ℕ → Type 0) → Kind → Type 0
-IsUntold a ws ps Prints f =
-    ((n : ℕ) × ShowsCounts 0 ps n × (ws ≡ []) × Prints [] × (f ≡ NoMemory))
-    ⊎ ((found : Tally) × (m : ℕ) × (us : List Written) × IsExplored a.setting a.most a.part found
+-- memory was out before all were run, and nothing is printed or saved
+abbrev pub IsUnexplored : List Asked → List Written → List Parts → (List ℕ → Type 0) → Kind → Type 0
+IsUnexplored looked ws ps Prints f =
+    (n : ℕ) × ShowsCounts 0 ps n × (looked ≡ []) × (ws ≡ []) × Prints [] × (f ≡ NoMemory)
+
+-- all were run, but a file is spared, and nothing is printed or saved
+abbrev pub IsHeldBack : Asking → List Asked → List Written → List Parts → (List ℕ → Type 0) → Kind → Type 0
+IsHeldBack a looked ws ps Prints f =
+    (found : Tally) × IsExplored a.setting a.most a.part found × ShowsCounts 0 ps found.schedules
+    × IsOneSpared (name_spared a.force a.save) (length found.outcomes.items) looked f × (ws ≡ []) × Prints []
+
+-- memory, standard output or a file was wanting then, and the first outcomes are saved
+abbrev pub IsCutOff : Asking → List Asked → List Written → List Parts → (List ℕ → Type 0) → Kind → Type 0
+IsCutOff a looked ws ps Prints f =
+    (found : Tally) × (m : ℕ) × (us : List Written) × IsExplored a.setting a.most a.part found
     × ShowsCounts 0 ps found.schedules
+    × AreAllFree (name_spared a.force a.save) (length found.outcomes.items) looked
     × (ws ≡ saved_of a.setting a.save (take m found.outcomes.items) ++ us)
     × (((us ≡ []) × IsWanting f)
     ⊎ IsUnsaved a.setting a.save m (slice_get found.outcomes.items m) us f)
-    × PrintsFront Prints (found_text a.setting a.most found))
+    × PrintsFront Prints (found_text a.setting a.most found)
 
-abbrev pub Explores : List ℕ → Option (List ℕ) → Option (List ℕ) → ℕ → ℕ → ℕ → ℕ → List Asked → List Written
+-- why it isn't finished
+abbrev pub IsUntold : Asking → List Asked → List Written → List Parts → (List ℕ → Type 0) → Kind → Type 0
+IsUntold a looked ws ps Prints f =
+    IsUnexplored looked ws ps Prints f
+    ⊎ (IsHeldBack a looked ws ps Prints f ⊎ IsCutOff a looked ws ps Prints f)
+
+abbrev pub Explores : List ℕ → Option (List ℕ) → Option (List ℕ) → Bool → ℕ → ℕ → ℕ → ℕ → List Asked → List Written
     → List Parts → (List ℕ → Type 0) → Result Found Kind → Type 0
-Explores config events save k n before after qs ws ps Prints (Ok how) =
-    (c : Config) × (vs : List Service) × (xs : List OutsideLine) × IsBegun config events qs c vs xs
-    × (saves_program c save ≡ false) × IsTold (asking c vs xs n k before after save) ws ps Prints how
-Explores config events save k n before after qs ws ps Prints (Err f) =
+Explores config events save force k n before after qs ws ps Prints (Ok how) =
+    (c : Config) × (vs : List Service) × (xs : List OutsideLine) × (asked looked : List Asked)
+    × (qs ≡ asked ++ looked) × IsBegun config events asked c vs xs × (saves_program c save ≡ false)
+    × IsTold (asking c vs xs n k before after save force) looked ws ps Prints how
+Explores config events save force k n before after qs ws ps Prints (Err f) =
     ((ws ≡ []) × (ps ≡ []) × Prints [] × IsNotBegun config events qs f)
     ⊎ (((c : Config) × (vs : List Service) × (xs : List OutsideLine) × IsBegun config events qs c vs xs
     × (saves_program c save ≡ true) × (ws ≡ []) × (ps ≡ []) × Prints [] × (f ≡ over_program))
-    ⊎ ((c : Config) × (vs : List Service) × (xs : List OutsideLine) × IsBegun config events qs c vs xs
-    × (saves_program c save ≡ false)
-    × IsUntold (asking c vs xs n k before after save) ws ps Prints f))
+    ⊎ ((c : Config) × (vs : List Service) × (xs : List OutsideLine) × (asked looked : List Asked)
+    × (qs ≡ asked ++ looked) × IsBegun config events asked c vs xs × (saves_program c save ≡ false)
+    × IsUntold (asking c vs xs n k before after save force) looked ws ps Prints f))

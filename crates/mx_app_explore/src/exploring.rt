@@ -13,11 +13,12 @@ ghost use Rattle.mx_explore.specs.Exploring.{IsAtBoot, setting};
 ghost use Rattle.mx_explore.specs.Passages.{IsRun};
 ghost use Rattle.mx_explore.specs.Passing.{Setting};
 ghost use Rattle.mx_app_explore.specs.FoundText.{found_text, outcome_lines, total_text};
-ghost use Rattle.mx_app_explore.specs.Exploring.{Explores, IsUnsaved, IsUnsavedOne, found_of, history_text, saved_of, saved_one, saves_program};
+ghost use Rattle.mx_app_explore.specs.Exploring.{AreAllFree, Explores, IsOneSpared, IsUnsaved, IsUnsavedOne, found_of, history_text, name_spared, saved_of, saved_one, saves_program};
 
 use crate::found_text::{push_departures, push_head, push_total};
-use mx_app_command::is_numbered;
+use mx_app_command::{FileKind, is_numbered};
 use mx_app_failure::{About, Failure, FileProblem, print_text};
+use mx_app_spare::spare_numbered;
 use mx_app_start::{Channels, FileWriter, Reader};
 use mx_app_step::write_history;
 use mx_app_turns::begin_turns;
@@ -46,6 +47,18 @@ pub struct ExploreWanted<'a> {
     pub after: u32,
     /// How the files begin that the first schedule of each outcome is written to, if they are.
     pub save: Option<&'a str>,
+    /// Whether they are written over files that hold something else than a history.
+    pub force: bool,
+}
+
+impl<'a> ExploreWanted<'a> {
+    /// The name of the files that are spared if they hold something else.
+    fn spared(self) -> Option<&'a str>
+        ensures { option_map (λ s. s.now) result
+            ≡ name_spared self.force (option_map (λ s. s.now) self.save) }
+    {
+        if self.force { None } else { self.save }
+    }
 }
 
 /// What was found.
@@ -74,6 +87,29 @@ fn spare_programs(config: &Config, save: Option<&str>) -> Result<(), Failure>
         .any(|line| is_numbered(name, line.file.as_str()))
     {
         return Err(Failure::of(Some(FileProblem::OverProgram), About::Written));
+    }
+    Ok(())
+}
+
+/// Refuses to write over the file of one of so many outcomes, if it is spared.
+fn spare_found<R: Reader>(
+    alloc: Global,
+    reader: &mut R,
+    outcomes: usize,
+    spared: Option<&str>,
+) -> Result<(), Failure>
+    ensures free { OnOk result ((qs : List Asked)
+        × (R.asked reader.new ≡ R.asked reader.old ++ qs)
+        × AreAllFree (option_map (λ s. s.now) spared.entry) outcomes qs) }
+    ensures spared { IfErr result (λ f. (qs : List Asked)
+        × (R.asked reader.new ≡ R.asked reader.old ++ qs)
+        × IsOneSpared (option_map (λ s. s.now) spared.entry) outcomes qs f) }
+{
+    let Some(name) = spared else {
+        return Ok(());
+    };
+    for place in 0..outcomes {
+        spare_numbered(alloc, reader, FileKind::History, name, place as u64 + 1)?;
     }
     Ok(())
 }
@@ -224,7 +260,8 @@ fn print_found<F: FileWriter, W: Write>(
 /// Runs every schedule of a configuration's machine that departs at most so often from the order of turns, and prints
 /// the outcomes, in the order of their first schedules. Writes the histories of these to files, if that is wanted: the
 /// name, and the number of the outcome. If a service's program could have such a name, nothing is run, printed or
-/// written. After each schedule `progress` is shown how many are done, of those that are known so far.
+/// written. If one of the files is there and holds something else, nothing is printed or written, unless that is forced.
+/// After each schedule `progress` is shown how many are done, of those that are known so far.
 pub fn explore<R: Reader + Drop, F: FileWriter + Drop, W: Write + Drop, P: Progress>(
     alloc: Global,
     channels: &mut Channels<R, F, W>,
@@ -237,8 +274,8 @@ pub fn explore<R: Reader + Drop, F: FileWriter + Drop, W: Write + Drop, P: Progr
         × (F.written channels.new.files ≡ F.written channels.old.files ++ ws)
         × (P.shown progress.new ≡ P.shown progress.old ++ ps)
         × Explores names.entry.config.now (option_map (λ s. s.now) names.entry.events)
-        (option_map (λ s. s.now) wanted.entry.save) wanted.entry.departures wanted.entry.bound
-        wanted.entry.before wanted.entry.after qs ws ps
+        (option_map (λ s. s.now) wanted.entry.save) wanted.entry.force wanted.entry.departures
+        wanted.entry.bound wanted.entry.before wanted.entry.after qs ws ps
         (λ text. Appends (W.contents channels.old.out) (W.contents channels.new.out) text) result }
 {
     let begun = begin_turns(alloc, &mut channels.reader, names.config, names.events)?;
@@ -256,6 +293,8 @@ pub fn explore<R: Reader + Drop, F: FileWriter + Drop, W: Write + Drop, P: Progr
     };
     let mut explored = explore_machine(alloc, begun.machine, terms, progress)?;
     progress.clear();
+    let outcomes = explored.tally.outcomes.len();
+    spare_found(alloc, &mut channels.reader, outcomes, wanted.spared())?;
     print_found(
         alloc,
         &mut channels.files,
