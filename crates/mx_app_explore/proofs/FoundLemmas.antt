@@ -12,8 +12,9 @@ use Rattle.mx_app_failure.specs.Failure.{IsWanting, PrintsFront}
 use Rattle.mx_app_spare.specs.Sparing.{IsFree, SparesNumbered}
 use Rattle.mx_app_start.specs.Programs.{over_program}
 use Rattle.mx_app_step.specs.Asked.{Asked}
+use Rattle.mx_app_step.specs.Kept.{text_kept}
 use Rattle.mx_app_step.specs.Written.{Written}
-use Rattle.mx_app_step.proofs.FrontLemmas.{front_after, front_more}
+use Rattle.mx_app_step.proofs.FrontLemmas.{front_after, front_more, front_none}
 use Rattle.mx_app_turns.specs.Turned.{IsBegun, IsNotBegun}
 use Rattle.mx_machine.specs.declared.config.Config.{Config}
 use Rattle.mx_machine.specs.declared.events.Event.TheVariants.{Tick}
@@ -25,12 +26,16 @@ use Rattle.mx_turns.specs.Made.{outside_events}
 use Rattle.mx_turns.specs.declared.outside.OutsideLine.{OutsideLine}
 use Rattle.mx_turns.specs.declared.outside.OutsideLine.TheVariants.{Plain}
 use Rattle.mx_walk.specs.declared.progress.Part.{Part as Parts}
-use Rattle.mx_explore.specs.Exploring.{ShowsCounts, setting}
+use Rattle.mx_explore.proofs.CountLemmas.{services_back}
+use Rattle.mx_explore.specs.Exploring.{IsAtBoot, ShowsCounts, setting}
+use Rattle.mx_explore.specs.Passages.{HasRoom, IsRun}
 use Rattle.mx_explore.specs.Passing.{Setting}
 use Rattle.mx_explore.specs.Schedules.{IsExplored}
 use Rattle.mx_explore.specs.declared.exploring.Terms.{Terms}
 use Rattle.mx_explore.specs.declared.outcomes.Outcome.{Outcome}
 use Rattle.mx_explore.specs.declared.outcomes.Tally.{Tally}
+use Rattle.mx_explore.specs.declared.passing.Departure.{Departure}
+use Rattle.mx_explore.specs.declared.passing.Ran.{Ran}
 use Rattle.mx_app_explore.specs.declared.exploring.Found.{Found}
 use Rattle.mx_app_explore.specs.FoundText.{found_text, numbered, outcome_lines}
 use Rattle.mx_app_explore.specs.Exploring.{AreAllFree, AreFree, Explores, IsOneSpared, IsUnsaved, IsUnsavedOne, asking, found_of, history_text, name_spared, saved_of, saved_one, saves_program}
@@ -141,6 +146,40 @@ module _ (t : Setting) (save : Option (List ℕ)) (os : List Outcome) where
         × PrintsFront (λ text. Appends x z text) (numbered (outcome_lines t) 1 os ++ last)
     all_but_last z f last front wanting =
         (n, [], h.saved ∙ sym (append-nil (before ++ saved_of t save (take n os))), inl (refl, wanting), front_after x y z (numbered (outcome_lines t) 1 os) last lines front)
+
+-- ---- one outcome
+
+-- the machine was begun for it
+pub at_boot : (m : MachineState) → m.kernel ≡ record { boot = world_of m; history = [] } → HasRoom m → IsAtBoot m m.kernel.boot.services
+at_boot m begun room = record { kernel = begun; services = refl; room = room }
+
+-- it is there again for the next one
+pub at_boot_again : (t : Setting) (ds : List Departure) (m now : MachineState) (services back : List Service) (r : Ran) → IsAtBoot m services → t.boot ≡ world_of m → IsRun t ds r → now ≡ m → back ≡ r.machine.kernel.boot.services → IsAtBoot now back
+at_boot_again t ds m now services back r start boot ran same is =
+    subst (λ (x : MachineState). IsAtBoot x back) (sym same) (subst (IsAtBoot m) (sym (is ∙ services_back t ds m services r start boot ran)) start)
+
+module _ (t : Setting) (o : Outcome) (r : Ran) (ran : IsRun t o.departures.items r) (save : Option (List ℕ)) (number : ℕ) where
+  history : text_kept r.machine.kernel ≡ history_text t o
+  history = ap text_kept ran.kernel
+
+  pub saved_as : (old now : List Written) → now ≡ old ++ saved_one save number (text_kept r.machine.kernel) → now ≡ old ++ saved_one save number (history_text t o)
+  saved_as old now e = e ∙ ap (λ (text : List ℕ). old ++ saved_one save number text) history
+
+  pub unsaved_as : (ws : List Written) (f : Kind) → IsUnsavedOne save number (text_kept r.machine.kernel) ws f → IsUnsavedOne save number (history_text t o) ws f
+  unsaved_as ws f h = subst (λ (text : List ℕ). IsUnsavedOne save number text ws f) history h
+
+get_within : (os : List Outcome) (k : ℕ) → k < length os → (o : Outcome) × (slice_get os k ≡ Some o)
+get_within [] k h = absurd (omega (arith, h))
+get_within (x ∷ os) zero h = (x, refl)
+get_within (x ∷ os) (suc k) h = get_within os k (omega (arith, h))
+
+-- nothing of it is printed or saved
+pub none_told : (t : Setting) (save : Option (List ℕ)) (os : List Outcome) (place : ℕ) (before : List Written) (x : Option (List ℕ)) (f : Kind) → place < length os → IsWanting f
+    → (o : Outcome) × (ws : List Written) × (slice_get os place ≡ Some o) × (before ≡ before ++ ws) × PrintsFront (λ text. Appends x x text) (outcome_lines t (place + 1) o)
+    × (((ws ≡ []) × IsWanting f) ⊎ (IsUnsavedOne save (place + 1) (history_text t o) ws f ⊎ ((ws ≡ saved_one save (place + 1) (history_text t o)) × IsWanting f)))
+none_told t save os place before x f below wanting =
+    let it = get_within os place below in
+    (it.0, [], it.1, sym (append-nil before), front_none x (outcome_lines t (place + 1) it.0), inl (refl, wanting))
 
 -- ---- files that were looked at
 

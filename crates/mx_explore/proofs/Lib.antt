@@ -9,7 +9,7 @@ mod WaitLemmas
 mod ScheduleLemmas
 mod BoundLemmas
 mod TreeLemmas
-mod CountLemmas
+pub mod CountLemmas
 mod StateLemmas
 mod MeetLemmas
 mod NoneLemmas
