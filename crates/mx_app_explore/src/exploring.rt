@@ -13,7 +13,7 @@ ghost use Rattle.mx_explore.specs.Exploring.{IsAtBoot, setting};
 ghost use Rattle.mx_explore.specs.Passages.{IsRun};
 ghost use Rattle.mx_explore.specs.Passing.{Setting};
 ghost use Rattle.mx_app_explore.specs.FoundText.{found_text, outcome_lines, total_text};
-ghost use Rattle.mx_app_explore.specs.Exploring.{AreAllFree, Explores, IsOneSpared, IsUnsaved, IsUnsavedOne, found_of, history_text, name_spared, saved_of, saved_one, saves_program};
+ghost use Rattle.mx_app_explore.specs.Exploring.{AreAllFree, AreFree, Explores, IsOneSpared, IsUnsaved, IsUnsavedOne, found_of, history_text, name_spared, saved_of, saved_one, saves_program};
 
 use crate::found_text::{push_departures, push_head, push_total};
 use mx_app_command::{FileKind, is_numbered};
@@ -91,6 +91,26 @@ fn spare_programs(config: &Config, save: Option<&str>) -> Result<(), Failure>
     Ok(())
 }
 
+/// Refuses to write over the first files of this name, so many, if one is spared.
+fn spare_files<R: Reader>(
+    alloc: Global,
+    reader: &mut R,
+    count: usize,
+    name: &str,
+) -> Result<(), Failure>
+    ensures free { OnOk result ((qs : List Asked)
+        × (R.asked reader.new ≡ R.asked reader.old ++ qs)
+        × AreFree name.now count qs) }
+    ensures spared { IfErr result (λ f. (qs : List Asked)
+        × (R.asked reader.new ≡ R.asked reader.old ++ qs)
+        × IsOneSpared (Some name.now) count qs f) }
+{
+    for place in 0..count {
+        spare_numbered(alloc, reader, FileKind::History, name, place as u64 + 1)?;
+    }
+    Ok(())
+}
+
 /// Refuses to write over the file of one of so many outcomes, if it is spared.
 fn spare_found<R: Reader>(
     alloc: Global,
@@ -105,13 +125,10 @@ fn spare_found<R: Reader>(
         × (R.asked reader.new ≡ R.asked reader.old ++ qs)
         × IsOneSpared (option_map (λ s. s.now) spared.entry) outcomes qs f) }
 {
-    let Some(name) = spared else {
-        return Ok(());
-    };
-    for place in 0..outcomes {
-        spare_numbered(alloc, reader, FileKind::History, name, place as u64 + 1)?;
+    match spared {
+        None => Ok(()),
+        Some(name) => spare_files(alloc, reader, outcomes, name),
     }
-    Ok(())
 }
 
 /// Writes the history of an outcome's first schedule to its file.

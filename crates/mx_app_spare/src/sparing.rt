@@ -65,7 +65,12 @@ fn is_spared(kind: FileKind, front: &[u8]) -> bool
 }
 
 /// Whether the file of this name is spared if a file of this kind is written.
-pub fn spares<R: Reader>(alloc: Global, reader: &mut R, kind: FileKind, name: &str) -> io::Result<bool>
+pub fn spares<R: Reader>(
+    alloc: Global,
+    reader: &mut R,
+    kind: FileKind,
+    name: &str,
+) -> io::Result<bool>
     ensures given { IfOk result (λ spared. (front : List ℕ)
         × (R.asked reader.new ≡ R.asked reader.old ++ file_given name.now front ∷ [])
         × (spared ≡ is_spared kind front)) }
