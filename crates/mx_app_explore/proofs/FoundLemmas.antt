@@ -27,17 +27,18 @@ use Rattle.mx_turns.specs.declared.outside.OutsideLine.{OutsideLine}
 use Rattle.mx_turns.specs.declared.outside.OutsideLine.TheVariants.{Plain}
 use Rattle.mx_walk.specs.declared.progress.Part.{Part as Parts}
 use Rattle.mx_explore.proofs.CountLemmas.{services_back}
-use Rattle.mx_explore.specs.Exploring.{IsAtBoot, ShowsCounts, setting}
+use Rattle.mx_explore.specs.Exploring.{IsAtBoot, IsDone, ShowsCounts, part_of, setting}
 use Rattle.mx_explore.specs.Passages.{HasRoom, IsRun}
 use Rattle.mx_explore.specs.Passing.{Setting}
 use Rattle.mx_explore.specs.Schedules.{IsExplored}
+use Rattle.mx_explore.specs.declared.exploring.Explored.{Explored}
 use Rattle.mx_explore.specs.declared.exploring.Terms.{Terms}
 use Rattle.mx_explore.specs.declared.outcomes.Outcome.{Outcome}
 use Rattle.mx_explore.specs.declared.outcomes.Tally.{Tally}
 use Rattle.mx_explore.specs.declared.passing.Departure.{Departure}
 use Rattle.mx_explore.specs.declared.passing.Ran.{Ran}
 use Rattle.mx_app_explore.specs.declared.exploring.Found.{Found}
-use Rattle.mx_app_explore.specs.FoundText.{found_text, numbered, outcome_lines}
+use Rattle.mx_app_explore.specs.FoundText.{found_text, numbered, outcome_lines, total_text}
 use Rattle.mx_app_explore.specs.Exploring.{AreAllFree, AreFree, Explores, IsOneSpared, IsUnsaved, IsUnsavedOne, asking, found_of, history_text, name_spared, saved_of, saved_one, saves_program}
 
 -- ---- outcomes in a row
@@ -147,6 +148,44 @@ module _ (t : Setting) (save : Option (List ℕ)) (os : List Outcome) where
     all_but_last z f last front wanting =
         (n, [], h.saved ∙ sym (append-nil (before ++ saved_of t save (take n os))), inl (refl, wanting), front_after x y z (numbered (outcome_lines t) 1 os) last lines front)
 
+-- ---- of an explorer whose tally and boot are still the same
+
+module _ (terms : Terms) (save : Option (List ℕ)) (found known : Tally) (first b : MachineState) (same : known ≡ found) (boot : b ≡ first) (m : ℕ) (before now : List Written) (x y : Option (List ℕ)) (h : IsSoFar (setting terms first) save found.outcomes.items m before now x y) where
+  abbrev IsNext : Tally → MachineState → List Written → Option (List ℕ) → Type 0
+  IsNext tally machine more z =
+      (o : Outcome) × (slice_get tally.outcomes.items m ≡ Some o) × (more ≡ now ++ saved_one save (m + 1) (history_text (setting terms machine) o)) × Appends y z (outcome_lines (setting terms machine) (m + 1) o)
+
+  pub so_far_next : (more : List Written) (z : Option (List ℕ)) → IsNext known b more z → IsSoFar (setting terms first) save found.outcomes.items (m + 1) before more x z
+  so_far_next more z p =
+      let q : IsNext found first more z = subst (λ (k : MachineState). IsNext found k more z) boot (subst (λ (k : Tally). IsNext k b more z) same p) in
+      one_so_far (setting terms first) save found.outcomes.items m q.0 q.1 before now x y h more z q.2 q.3
+
+  abbrev IsNot : Tally → MachineState → List Written → Option (List ℕ) → Kind → Type 0
+  IsNot tally machine more z f =
+      (o : Outcome) × (ws : List Written) × (slice_get tally.outcomes.items m ≡ Some o) × (more ≡ now ++ ws) × PrintsFront (λ text. Appends y z text) (outcome_lines (setting terms machine) (m + 1) o)
+      × (((ws ≡ []) × IsWanting f) ⊎ (IsUnsavedOne save (m + 1) (history_text (setting terms machine) o) ws f ⊎ ((ws ≡ saved_one save (m + 1) (history_text (setting terms machine) o)) × IsWanting f)))
+
+  abbrev IsCut : List Written → Option (List ℕ) → Kind → Type 0
+  IsCut more z f =
+      (n : ℕ) × (us : List Written) × (more ≡ before ++ saved_of (setting terms first) save (take n found.outcomes.items) ++ us) × (((us ≡ []) × IsWanting f) ⊎ IsUnsaved (setting terms first) save n (slice_get found.outcomes.items n) us f)
+      × PrintsFront (λ text. Appends x z text) (found_text (setting terms first) terms.departures found)
+
+  pub so_far_not : (more : List Written) (z : Option (List ℕ)) (f : Kind) → IsNot known b more z f → IsCut more z f
+  so_far_not more z f p =
+      let q : IsNot found first more z f = subst (λ (k : MachineState). IsNot found k more z f) boot (subst (λ (k : Tally). IsNot k b more z f) same p) in
+      not_so_far (setting terms first) save found.outcomes.items m q.0 q.2 before now x y h more q.1 z f (total_text terms.departures found) q.3 q.4 q.5
+
+  module _ (all : m ≡ length found.outcomes.items) (z : Option (List ℕ)) where
+    pub so_far_all : Appends y z (total_text terms.departures known) → (now ≡ before ++ saved_of (setting terms first) save found.outcomes.items) × Appends x z (found_text (setting terms first) terms.departures found)
+    so_far_all printed = (
+      all_saved (setting terms first) save found.outcomes.items m all before now x y h,
+      all_printed (setting terms first) save found.outcomes.items m all before now x y h z (total_text terms.departures found) (subst (λ (k : Tally). Appends y z (total_text terms.departures k)) same printed),
+    )
+
+    pub so_far_cut : (f : Kind) → PrintsFront (λ text. Appends y z text) (total_text terms.departures known) → IsWanting f → IsCut now z f
+    so_far_cut f front wanting =
+        all_but_last (setting terms first) save found.outcomes.items m all before now x y h z f (total_text terms.departures found) (subst (λ (k : Tally). PrintsFront (λ text. Appends y z text) (total_text terms.departures k)) same front) wanting
+
 -- ---- one outcome
 
 -- the machine was begun for it
@@ -214,6 +253,16 @@ setting_as t m c vs xs events ticks booted =
     ∙ ap (λ (l : List OutsideLine). let s : Setting = record { turns = t.bound; boot = world_at_boot c vs; coming = l ++ replicate t.outside.ticks (Plain Tick) } in s) events
     ∙ ap (λ i. let s : Setting = record { turns = t.bound; boot = world_at_boot c vs; coming = xs ++ replicate i (Plain Tick) } in s) ticks
     ∙ ap (λ (l : List OutsideLine). let s : Setting = record { turns = t.bound; boot = world_at_boot c vs; coming = l } in s) (append-nil xs)
+
+module _ (terms : Terms) (m : MachineState) (e : Explored) (done : IsDone terms m e) (c : Config) (vs : List Service) (xs : List OutsideLine) (events : terms.outside.events.now ≡ xs) (ticks : terms.outside.ticks ≡ 0) (booted : world_of m ≡ world_at_boot c vs) where
+  pub explored_setting : setting terms e.boot ≡ record { turns = terms.bound; boot = world_at_boot c vs; coming = xs }
+  explored_setting = ap (λ (k : MachineState). setting terms k) done.boot ∙ setting_as terms m c vs xs events ticks booted
+
+  pub explored_all : IsExplored (setting terms e.boot) terms.departures (part_of terms) e.tally
+  explored_all = subst (λ (k : MachineState). IsExplored (setting terms k) terms.departures (part_of terms) e.tally) (sym done.boot) done.found
+
+  pub explored_ready : IsAtBoot e.boot e.services.items
+  explored_ready = subst (λ (k : MachineState). IsAtBoot k e.services.items) (sym done.boot) done.ready
 
 module _ (config : List ℕ) (events save : Option (List ℕ)) (force : Bool) (k n before after : ℕ) (read : List Asked) (Prints : List ℕ → Type 0) where
   pub not_begun : (f : Kind) (r : Result Found Kind) → IsNotBegun config events read f → Prints [] → IsErrAnd r (λ y. y ≡ f) → Explores config events save force k n before after read [] [] Prints r

@@ -235,6 +235,17 @@ fn print_total<W: Write>(
     print_text(text.as_slice(), out)
 }
 
+/// Whether there are several outcomes.
+fn found_in(tally: &Tally) -> Found
+    ensures { result ≡ found_of tally.now }
+{
+    if tally.outcomes.len() > 1 {
+        Found::Several
+    } else {
+        Found::One
+    }
+}
+
 /// Prints the outcomes, and writes the histories of their first schedules.
 fn print_found<F: FileWriter, W: Write>(
     alloc: Global,
@@ -267,11 +278,7 @@ fn print_found<F: FileWriter, W: Write>(
         print_outcome(alloc, files, out, explored, terms, place, name)?;
     }
     print_total(alloc, &explored.tally, terms.departures, out)?;
-    Ok(if explored.tally.outcomes.len() > 1 {
-        Found::Several
-    } else {
-        Found::One
-    })
+    Ok(found_in(&explored.tally))
 }
 
 /// Runs every schedule of a configuration's machine that departs at most so often from the order of turns, and prints
