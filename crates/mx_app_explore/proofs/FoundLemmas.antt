@@ -1,6 +1,7 @@
 -- What is printed and saved of outcomes.
 use Rattle.std.proofs.Common.{◌≡◌, ◌∙◌, ◌⊎◌, ◌<◌, Bool, ℕ, zero, suc, ◌+◌, ◌++◌, true, false, List, [], ◌∷◌, length, take, Option, Some, None, Result, Ok, Err, IfErr, append_assoc, inl, inr, refl, ap, sym, subst, arith}
-use Rattle.std.specs.Prelude.{IfOk, IsErrAnd, replicate, slice_get}
+use Rattle.std.specs.Prelude.{IfOk, IsErrAnd, get_or, replicate, slice_get}
+use Rattle.std.proofs.lemmas.Option.{get_or_from_slice_get}
 use Rattle.std.specs.Io.KnownBytes.{Appends}
 use Rattle.std.proofs.KnownBytes.{Appends-nil, Appends-trans}
 use Rattle.std.proofs.lemmas.List.{append-nil}
@@ -19,6 +20,7 @@ use Rattle.mx_app_turns.specs.Turned.{IsBegun, IsNotBegun}
 use Rattle.mx_machine.specs.declared.config.Config.{Config}
 use Rattle.mx_machine.specs.declared.events.Event.TheVariants.{Tick}
 use Rattle.mx_machine.specs.Boot.{world_at_boot}
+use Rattle.mx_machine.specs.History.{replay}
 use Rattle.mx_machine.specs.Machine.{MachineState, world_of}
 use Rattle.mx_machine.specs.Service.{Service}
 use Rattle.mx_machine.specs.World.{World}
@@ -29,17 +31,22 @@ use Rattle.mx_walk.specs.declared.progress.Part.{Part as Parts}
 use Rattle.mx_explore.proofs.CountLemmas.{services_back}
 use Rattle.mx_explore.specs.Exploring.{IsAtBoot, IsDone, ShowsCounts, part_of, setting}
 use Rattle.mx_explore.specs.Passages.{HasRoom, IsRun}
-use Rattle.mx_explore.specs.Passing.{Setting}
+use Rattle.mx_explore.specs.Passing.{Setting, end_of, run_of_schedule}
 use Rattle.mx_explore.specs.Schedules.{IsExplored}
 use Rattle.mx_explore.specs.declared.exploring.Explored.{Explored}
 use Rattle.mx_explore.specs.declared.exploring.Terms.{Terms}
 use Rattle.mx_explore.specs.declared.outcomes.Outcome.{Outcome}
 use Rattle.mx_explore.specs.declared.outcomes.Tally.{Tally}
 use Rattle.mx_explore.specs.declared.passing.Departure.{Departure}
+use Rattle.mx_explore.specs.declared.passing.Met.{Met}
 use Rattle.mx_explore.specs.declared.passing.Ran.{Ran}
 use Rattle.mx_app_explore.specs.declared.exploring.Found.{Found}
-use Rattle.mx_app_explore.specs.FoundText.{found_text, numbered, outcome_lines, total_text}
+use Rattle.mx_app_explore.specs.FoundText.{departure_lines, found_text, numbered, outcome_lines, total_text}
 use Rattle.mx_app_explore.specs.Exploring.{AreAllFree, AreFree, Explores, IsOneSpared, IsUnsaved, IsUnsavedOne, asking, found_of, history_text, name_spared, saved_of, saved_one, saves_program}
+
+pub err_both : {A E : Type 0} (r : Result A E) (P Q : E → Type 0) → IfErr r P → IfErr r Q → IfErr r (λ e. P e × Q e)
+err_both (Ok a) P Q h k = tt
+err_both (Err e) P Q h k = (h, k)
 
 -- ---- outcomes in a row
 
@@ -203,6 +210,21 @@ module _ (t : Setting) (o : Outcome) (r : Ran) (ran : IsRun t o.departures.items
 
   pub saved_as : (old now : List Written) → now ≡ old ++ saved_one save number (text_kept r.machine.kernel) → now ≡ old ++ saved_one save number (history_text t o)
   saved_as old now e = e ∙ ap (λ (text : List ℕ). old ++ saved_one save number text) history
+
+  -- it is the one that is read
+  pub same_outcome : (os now : List Outcome) (place : ℕ) (u : Outcome) → now ≡ os → slice_get os place ≡ Some o → u ≡ get_or now place u → u ≡ o
+  same_outcome os now place u same there is = is ∙ ap (λ (l : List Outcome). get_or l place u) same ∙ get_or_from_slice_get os place o u there
+
+  pub lines_from : (u : Outcome) (text : List ℕ) → u ≡ o → ((s : Setting) → IsRun s u.departures.items r → text ≡ outcome_lines s number u) → text ≡ outcome_lines t number o
+  lines_from u text same told = subst (λ (v : Outcome). (s : Setting) → IsRun s v.departures.items r → text ≡ outcome_lines s number v) same told t ran
+
+  pub services_told : (replay r.machine.kernel).services ≡ (run_of_schedule t o.departures.items).0.world.services
+  unfolding world_of
+  services_told = ap (λ (w : World). w.services) ran.world
+
+  pub departures_told : departure_lines (replay r.machine.kernel).services r.met.items o.departures.items ≡ departure_lines (run_of_schedule t o.departures.items).0.world.services (end_of t o.departures.items).met o.departures.items
+  departures_told =
+      ap (λ (vs : List Service). departure_lines vs r.met.items o.departures.items) services_told ∙ ap (λ (met : List Met). departure_lines (run_of_schedule t o.departures.items).0.world.services met o.departures.items) ran.met
 
   pub unsaved_as : (ws : List Written) (f : Kind) → IsUnsavedOne save number (text_kept r.machine.kernel) ws f → IsUnsavedOne save number (history_text t o) ws f
   unsaved_as ws f h = subst (λ (text : List ℕ). IsUnsavedOne save number text ws f) history h
