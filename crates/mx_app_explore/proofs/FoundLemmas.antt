@@ -251,11 +251,11 @@ one_free name k m read now more qs is h e one =
       | inl this ↦ elim this [
         | inl ok ↦ subst (λ i. IsFree History (name ++ decimal i) qs) (sym is) ok.0
         | inr others ↦ elim others [
-          | inl spared ↦ absurd spared.1
-          | inr missed ↦ absurd missed.2
+          | inl spared ↦ (let wrong = spared.1 in absurd cc)
+          | inr missed ↦ (let wrong = missed.2 in absurd cc)
         ]
       ]
-      | inr none ↦ absurd none.1
+      | inr none ↦ (let wrong = none.1 in absurd cc)
     ] in
     let next : suc k ≡ m = omega (arith, is) in
     (h.0 ++ qs, e ∙ ap (λ (l : List Asked). l ++ qs) h.1 ∙ append_assoc read h.0 qs, subst (λ i. AreFree name i (h.0 ++ qs)) next (h.0, qs, refl, h.2, free))
