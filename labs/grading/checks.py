@@ -196,18 +196,6 @@ class Check:
                 words += ["--events", self.write("events", case["events"])]
             self.compare(case, self.mx("turns", *words))
 
-    def do_orders(self):
-        """A machine in each order that departs in at most so many places from that of turns: the first one of each outcome
-        has what is wanted."""
-        for case in self.cases():
-            config, saved = self.machine(case), f"{self.number}.order"
-            bounds = ["--departures", str(self.row["departures"]), "--turns", str(self.row["turns"])]
-            printed = self.mx("explore", config, *bounds, "--save", saved)
-            departed = re.split(r"(?m)^outcome ", printed)[1:]
-            for number, outcome in enumerate(departed, 1):
-                self.log = f"{saved}{number}"
-                self.compare({**case, "name": f"{case['name']}, {way(outcome)}"}, self.mx("replay", config, self.log))
-
     def do_sweep(self):
         """A fault at each position of a run: the machine ends at rest, with the wanted console and states, at each of
         them; and at some the history is looked at. A case without a fault is a run alone."""
@@ -420,11 +408,6 @@ def blocks(printed):
         elif re.fullmatch(r"  \S+ \d+ (ready|out|doomed|down .*|(sending|calling|receiving|awaiting) \S+)", line):
             found[-1]["states"].append(line.strip())
     return [{**it, "console": console_of(it)} for it in found]
-
-
-def way(outcome):
-    """How the first order of an outcome departs from that of turns."""
-    return "; ".join(re.findall(r"(?m)^  (after .*)", outcome)) or "by turns"
 
 
 def console_of(block):

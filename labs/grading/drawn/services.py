@@ -298,11 +298,6 @@ def by_threads(draw):
     yield from of_two(draw)
 
 
-def in_each_order(draw):
-    """The runs are of these machines in orders that depart from that of turns."""
-    yield six(draw, 4) | {"name": on(4)}
-
-
 ADDERS = ("ann", "ben", "cleo")
 
 
