@@ -298,10 +298,10 @@ PerformsUntyped (Why config log events strict) qs ws Prints r =
 PerformsUntyped (Db config script) qs ws Prints r =
     (d : Result (Unit {0}) Kind) × (ws ≡ []) × Debugs config.now script.now qs Prints d × (r ≡ done_after_work d)
 
--- what is done of a request that writes over nothing that it reads, by what a command did, by what is printed, and by
--- how it ends; it may be forced to write over any file. Only `look` takes lines, and `gdb` bytes; somebody sits only at a live machine; these two, turns, a sweep,
--- a page with one and `explore` show progress. What the threads of a run show is no list, since they have no order:
--- WasShown holds of it.
+-- what is done of a request that writes over nothing that it reads, and may be forced to write over any other file: by
+-- what a command did, by what is printed, and by how it ends. Only `look` takes lines, and `gdb` bytes; somebody sits
+-- only at a live machine; these two, turns, a sweep, a page with one and `explore` show progress. What the threads of a
+-- run show is no list, since they have no order: WasShown holds of it.
 abbrev pub PerformsApart : (Part → Type 0) → CommandRequest → Bool → Bool → Deeds → (List ℕ → Type 0)
     → Result Done Kind → Type 0
 PerformsApart WasShown (Look config log) force asks did Prints r =
