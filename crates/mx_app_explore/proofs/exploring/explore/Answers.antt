@@ -82,7 +82,7 @@ returns-in_err-spare_found g c =
     let same = explored_setting _ _ _ done b.config s.2 b.events.items c.as_slice.ensures.value refl booted in
     let all = explored_all _ _ _ done b.config s.2 b.events.items c.as_slice.ensures.value refl booted in
     let h = c.in_err-spare_found.ensures.spared in
-    let f = c.in_err-spare_found.field-0 in
+    let f = c.in_err-spare_found.field-0.0 in
     let why = subst (λ (o : Option (List ℕ)). IsOneSpared o (length e.tally.outcomes.items) h.0 f) c.spared.ensures (subst (λ i. IsOneSpared (option_map (λ x. x.now) c.spared.result) i h.0 f) c.len-outcomes.ensures h.2) in (
       s.0 ++ h.0,
       [],
