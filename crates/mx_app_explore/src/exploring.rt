@@ -21,7 +21,7 @@ use mx_app_failure::{About, Failure, FileProblem, print_text};
 use mx_app_spare::spare_numbered;
 use mx_app_start::{Channels, FileWriter, Reader};
 use mx_app_step::write_history;
-use mx_app_turns::begin_turns;
+use mx_app_turns::{TurnsBegun, begin_turns};
 use mx_explore::{Explored, Outcome, Ran, Tally, Terms, explore as explore_machine};
 use mx_machine::Config;
 use mx_turns::Outside;
@@ -304,8 +304,13 @@ pub fn explore<R: Reader + Drop, F: FileWriter + Drop, W: Write + Drop, P: Progr
 {
     let begun = begin_turns(alloc, &mut channels.reader, names.config, names.events)?;
     spare_programs(&begun.config, wanted.save)?;
+    let TurnsBegun {
+        config: _,
+        machine,
+        events,
+    } = begun;
     let outside = Outside {
-        events: begun.events.as_slice(),
+        events: events.as_slice(),
         ticks: 0,
     };
     let terms = Terms {
@@ -315,7 +320,7 @@ pub fn explore<R: Reader + Drop, F: FileWriter + Drop, W: Write + Drop, P: Progr
         before: wanted.before,
         after: wanted.after,
     };
-    let mut explored = explore_machine(alloc, begun.machine, terms, progress)?;
+    let mut explored = explore_machine(alloc, machine, terms, progress)?;
     progress.clear();
     let outcomes = explored.tally.outcomes.len();
     spare_found(alloc, &mut channels.reader, outcomes, wanted.spared())?;

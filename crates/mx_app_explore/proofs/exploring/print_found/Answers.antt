@@ -32,25 +32,24 @@ returns-in_err-print_outcome-clause-untold g c =
     let p = err_from_is_err_and c.from_residual.result c.from_residual.ensures.1 in
     rw (p.1, p.2) (so_far_not c.args.terms (option_map (λ s. s.now) c.args.name) _ _ _ _ inv.tally inv.boot c.loop-place.place _ _ _ _ inv.told _ _ _ c.in_err-print_outcome.ensures.untold)
 
-pub print_outcome-requires : goal.print_outcome-requires
-print_outcome-requires g c =
-    let inv = c.loop-place.invariant in
-    record {
-      boot = inv.ready;
-      there = subst (λ (k : Tally). c.loop-place.place < length k.outcomes.items) (sym inv.tally) (omega (arith, c.loop-place-test.true, c.len.ensures));
-    }
+pub print_outcome-requires-clause-boot : goal.print_outcome-requires-clause-boot
+print_outcome-requires-clause-boot g c = c.loop-place.invariant.ready
+
+pub print_outcome-requires-clause-there : goal.print_outcome-requires-clause-there
+print_outcome-requires-clause-there g c =
+    subst (λ (k : Tally). c.loop-place.place < length k.outcomes.items) (sym c.loop-place.invariant.tally) (omega (arith, c.loop-place-test.true, c.len-place-end.ensures))
 
 pub returns-in_err-print_total-clause-untold : goal.returns-in_err-print_total-clause-untold
 returns-in_err-print_total-clause-untold g c =
     let inv = c.loop-place.invariant in
     let p = err_from_is_err_and c.from_residual-in_err-print_total.result c.from_residual-in_err-print_total.ensures.1 in
-    let all : c.loop-place.place ≡ length c.args.explored.now.tally.outcomes.items = omega (arith, c.loop-place-test.false, c.loop-place.auto.place-end, c.len.ensures) in
+    let all : c.loop-place.place ≡ length c.args.explored.now.tally.outcomes.items = omega (arith, c.loop-place-test.false, c.loop-place.auto.place-end, c.len-place-end.ensures) in
     let h = c.in_err-print_total.ensures.untold in
     rw (p.1, p.2) (so_far_cut c.args.terms (option_map (λ s. s.now) c.args.name) _ _ _ _ inv.tally inv.boot c.loop-place.place _ _ _ _ inv.told all _ _ h.1 h.0)
 
 pub returns-clause-told : goal.returns-clause-told
 returns-clause-told g c =
     let inv = c.loop-place.invariant in
-    let all : c.loop-place.place ≡ length c.args.explored.now.tally.outcomes.items = omega (arith, c.loop-place-test.false, c.loop-place.auto.place-end, c.len.ensures) in
+    let all : c.loop-place.place ≡ length c.args.explored.now.tally.outcomes.items = omega (arith, c.loop-place-test.false, c.loop-place.auto.place-end, c.len-place-end.ensures) in
     let h = so_far_all c.args.terms (option_map (λ s. s.now) c.args.name) _ _ _ _ inv.tally inv.boot c.loop-place.place _ _ _ _ inv.told all _ c.in_ok-print_total.ensures.told in
     (c.found_in.ensures ∙ ap found_of inv.tally, h.0, h.1)
