@@ -41,8 +41,8 @@ returns-clause-told g c =
     let r = c.in_ok-ran.ensures.ran in
     let x = g.W.Write.contents c.args.out.now in
     let y = g.W.Write.contents c.print_text.new.out in
-    let same = same_outcome t r.0 _ r.2 save n c.args.explored.now.tally.outcomes.items _ c.args.place c.index-outcomes-place.result (ap (λ (k : Tally). k.outcomes.items) c.in_ok-ran.ensures.tally) r.1 c.index-outcomes-place.is in
-    let lines = c.as_slice.ensures.value ∙ lines_from t r.0 _ r.2 save n c.index-outcomes-place.result _ same c.in_ok-text.ensures in
+    let same = same_outcome t r.0 _ r.2 save n c.args.explored.now.tally.outcomes.items _ c.args.place c.index.result.now (ap (λ (k : Tally). k.outcomes.items) c.in_ok-ran.ensures.tally) r.1 c.index.ensures in
+    let lines = c.as_slice.ensures.value ∙ lines_from t r.0 _ r.2 save n c.index.result.now _ same c.in_ok-text.ensures in
     on_ok_weaker c.print_text.result (λ b. (r.0, r.1, saved_as t r.0 _ r.2 save n _ _ c.in_ok-save.ensures.saved, subst (λ (text : List ℕ). Appends x y text) lines b)) c.print_text.ensures.bytes
 
 pub returns-clause-untold : goal.returns-clause-untold
@@ -53,8 +53,8 @@ returns-clause-untold g c =
     let r = c.in_ok-ran.ensures.ran in
     let x = g.W.Write.contents c.args.out.now in
     let y = g.W.Write.contents c.print_text.new.out in
-    let same = same_outcome t r.0 _ r.2 save n c.args.explored.now.tally.outcomes.items _ c.args.place c.index-outcomes-place.result (ap (λ (k : Tally). k.outcomes.items) c.in_ok-ran.ensures.tally) r.1 c.index-outcomes-place.is in
-    let lines = c.as_slice.ensures.value ∙ lines_from t r.0 _ r.2 save n c.index-outcomes-place.result _ same c.in_ok-text.ensures in
+    let same = same_outcome t r.0 _ r.2 save n c.args.explored.now.tally.outcomes.items _ c.args.place c.index.result.now (ap (λ (k : Tally). k.outcomes.items) c.in_ok-ran.ensures.tally) r.1 c.index.ensures in
+    let lines = c.as_slice.ensures.value ∙ lines_from t r.0 _ r.2 save n c.index.result.now _ same c.in_ok-text.ensures in
     IfErr-weaker c.print_text.result (λ f. IsWanting f × PrintsFront (λ text. Appends x y text) c.as_slice.result.now) _
     (λ f h. (r.0, _, r.1, saved_as t r.0 _ r.2 save n _ _ c.in_ok-save.ensures.saved, subst (PrintsFront (λ text. Appends x y text)) lines h.1, inr (inr (refl, h.0))))
     (err_both c.print_text.result IsWanting (λ f. PrintsFront (λ text. Appends x y text) c.as_slice.result.now) c.print_text.ensures.err c.print_text.ensures.front)
