@@ -13,3 +13,5 @@ mod CountLemmas
 mod StateLemmas
 mod MeetLemmas
 mod NoneLemmas
+mod PartLemmas
+mod HistoryLemmas

@@ -79,7 +79,7 @@ first_accepted w x None e skipped later h g = (e, g)
 first_accepted w x (Some LogFull) e skipped later h g = tt
 first_accepted w x (Some r) e skipped later h g = h
 
-offers_accepted : (w : World) (xs : Offers) → AreAccepted w (offered w xs).made
+pub offers_accepted : (w : World) (xs : Offers) → AreAccepted w (offered w xs).made
 offers_accepted w [] = tt
 offers_accepted w (x ∷ xs) =
     first_accepted w x (event_refusal w x.0 x.1) refl (offered w xs) (offered (world_after_event w x.0 x.1) xs) (offers_accepted w xs) (offers_accepted (world_after_event w x.0 x.1) xs)
@@ -123,10 +123,10 @@ full_offers p q xs ys h full =
 
 -- ---- what isn't open is refused
 
-abbrev refused : Offered
+abbrev pub refused : Offered
 refused = record { made = []; full = false }
 
-take_closed : (w : World) (c : ℕ) → open_take w c ≡ None → offered w ((c, events.Take) ∷ []) ≡ refused
+pub take_closed : (w : World) (c : ℕ) → open_take w c ≡ None → offered w ((c, events.Take) ∷ []) ≡ refused
 unfolding event_refusal
 take_closed w c h = by (nat_lt c (length w.cpus)) (held_by w c) (first_ready w.table.ready) h
   where
@@ -137,18 +137,18 @@ take_closed w c h = by (nat_lt c (length w.cpus)) (held_by w c) (first_ready w.t
     by true None None h = refl
     by true None (Some s) h = absurd cc
 
-none_held : (c : ℕ) (held : Option HeldProcess) → option_map (λ (l : HeldProcess). Back c l.slot) held ≡ None → held ≡ None
+pub none_held : (c : ℕ) (held : Option HeldProcess) → option_map (λ (l : HeldProcess). Back c l.slot) held ≡ None → held ≡ None
 none_held c None h = refl
 none_held c (Some l) h = absurd cc
 
-back_closed : (w : World) (c : ℕ) → held_by w c ≡ None → offered w (run_of c) ≡ refused
+pub back_closed : (w : World) (c : ℕ) → held_by w c ≡ None → offered w (run_of c) ≡ refused
 unfolding event_refusal
 back_closed w c h =
     let steps = empty_offered w c h most_steps in
     offered_more w (steps_of c most_steps) ((c, events.Back) ∷ []) (ap (λ (o : Offered). o.full) steps) ∙ ap (λ (o : Offered). then_offered w o ((c, events.Back) ∷ [])) steps
     ∙ ap (λ (held : Option HeldProcess). offered_first (c, events.Back) (back_refusal held) refused (offered (world_after_event w c events.Back) [])) h
 
-respawn_closed : (w : World) (other s : ℕ) → open_respawn w s ≡ None → offered w ((other, events.Respawn s) ∷ []) ≡ refused
+pub respawn_closed : (w : World) (other s : ℕ) → open_respawn w s ≡ None → offered w ((other, events.Respawn s) ∷ []) ≡ refused
 unfolding event_refusal
 respawn_closed w other s h = by (slice_get w.services s) h
   where
@@ -270,11 +270,11 @@ backs start p quiet (suc n) =
 
 -- ---- a turn
 
-no_event : (t : TableState) (next : Option OutsideLine) → next_now t next ≡ None → next ≡ None
+pub no_event : (t : TableState) (next : Option OutsideLine) → next_now t next ≡ None → next ≡ None
 no_event t None h = refl
 no_event t (Some l) h = absurd cc
 
-none_left : (xs : List OutsideLine) → slice_get xs 0 ≡ None → drop 1 xs ≡ xs
+pub none_left : (xs : List OutsideLine) → slice_get xs 0 ≡ None → drop 1 xs ≡ xs
 none_left [] h = refl
 none_left (x ∷ xs) h = absurd cc
 

@@ -18,16 +18,16 @@ use Rattle.mx_explore.proofs.BoundLemmas.{few_turns}
 use Rattle.mx_explore.proofs.ScheduleLemmas.{both_true, one_more, shorter, shorter_wait, wait_more}
 use Rattle.mx_explore.proofs.WaitLemmas.{longer_wait, noted_quiet}
 
-abbrev Lists : Type 0
+abbrev pub Lists : Type 0
 Lists = List (List Departure)
 
 -- ---- lists of lists
 
-rec_append : {X : Type 0} (P : X → Type 0) (xs ys : List X) → AllByRecursion P xs → AllByRecursion P ys → AllByRecursion P (xs ++ ys)
+pub rec_append : {X : Type 0} (P : X → Type 0) (xs ys : List X) → AllByRecursion P xs → AllByRecursion P ys → AllByRecursion P (xs ++ ys)
 rec_append P [] ys h g = g
 rec_append P (x ∷ xs) ys h g = (h.0, rec_append P xs ys h.1 g)
 
-rec_weaker : {X : Type 0} (P Q : X → Type 0) → ((x : X) → P x → Q x) → (xs : List X) → AllByRecursion P xs → AllByRecursion Q xs
+pub rec_weaker : {X : Type 0} (P Q : X → Type 0) → ((x : X) → P x → Q x) → (xs : List X) → AllByRecursion P xs → AllByRecursion Q xs
 rec_weaker P Q f [] h = tt
 rec_weaker P Q f (x ∷ xs) h = (f x h.0, rec_weaker P Q f xs h.1)
 
@@ -67,14 +67,14 @@ has_filter p (y ∷ ys) x is h = by (has_filter p ys x is) (p y) refl (Contains-
     by later false e (inl c) = absurd (true≢false (sym is ∙ ap p (only_one y x c) ∙ e))
     by later false e (inr c) = later c
 
-has_flat : {X Y : Type 0} (f : X → List Y) (xs : List X) (x : X) (y : Y) → Contains xs x → Contains (f x) y → Contains (flat_map f xs) y
+pub has_flat : {X Y : Type 0} (f : X → List Y) (xs : List X) (x : X) (y : Y) → Contains xs x → Contains (f x) y → Contains (flat_map f xs) y
 has_flat f [] x y h g = absurd (let none : h.0 < 0 = h.1 in omega (arith, none))
 has_flat f (z ∷ zs) x y h g = elim (Contains-append_cases (z ∷ []) zs x h) [
   | inl c ↦ Contains-append_left (f z) (flat_map f zs) y (subst (λ w. Contains (f w) y) (only_one z x c) g)
   | inr c ↦ Contains-append_right (f z) (flat_map f zs) y (has_flat f zs x y c g)
 ]
 
-has_range : (a n k : ℕ) → a ≤ k → k < a + n → Contains (range_with_len a n) k
+pub has_range : (a n k : ℕ) → a ≤ k → k < a + n → Contains (range_with_len a n) k
 has_range a zero k low high = absurd (omega (arith, low, high))
 has_range a (suc n) k low high = elim (cases_lt a k) [
   | inl lt ↦ has_later a (range_with_len (a + 1) n) k (has_range (a + 1) n k (omega (arith, lt)) (omega (arith, high)))
@@ -255,11 +255,11 @@ module _ (p : Part) (t : Setting) where
 
 -- ---- each once
 
-distinct_append : {X : Type 0} (e : X → X → Bool) (xs ys : List X) → IsDistinct e xs → IsDistinct e ys → AllByRecursion (λ x. AllByRecursion (λ y. e x y ≡ false) ys) xs → IsDistinct e (xs ++ ys)
+pub distinct_append : {X : Type 0} (e : X → X → Bool) (xs ys : List X) → IsDistinct e xs → IsDistinct e ys → AllByRecursion (λ x. AllByRecursion (λ y. e x y ≡ false) ys) xs → IsDistinct e (xs ++ ys)
 distinct_append e [] ys h g c = g
 distinct_append e (x ∷ xs) ys h g c = (rec_append (λ y. e x y ≡ false) xs ys h.0 c.0, distinct_append e xs ys h.1 g c.1)
 
-cross : {X : Type 0} (e : X → X → Bool) (P Q : X → Type 0) → ((x y : X) → P x → Q y → e x y ≡ false) → (xs ys : List X) → AllByRecursion P xs → AllByRecursion Q ys → AllByRecursion (λ x. AllByRecursion (λ y. e x y ≡ false) ys) xs
+pub cross : {X : Type 0} (e : X → X → Bool) (P Q : X → Type 0) → ((x y : X) → P x → Q y → e x y ≡ false) → (xs ys : List X) → AllByRecursion P xs → AllByRecursion Q ys → AllByRecursion (λ x. AllByRecursion (λ y. e x y ≡ false) ys) xs
 cross e P Q f [] ys h g = tt
 cross e P Q f (x ∷ xs) ys h g = (rec_weaker Q (λ y. e x y ≡ false) (λ y q. f x y h.0 q) ys g, cross e P Q f xs ys h.1 g)
 
