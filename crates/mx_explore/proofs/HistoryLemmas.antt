@@ -7,9 +7,8 @@ use Rattle.std.proofs.lemmas.Option.{slice_get_within}
 use Rattle.mx_walk.specs.Kept.{kept_of}
 use Rattle.mx_machine.specs.declared.events.Event.{Event}
 use Rattle.mx_machine.specs.declared.events.Event.TheVariants as events
-use Rattle.mx_machine.specs.declared.events.Refusal.{Refusal}
 use Rattle.mx_machine.specs.declared.events.Refusal.TheVariants.{CpuBusy}
-use Rattle.mx_machine.specs.History.{AreAccepted, BootAndHistory, world_after_events}
+use Rattle.mx_machine.specs.History.{BootAndHistory, world_after_events}
 use Rattle.mx_machine.specs.Move.{event_refusal, take_refusal, world_after_event}
 use Rattle.mx_machine.specs.Proc.Queues.{first_ready}
 use Rattle.mx_machine.specs.Proc.TableState.{process_at}
@@ -22,7 +21,7 @@ use Rattle.mx_turns.specs.declared.outside.OutsideLine.{OutsideLine}
 use Rattle.mx_turns.specs.declared.turns.Ending.{Ending}
 use Rattle.mx_turns.proofs.MadeLemmas.{kept_append}
 use Rattle.mx_turns.proofs.OfferLemmas.{Offers}
-use Rattle.mx_explore.specs.Histories.{IsInOrder, IsOf, comes_at, coming_after}
+use Rattle.mx_explore.specs.Histories.{IsInOrder, IsOf, comes_at, coming_after, tried_at}
 use Rattle.mx_explore.specs.Offers.{can_respawn, is_outside, open_back, open_outside, open_respawn, open_take}
 use Rattle.mx_explore.specs.declared.offers.Offer.{Offer}
 use Rattle.mx_explore.specs.declared.offers.Offer.TheVariants.{Take, Back, Outside, Respawn}
@@ -113,7 +112,8 @@ and_no false = refl
 not_first : (s : Standing) (ds : List Departure) (x : Offer) → From (length s.met + 1) ds → begins (record s { ahead = ds }) x ≡ false
 not_first s [] x h = refl
 not_first s (d ∷ ds) x h =
-    let apart : (d.at == length s.met) ≡ false = ne_eqb d.at (length s.met) (λ e. omega (arith, h, e)) in
+    let low : length s.met + 1 ≤ d.at = h in
+    let apart : (d.at == length s.met) ≡ false = ne_eqb d.at (length s.met) (λ e. omega (arith, low, e)) in
     ap (λ b. (s.waits == 0) && (b && ((d.turns == 1) || nat_lt 1 d.turns && is_outside x))) apart ∙ and_no (s.waits == 0)
 
 is_made : (start : TurnStart) (p : Passage) (x : Offer) (ds : List Departure) → p.standing.waits ≡ 0 → From (length p.standing.met + 1) ds → meets start (ahead ds p) x ≡ ahead ds (made start.other (stays start p x) x)
@@ -146,7 +146,7 @@ from_more xs x ds h = subst (λ n. From n ds) (length-append xs (x ∷ [])) h
 
 from_less : (n : ℕ) (ds : List Departure) → From (n + 1) ds → From n ds
 from_less n [] h = tt
-from_less n (d ∷ ds) h = omega (arith, h)
+from_less n (d ∷ ds) h = let low : n + 1 ≤ d.at = h in omega (arith, low)
 
 pass_one : (start : TurnStart) (p : Passage) (z : Place) → Calm p → (o : Option Offer) → open_at start p z ≡ o → Passes start p (z ∷ [])
 pass_one start p z calm None e = record {
@@ -258,8 +258,8 @@ moved_none p o coming calm none same =
     }
 
 -- what was open at a place did
-module _ (p : Passage) (o : Offered) (coming : List OutsideLine) (z : Place) (x : Offer) (calm : Calm p) (there : Splits (all_places p) z) (open : open_at (turn_start p) p z ≡ Some x)
-    (is : o ≡ offered p.world (events_of (turn_start p).other x)) (room : o.full ≡ false) (then : coming ≡ cond (is_outside x) (drop 1 p.coming) p.coming) where
+module _ (p : Passage) (o : Offered) (coming : List OutsideLine) (z : Place) (x : Offer) (calm : Calm p) (there : Splits (all_places p) z) (opened : open_at (turn_start p) p z ≡ Some x)
+    (is : o ≡ offered p.world (events_of (turn_start p).other x)) (room : o.full ≡ false) (left_so : coming ≡ cond (is_outside x) (drop 1 p.coming) p.coming) where
   start : TurnStart
   start = turn_start p
 
@@ -278,7 +278,7 @@ module _ (p : Passage) (o : Offered) (coming : List OutsideLine) (z : Place) (x 
       ap (λ b. b || (made_there front.to.world).full) front.calm.2 ∙ ap (λ (w : World). (made_there w).full) front.same.0 ∙ ap (λ (u : Offered). u.full) (sym is) ∙ room))
 
   middle : Leads start front.to (z ∷ []) next []
-  middle = make_one start front.to z x front.calm (same_open start p front.to z front.same.0 (front.calm.2 ∙ sym calm.2) ∙ open)
+  middle = make_one start front.to z x front.calm (same_open start p front.to z front.same.0 (front.calm.2 ∙ sym calm.2) ∙ opened)
 
   back : Passes start next there.1
   back = pass_all start next there.1 next_calm
@@ -293,7 +293,7 @@ module _ (p : Passage) (o : Offered) (coming : List OutsideLine) (z : Place) (x 
     kernel = back.same.1 ∙ ap (λ (k : BootAndHistory). kept_of k front.to.world (made_there front.to.world).made) front.same.1 ∙ ap (λ (w : World). kept_of p.kernel w (made_there w).made) front.same.0
         ∙ ap (λ (u : Offered). kept_of p.kernel p.world u.made) (sym is);
     world = back.same.0 ∙ ap (λ (w : World). world_after w (made_there w)) front.same.0 ∙ ap (λ (u : Offered). world_after p.world u) (sym is);
-    left = back.same.2 ∙ ap (λ (l : List OutsideLine). cond (is_outside x) (drop 1 l) l) front.same.2 ∙ sym then;
+    left = back.same.2 ∙ ap (λ (l : List OutsideLine). cond (is_outside x) (drop 1 l) l) front.same.2 ∙ sym left_so;
   }
 
 -- ---- what comes at a place
@@ -305,12 +305,12 @@ take_far w c h = ap (λ b. offered_first (c, events.Take) (cond b (take_refusal 
 
 some_held : (w : World) (c : ℕ) (held : Option HeldProcess) (x : Offer) → held_by w c ≡ held → open_back w c ≡ Some x → c < length w.cpus
 some_held w c None x e h =
-    let z : None ≡ Some x = sym (ap (option_map (λ (l : HeldProcess). Back c l.slot)) e) ∙ h in absurd cc
+    let z : None ≡ Some x = sym (ap (option_map (λ (l : HeldProcess). Back c l.slot)) e) ∙ h in cc
 some_held w c (Some l) x e h = holds_in w.cpus c l e
 
 some_service : (w : World) (s : ℕ) (v : Option Service) (x : Offer) → slice_get w.services s ≡ v → open_respawn w s ≡ Some x → s < length w.services
 some_service w s None x e h =
-    let z : None ≡ Some x = sym (ap (λ (v : Option Service). cond (can_respawn (process_at w.table s) v) (let z : Option Offer = Some (Respawn s) in z) None) e) ∙ h in absurd cc
+    let z : None ≡ Some x = sym (ap (λ (v : Option Service). cond (can_respawn (process_at w.table s) v) (let z : Option Offer = Some (Respawn s) in z) None) e) ∙ h in cc
 some_service w s (Some v) x e h = slice_get_within w.services s v e
 
 module _ (p : Passage) (calm : Calm p) where
@@ -372,8 +372,8 @@ module _ (p : Passage) (calm : Calm p) where
 
 -- A run has met all its departures, and has made these events.
 record Ends (p : Passage) (xs : Offers) (q : Passage) : Type 0 where
-  ahead : q.standing.ahead ≡ []
-  waits : q.standing.waits ≡ 0
+  begun : q.standing.ahead ≡ []
+  ended : q.standing.waits ≡ 0
   kept : q.standing.kept ≡ true
   kernel : q.kernel ≡ kept_of p.kernel p.world xs
   world : q.world ≡ world_after_events p.world xs
@@ -389,8 +389,8 @@ all_made [] p xs calm h = record {
   by = [];
   low = tt;
   ends = record {
-    ahead = refl;
-    waits = calm.0;
+    begun = refl;
+    ended = calm.0;
     kept = calm.1;
     kernel = ap (kept_of p.kernel p.world) (sym h);
     world = ap (world_after_events p.world) (sym h);
@@ -404,22 +404,19 @@ all_made (z ∷ zs) p xs calm h =
     subst (λ (w : World). IsInOrder w it.to.coming zs ys) (sym it.world) (subst (λ (l : List OutsideLine). IsInOrder (world_after p.world o) l zs ys) (sym it.left) h.4) in
     let rest = all_made zs it.to ys it.calm order in
     let turned = next_turns (length zs) (ahead (it.by ++ rest.by) p) (ahead rest.by it.to) h.0 (sym (it.leads.run rest.by rest.low)) it.calm.2 in
-    let accepted = offers_accepted_at z p in
+    let accepted = offers_accepted p.world (tried_at (length p.world.cpus) (next_now p.world.table (slice_get p.coming 0)) z) in
     record {
       by = it.by ++ rest.by;
       low = it.leads.low rest.by rest.low;
       ends = subst (λ (r : Passage × Ending). Ends p xs r.0) (sym turned) (record {
-        ahead = rest.ends.ahead;
-        waits = rest.ends.waits;
+        begun = rest.ends.begun;
+        ended = rest.ends.ended;
         kept = rest.ends.kept;
         kernel = rest.ends.kernel ∙ ap (λ (k : BootAndHistory). kept_of k it.to.world ys) it.kernel ∙ ap (λ (w : World). kept_of (kept_of p.kernel p.world o.made) w ys) it.world
             ∙ sym (kept_append p.world p.kernel o.made ys accepted) ∙ ap (kept_of p.kernel p.world) (sym h.3);
         world = rest.ends.world ∙ ap (λ (w : World). world_after_events w ys) it.world ∙ sym (after_append p.world o.made ys) ∙ ap (world_after_events p.world) (sym h.3);
       });
     }
-  where
-    offers_accepted_at : (z : Place) (p : Passage) → AreAccepted p.world (comes_at p.world p.coming z).made
-    offers_accepted_at z p = offers_accepted p.world _
 
 -- EVERY HISTORY IN AN ORDER is that of a schedule
 pub every_order : (t : Setting) (order : List Place) (xs : Offers) → t.turns ≡ length order → IsInOrder t.boot t.coming order xs → (ds : List Departure) × IsOf t xs ds
@@ -427,4 +424,4 @@ unfolding run_of_schedule
 every_order t order xs many h =
     let all = all_made order (from_boot t []) xs (refl, (refl, refl)) h in
     let ends : Ends (from_boot t []) xs (passed_turns t.turns (from_boot t all.by)).0 = subst (λ n. Ends (from_boot t []) xs (passed_turns n (from_boot t all.by)).0) (sym many) all.ends in
-    (all.by, record { met = record { begun = ends.ahead; ended = ends.waits; kept = ends.kept }; kernel = ends.kernel; world = ends.world })
+    (all.by, record { met = record { begun = ends.begun; ended = ends.ended; kept = ends.kept }; kernel = ends.kernel; world = ends.world })

@@ -35,7 +35,7 @@ module _ (n : ℕ) where
 
   home_is : (i : ℕ) (ds : List Departure) → i < n → is_in_part (part_at n i) ds ≡ true → home ds ≡ i
   home_is i [] lt e = sym (eqb-true i 0 e)
-  home_is i (d ∷ ds) lt e = ap (λ m. d.at % m) (sym (parts_are i lt)) ∙ eqb-true _ _ e
+  home_is i (d ∷ ds) lt e = ap (λ m. d.at % m) (sym (parts_are i lt)) ∙ eqb-true (d.at % (i + 1 + (n - (i + 1)))) i e
 
   same_home : (xs ys : List Departure) → is_same xs ys ≡ true → home xs ≡ home ys
   same_home [] [] e = refl
@@ -56,12 +56,12 @@ module _ (n : ℕ) where
     -- what holds of the lists of each part holds of those of all parts from this one on
     all_of : (P : ℕ → List Departure → Type 0) (Q : List Departure → Type 0) → ((i : ℕ) → i < n → AllByRecursion (P i) (parts i)) → (a : ℕ) → ((i : ℕ) (ds : List Departure) → a ≤ i → i < n → P i ds → Q ds)
         → (m : ℕ) → a + m ≡ n → AllByRecursion Q (flat_map parts (range_with_len a m))
-    all_of P Q of a so zero e = tt
-    all_of P Q of a so (suc m) e =
+    all_of P Q those a so zero e = tt
+    all_of P Q those a so (suc m) e =
         let lt : a < n = omega (arith, e) in
         rec_append Q (parts a) (flat_map parts (range_with_len (a + 1) m))
-        (rec_weaker (P a) Q (λ ds p. so a ds (omega arith) lt p) (parts a) (of a lt))
-        (all_of P Q of (a + 1) (λ i ds le within p. so i ds (omega (arith, le)) within p) m (omega (arith, e)))
+        (rec_weaker (P a) Q (λ ds p. so a ds (omega arith) lt p) (parts a) (those a lt))
+        (all_of P Q those (a + 1) (λ i ds le within p. so i ds (omega (arith, le)) within p) m (omega (arith, e)))
 
     abbrev InPart : ℕ → List Departure → Type 0
     InPart i ds = is_in_part (part_at n i) ds ≡ true
@@ -86,8 +86,8 @@ module _ (n : ℕ) where
     joined = flat_map parts (range_with_len 0 n)
 
     from_parts : (Q : List Departure → Type 0) → ((i : ℕ) → i < n → All Q (parts i)) → All Q joined
-    from_parts Q of =
-        All-from_recursion Q joined (all_of (λ i. Q) Q (λ i lt. recursion_from_All Q (parts i) (of i lt)) 0 (λ i ds le lt q. q) n (omega arith))
+    from_parts Q those =
+        All-from_recursion Q joined (all_of (λ i. Q) Q (λ i lt. recursion_from_All Q (parts i) (those i lt)) 0 (λ i ds le lt q. q) n (omega arith))
 
     joins : 0 < n → AreAll t k whole joined
     joins some = record {
