@@ -256,7 +256,7 @@ pub none_departed : (k at n : ℕ) (a : Explorer) → n ≡ 0 → HasDeparted k 
 none_departed k at n a none =
     subst (λ i. HasDeparted k at i a a) (sym none) (record {
       same = same_itself a;
-      counted = ([], (none_counted a a refl, departed_none (below (part_of a.terms) (here a) k) (here a) a.departures.items at a.terms.bound));
+      counted = ([], none_counted a a refl, departed_none (below (part_of a.terms) (here a) k) (here a) a.departures.items at a.terms.bound);
     })
 
 -- one turn more: with one departure more b is d, which becomes e, and c is e without it
@@ -317,17 +317,17 @@ after_within t ds = turns_last Bounded bounded t.turns (from_boot t ds) (omega a
 -- counts are shown, and then others
 pub then_shown : (k n m : ℕ) (ps qs : List Parts) → ShowsCounts k ps n → ShowsCounts n qs m → ShowsCounts k (ps ++ qs) m
 then_shown k n m [] qs h g = subst (λ i. ShowsCounts i qs m) h g
-then_shown k n m (p ∷ ps) qs h g = (h.0, (h.1, then_shown p.done n m ps qs h.2 g))
+then_shown k n m (p ∷ ps) qs h g = (h.0, h.1, then_shown p.done n m ps qs h.2 g)
 
 pub shows_then : (k n m : ℕ) (old bs cs : List Parts) → ((ps : List Parts) × (bs ≡ old ++ ps) × ShowsCounts k ps n) → ((ps : List Parts) × (cs ≡ bs ++ ps) × ShowsCounts n ps m)
     → ((ps : List Parts) × (cs ≡ old ++ ps) × ShowsCounts k ps m)
-shows_then k n m old bs cs x y = (x.0 ++ y.0, (y.1 ∙ ap (λ l. l ++ y.0) x.1 ∙ append_assoc old x.0 y.0, then_shown k n m x.0 y.0 x.2 y.2))
+shows_then k n m old bs cs x y = (x.0 ++ y.0, y.1 ∙ ap (λ l. l ++ y.0) x.1 ∙ append_assoc old x.0 y.0, then_shown k n m x.0 y.0 x.2 y.2)
 
 pub shows_none : (k n : ℕ) (old bs : List Parts) → bs ≡ old → n ≡ k → (ps : List Parts) × (bs ≡ old ++ ps) × ShowsCounts k ps n
-shows_none k n old bs e same = ([], (e ∙ sym (append-nil old), same))
+shows_none k n old bs e same = ([], e ∙ sym (append-nil old), same)
 
 pub shows_one : (k n : ℕ) (p : Parts) (old bs : List Parts) → bs ≡ old ++ p ∷ [] → n ≡ min (k + 1) (2 ^ 64 - 1) → p.done ≡ n → p.done ≤ p.all → (ps : List Parts) × (bs ≡ old ++ ps) × ShowsCounts k ps n
-shows_one k n p old bs e more done most = (p ∷ [], (e, (done ∙ more, (most, sym done))))
+shows_one k n p old bs e more done most = (p ∷ [], e, (done ∙ more, most, sym done))
 
 -- what is known changes nothing of what is counted
 pub tallied_same : (a b c : Explorer) (dss : List (List Departure)) → IsSame a b → HasCounted a dss b → IsSame b c → c.tally ≡ b.tally → IsSame a c × HasCounted a dss c
@@ -364,7 +364,7 @@ explored_all a b k m found boot none counted more sorted =
     let p = part_of a.terms in
     let one = subst (λ (ds : List Departure). IsCounted (map (found_by (here a)) (below p (here a) k ds)) b.tally) none (more [] counted) in
     let two = subst (λ (x : MachineState). IsCounted (map (found_by (setting a.terms x)) (below p (setting a.terms x) k [])) b.tally) boot one in
-    (below p t k [], (all_schedules t k p, sorted (map (found_by t) (below p t k [])) two))
+    (below p t k [], all_schedules t k p, sorted (map (found_by t) (below p t k [])) two)
 
 -- what was shown since nothing was counted
 pub shows_all : (t : Tally) (n : ℕ) (old bs : List Parts) → IsCounted [] t → ((ps : List Parts) × (bs ≡ old ++ ps) × ShowsCounts t.schedules ps n) → (ps : List Parts) × (bs ≡ old ++ ps) × ShowsCounts 0 ps n

@@ -154,7 +154,7 @@ pass_one start p z calm None e = record {
   by = [];
   leads = record { run = λ ds late. ap (meets_if start (ahead ds p)) (same_open start p (ahead ds p) z refl refl ∙ e); low = λ ds late. late };
   calm = calm;
-  same = (refl, (refl, refl));
+  same = (refl, refl, refl);
 }
 pass_one start p z calm (Some x) e = record {
   to = passed start p x;
@@ -163,12 +163,12 @@ pass_one start p z calm (Some x) e = record {
     run = λ ds late. ap (meets_if start (ahead (here p ∷ ds) p)) (same_open start p (ahead (here p ∷ ds) p) z refl refl ∙ e) ∙ is_passed start p x ds calm.0;
     low = λ ds late. (let z : length p.standing.met ≤ length p.standing.met = omega arith in z);
   };
-  calm = (refl, (calm.1, calm.2));
-  same = (refl, (refl, refl));
+  calm = (refl, calm.1, calm.2);
+  same = (refl, refl, refl);
 }
 
 pass_all : (start : TurnStart) (p : Passage) (zs : List Place) → Calm p → Passes start p zs
-pass_all start p [] calm = record { to = p; by = []; leads = record { run = λ ds late. refl; low = λ ds late. late }; calm = calm; same = (refl, (refl, refl)) }
+pass_all start p [] calm = record { to = p; by = []; leads = record { run = λ ds late. refl; low = λ ds late. late }; calm = calm; same = (refl, refl, refl) }
 pass_all start p (z ∷ zs) calm =
     let one = pass_one start p z calm (open_at start p z) refl in
     let rest = pass_all start one.to zs one.calm in
@@ -177,7 +177,7 @@ pass_all start p (z ∷ zs) calm =
       by = one.by ++ rest.by;
       leads = then_leads start p one.to rest.to (z ∷ []) zs one.by rest.by one.leads rest.leads;
       calm = rest.calm;
-      same = (rest.same.0 ∙ one.same.0, (rest.same.1 ∙ one.same.1, rest.same.2 ∙ one.same.2));
+      same = (rest.same.0 ∙ one.same.0, rest.same.1 ∙ one.same.1, rest.same.2 ∙ one.same.2);
     }
 
 make_one : (start : TurnStart) (p : Passage) (z : Place) (x : Offer) → Calm p → open_at start p z ≡ Some x → Leads start p (z ∷ []) (made start.other (stays start p x) x) []
@@ -192,20 +192,20 @@ abbrev Splits : List Place → Place → Type 0
 Splits l z = (xs : List Place) × (ys : List Place) × (l ≡ xs ++ z ∷ ys)
 
 split_left : (l r : List Place) (z : Place) → Splits l z → Splits (l ++ r) z
-split_left l r z h = (h.0, (h.1 ++ r, ap (λ (k : List Place). k ++ r) h.2 ∙ append_assoc h.0 (z ∷ h.1) r))
+split_left l r z h = (h.0, h.1 ++ r, ap (λ (k : List Place). k ++ r) h.2 ∙ append_assoc h.0 (z ∷ h.1) r)
 
 split_right : (r l : List Place) (z : Place) → Splits l z → Splits (r ++ l) z
-split_right r l z h = (r ++ h.0, (h.1, ap (λ (k : List Place). r ++ k) h.2 ∙ sym (append_assoc r h.0 (z ∷ h.1))))
+split_right r l z h = (r ++ h.0, h.1, ap (λ (k : List Place). r ++ k) h.2 ∙ sym (append_assoc r h.0 (z ∷ h.1)))
 
 split_map : (f : ℕ → Place) (a n c : ℕ) → a ≤ c → c < a + n → Splits (map f (range_with_len a n)) (f c)
 split_map f a zero c low high = absurd (omega (arith, low, high))
 split_map f a (suc n) c low high = elim (cases_lt a c) [
   | inl lt ↦
       (let rest = split_map f (a + 1) n c (omega (arith, lt)) (omega (arith, high)) in
-      (f a ∷ rest.0, (rest.1, ap (λ (k : List Place). f a ∷ k) rest.2)))
+      (f a ∷ rest.0, rest.1, ap (λ (k : List Place). f a ∷ k) rest.2))
   | inr ge ↦
       (let same : a ≡ c = omega (arith, low, ge) in
-      ([], (map f (range_with_len (a + 1) n), ap (λ i. f i ∷ map f (range_with_len (a + 1) n)) same)))
+      ([], map f (range_with_len (a + 1) n), ap (λ i. f i ∷ map f (range_with_len (a + 1) n)) same))
 ]
 
 module _ (cpus slots : ℕ) where
@@ -221,7 +221,7 @@ module _ (cpus slots : ℕ) where
 
   outside_there : Splits (places cpus slots) FromOutside
   outside_there =
-      split_right (map TakeBy (range_with_len 0 cpus) ++ map BackBy (range_with_len 0 cpus)) (FromOutside ∷ map NewIn (range_with_len 0 slots)) FromOutside ([], (map NewIn (range_with_len 0 slots), refl))
+      split_right (map TakeBy (range_with_len 0 cpus) ++ map BackBy (range_with_len 0 cpus)) (FromOutside ∷ map NewIn (range_with_len 0 slots)) FromOutside ([], map NewIn (range_with_len 0 slots), refl)
 
   new_there : (s : ℕ) → s < slots → Splits (places cpus slots) (NewIn s)
   new_there s lt =
@@ -274,8 +274,8 @@ module _ (p : Passage) (o : Offered) (coming : List OutsideLine) (z : Place) (x 
 
   next_calm : Calm next
   next_calm =
-      (front.calm.0, (front.calm.1,
-      ap (λ b. b || (made_there front.to.world).full) front.calm.2 ∙ ap (λ (w : World). (made_there w).full) front.same.0 ∙ ap (λ (u : Offered). u.full) (sym is) ∙ room))
+      (front.calm.0, front.calm.1,
+      ap (λ b. b || (made_there front.to.world).full) front.calm.2 ∙ ap (λ (w : World). (made_there w).full) front.same.0 ∙ ap (λ (u : Offered). u.full) (sym is) ∙ room)
 
   middle : Leads start front.to (z ∷ []) next []
   middle = make_one start front.to z x front.calm (same_open start p front.to z front.same.0 (front.calm.2 ∙ sym calm.2) ∙ opened)
@@ -422,6 +422,6 @@ all_made (z ∷ zs) p xs calm h =
 pub every_order : (t : Setting) (order : List Place) (xs : Offers) → t.turns ≡ length order → IsInOrder t.boot t.coming order xs → (ds : List Departure) × IsOf t xs ds
 unfolding run_of_schedule
 every_order t order xs many h =
-    let all = all_made order (from_boot t []) xs (refl, (refl, refl)) h in
+    let all = all_made order (from_boot t []) xs (refl, refl, refl) h in
     let ends : Ends (from_boot t []) xs (passed_turns t.turns (from_boot t all.by)).0 = subst (λ n. Ends (from_boot t []) xs (passed_turns n (from_boot t all.by)).0) (sym many) all.ends in
     (all.by, record { met = record { begun = ends.begun; ended = ends.ended; kept = ends.kept }; kernel = ends.kernel; world = ends.world })

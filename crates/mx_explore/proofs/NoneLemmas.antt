@@ -466,4 +466,4 @@ turns_made (suc k) p quiet room = by (turns_made k (passed_turn p)) (is_over p.w
 pub none_departs : (t : Setting) → (let c = turns t.turns t.boot t.coming in let r = run_of_schedule t [] in
     (r.0.kernel ≡ kept_of (record { boot = t.boot; history = [] }) t.boot c.made) × (r.0.world ≡ world_after_events t.boot c.made) × (r.1 ≡ c.ending))
 unfolding run_of_schedule
-none_departs t = let h = turns_made t.turns (from_boot t []) (refl, refl) refl in (h.0.kernel, (h.0.world, h.1))
+none_departs t = let h = turns_made t.turns (from_boot t []) (refl, refl) refl in (h.0.kernel, h.0.world, h.1)

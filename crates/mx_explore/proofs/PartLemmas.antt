@@ -78,7 +78,7 @@ module _ (n : ℕ) where
     once_from a (suc m) e =
         let lt : a < n = omega (arith, e) in
         let rest = flat_map parts (range_with_len (a + 1) m) in
-        let later : AllByRecursion (Later a) rest = all_of InPart (Later a) in_parts (a + 1) (λ i ds le within p. (i, (omega (arith, le), (within, p)))) m (omega (arith, e)) in
+        let later : AllByRecursion (Later a) rest = all_of InPart (Later a) in_parts (a + 1) (λ i ds le within p. (i, omega (arith, le), within, p)) m (omega (arith, e)) in
         distinct_append is_same (parts a) rest (each a lt).once (once_from (a + 1) m (omega (arith, e)))
         (cross is_same (InPart a) (Later a) (λ x y p q. apart a q.0 x y q.1 q.2 p q.3) (parts a) rest (in_parts a lt) later)
 

@@ -78,7 +78,7 @@ module _ (fs : List Found) (f : Found) where
   itself_not o false e = e
 
   among_all : (o : Tallied) (b : Bool) → Contains fs o.first → Contains (fs ++ f ∷ []) (cond b f o.first)
-  among_all o true h = Contains-append_right fs (f ∷ []) f (0, (omega arith, refl))
+  among_all o true h = Contains-append_right fs (f ∷ []) f (0, omega arith, refl)
   among_all o false h = Contains-append_left fs (f ∷ []) o.first h
 
   joined_outcome : (o : Tallied) → o.first.text ≡ f.text → IsOutcomeOf fs o → IsOutcomeOf (fs ++ f ∷ []) (joined o f)
@@ -100,7 +100,7 @@ module _ (fs : List Found) (f : Found) where
       let more : leading_to f.text (fs ++ f ∷ []) ≡ f ∷ [] = leading_more f.text fs f true (itself f.text) ∙ ap (λ l. l ++ f ∷ []) none in
       record {
         count = (let z : 1 ≡ count_of (f ∷ []) = omega arith in z) ∙ ap count_of (sym more);
-        among = Contains-append_right fs (f ∷ []) f (0, (omega arith, refl));
+        among = Contains-append_right fs (f ∷ []) f (0, omega arith, refl);
         first = subst (All (λ (g : Found). is_before g f ≡ false)) (sym more) (All-cons (λ (g : Found). is_before g f ≡ false) f [] (not_before f) (All-nil (λ (g : Found). is_before g f ≡ false)));
       }
 
@@ -136,11 +136,11 @@ module _ (fs : List Found) (f : Found) where
       ]
 
   text_there : (os : List Tallied) → Contains (texts (added f os)) f.text
-  text_there [] = (0, (omega arith, refl))
+  text_there [] = (0, omega arith, refl)
   text_there (o ∷ os) = by (text_there os) (bytes_eq o.first.text f.text) refl
     where
       by : Contains (texts (added f os)) f.text → (b : Bool) → bytes_eq o.first.text f.text ≡ b → Contains (texts (cond b (joined o f ∷ os) (o ∷ added f os))) f.text
-      by there true e = subst (λ x. Contains (x ∷ texts os) f.text) (sym (text_kept o f (same_text o.first.text f.text e) ∙ same_text o.first.text f.text e)) (0, (omega arith, refl))
+      by there true e = subst (λ x. Contains (x ∷ texts os) f.text) (sym (text_kept o f (same_text o.first.text f.text e) ∙ same_text o.first.text f.text e)) (0, omega arith, refl)
       by there false e = Contains-append_right (o.first.text ∷ []) (texts (added f os)) f.text there
 
   still_apart : (t : List ℕ) (os : List Tallied) → bytes_eq t f.text ≡ false → AllByRecursion (λ y. bytes_eq t y ≡ false) (texts os) → AllByRecursion (λ y. bytes_eq t y ≡ false) (texts (added f os))

@@ -45,7 +45,7 @@ rec_filter p P (x ∷ xs) h = by (rec_filter p P xs h.1) (p x) refl
     by later false e = later
 
 has_first : {X : Type 0} (x : X) (xs : List X) → Contains (x ∷ xs) x
-has_first x xs = (0, (omega arith, refl))
+has_first x xs = (0, omega arith, refl)
 
 has_later : {X : Type 0} (y : X) (xs : List X) (x : X) → Contains xs x → Contains (y ∷ xs) x
 has_later y xs x h = Contains-append_right (y ∷ []) xs x h
@@ -296,7 +296,7 @@ module _ (p : Part) (t : Setting) where
   departing_departs f all ds at zero n = tt
   departing_departs f all ds at (suc fuel) n =
       rec_append (λ es. (m : ℕ) × (n ≤ m) × Departs ds at m es) (f (departed ds at n)) (rest (can_wait (end_of t (departed ds at n)) && is_of_outside (slice_get (end_of t ds).met at)))
-      (rec_weaker (Begins (departed ds at n)) (λ es. (m : ℕ) × (n ≤ m) × Departs ds at m es) (λ es b. (n, (omega arith, (b.0, b.1 ∙ fronts ds (record { at = at; turns = n }) b.0)))) (f (departed ds at n)) (all (departed ds at n)))
+      (rec_weaker (Begins (departed ds at n)) (λ es. (m : ℕ) × (n ≤ m) × Departs ds at m es) (λ es b. (n, omega arith, (b.0, b.1 ∙ fronts ds (record { at = at; turns = n }) b.0))) (f (departed ds at n)) (all (departed ds at n)))
       (by (departing_departs f all ds at fuel (n + 1)) (can_wait (end_of t (departed ds at n)) && is_of_outside (slice_get (end_of t ds).met at)))
     where
       rest : Bool → Lists
@@ -304,7 +304,7 @@ module _ (p : Part) (t : Setting) where
 
       by : AllByRecursion (λ es. (m : ℕ) × (n + 1 ≤ m) × Departs ds at m es) (departing f t ds at (n + 1) fuel) → (b : Bool) → AllByRecursion (λ es. (m : ℕ) × (n ≤ m) × Departs ds at m es) (rest b)
       by longer false = tt
-      by longer true = rec_weaker (λ es. (m : ℕ) × (n + 1 ≤ m) × Departs ds at m es) (λ es. (m : ℕ) × (n ≤ m) × Departs ds at m es) (λ es b. (b.0, (let le = b.1 in omega (arith, le), b.2))) (departing f t ds at (n + 1) fuel) longer
+      by longer true = rec_weaker (λ es. (m : ℕ) × (n + 1 ≤ m) × Departs ds at m es) (λ es. (m : ℕ) × (n ≤ m) × Departs ds at m es) (λ es b. (b.0, (let le = b.1 in omega (arith, le)), b.2)) (departing f t ds at (n + 1) fuel) longer
 
   itself_begins : (ds : List Departure) → AllByRecursion (λ es. es ≡ ds) (itself p ds)
   itself_begins ds = by (is_in_part p ds)
@@ -375,7 +375,7 @@ module _ (p : Part) (t : Setting) where
     later_departs a [] h = tt
     later_departs a (b ∷ bs) h =
         rec_append (λ es. (b : ℕ) × (m : ℕ) × (a < b) × Departs ds b m es) (at_once b) (flat_map at_once bs)
-        (rec_weaker (λ es. (m : ℕ) × (1 ≤ m) × Departs ds b m es) (λ es. (b : ℕ) × (m : ℕ) × (a < b) × Departs ds b m es) (λ es c. (b, (c.0, (h.0, c.2)))) (at_once b) (departing_departs f all ds b t.turns 1))
+        (rec_weaker (λ es. (m : ℕ) × (1 ≤ m) × Departs ds b m es) (λ es. (b : ℕ) × (m : ℕ) × (a < b) × Departs ds b m es) (λ es c. (b, c.0, h.0, c.2)) (at_once b) (departing_departs f all ds b t.turns 1))
         (later_departs a bs h.1)
 
     flat_once : (places_of : List ℕ) → Rises places_of → IsDistinct is_same (flat_map at_once places_of)
@@ -392,7 +392,7 @@ module _ (p : Part) (t : Setting) where
 
     none_is_itself : (places_of : List ℕ) → AllByRecursion (λ es. (d : Departure) × (gs : List Departure) × (es ≡ ds ++ d ∷ gs)) (flat_map at_once places_of)
     none_is_itself places_of = every_of (λ es. (d : Departure) × (gs : List Departure) × (es ≡ ds ++ d ∷ gs)) at_once
-        (λ a. rec_weaker (λ es. (m : ℕ) × (1 ≤ m) × Departs ds a m es) (λ es. (d : Departure) × (gs : List Departure) × (es ≡ ds ++ d ∷ gs)) (λ es c. (record { at = a; turns = c.0 }, (c.2.0, c.2.1))) (at_once a) (departing_departs f all ds a t.turns 1)) places_of
+        (λ a. rec_weaker (λ es. (m : ℕ) × (1 ≤ m) × Departs ds a m es) (λ es. (d : Departure) × (gs : List Departure) × (es ≡ ds ++ d ∷ gs)) (λ es c. (record { at = a; turns = c.0 }, c.2.0, c.2.1)) (at_once a) (departing_departs f all ds a t.turns 1)) places_of
 
   itself_once : (ds : List Departure) → IsDistinct is_same (itself p ds)
   itself_once ds = by (is_in_part p ds)
