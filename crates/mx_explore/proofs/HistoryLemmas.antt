@@ -260,16 +260,16 @@ moved_none p o coming calm none same =
 -- what was open at a place did
 module _ (p : Passage) (o : Offered) (coming : List OutsideLine) (z : Place) (x : Offer) (calm : Calm p) (there : Splits (all_places p) z) (opened : open_at (turn_start p) p z ≡ Some x)
     (is : o ≡ offered p.world (events_of (turn_start p).other x)) (room : o.full ≡ false) (left_so : coming ≡ cond (is_outside x) (drop 1 p.coming) p.coming) where
-  start : TurnStart
+  abbrev start : TurnStart
   start = turn_start p
 
   front : Passes start p there.0
   front = pass_all start p there.0 calm
 
-  next : Passage
+  abbrev next : Passage
   next = made start.other (stays start front.to x) x
 
-  made_there : World → Offered
+  abbrev made_there : World → Offered
   made_there w = offered w (events_of start.other x)
 
   next_calm : Calm next
@@ -314,10 +314,10 @@ some_service w s None x e h =
 some_service w s (Some v) x e h = slice_get_within w.services s v e
 
 module _ (p : Passage) (calm : Calm p) where
-  cpus : ℕ
+  abbrev cpus : ℕ
   cpus = length p.world.cpus
 
-  slots : ℕ
+  abbrev slots : ℕ
   slots = length p.world.services
 
   taken : (c : ℕ) → (comes_at p.world p.coming (TakeBy c)).full ≡ false → Moved p (comes_at p.world p.coming (TakeBy c)) p.coming

@@ -285,28 +285,28 @@ record IsTurned (p : Passage) (o : Offered) (q : Passage) : Type 0 where
   coming : o.full ≡ false → q.coming ≡ drop 1 p.coming
 
 module _ (p : Passage) (quiet : Quiet p.standing) (room : p.full ≡ false) where
-  w : World
+  abbrev w : World
   w = p.world
 
-  cpus : ℕ
+  abbrev cpus : ℕ
   cpus = length p.world.cpus
 
-  slots : ℕ
+  abbrev slots : ℕ
   slots = length p.world.services
 
-  taken : Offered
+  abbrev taken : Offered
   taken = offered w (takes cpus)
 
-  ran : Offered
+  abbrev ran : Offered
   ran = then_offered w taken (runs cpus)
 
-  q : Passage
+  abbrev q : Passage
   q = At (turn_start p) p (map TakeBy (range_with_len 0 cpus))
 
-  r : Passage
+  abbrev r : Passage
   r = At (turn_start p) q (map BackBy (range_with_len 0 cpus))
 
-  turned : Offered
+  abbrev turned : Offered
   turned = turn w (slice_get p.coming 0)
 
   took : IsOffered p (takes cpus) q
@@ -334,7 +334,7 @@ module _ (p : Passage) (quiet : Quiet p.standing) (room : p.full ≡ false) wher
     r_full : r.full ≡ false
     r_full = backed.full ∙ ap (λ b. b || (offered q.world (runs cpus)).full) (q_full ∙ t) ∙ runs_not_full q.world cpus
 
-    others : Offers
+    abbrev others : Offers
     others = outside cpus (next_now w.table (slice_get p.coming 0)) ++ respawns cpus slots
 
     same_coming : r.coming ≡ p.coming
@@ -351,7 +351,7 @@ module _ (p : Passage) (quiet : Quiet p.standing) (room : p.full ≡ false) wher
           coming = λ no. coming (after ∙ no) ∙ ap (drop 1) same_coming;
         }))
 
-    u : Passage
+    abbrev u : Passage
     u = at_place (turn_start p) r FromOutside
 
     news : (x : Passage) → Quiet x.standing → x.full ≡ false → IsOffered x (respawns cpus slots) (At (turn_start p) x (map NewIn (range_with_len 0 slots)))
@@ -370,10 +370,10 @@ module _ (p : Passage) (quiet : Quiet p.standing) (room : p.full ≡ false) wher
 
     -- an outside event comes
     module _ (x : Event) (e : next_now w.table (slice_get p.coming 0) ≡ Some x) where
-      one : Offered
+      abbrev one : Offered
       one = offered r.world ((cpus, x) ∷ [])
 
-      then_at : Passage
+      abbrev then_at : Passage
       then_at = made cpus (stood r (noted r.standing (met_in r.world (turn_start p).records (Outside x)))) (Outside x)
 
       u_is : u ≡ then_at

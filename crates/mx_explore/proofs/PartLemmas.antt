@@ -18,7 +18,7 @@ in_whole (d ∷ ds) = eq-eqb (d.at % 1) 0 (mod-one d.at)
 
 module _ (n : ℕ) where
   -- the part that a schedule is in
-  home : List Departure → ℕ
+  abbrev home : List Departure → ℕ
   home [] = 0
   home (d ∷ ds) = d.at % n
 
@@ -74,6 +74,7 @@ module _ (n : ℕ) where
     Later a ds = (i : ℕ) × (a < i) × (i < n) × InPart i ds
 
     once_from : (a m : ℕ) → a + m ≡ n → IsDistinct is_same (flat_map parts (range_with_len a m))
+    unfolding IsDistinct
     once_from a zero e = tt
     once_from a (suc m) e =
         let lt : a < n = omega (arith, e) in
@@ -82,7 +83,7 @@ module _ (n : ℕ) where
         distinct_append is_same (parts a) rest (each a lt).once (once_from (a + 1) m (omega (arith, e)))
         (cross is_same (InPart a) (Later a) (λ x y p q. apart a q.0 x y q.1 q.2 p q.3) (parts a) rest (in_parts a lt) later)
 
-    joined : Lists
+    abbrev joined : Lists
     joined = flat_map parts (range_with_len 0 n)
 
     from_parts : (Q : List Departure → Type 0) → ((i : ℕ) → i < n → All Q (parts i)) → All Q joined

@@ -116,6 +116,7 @@ module _ (fs : List Found) (f : Found) where
   others_kept t e (o ∷ os) apart h = (kept_outcome o (ap (λ x. bytes_eq x o.first.text) (sym e) ∙ apart.0) h.0, others_kept t e os apart.1 h.1)
 
   outcomes_added : (os : List Tallied) → AllByRecursion (IsOutcomeOf fs) os → IsDistinct bytes_eq (texts os) → (Lacks os → leading_to f.text fs ≡ []) → AllByRecursion (IsOutcomeOf (fs ++ f ∷ [])) (added f os)
+  unfolding IsDistinct
   outcomes_added [] h once new = (new_outcome (new tt), tt)
   outcomes_added (o ∷ os) h once new = by (outcomes_added os h.1 once.1) (bytes_eq o.first.text f.text) refl
     where
@@ -152,6 +153,7 @@ module _ (fs : List Found) (f : Found) where
       by others false i = (h.0, others)
 
   once_added : (os : List Tallied) → IsDistinct bytes_eq (texts os) → IsDistinct bytes_eq (texts (added f os))
+  unfolding IsDistinct
   once_added [] h = (tt, tt)
   once_added (o ∷ os) h = by (once_added os h.1) (bytes_eq o.first.text f.text) refl
     where
@@ -257,6 +259,7 @@ reordered fs os ps h are =
 -- ---- schedules that are counted
 
 none_known : AreOutcomes [] []
+unfolding IsDistinct
 none_known = record { outcomes = All-nil (IsOutcomeOf []); every = All-nil (λ (f : Found). Contains (texts []) f.text); once = tt }
 
 -- none

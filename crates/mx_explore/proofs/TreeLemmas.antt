@@ -256,6 +256,7 @@ module _ (p : Part) (t : Setting) where
 -- ---- each once
 
 pub distinct_append : {X : Type 0} (e : X → X → Bool) (xs ys : List X) → IsDistinct e xs → IsDistinct e ys → AllByRecursion (λ x. AllByRecursion (λ y. e x y ≡ false) ys) xs → IsDistinct e (xs ++ ys)
+unfolding IsDistinct
 distinct_append e [] ys h g c = g
 distinct_append e (x ∷ xs) ys h g c = (rec_append (λ y. e x y ≡ false) xs ys h.0 c.0, distinct_append e xs ys h.1 g c.1)
 
@@ -327,6 +328,7 @@ module _ (p : Part) (t : Setting) where
       (asked_places p ds (end_of t ds)))
 
   departing_once : (f : List Departure → Lists) → AllBegin f → ((es : List Departure) → IsDistinct is_same (f es)) → (ds : List Departure) (at fuel n : ℕ) → IsDistinct is_same (departing f t ds at n fuel)
+  unfolding IsDistinct
   departing_once f all once ds at zero n = tt
   departing_once f all once ds at (suc fuel) n = by (departing_once f all once ds at fuel (n + 1)) (can_wait (end_of t (departed ds at n)) && is_of_outside (slice_get (end_of t ds).met at))
     where
@@ -379,6 +381,7 @@ module _ (p : Part) (t : Setting) where
         (later_departs a bs h.1)
 
     flat_once : (places_of : List ℕ) → Rises places_of → IsDistinct is_same (flat_map at_once places_of)
+    unfolding IsDistinct
     flat_once [] h = tt
     flat_once (a ∷ places_of) h =
         distinct_append is_same (at_once a) (flat_map at_once places_of) (departing_once f all once ds a t.turns 1) (flat_once places_of h.1)
@@ -395,6 +398,7 @@ module _ (p : Part) (t : Setting) where
         (λ a. rec_weaker (λ es. (m : ℕ) × (1 ≤ m) × Departs ds a m es) (λ es. (d : Departure) × (gs : List Departure) × (es ≡ ds ++ d ∷ gs)) (λ es c. (record { at = a; turns = c.0 }, c.2.0, c.2.1)) (at_once a) (departing_departs f all ds a t.turns 1)) places_of
 
   itself_once : (ds : List Departure) → IsDistinct is_same (itself p ds)
+  unfolding IsDistinct
   itself_once ds = by (is_in_part p ds)
     where
       by : (b : Bool) → IsDistinct is_same (cond b (ds ∷ []) [])

@@ -272,10 +272,10 @@ step_before d u m lt b = elim (cases_Bool (is_outside m.offer)) [
 
 -- while both wait
 module _ (d : Departure) (s : Standing) (m : Met) (h : Waits d s) where
-  t : Standing
+  abbrev t : Standing
   t = record s { waits = s.waits + 1 }
 
-  met : List Met
+  abbrev met : List Met
   met = s.met ++ m ∷ []
 
   waits_more : goes_on t m.offer ≡ is_outside m.offer
