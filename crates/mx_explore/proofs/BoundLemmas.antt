@@ -196,6 +196,6 @@ few_turns t ds d h =
       | inl ahead ↦ absurd (no_end ahead.0 d (sym ahead.1 ∙ h.begun))
       | inr begun ↦ elim begun.1 [
         | inl one ↦ omega (arith, one, some)
-        | inr most ↦ (let none = h.ended in omega (arith, most, outside, none))
+        | inr most ↦ (let none : (passed_turns t.turns (from_boot t (departed_by ds d))).0.standing.waits ≡ 0 = h.ended in omega (arith, most, outside, none))
       ]
     ]

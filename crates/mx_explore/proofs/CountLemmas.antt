@@ -10,6 +10,7 @@ use Rattle.mx_machine.specs.Machine.{MachineState, world_of}
 use Rattle.mx_machine.specs.Service.{Service}
 use Rattle.mx_machine.specs.World.{World}
 use Rattle.mx_turns.specs.declared.turns.Ending.{Ending}
+use Rattle.mx_turns.proofs.OfferLemmas.{range_more}
 use Rattle.mx_walk.specs.declared.progress.Part.{Part as Parts}
 use Rattle.mx_explore.specs.declared.exploring.Explorer.{Explorer}
 use Rattle.mx_explore.specs.declared.exploring.Terms.{Terms}
@@ -94,8 +95,7 @@ services_back t ds m services r start boot ran =
 -- ---- the offers at which a schedule departs next
 
 one_more : (a n at : ℕ) → a + n ≡ at → range_with_len a (n + 1) ≡ range_with_len a n ++ at ∷ []
-one_more a zero at e = let same : a ≡ at = omega (arith, e) in ap (λ i. i ∷ []) same
-one_more a (suc n) at e = ap (λ l. a ∷ l) (one_more (a + 1) n at (omega (arith, e)))
+one_more a n at e = range_more a n ∙ ap (λ k. range_with_len a n ++ k ∷ []) e
 
 module _ (p : Part) (t : Setting) (k : ℕ) (ds : List Departure) where
   abbrev asked : ℕ → Bool

@@ -39,7 +39,7 @@ module _ (n : ℕ) where
 
   same_home : (xs ys : List Departure) → is_same xs ys ≡ true → home xs ≡ home ys
   same_home [] [] e = refl
-  same_home (d ∷ ds) (g ∷ gs) e = ap (λ a. a % n) (eqb-true d.at g.at (both_true _ _ e).0)
+  same_home (d ∷ ds) (g ∷ gs) e = ap (λ a. a % n) (eqb-true d.at g.at (both_true _ _ (both_true _ _ e).0).0)
   same_home [] (g ∷ gs) e = absurd (true≢false (sym e))
   same_home (d ∷ ds) [] e = absurd (true≢false (sym e))
 

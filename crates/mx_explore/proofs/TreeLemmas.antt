@@ -267,20 +267,20 @@ cross e P Q f (x ∷ xs) ys h g = (rec_weaker Q (λ y. e x y ≡ false) (λ y q.
 same_fronts : (ds xs ys : List Departure) → is_same (ds ++ xs) (ds ++ ys) ≡ is_same xs ys
 same_fronts [] xs ys = refl
 same_fronts (d ∷ ds) xs ys =
-    ap (λ b. b && ((d.turns == d.turns) && is_same (ds ++ xs) (ds ++ ys))) (eq-eqb d.at d.at refl)
+    ap (λ b. (b && (d.turns == d.turns)) && is_same (ds ++ xs) (ds ++ ys)) (eq-eqb d.at d.at refl)
     ∙ ap (λ b. b && is_same (ds ++ xs) (ds ++ ys)) (eq-eqb d.turns d.turns refl)
     ∙ same_fronts ds xs ys
 
 other_turns : (at n m : ℕ) (gs hs : List Departure) → n < m → is_same (record { at = at; turns = n } ∷ gs) (record { at = at; turns = m } ∷ hs) ≡ false
 other_turns at n m gs hs lt =
-    ap (λ x. (at == at) && (x && is_same gs hs)) (ne_eqb n m (λ e. omega (arith, lt, e))) ∙ and_no (at == at)
+    ap (λ x. ((at == at) && x) && is_same gs hs) (ne_eqb n m (λ e. omega (arith, lt, e))) ∙ ap (λ x. x && is_same gs hs) (and_no (at == at))
   where
     and_no : (a : Bool) → (a && false) ≡ false
     and_no true = refl
     and_no false = refl
 
 other_place : (at bt n m : ℕ) (gs hs : List Departure) → at < bt → is_same (record { at = at; turns = n } ∷ gs) (record { at = bt; turns = m } ∷ hs) ≡ false
-other_place at bt n m gs hs lt = ap (λ x. x && ((n == m) && is_same gs hs)) (ne_eqb at bt (λ e. omega (arith, lt, e)))
+other_place at bt n m gs hs lt = ap (λ x. (x && (n == m)) && is_same gs hs) (ne_eqb at bt (λ e. omega (arith, lt, e)))
 
 -- it begins so, departs next at this offer for these turns, and goes on
 abbrev Departs : List Departure → ℕ → ℕ → List Departure → Type 0

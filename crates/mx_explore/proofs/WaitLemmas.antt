@@ -286,8 +286,10 @@ module _ (d : Departure) (s : Standing) (m : Met) (h : Waits d s) where
 
   passed_by : (g : Bool) → goes_on s m.offer ≡ g → (k : Bool) → is_outside m.offer ≡ k → (passes s m.offer ≡ g) × (passes t m.offer ≡ k)
   passed_by g e k f =
-      let none = none_begins s s.ahead m.offer h.ahead in
-      (ap (λ b. goes_on s m.offer || b) none ∙ or_false (goes_on s m.offer) ∙ e, ap (λ b. goes_on t m.offer || b) none ∙ or_false (goes_on t m.offer) ∙ waits_more ∙ f)
+      (
+        ap (λ b. goes_on s m.offer || b) (none_begins s s.ahead m.offer h.ahead) ∙ or_false (goes_on s m.offer) ∙ e,
+        ap (λ b. goes_on t m.offer || b) (none_begins t s.ahead m.offer h.ahead) ∙ or_false (goes_on t m.offer) ∙ waits_more ∙ f,
+      )
     where
       or_false : (a : Bool) → (a || false) ≡ a
       or_false true = refl
