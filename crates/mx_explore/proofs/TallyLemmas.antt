@@ -195,7 +195,12 @@ set_added (x ∷ os) o p f lt is e = by (set_added os o p f) (bytes_eq x.text.it
     by : (place_in f os < length os → o ≡ get_or os (place_in f os) o → tallied p ≡ joined (tallied o) f → map tallied (set os (place_in f os) p) ≡ added f (map tallied os)) → (b : Bool) → (let n = cond (not b) (1 + place_in f os) 0 in
         n < length (x ∷ os) → o ≡ get_or (x ∷ os) n o → map tallied (set (x ∷ os) n p) ≡ cond b (joined (tallied x) f ∷ map tallied os) (tallied x ∷ added f (map tallied os)))
     by others true lt is = ap (λ (y : Tallied). y ∷ map tallied os) (e ∙ ap (λ (y : Outcome). joined (tallied y) f) is)
-    by others false lt is = ap (λ (l : List Tallied). tallied x ∷ l) (others (omega (arith, lt)) is e)
+    by others false lt is =
+        let k = place_in f os in
+        let next : 1 + k ≡ suc k = omega arith in
+        let low : 1 + k < suc (length os) = lt in
+        let has : o ≡ get_or os k o = is ∙ ap (λ n. get_or (x ∷ os) n o) next in
+        ap (λ n. map tallied (set (x ∷ os) n p)) next ∙ ap (λ (l : List Tallied). tallied x ∷ l) (others (omega (arith, low)) has e)
 
 -- or it is a new one
 push_added : (os : List Outcome) (o : Outcome) (f : Found) → length os ≤ place_in f os → tallied o ≡ record { count = 1; first = f } → map tallied (os ++ o ∷ []) ≡ added f (map tallied os)
@@ -205,7 +210,7 @@ push_added (x ∷ os) o f le e = by (push_added os o f) (bytes_eq x.text.items f
     by : (length os ≤ place_in f os → tallied o ≡ record { count = 1; first = f } → map tallied (os ++ o ∷ []) ≡ added f (map tallied os)) → (b : Bool) → length (x ∷ os) ≤ cond (not b) (1 + place_in f os) 0
         → tallied x ∷ map tallied (os ++ o ∷ []) ≡ cond b (joined (tallied x) f ∷ map tallied os) (tallied x ∷ added f (map tallied os))
     by others true le = absurd (let none : suc (length os) ≤ 0 = le in omega (arith, none))
-    by others false le = ap (λ (l : List Tallied). tallied x ∷ l) (others (omega (arith, le)) e)
+    by others false le = let low : suc (length os) ≤ 1 + place_in f os = le in ap (λ (l : List Tallied). tallied x ∷ l) (others (omega (arith, low)) e)
 
 some_place : (n len k : ℕ) (b : Bool) → nat_lt n len ≡ b → cond b (let z : Option ℕ = Some n in z) None ≡ Some k → (n ≡ k) × (n < len)
 some_place n len k true e h = (cc, ltb-true n len e)
