@@ -49,7 +49,7 @@ module _ (n : ℕ) where
     | inl same ↦
         (let e : i ≡ j = sym (home_is i xs (omega (arith, lt, within)) x) ∙ same_home xs ys same ∙ home_is j ys within y in
         absurd (omega (arith, lt, e)))
-    | inr no ↦ no
+    | inr other ↦ other
   ]
 
   module _ (t : Setting) (k : ℕ) (parts : ℕ → Lists) (each : (i : ℕ) → i < n → AreAll t k (part_at n i) (parts i)) where

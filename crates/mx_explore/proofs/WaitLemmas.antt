@@ -22,7 +22,7 @@ abbrev pub first_outside : List Met → Option Met
 first_outside [] = None
 first_outside (m ∷ ms) = cond (is_outside m.offer) (Some m) (first_outside ms)
 
-abbrev begun_of : Option Met → Bool
+abbrev pub begun_of : Option Met → Bool
 begun_of None = false
 begun_of (Some m) = m.is_begun
 
