@@ -3,7 +3,7 @@ use Rattle.std.proofs.Common.{◌≡◌, ◌∙◌, ◌<◌, ◌≤◌, ◌+◌,
 use Rattle.std.specs.Prelude.{IfOk, IsErrAnd, filter, slice_get}
 use Rattle.std.specs.List.{flat_map, range_with_len}
 use Rattle.std.proofs.lemmas.Grind.{flat_map-append}
-use Rattle.std.proofs.lemmas.List.{append-nil, map-append, take_at}
+use Rattle.std.proofs.lemmas.List.{append-nil, length-drop, map-append, take_at}
 use Rattle.std.proofs.lemmas.List.Elements.{filter-append}
 use Rattle.mx_machine.specs.History.{BootAndHistory}
 use Rattle.mx_machine.specs.Machine.{MachineState, world_of}
@@ -66,13 +66,14 @@ outcome_found t ds r o ran e =
     ∙ ap (λ (x : Ending). let f : Found = record { text = outcome_text (run_of_schedule t ds).0.world x; departures = ds; records = (run_of_schedule t ds).0.world.records } in f) ran.ending
 
 -- it is counted
-pub one_counted : (a b : Explorer) (r : Ran) (o : Outcome) → IsRun (here a) a.departures.items r
-    → first_of o ≡ record { text = outcome_text (world_of r.machine) r.ending; departures = a.departures.items; records = (world_of r.machine).records }
+pub one_counted : (a b : Explorer) (r : Ran) (o : Outcome) (ds : List Departure) → IsRun (here a) a.departures.items r → ds ≡ a.departures.items
+    → first_of o ≡ record { text = outcome_text (world_of r.machine) r.ending; departures = ds; records = (world_of r.machine).records }
     → ((fs : List Found) → IsCounted fs a.tally → IsCounted (fs ++ first_of o ∷ []) b.tally) → is_in_part (part_of a.terms) a.departures.items ≡ true
     → HasCounted a (itself (part_of a.terms) a.departures.items) b
-one_counted a b r o ran e more is fs h =
+one_counted a b r o ds ran same e more is fs h =
     subst (λ (dss : List (List Departure)). IsCounted (fs ++ map (found_by (here a)) dss) b.tally) (ap (λ c. cond c (a.departures.items ∷ []) []) (sym is))
-    (subst (λ (f : Found). IsCounted (fs ++ f ∷ []) b.tally) (outcome_found (here a) a.departures.items r o ran e) (more fs h))
+    (subst (λ (f : Found). IsCounted (fs ++ f ∷ []) b.tally) (outcome_found (here a) a.departures.items r o ran
+    (subst (λ (es : List Departure). first_of o ≡ record { text = outcome_text (world_of r.machine) r.ending; departures = es; records = (world_of r.machine).records }) same e)) (more fs h))
 
 -- or it isn't in the part
 pub other_part : (a b : Explorer) → a.tally ≡ b.tally → is_in_part (part_of a.terms) a.departures.items ≡ false → HasCounted a (itself (part_of a.terms) a.departures.items) b
@@ -83,8 +84,8 @@ pub boots : (m n : MachineState) (services : List Service) → n ≡ m → IsAtB
 boots m n services e h = subst (λ (x : MachineState). (x.kernel ≡ record { boot = world_of x; history = [] }) × HasRoom x) (sym e) (h.kernel, h.room)
 
 -- and its run is that of the schedule
-pub ran_from : (a : Explorer) (m : MachineState) (r : Ran) → m ≡ a.boot → IsRun (setting a.terms m) a.departures.items r → IsRun (here a) a.departures.items r
-ran_from a m r e h = subst (λ (x : MachineState). IsRun (setting a.terms x) a.departures.items r) e h
+pub ran_from : (a : Explorer) (m : MachineState) (r : Ran) (ds : List Departure) → m ≡ a.boot → ds ≡ a.departures.items → IsRun (setting a.terms m) ds r → IsRun (here a) a.departures.items r
+ran_from a m r ds e same h = subst (λ (x : MachineState). IsRun (setting a.terms x) a.departures.items r) e (subst (λ (es : List Departure). IsRun (setting a.terms m) es r) same h)
 
 -- the services come back from its machine
 pub services_back : (t : Setting) (ds : List Departure) (m : MachineState) (services : List Service) (r : Ran) → IsAtBoot m services → t.boot ≡ world_of m → IsRun t ds r → r.machine.kernel.boot.services ≡ services
@@ -162,7 +163,7 @@ module _ (f : List Departure → List (List Departure)) (t : Setting) (ds : List
 
   -- it can't wait longer
   pub departed_last : (bound n : ℕ) (dss : List (List Departure)) → n < bound → waits (n + 1) ≡ false → IsDeparted bound n dss → departing f t ds at 1 bound ≡ dss ++ f (departed ds at (n + 1))
-  departed_last bound n dss lt no h = departed_next bound n dss false lt no h ∙ append-nil (dss ++ f (departed ds at (n + 1)))
+  departed_last bound n dss lt off h = departed_next bound n dss false lt off h ∙ append-nil (dss ++ f (departed ds at (n + 1)))
 
   -- it waits as long as may be
   pub departed_all : (bound n : ℕ) (dss : List (List Departure)) → bound ≤ n → IsDeparted bound n dss → departing f t ds at 1 bound ≡ dss
@@ -289,7 +290,8 @@ module _ (k at n : ℕ) (a b c d e : Explorer) (h : HasDeparted k at n a b) (lt 
       same = same_back;
       counted = (
         h.counted.0 ++ below (part_of a.terms) (here a) k (departed a.departures.items at (n + 1)),
-        (counted_back, departed_more (below (part_of a.terms) (here a) k) (here a) a.departures.items at a.terms.bound n h.counted.0 lt (goes_as ∙ on) h.counted.2),
+        counted_back,
+        departed_more (below (part_of a.terms) (here a) k) (here a) a.departures.items at a.terms.bound n h.counted.0 lt (goes_as ∙ on) h.counted.2,
       );
     }
 
@@ -337,8 +339,12 @@ tallied_same a b c dss same counted then_same e = (same_then a b c same then_sam
 pub after_fits : (t : Setting) (ds : List Departure) (ms : List Met) (n : ℕ) → ms ≡ (end_of t ds).met → n ≡ (end_of t ds).after → n ≤ length ms
 after_fits t ds ms n e a = let many : length ms ≡ length (end_of t ds).met = ap length e in let within = after_within t ds in omega (arith, many, within, a)
 
-pub waits_now : (t : Setting) (ds : List Departure) (ms : List Met) (n : ℕ) → ms ≡ (end_of t ds).met → n ≡ (end_of t ds).after → waits_on (drop n ms) ≡ can_wait (end_of t ds)
-waits_now t ds ms n e a = ap (λ i. waits_on (drop i ms)) a ∙ ap (λ (l : List Met). waits_on (drop (end_of t ds).after l)) e
+-- all of them from one on
+rest_all : {X : Type 0} (n : ℕ) (xs : List X) → take (length xs - n) (drop n xs) ≡ drop n xs
+rest_all n xs = ap (take (length xs - n)) (sym (append-nil (drop n xs))) ∙ take_at (drop n xs) [] (length xs - n) (length-drop n xs)
+
+pub waits_now : (t : Setting) (ds : List Departure) (ms xs : List Met) (n : ℕ) → xs ≡ ms → ms ≡ (end_of t ds).met → n ≡ (end_of t ds).after → waits_on (take (length xs - n) (drop n xs)) ≡ can_wait (end_of t ds)
+waits_now t ds ms xs n same e a = ap waits_on (rest_all n xs) ∙ ap (λ (l : List Met). waits_on (drop n l)) same ∙ ap (λ i. waits_on (drop i ms)) a ∙ ap (λ (l : List Met). waits_on (drop (end_of t ds).after l)) e
 
 pub shows_same : (k n m : ℕ) (old bs : List Parts) → n ≡ m → ((ps : List Parts) × (bs ≡ old ++ ps) × ShowsCounts k ps n) → ((ps : List Parts) × (bs ≡ old ++ ps) × ShowsCounts k ps m)
 shows_same k n m old bs e (ps, more, shown) = (ps, more, subst (ShowsCounts k ps) e shown)

@@ -10,7 +10,7 @@ returns-in_err-boot-clause-shown g c = ([], 0, sym (append-nil _), refl, err_not
 pub explore-requires : goal.explore-requires
 explore-requires g c =
     starts_at c.args.machine c.in_ok-boot.boot c.args.machine.kernel.boot.services c.into_services-services.result.items c.in_ok-boot.ensures
-    (c.into_services-services.ensures ∙ ap (λ (k : BootAndHistory). k.boot.services) c.into_kernel.ensures) c.requires
+    (c.into_services-services.ensures ∙ ap (λ (k : BootAndHistory). k.boot.services) c.into_kernel.ensures) c.requires.boot
 
 pub returns-in_err-services-clause-shown : goal.returns-in_err-services-clause-shown
 returns-in_err-services-clause-shown g c =
@@ -23,7 +23,7 @@ returns-clause-done g c =
     record {
       found = explored_all _ c.explore.new.self c.args.terms.departures c.args.machine c.sort.new.self c.in_ok-boot.ensures c.new-2.ensures.items c.new-3.ensures ok.counted c.sort.ensures.tally;
       boot = ok.same.boot ∙ c.in_ok-boot.ensures;
-      ready = starts_at c.args.machine c.args.machine c.args.machine.kernel.boot.services _ refl (ok.services ∙ c.into_services-services.ensures ∙ ap (λ (k : BootAndHistory). k.boot.services) c.into_kernel.ensures) c.requires;
+      ready = starts_at c.args.machine c.args.machine c.args.machine.kernel.boot.services _ refl (ok.services ∙ c.into_services-services.ensures ∙ ap (λ (k : BootAndHistory). k.boot.services) c.into_kernel.ensures) c.requires.boot;
     }
 
 pub returns-clause-shown : goal.returns-clause-shown
