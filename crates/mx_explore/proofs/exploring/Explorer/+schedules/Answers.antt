@@ -10,7 +10,11 @@ use Rattle.mx_explore.proofs.exploring.Explorer.+schedules.Goals as goal
 -- ---- a schedule and all below it
 
 pub explore-offset_bounds-as_slice-after : goal.explore-offset_bounds-as_slice-after
-explore-offset_bounds-as_slice-after g t c = ?
+explore-offset_bounds-as_slice-after g t c =
+    let fits = after_fits (here c.args.self.now) c.args.self.now.departures.items c.in_ok-tried.tried.met.items c.in_ok-tried.tried.after c.in_ok-tried.ensures.met c.in_ok-tried.ensures.after in
+    let small = c.as_slice.type_inv.1 in
+    let many : length c.as_slice.result.now ≡ length c.in_ok-tried.tried.met.items = ap length c.as_slice.ensures.value in
+    omega (arith, fits, small, many)
 
 pub explore-slice_bounds-waits_on-count : goal.explore-slice_bounds-waits_on-count
 explore-slice_bounds-waits_on-count g t c =
@@ -50,12 +54,18 @@ explore-loop-at-init g t c =
     }
 
 pub explore-depart-requires : goal.explore-depart-requires
-explore-depart-requires g t c =
+explore-depart-requires g t c κs within =
     let a = c.args.self.now in
     let inv = c.loop-at.invariant in
     let len = c.in_ok-tried.tried.met.ok.0 in
     let there = slice_get_read c.in_ok-tried.tried.met.items _ c.loop-at.at c.index.result.now refl (omega (arith, c.loop-at-test.true, len)) c.index.ensures in
-    (omega (arith, c.decreases, c.if-left-eq0.false), (at_boot a c.loop-at.self c.args.services.items c.loop-at.services.items inv.tried.same inv.services c.requires, met_there a c.loop-at.self c.in_ok-tried.tried.met.items c.loop-at.at c.index.result.now inv.tried.same c.in_ok-tried.ensures.met there))
+    (
+      omega (arith, c.decreases, c.if-left-eq0.false),
+      (within, record {
+        boot = at_boot a c.loop-at.self c.args.services.items c.loop-at.services.items inv.tried.same inv.services c.requires;
+        met = met_there a c.loop-at.self c.in_ok-tried.tried.met.items c.loop-at.at c.index.result.now inv.tried.same c.in_ok-tried.ensures.met there;
+      }),
+    )
 
 pub explore-loop-at-preserved-then-not-is_asked : goal.explore-loop-at-preserved-then-not-is_asked
 explore-loop-at-preserved-then-not-is_asked g t c =
@@ -121,7 +131,9 @@ pub depart-returns-in_default-clause-shown : goal.depart-returns-in_default-clau
 depart-returns-in_default-clause-shown g t c = c.loop-waited.invariant.shown
 
 pub depart-explore-requires : goal.depart-explore-requires
-depart-explore-requires g t c = ?
+depart-explore-requires g t c κs within =
+    let inv = c.loop-waited.invariant in
+    (omega (arith, c.decreases), (within, at_boot c.args.self.now c.loop-waited.self c.args.services.items c.loop-waited.services.items inv.departed.same inv.services c.requires.boot))
 
 pub depart-returns-in_err-back-clause-shown : goal.depart-returns-in_err-back-clause-shown
 depart-returns-in_err-back-clause-shown g t c = shows_then _ _ _ _ _ _ c.loop-waited.invariant.shown c.in_err-back.ensures.shown
