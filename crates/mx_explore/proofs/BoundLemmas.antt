@@ -1,4 +1,4 @@
--- A departure lasts at most ahead_of many turns ahead_of a run has.
+-- A departure lasts at most as many turns as a run has.
 use Rattle.std.proofs.Common.{◌≡◌, ◌∙◌, ◌⊎◌, ◌≤◌, ◌<◌, ◌+◌, ◌-◌, ◌==◌, ◌&&◌, ◌||◌, ◌++◌, ℕ, zero, suc, Bool, true, false, List, [], ◌∷◌, drop, length, map, cond, nat_lt, Option, Some, None, inl, inr, refl, ap, sym, subst, arith, true≢false}
 use Rattle.std.specs.Prelude.{slice_get}
 use Rattle.std.specs.List.{range_with_len}
@@ -186,7 +186,7 @@ some_turns : (k : ℕ) (t : Setting) (ds : List Departure) (d : Departure) → (
 some_turns zero t ds d h = absurd (no_end ds d h)
 some_turns (suc k) t ds d h = omega arith
 
--- A DEPARTURE LASTS at most ahead_of many turns ahead_of a run has
+-- A DEPARTURE LASTS at most as many turns as a run has
 pub few_turns : (t : Setting) (ds : List Departure) (d : Departure) → IsSchedule t (departed_by ds d) → d.turns ≤ t.turns
 unfolding run_of_schedule
 few_turns t ds d h =
@@ -196,6 +196,6 @@ few_turns t ds d h =
       | inl ahead ↦ absurd (no_end ahead.0 d (sym ahead.1 ∙ h.begun))
       | inr begun ↦ elim begun.1 [
         | inl one ↦ omega (arith, one, some)
-        | inr most ↦ (let none = h.ended in omega (arith, most, outside, none))
+        | inr most ↦ (let none : (passed_turns t.turns (from_boot t (departed_by ds d))).0.standing.waits ≡ 0 = h.ended in omega (arith, most, outside, none))
       ]
     ]

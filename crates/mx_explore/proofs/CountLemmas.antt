@@ -3,13 +3,14 @@ use Rattle.std.proofs.Common.{◌≡◌, ◌∙◌, ◌<◌, ◌≤◌, ◌+◌,
 use Rattle.std.specs.Prelude.{IfOk, IsErrAnd, filter, slice_get}
 use Rattle.std.specs.List.{flat_map, range_with_len}
 use Rattle.std.proofs.lemmas.Grind.{flat_map-append}
-use Rattle.std.proofs.lemmas.List.{append-nil, map-append, take_at}
+use Rattle.std.proofs.lemmas.List.{append-nil, length-drop, map-append, take_at}
 use Rattle.std.proofs.lemmas.List.Elements.{filter-append}
 use Rattle.mx_machine.specs.History.{BootAndHistory}
 use Rattle.mx_machine.specs.Machine.{MachineState, world_of}
 use Rattle.mx_machine.specs.Service.{Service}
 use Rattle.mx_machine.specs.World.{World}
 use Rattle.mx_turns.specs.declared.turns.Ending.{Ending}
+use Rattle.mx_turns.proofs.OfferLemmas.{range_more}
 use Rattle.mx_walk.specs.declared.progress.Part.{Part as Parts}
 use Rattle.mx_explore.specs.declared.exploring.Explorer.{Explorer}
 use Rattle.mx_explore.specs.declared.exploring.Terms.{Terms}
@@ -65,13 +66,14 @@ outcome_found t ds r o ran e =
     ∙ ap (λ (x : Ending). let f : Found = record { text = outcome_text (run_of_schedule t ds).0.world x; departures = ds; records = (run_of_schedule t ds).0.world.records } in f) ran.ending
 
 -- it is counted
-pub one_counted : (a b : Explorer) (r : Ran) (o : Outcome) → IsRun (here a) a.departures.items r
-    → first_of o ≡ record { text = outcome_text (world_of r.machine) r.ending; departures = a.departures.items; records = (world_of r.machine).records }
+pub one_counted : (a b : Explorer) (r : Ran) (o : Outcome) (ds : List Departure) → IsRun (here a) a.departures.items r → ds ≡ a.departures.items
+    → first_of o ≡ record { text = outcome_text (world_of r.machine) r.ending; departures = ds; records = (world_of r.machine).records }
     → ((fs : List Found) → IsCounted fs a.tally → IsCounted (fs ++ first_of o ∷ []) b.tally) → is_in_part (part_of a.terms) a.departures.items ≡ true
     → HasCounted a (itself (part_of a.terms) a.departures.items) b
-one_counted a b r o ran e more is fs h =
+one_counted a b r o ds ran same e more is fs h =
     subst (λ (dss : List (List Departure)). IsCounted (fs ++ map (found_by (here a)) dss) b.tally) (ap (λ c. cond c (a.departures.items ∷ []) []) (sym is))
-    (subst (λ (f : Found). IsCounted (fs ++ f ∷ []) b.tally) (outcome_found (here a) a.departures.items r o ran e) (more fs h))
+    (subst (λ (f : Found). IsCounted (fs ++ f ∷ []) b.tally) (outcome_found (here a) a.departures.items r o ran
+    (subst (λ (es : List Departure). first_of o ≡ record { text = outcome_text (world_of r.machine) r.ending; departures = es; records = (world_of r.machine).records }) same e)) (more fs h))
 
 -- or it isn't in the part
 pub other_part : (a b : Explorer) → a.tally ≡ b.tally → is_in_part (part_of a.terms) a.departures.items ≡ false → HasCounted a (itself (part_of a.terms) a.departures.items) b
@@ -82,8 +84,8 @@ pub boots : (m n : MachineState) (services : List Service) → n ≡ m → IsAtB
 boots m n services e h = subst (λ (x : MachineState). (x.kernel ≡ record { boot = world_of x; history = [] }) × HasRoom x) (sym e) (h.kernel, h.room)
 
 -- and its run is that of the schedule
-pub ran_from : (a : Explorer) (m : MachineState) (r : Ran) → m ≡ a.boot → IsRun (setting a.terms m) a.departures.items r → IsRun (here a) a.departures.items r
-ran_from a m r e h = subst (λ (x : MachineState). IsRun (setting a.terms x) a.departures.items r) e h
+pub ran_from : (a : Explorer) (m : MachineState) (r : Ran) (ds : List Departure) → m ≡ a.boot → ds ≡ a.departures.items → IsRun (setting a.terms m) ds r → IsRun (here a) a.departures.items r
+ran_from a m r ds e same h = subst (λ (x : MachineState). IsRun (setting a.terms x) a.departures.items r) e (subst (λ (es : List Departure). IsRun (setting a.terms m) es r) same h)
 
 -- the services come back from its machine
 pub services_back : (t : Setting) (ds : List Departure) (m : MachineState) (services : List Service) (r : Ran) → IsAtBoot m services → t.boot ≡ world_of m → IsRun t ds r → r.machine.kernel.boot.services ≡ services
@@ -94,8 +96,7 @@ services_back t ds m services r start boot ran =
 -- ---- the offers at which a schedule departs next
 
 one_more : (a n at : ℕ) → a + n ≡ at → range_with_len a (n + 1) ≡ range_with_len a n ++ at ∷ []
-one_more a zero at e = let same : a ≡ at = omega (arith, e) in ap (λ i. i ∷ []) same
-one_more a (suc n) at e = ap (λ l. a ∷ l) (one_more (a + 1) n at (omega (arith, e)))
+one_more a n at e = range_more a n ∙ ap (λ k. range_with_len a n ++ k ∷ []) e
 
 module _ (p : Part) (t : Setting) (k : ℕ) (ds : List Departure) where
   abbrev asked : ℕ → Bool
@@ -162,7 +163,7 @@ module _ (f : List Departure → List (List Departure)) (t : Setting) (ds : List
 
   -- it can't wait longer
   pub departed_last : (bound n : ℕ) (dss : List (List Departure)) → n < bound → waits (n + 1) ≡ false → IsDeparted bound n dss → departing f t ds at 1 bound ≡ dss ++ f (departed ds at (n + 1))
-  departed_last bound n dss lt no h = departed_next bound n dss false lt no h ∙ append-nil (dss ++ f (departed ds at (n + 1)))
+  departed_last bound n dss lt off h = departed_next bound n dss false lt off h ∙ append-nil (dss ++ f (departed ds at (n + 1)))
 
   -- it waits as long as may be
   pub departed_all : (bound n : ℕ) (dss : List (List Departure)) → bound ≤ n → IsDeparted bound n dss → departing f t ds at 1 bound ≡ dss
@@ -256,7 +257,7 @@ pub none_departed : (k at n : ℕ) (a : Explorer) → n ≡ 0 → HasDeparted k 
 none_departed k at n a none =
     subst (λ i. HasDeparted k at i a a) (sym none) (record {
       same = same_itself a;
-      counted = ([], (none_counted a a refl, departed_none (below (part_of a.terms) (here a) k) (here a) a.departures.items at a.terms.bound));
+      counted = ([], none_counted a a refl, departed_none (below (part_of a.terms) (here a) k) (here a) a.departures.items at a.terms.bound);
     })
 
 -- one turn more: with one departure more b is d, which becomes e, and c is e without it
@@ -289,7 +290,8 @@ module _ (k at n : ℕ) (a b c d e : Explorer) (h : HasDeparted k at n a b) (lt 
       same = same_back;
       counted = (
         h.counted.0 ++ below (part_of a.terms) (here a) k (departed a.departures.items at (n + 1)),
-        (counted_back, departed_more (below (part_of a.terms) (here a) k) (here a) a.departures.items at a.terms.bound n h.counted.0 lt (goes_as ∙ on) h.counted.2),
+        counted_back,
+        departed_more (below (part_of a.terms) (here a) k) (here a) a.departures.items at a.terms.bound n h.counted.0 lt (goes_as ∙ on) h.counted.2,
       );
     }
 
@@ -317,17 +319,17 @@ after_within t ds = turns_last Bounded bounded t.turns (from_boot t ds) (omega a
 -- counts are shown, and then others
 pub then_shown : (k n m : ℕ) (ps qs : List Parts) → ShowsCounts k ps n → ShowsCounts n qs m → ShowsCounts k (ps ++ qs) m
 then_shown k n m [] qs h g = subst (λ i. ShowsCounts i qs m) h g
-then_shown k n m (p ∷ ps) qs h g = (h.0, (h.1, then_shown p.done n m ps qs h.2 g))
+then_shown k n m (p ∷ ps) qs h g = (h.0, h.1, then_shown p.done n m ps qs h.2 g)
 
 pub shows_then : (k n m : ℕ) (old bs cs : List Parts) → ((ps : List Parts) × (bs ≡ old ++ ps) × ShowsCounts k ps n) → ((ps : List Parts) × (cs ≡ bs ++ ps) × ShowsCounts n ps m)
     → ((ps : List Parts) × (cs ≡ old ++ ps) × ShowsCounts k ps m)
-shows_then k n m old bs cs x y = (x.0 ++ y.0, (y.1 ∙ ap (λ l. l ++ y.0) x.1 ∙ append_assoc old x.0 y.0, then_shown k n m x.0 y.0 x.2 y.2))
+shows_then k n m old bs cs x y = (x.0 ++ y.0, y.1 ∙ ap (λ l. l ++ y.0) x.1 ∙ append_assoc old x.0 y.0, then_shown k n m x.0 y.0 x.2 y.2)
 
 pub shows_none : (k n : ℕ) (old bs : List Parts) → bs ≡ old → n ≡ k → (ps : List Parts) × (bs ≡ old ++ ps) × ShowsCounts k ps n
-shows_none k n old bs e same = ([], (e ∙ sym (append-nil old), same))
+shows_none k n old bs e same = ([], e ∙ sym (append-nil old), same)
 
 pub shows_one : (k n : ℕ) (p : Parts) (old bs : List Parts) → bs ≡ old ++ p ∷ [] → n ≡ min (k + 1) (2 ^ 64 - 1) → p.done ≡ n → p.done ≤ p.all → (ps : List Parts) × (bs ≡ old ++ ps) × ShowsCounts k ps n
-shows_one k n p old bs e more done most = (p ∷ [], (e, (done ∙ more, (most, sym done))))
+shows_one k n p old bs e more done most = (p ∷ [], e, (done ∙ more, most, sym done))
 
 -- what is known changes nothing of what is counted
 pub tallied_same : (a b c : Explorer) (dss : List (List Departure)) → IsSame a b → HasCounted a dss b → IsSame b c → c.tally ≡ b.tally → IsSame a c × HasCounted a dss c
@@ -337,8 +339,12 @@ tallied_same a b c dss same counted then_same e = (same_then a b c same then_sam
 pub after_fits : (t : Setting) (ds : List Departure) (ms : List Met) (n : ℕ) → ms ≡ (end_of t ds).met → n ≡ (end_of t ds).after → n ≤ length ms
 after_fits t ds ms n e a = let many : length ms ≡ length (end_of t ds).met = ap length e in let within = after_within t ds in omega (arith, many, within, a)
 
-pub waits_now : (t : Setting) (ds : List Departure) (ms : List Met) (n : ℕ) → ms ≡ (end_of t ds).met → n ≡ (end_of t ds).after → waits_on (drop n ms) ≡ can_wait (end_of t ds)
-waits_now t ds ms n e a = ap (λ i. waits_on (drop i ms)) a ∙ ap (λ (l : List Met). waits_on (drop (end_of t ds).after l)) e
+-- all of them from one on
+rest_all : {X : Type 0} (n : ℕ) (xs : List X) → take (length xs - n) (drop n xs) ≡ drop n xs
+rest_all n xs = ap (take (length xs - n)) (sym (append-nil (drop n xs))) ∙ take_at (drop n xs) [] (length xs - n) (length-drop n xs)
+
+pub waits_now : (t : Setting) (ds : List Departure) (ms xs : List Met) (n : ℕ) → xs ≡ ms → ms ≡ (end_of t ds).met → n ≡ (end_of t ds).after → waits_on (take (length xs - n) (drop n xs)) ≡ can_wait (end_of t ds)
+waits_now t ds ms xs n same e a = ap waits_on (rest_all n xs) ∙ ap (λ (l : List Met). waits_on (drop n l)) same ∙ ap (λ i. waits_on (drop i ms)) a ∙ ap (λ (l : List Met). waits_on (drop (end_of t ds).after l)) e
 
 pub shows_same : (k n m : ℕ) (old bs : List Parts) → n ≡ m → ((ps : List Parts) × (bs ≡ old ++ ps) × ShowsCounts k ps n) → ((ps : List Parts) × (bs ≡ old ++ ps) × ShowsCounts k ps m)
 shows_same k n m old bs e (ps, more, shown) = (ps, more, subst (ShowsCounts k ps) e shown)
@@ -364,7 +370,7 @@ explored_all a b k m found boot none counted more sorted =
     let p = part_of a.terms in
     let one = subst (λ (ds : List Departure). IsCounted (map (found_by (here a)) (below p (here a) k ds)) b.tally) none (more [] counted) in
     let two = subst (λ (x : MachineState). IsCounted (map (found_by (setting a.terms x)) (below p (setting a.terms x) k [])) b.tally) boot one in
-    (below p t k [], (all_schedules t k p, sorted (map (found_by t) (below p t k [])) two))
+    (below p t k [], all_schedules t k p, sorted (map (found_by t) (below p t k [])) two)
 
 -- what was shown since nothing was counted
 pub shows_all : (t : Tally) (n : ℕ) (old bs : List Parts) → IsCounted [] t → ((ps : List Parts) × (bs ≡ old ++ ps) × ShowsCounts t.schedules ps n) → (ps : List Parts) × (bs ≡ old ++ ps) × ShowsCounts 0 ps n

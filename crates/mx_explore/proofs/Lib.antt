@@ -13,3 +13,5 @@ pub mod CountLemmas
 mod StateLemmas
 mod MeetLemmas
 mod NoneLemmas
+mod PartLemmas
+mod HistoryLemmas

@@ -79,7 +79,7 @@ first_accepted w x None e skipped later h g = (e, g)
 first_accepted w x (Some LogFull) e skipped later h g = tt
 first_accepted w x (Some r) e skipped later h g = h
 
-offers_accepted : (w : World) (xs : Offers) → AreAccepted w (offered w xs).made
+pub offers_accepted : (w : World) (xs : Offers) → AreAccepted w (offered w xs).made
 offers_accepted w [] = tt
 offers_accepted w (x ∷ xs) =
     first_accepted w x (event_refusal w x.0 x.1) refl (offered w xs) (offered (world_after_event w x.0 x.1) xs) (offers_accepted w xs) (offers_accepted (world_after_event w x.0 x.1) xs)
@@ -123,10 +123,10 @@ full_offers p q xs ys h full =
 
 -- ---- what isn't open is refused
 
-abbrev refused : Offered
+abbrev pub refused : Offered
 refused = record { made = []; full = false }
 
-take_closed : (w : World) (c : ℕ) → open_take w c ≡ None → offered w ((c, events.Take) ∷ []) ≡ refused
+pub take_closed : (w : World) (c : ℕ) → open_take w c ≡ None → offered w ((c, events.Take) ∷ []) ≡ refused
 unfolding event_refusal
 take_closed w c h = by (nat_lt c (length w.cpus)) (held_by w c) (first_ready w.table.ready) h
   where
@@ -137,18 +137,18 @@ take_closed w c h = by (nat_lt c (length w.cpus)) (held_by w c) (first_ready w.t
     by true None None h = refl
     by true None (Some s) h = absurd cc
 
-none_held : (c : ℕ) (held : Option HeldProcess) → option_map (λ (l : HeldProcess). Back c l.slot) held ≡ None → held ≡ None
+pub none_held : (c : ℕ) (held : Option HeldProcess) → option_map (λ (l : HeldProcess). Back c l.slot) held ≡ None → held ≡ None
 none_held c None h = refl
 none_held c (Some l) h = absurd cc
 
-back_closed : (w : World) (c : ℕ) → held_by w c ≡ None → offered w (run_of c) ≡ refused
+pub back_closed : (w : World) (c : ℕ) → held_by w c ≡ None → offered w (run_of c) ≡ refused
 unfolding event_refusal
 back_closed w c h =
     let steps = empty_offered w c h most_steps in
     offered_more w (steps_of c most_steps) ((c, events.Back) ∷ []) (ap (λ (o : Offered). o.full) steps) ∙ ap (λ (o : Offered). then_offered w o ((c, events.Back) ∷ [])) steps
     ∙ ap (λ (held : Option HeldProcess). offered_first (c, events.Back) (back_refusal held) refused (offered (world_after_event w c events.Back) [])) h
 
-respawn_closed : (w : World) (other s : ℕ) → open_respawn w s ≡ None → offered w ((other, events.Respawn s) ∷ []) ≡ refused
+pub respawn_closed : (w : World) (other s : ℕ) → open_respawn w s ≡ None → offered w ((other, events.Respawn s) ∷ []) ≡ refused
 unfolding event_refusal
 respawn_closed w other s h = by (slice_get w.services s) h
   where
@@ -270,11 +270,11 @@ backs start p quiet (suc n) =
 
 -- ---- a turn
 
-no_event : (t : TableState) (next : Option OutsideLine) → next_now t next ≡ None → next ≡ None
+pub no_event : (t : TableState) (next : Option OutsideLine) → next_now t next ≡ None → next ≡ None
 no_event t None h = refl
 no_event t (Some l) h = absurd cc
 
-none_left : (xs : List OutsideLine) → slice_get xs 0 ≡ None → drop 1 xs ≡ xs
+pub none_left : (xs : List OutsideLine) → slice_get xs 0 ≡ None → drop 1 xs ≡ xs
 none_left [] h = refl
 none_left (x ∷ xs) h = absurd cc
 
@@ -285,28 +285,28 @@ record IsTurned (p : Passage) (o : Offered) (q : Passage) : Type 0 where
   coming : o.full ≡ false → q.coming ≡ drop 1 p.coming
 
 module _ (p : Passage) (quiet : Quiet p.standing) (room : p.full ≡ false) where
-  w : World
+  abbrev w : World
   w = p.world
 
-  cpus : ℕ
+  abbrev cpus : ℕ
   cpus = length p.world.cpus
 
-  slots : ℕ
+  abbrev slots : ℕ
   slots = length p.world.services
 
-  taken : Offered
+  abbrev taken : Offered
   taken = offered w (takes cpus)
 
-  ran : Offered
+  abbrev ran : Offered
   ran = then_offered w taken (runs cpus)
 
-  q : Passage
+  abbrev q : Passage
   q = At (turn_start p) p (map TakeBy (range_with_len 0 cpus))
 
-  r : Passage
+  abbrev r : Passage
   r = At (turn_start p) q (map BackBy (range_with_len 0 cpus))
 
-  turned : Offered
+  abbrev turned : Offered
   turned = turn w (slice_get p.coming 0)
 
   took : IsOffered p (takes cpus) q
@@ -334,7 +334,7 @@ module _ (p : Passage) (quiet : Quiet p.standing) (room : p.full ≡ false) wher
     r_full : r.full ≡ false
     r_full = backed.full ∙ ap (λ b. b || (offered q.world (runs cpus)).full) (q_full ∙ t) ∙ runs_not_full q.world cpus
 
-    others : Offers
+    abbrev others : Offers
     others = outside cpus (next_now w.table (slice_get p.coming 0)) ++ respawns cpus slots
 
     same_coming : r.coming ≡ p.coming
@@ -351,7 +351,7 @@ module _ (p : Passage) (quiet : Quiet p.standing) (room : p.full ≡ false) wher
           coming = λ no. coming (after ∙ no) ∙ ap (drop 1) same_coming;
         }))
 
-    u : Passage
+    abbrev u : Passage
     u = at_place (turn_start p) r FromOutside
 
     news : (x : Passage) → Quiet x.standing → x.full ≡ false → IsOffered x (respawns cpus slots) (At (turn_start p) x (map NewIn (range_with_len 0 slots)))
@@ -370,10 +370,10 @@ module _ (p : Passage) (quiet : Quiet p.standing) (room : p.full ≡ false) wher
 
     -- an outside event comes
     module _ (x : Event) (e : next_now w.table (slice_get p.coming 0) ≡ Some x) where
-      one : Offered
+      abbrev one : Offered
       one = offered r.world ((cpus, x) ∷ [])
 
-      then_at : Passage
+      abbrev then_at : Passage
       then_at = made cpus (stood r (noted r.standing (met_in r.world (turn_start p).records (Outside x)))) (Outside x)
 
       u_is : u ≡ then_at
@@ -466,4 +466,4 @@ turns_made (suc k) p quiet room = by (turns_made k (passed_turn p)) (is_over p.w
 pub none_departs : (t : Setting) → (let c = turns t.turns t.boot t.coming in let r = run_of_schedule t [] in
     (r.0.kernel ≡ kept_of (record { boot = t.boot; history = [] }) t.boot c.made) × (r.0.world ≡ world_after_events t.boot c.made) × (r.1 ≡ c.ending))
 unfolding run_of_schedule
-none_departs t = let h = turns_made t.turns (from_boot t []) (refl, refl) refl in (h.0.kernel, (h.0.world, h.1))
+none_departs t = let h = turns_made t.turns (from_boot t []) (refl, refl) refl in (h.0.kernel, h.0.world, h.1)

@@ -78,7 +78,7 @@ module _ (fs : List Found) (f : Found) where
   itself_not o false e = e
 
   among_all : (o : Tallied) (b : Bool) → Contains fs o.first → Contains (fs ++ f ∷ []) (cond b f o.first)
-  among_all o true h = Contains-append_right fs (f ∷ []) f (0, (omega arith, refl))
+  among_all o true h = Contains-append_right fs (f ∷ []) f (0, omega arith, refl)
   among_all o false h = Contains-append_left fs (f ∷ []) o.first h
 
   joined_outcome : (o : Tallied) → o.first.text ≡ f.text → IsOutcomeOf fs o → IsOutcomeOf (fs ++ f ∷ []) (joined o f)
@@ -100,7 +100,7 @@ module _ (fs : List Found) (f : Found) where
       let more : leading_to f.text (fs ++ f ∷ []) ≡ f ∷ [] = leading_more f.text fs f true (itself f.text) ∙ ap (λ l. l ++ f ∷ []) none in
       record {
         count = (let z : 1 ≡ count_of (f ∷ []) = omega arith in z) ∙ ap count_of (sym more);
-        among = Contains-append_right fs (f ∷ []) f (0, (omega arith, refl));
+        among = Contains-append_right fs (f ∷ []) f (0, omega arith, refl);
         first = subst (All (λ (g : Found). is_before g f ≡ false)) (sym more) (All-cons (λ (g : Found). is_before g f ≡ false) f [] (not_before f) (All-nil (λ (g : Found). is_before g f ≡ false)));
       }
 
@@ -116,6 +116,7 @@ module _ (fs : List Found) (f : Found) where
   others_kept t e (o ∷ os) apart h = (kept_outcome o (ap (λ x. bytes_eq x o.first.text) (sym e) ∙ apart.0) h.0, others_kept t e os apart.1 h.1)
 
   outcomes_added : (os : List Tallied) → AllByRecursion (IsOutcomeOf fs) os → IsDistinct bytes_eq (texts os) → (Lacks os → leading_to f.text fs ≡ []) → AllByRecursion (IsOutcomeOf (fs ++ f ∷ [])) (added f os)
+  unfolding IsDistinct
   outcomes_added [] h once new = (new_outcome (new tt), tt)
   outcomes_added (o ∷ os) h once new = by (outcomes_added os h.1 once.1) (bytes_eq o.first.text f.text) refl
     where
@@ -136,11 +137,11 @@ module _ (fs : List Found) (f : Found) where
       ]
 
   text_there : (os : List Tallied) → Contains (texts (added f os)) f.text
-  text_there [] = (0, (omega arith, refl))
+  text_there [] = (0, omega arith, refl)
   text_there (o ∷ os) = by (text_there os) (bytes_eq o.first.text f.text) refl
     where
       by : Contains (texts (added f os)) f.text → (b : Bool) → bytes_eq o.first.text f.text ≡ b → Contains (texts (cond b (joined o f ∷ os) (o ∷ added f os))) f.text
-      by there true e = subst (λ x. Contains (x ∷ texts os) f.text) (sym (text_kept o f (same_text o.first.text f.text e) ∙ same_text o.first.text f.text e)) (0, (omega arith, refl))
+      by there true e = subst (λ x. Contains (x ∷ texts os) f.text) (sym (text_kept o f (same_text o.first.text f.text e) ∙ same_text o.first.text f.text e)) (0, omega arith, refl)
       by there false e = Contains-append_right (o.first.text ∷ []) (texts (added f os)) f.text there
 
   still_apart : (t : List ℕ) (os : List Tallied) → bytes_eq t f.text ≡ false → AllByRecursion (λ y. bytes_eq t y ≡ false) (texts os) → AllByRecursion (λ y. bytes_eq t y ≡ false) (texts (added f os))
@@ -152,6 +153,7 @@ module _ (fs : List Found) (f : Found) where
       by others false i = (h.0, others)
 
   once_added : (os : List Tallied) → IsDistinct bytes_eq (texts os) → IsDistinct bytes_eq (texts (added f os))
+  unfolding IsDistinct
   once_added [] h = (tt, tt)
   once_added (o ∷ os) h = by (once_added os h.1) (bytes_eq o.first.text f.text) refl
     where
@@ -193,7 +195,12 @@ set_added (x ∷ os) o p f lt is e = by (set_added os o p f) (bytes_eq x.text.it
     by : (place_in f os < length os → o ≡ get_or os (place_in f os) o → tallied p ≡ joined (tallied o) f → map tallied (set os (place_in f os) p) ≡ added f (map tallied os)) → (b : Bool) → (let n = cond (not b) (1 + place_in f os) 0 in
         n < length (x ∷ os) → o ≡ get_or (x ∷ os) n o → map tallied (set (x ∷ os) n p) ≡ cond b (joined (tallied x) f ∷ map tallied os) (tallied x ∷ added f (map tallied os)))
     by others true lt is = ap (λ (y : Tallied). y ∷ map tallied os) (e ∙ ap (λ (y : Outcome). joined (tallied y) f) is)
-    by others false lt is = ap (λ (l : List Tallied). tallied x ∷ l) (others (omega (arith, lt)) is e)
+    by others false lt is =
+        let k = place_in f os in
+        let next : 1 + k ≡ suc k = omega arith in
+        let low : 1 + k < suc (length os) = lt in
+        let has : o ≡ get_or os k o = is ∙ ap (λ n. get_or (x ∷ os) n o) next in
+        ap (λ n. map tallied (set (x ∷ os) n p)) next ∙ ap (λ (l : List Tallied). tallied x ∷ l) (others (omega (arith, low)) has e)
 
 -- or it is a new one
 push_added : (os : List Outcome) (o : Outcome) (f : Found) → length os ≤ place_in f os → tallied o ≡ record { count = 1; first = f } → map tallied (os ++ o ∷ []) ≡ added f (map tallied os)
@@ -203,7 +210,7 @@ push_added (x ∷ os) o f le e = by (push_added os o f) (bytes_eq x.text.items f
     by : (length os ≤ place_in f os → tallied o ≡ record { count = 1; first = f } → map tallied (os ++ o ∷ []) ≡ added f (map tallied os)) → (b : Bool) → length (x ∷ os) ≤ cond (not b) (1 + place_in f os) 0
         → tallied x ∷ map tallied (os ++ o ∷ []) ≡ cond b (joined (tallied x) f ∷ map tallied os) (tallied x ∷ added f (map tallied os))
     by others true le = absurd (let none : suc (length os) ≤ 0 = le in omega (arith, none))
-    by others false le = ap (λ (l : List Tallied). tallied x ∷ l) (others (omega (arith, le)) e)
+    by others false le = let low : suc (length os) ≤ 1 + place_in f os = le in ap (λ (l : List Tallied). tallied x ∷ l) (others (omega (arith, low)) e)
 
 some_place : (n len k : ℕ) (b : Bool) → nat_lt n len ≡ b → cond b (let z : Option ℕ = Some n in z) None ≡ Some k → (n ≡ k) × (n < len)
 some_place n len k true e h = (cc, ltb-true n len e)
@@ -257,6 +264,7 @@ reordered fs os ps h are =
 -- ---- schedules that are counted
 
 none_known : AreOutcomes [] []
+unfolding IsDistinct
 none_known = record { outcomes = All-nil (IsOutcomeOf []); every = All-nil (λ (f : Found). Contains (texts []) f.text); once = tt }
 
 -- none

@@ -18,16 +18,16 @@ use Rattle.mx_explore.proofs.BoundLemmas.{few_turns}
 use Rattle.mx_explore.proofs.ScheduleLemmas.{both_true, one_more, shorter, shorter_wait, wait_more}
 use Rattle.mx_explore.proofs.WaitLemmas.{longer_wait, noted_quiet}
 
-abbrev Lists : Type 0
+abbrev pub Lists : Type 0
 Lists = List (List Departure)
 
 -- ---- lists of lists
 
-rec_append : {X : Type 0} (P : X → Type 0) (xs ys : List X) → AllByRecursion P xs → AllByRecursion P ys → AllByRecursion P (xs ++ ys)
+pub rec_append : {X : Type 0} (P : X → Type 0) (xs ys : List X) → AllByRecursion P xs → AllByRecursion P ys → AllByRecursion P (xs ++ ys)
 rec_append P [] ys h g = g
 rec_append P (x ∷ xs) ys h g = (h.0, rec_append P xs ys h.1 g)
 
-rec_weaker : {X : Type 0} (P Q : X → Type 0) → ((x : X) → P x → Q x) → (xs : List X) → AllByRecursion P xs → AllByRecursion Q xs
+pub rec_weaker : {X : Type 0} (P Q : X → Type 0) → ((x : X) → P x → Q x) → (xs : List X) → AllByRecursion P xs → AllByRecursion Q xs
 rec_weaker P Q f [] h = tt
 rec_weaker P Q f (x ∷ xs) h = (f x h.0, rec_weaker P Q f xs h.1)
 
@@ -45,7 +45,7 @@ rec_filter p P (x ∷ xs) h = by (rec_filter p P xs h.1) (p x) refl
     by later false e = later
 
 has_first : {X : Type 0} (x : X) (xs : List X) → Contains (x ∷ xs) x
-has_first x xs = (0, (omega arith, refl))
+has_first x xs = (0, omega arith, refl)
 
 has_later : {X : Type 0} (y : X) (xs : List X) (x : X) → Contains xs x → Contains (y ∷ xs) x
 has_later y xs x h = Contains-append_right (y ∷ []) xs x h
@@ -67,14 +67,14 @@ has_filter p (y ∷ ys) x is h = by (has_filter p ys x is) (p y) refl (Contains-
     by later false e (inl c) = absurd (true≢false (sym is ∙ ap p (only_one y x c) ∙ e))
     by later false e (inr c) = later c
 
-has_flat : {X Y : Type 0} (f : X → List Y) (xs : List X) (x : X) (y : Y) → Contains xs x → Contains (f x) y → Contains (flat_map f xs) y
+pub has_flat : {X Y : Type 0} (f : X → List Y) (xs : List X) (x : X) (y : Y) → Contains xs x → Contains (f x) y → Contains (flat_map f xs) y
 has_flat f [] x y h g = absurd (let none : h.0 < 0 = h.1 in omega (arith, none))
 has_flat f (z ∷ zs) x y h g = elim (Contains-append_cases (z ∷ []) zs x h) [
   | inl c ↦ Contains-append_left (f z) (flat_map f zs) y (subst (λ w. Contains (f w) y) (only_one z x c) g)
   | inr c ↦ Contains-append_right (f z) (flat_map f zs) y (has_flat f zs x y c g)
 ]
 
-has_range : (a n k : ℕ) → a ≤ k → k < a + n → Contains (range_with_len a n) k
+pub has_range : (a n k : ℕ) → a ≤ k → k < a + n → Contains (range_with_len a n) k
 has_range a zero k low high = absurd (omega (arith, low, high))
 has_range a (suc n) k low high = elim (cases_lt a k) [
   | inl lt ↦ has_later a (range_with_len (a + 1) n) k (has_range (a + 1) n k (omega (arith, lt)) (omega (arith, high)))
@@ -255,31 +255,32 @@ module _ (p : Part) (t : Setting) where
 
 -- ---- each once
 
-distinct_append : {X : Type 0} (e : X → X → Bool) (xs ys : List X) → IsDistinct e xs → IsDistinct e ys → AllByRecursion (λ x. AllByRecursion (λ y. e x y ≡ false) ys) xs → IsDistinct e (xs ++ ys)
+pub distinct_append : {X : Type 0} (e : X → X → Bool) (xs ys : List X) → IsDistinct e xs → IsDistinct e ys → AllByRecursion (λ x. AllByRecursion (λ y. e x y ≡ false) ys) xs → IsDistinct e (xs ++ ys)
+unfolding IsDistinct
 distinct_append e [] ys h g c = g
 distinct_append e (x ∷ xs) ys h g c = (rec_append (λ y. e x y ≡ false) xs ys h.0 c.0, distinct_append e xs ys h.1 g c.1)
 
-cross : {X : Type 0} (e : X → X → Bool) (P Q : X → Type 0) → ((x y : X) → P x → Q y → e x y ≡ false) → (xs ys : List X) → AllByRecursion P xs → AllByRecursion Q ys → AllByRecursion (λ x. AllByRecursion (λ y. e x y ≡ false) ys) xs
+pub cross : {X : Type 0} (e : X → X → Bool) (P Q : X → Type 0) → ((x y : X) → P x → Q y → e x y ≡ false) → (xs ys : List X) → AllByRecursion P xs → AllByRecursion Q ys → AllByRecursion (λ x. AllByRecursion (λ y. e x y ≡ false) ys) xs
 cross e P Q f [] ys h g = tt
 cross e P Q f (x ∷ xs) ys h g = (rec_weaker Q (λ y. e x y ≡ false) (λ y q. f x y h.0 q) ys g, cross e P Q f xs ys h.1 g)
 
 same_fronts : (ds xs ys : List Departure) → is_same (ds ++ xs) (ds ++ ys) ≡ is_same xs ys
 same_fronts [] xs ys = refl
 same_fronts (d ∷ ds) xs ys =
-    ap (λ b. b && ((d.turns == d.turns) && is_same (ds ++ xs) (ds ++ ys))) (eq-eqb d.at d.at refl)
+    ap (λ b. (b && (d.turns == d.turns)) && is_same (ds ++ xs) (ds ++ ys)) (eq-eqb d.at d.at refl)
     ∙ ap (λ b. b && is_same (ds ++ xs) (ds ++ ys)) (eq-eqb d.turns d.turns refl)
     ∙ same_fronts ds xs ys
 
 other_turns : (at n m : ℕ) (gs hs : List Departure) → n < m → is_same (record { at = at; turns = n } ∷ gs) (record { at = at; turns = m } ∷ hs) ≡ false
 other_turns at n m gs hs lt =
-    ap (λ x. (at == at) && (x && is_same gs hs)) (ne_eqb n m (λ e. omega (arith, lt, e))) ∙ and_no (at == at)
+    ap (λ x. ((at == at) && x) && is_same gs hs) (ne_eqb n m (λ e. omega (arith, lt, e))) ∙ ap (λ x. x && is_same gs hs) (and_no (at == at))
   where
     and_no : (a : Bool) → (a && false) ≡ false
     and_no true = refl
     and_no false = refl
 
 other_place : (at bt n m : ℕ) (gs hs : List Departure) → at < bt → is_same (record { at = at; turns = n } ∷ gs) (record { at = bt; turns = m } ∷ hs) ≡ false
-other_place at bt n m gs hs lt = ap (λ x. x && ((n == m) && is_same gs hs)) (ne_eqb at bt (λ e. omega (arith, lt, e)))
+other_place at bt n m gs hs lt = ap (λ x. (x && (n == m)) && is_same gs hs) (ne_eqb at bt (λ e. omega (arith, lt, e)))
 
 -- it begins so, departs next at this offer for these turns, and goes on
 abbrev Departs : List Departure → ℕ → ℕ → List Departure → Type 0
@@ -296,7 +297,7 @@ module _ (p : Part) (t : Setting) where
   departing_departs f all ds at zero n = tt
   departing_departs f all ds at (suc fuel) n =
       rec_append (λ es. (m : ℕ) × (n ≤ m) × Departs ds at m es) (f (departed ds at n)) (rest (can_wait (end_of t (departed ds at n)) && is_of_outside (slice_get (end_of t ds).met at)))
-      (rec_weaker (Begins (departed ds at n)) (λ es. (m : ℕ) × (n ≤ m) × Departs ds at m es) (λ es b. (n, (omega arith, (b.0, b.1 ∙ fronts ds (record { at = at; turns = n }) b.0)))) (f (departed ds at n)) (all (departed ds at n)))
+      (rec_weaker (Begins (departed ds at n)) (λ es. (m : ℕ) × (n ≤ m) × Departs ds at m es) (λ es b. (n, omega arith, (b.0, b.1 ∙ fronts ds (record { at = at; turns = n }) b.0))) (f (departed ds at n)) (all (departed ds at n)))
       (by (departing_departs f all ds at fuel (n + 1)) (can_wait (end_of t (departed ds at n)) && is_of_outside (slice_get (end_of t ds).met at)))
     where
       rest : Bool → Lists
@@ -304,7 +305,7 @@ module _ (p : Part) (t : Setting) where
 
       by : AllByRecursion (λ es. (m : ℕ) × (n + 1 ≤ m) × Departs ds at m es) (departing f t ds at (n + 1) fuel) → (b : Bool) → AllByRecursion (λ es. (m : ℕ) × (n ≤ m) × Departs ds at m es) (rest b)
       by longer false = tt
-      by longer true = rec_weaker (λ es. (m : ℕ) × (n + 1 ≤ m) × Departs ds at m es) (λ es. (m : ℕ) × (n ≤ m) × Departs ds at m es) (λ es b. (b.0, (let le = b.1 in omega (arith, le), b.2))) (departing f t ds at (n + 1) fuel) longer
+      by longer true = rec_weaker (λ es. (m : ℕ) × (n + 1 ≤ m) × Departs ds at m es) (λ es. (m : ℕ) × (n ≤ m) × Departs ds at m es) (λ es b. (b.0, (let le = b.1 in omega (arith, le)), b.2)) (departing f t ds at (n + 1) fuel) longer
 
   itself_begins : (ds : List Departure) → AllByRecursion (λ es. es ≡ ds) (itself p ds)
   itself_begins ds = by (is_in_part p ds)
@@ -327,6 +328,7 @@ module _ (p : Part) (t : Setting) where
       (asked_places p ds (end_of t ds)))
 
   departing_once : (f : List Departure → Lists) → AllBegin f → ((es : List Departure) → IsDistinct is_same (f es)) → (ds : List Departure) (at fuel n : ℕ) → IsDistinct is_same (departing f t ds at n fuel)
+  unfolding IsDistinct
   departing_once f all once ds at zero n = tt
   departing_once f all once ds at (suc fuel) n = by (departing_once f all once ds at fuel (n + 1)) (can_wait (end_of t (departed ds at n)) && is_of_outside (slice_get (end_of t ds).met at))
     where
@@ -375,10 +377,11 @@ module _ (p : Part) (t : Setting) where
     later_departs a [] h = tt
     later_departs a (b ∷ bs) h =
         rec_append (λ es. (b : ℕ) × (m : ℕ) × (a < b) × Departs ds b m es) (at_once b) (flat_map at_once bs)
-        (rec_weaker (λ es. (m : ℕ) × (1 ≤ m) × Departs ds b m es) (λ es. (b : ℕ) × (m : ℕ) × (a < b) × Departs ds b m es) (λ es c. (b, (c.0, (h.0, c.2)))) (at_once b) (departing_departs f all ds b t.turns 1))
+        (rec_weaker (λ es. (m : ℕ) × (1 ≤ m) × Departs ds b m es) (λ es. (b : ℕ) × (m : ℕ) × (a < b) × Departs ds b m es) (λ es c. (b, c.0, h.0, c.2)) (at_once b) (departing_departs f all ds b t.turns 1))
         (later_departs a bs h.1)
 
     flat_once : (places_of : List ℕ) → Rises places_of → IsDistinct is_same (flat_map at_once places_of)
+    unfolding IsDistinct
     flat_once [] h = tt
     flat_once (a ∷ places_of) h =
         distinct_append is_same (at_once a) (flat_map at_once places_of) (departing_once f all once ds a t.turns 1) (flat_once places_of h.1)
@@ -392,9 +395,10 @@ module _ (p : Part) (t : Setting) where
 
     none_is_itself : (places_of : List ℕ) → AllByRecursion (λ es. (d : Departure) × (gs : List Departure) × (es ≡ ds ++ d ∷ gs)) (flat_map at_once places_of)
     none_is_itself places_of = every_of (λ es. (d : Departure) × (gs : List Departure) × (es ≡ ds ++ d ∷ gs)) at_once
-        (λ a. rec_weaker (λ es. (m : ℕ) × (1 ≤ m) × Departs ds a m es) (λ es. (d : Departure) × (gs : List Departure) × (es ≡ ds ++ d ∷ gs)) (λ es c. (record { at = a; turns = c.0 }, (c.2.0, c.2.1))) (at_once a) (departing_departs f all ds a t.turns 1)) places_of
+        (λ a. rec_weaker (λ es. (m : ℕ) × (1 ≤ m) × Departs ds a m es) (λ es. (d : Departure) × (gs : List Departure) × (es ≡ ds ++ d ∷ gs)) (λ es c. (record { at = a; turns = c.0 }, c.2.0, c.2.1)) (at_once a) (departing_departs f all ds a t.turns 1)) places_of
 
   itself_once : (ds : List Departure) → IsDistinct is_same (itself p ds)
+  unfolding IsDistinct
   itself_once ds = by (is_in_part p ds)
     where
       by : (b : Bool) → IsDistinct is_same (cond b (ds ∷ []) [])

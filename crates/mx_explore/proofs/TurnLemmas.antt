@@ -91,7 +91,7 @@ full_turns k p q h e full =
     ∙ ap (λ (x : Passage). cond x.full (let z : Passage × Ending = (x, Full) in z) (passed_turns k x)) (sym e)
     ∙ ap (λ b. cond b (let z : Passage × Ending = (q, Full) in z) (passed_turns k q)) full
 
-next_turns : (k : ℕ) (p q : Passage) → is_over p.world p.coming ≡ false → q ≡ passed_turn p → q.full ≡ false → passed_turns (suc k) p ≡ passed_turns k q
+pub next_turns : (k : ℕ) (p q : Passage) → is_over p.world p.coming ≡ false → q ≡ passed_turn p → q.full ≡ false → passed_turns (suc k) p ≡ passed_turns k q
 next_turns k p q h e full =
     ap (λ b. let q = passed_turn p in cond b (let z : Passage × Ending = (p, Rest) in z) (cond q.full (let z : Passage × Ending = (q, Full) in z) (passed_turns k q))) h
     ∙ ap (λ (x : Passage). cond x.full (let z : Passage × Ending = (x, Full) in z) (passed_turns k x)) (sym e)

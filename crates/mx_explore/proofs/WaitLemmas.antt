@@ -22,7 +22,7 @@ abbrev pub first_outside : List Met → Option Met
 first_outside [] = None
 first_outside (m ∷ ms) = cond (is_outside m.offer) (Some m) (first_outside ms)
 
-abbrev begun_of : Option Met → Bool
+abbrev pub begun_of : Option Met → Bool
 begun_of None = false
 begun_of (Some m) = m.is_begun
 
@@ -272,10 +272,10 @@ step_before d u m lt b = elim (cases_Bool (is_outside m.offer)) [
 
 -- while both wait
 module _ (d : Departure) (s : Standing) (m : Met) (h : Waits d s) where
-  t : Standing
+  abbrev t : Standing
   t = record s { waits = s.waits + 1 }
 
-  met : List Met
+  abbrev met : List Met
   met = s.met ++ m ∷ []
 
   waits_more : goes_on t m.offer ≡ is_outside m.offer
@@ -286,8 +286,10 @@ module _ (d : Departure) (s : Standing) (m : Met) (h : Waits d s) where
 
   passed_by : (g : Bool) → goes_on s m.offer ≡ g → (k : Bool) → is_outside m.offer ≡ k → (passes s m.offer ≡ g) × (passes t m.offer ≡ k)
   passed_by g e k f =
-      let none = none_begins s s.ahead m.offer h.ahead in
-      (ap (λ b. goes_on s m.offer || b) none ∙ or_false (goes_on s m.offer) ∙ e, ap (λ b. goes_on t m.offer || b) none ∙ or_false (goes_on t m.offer) ∙ waits_more ∙ f)
+      (
+        ap (λ b. goes_on s m.offer || b) (none_begins s s.ahead m.offer h.ahead) ∙ or_false (goes_on s m.offer) ∙ e,
+        ap (λ b. goes_on t m.offer || b) (none_begins t s.ahead m.offer h.ahead) ∙ or_false (goes_on t m.offer) ∙ waits_more ∙ f,
+      )
     where
       or_false : (a : Bool) → (a || false) ≡ a
       or_false true = refl

@@ -4,4 +4,5 @@ pub mod Passages
 pub mod Outcomes
 pub mod Schedules
 pub mod Tree
+pub mod Histories
 pub mod Exploring

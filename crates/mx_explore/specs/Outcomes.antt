@@ -33,12 +33,15 @@ abbrev pub state_lines : TableState → ℕ → List Service → List ℕ
 state_lines t s [] = []
 state_lines t s (v ∷ vs) = state_line t s v.name.bytes ++ state_lines t (s + 1) vs
 
--- THE TEXT OF AN OUTCOME: the states of all services, how the turns ended, and the console
-abbrev pub outcome_text : World → Ending → List ℕ
-outcome_text w ending =
+-- the states of all services, how the turns ended, and how many bytes were written to the console
+abbrev pub end_text : World → Ending → List ℕ
+end_text w ending =
     state_lines w.table 0 w.services ++ indented (ending_word ending)
     ++ (codes "  console " ++ decimal w.table.devices.console.count ++ codes "\n")
-    ++ kept_text w.table.devices.console.kept
+
+-- THE TEXT OF AN OUTCOME: that, and the bytes that the console still has
+abbrev pub outcome_text : World → Ending → List ℕ
+outcome_text w ending = end_text w ending ++ kept_text w.table.devices.console.kept
 
 -- ---- the first of schedules
 

@@ -1,5 +1,5 @@
 -- EVERY SCHEDULE that departs in few places (our own).
-use Rattle.std.specs.Prelude.{ℕ, ◌+◌, ◌==◌, ◌≡◌, ◌≤◌, ◌%◌, ◌&&◌, Bool, true, false, List, [], ◌∷◌, All, Contains, length, map}
+use Rattle.std.specs.Prelude.{ℕ, ◌+◌, ◌-◌, ◌==◌, ◌≡◌, ◌≤◌, ◌%◌, ◌&&◌, Bool, true, false, List, [], ◌∷◌, All, Contains, length, map}
 use Rattle.std.specs.List.{IsDistinct}
 use Rattle.mx_explore.specs.declared.outcomes.Tally.{Tally}
 use Rattle.mx_explore.specs.declared.passing.Departure.{Departure}
@@ -29,6 +29,13 @@ pub record AreAll (t : Setting) (k : ℕ) (p : Part) (dss : List (List Departure
   pub part : All (λ ds. is_in_part p ds ≡ true) dss
   pub every : (ds : List Departure) → IsSchedule t ds → length ds ≤ k → is_in_part p ds ≡ true → Contains dss ds
   pub once : IsDistinct is_same dss
+
+-- the part with this number of so many, from 0 on; and all of them as one
+abbrev pub part_at : ℕ → ℕ → Part
+part_at parts i = record { before = i; after = parts - (i + 1) }
+
+abbrev pub whole : Part
+whole = record { before = 0; after = 0 }
 
 -- WHAT IS FOUND: the tally of all of them
 abbrev pub IsExplored : Setting → ℕ → Part → Tally → Type 0

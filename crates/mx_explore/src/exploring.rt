@@ -33,7 +33,8 @@ pub struct Terms<'a> {
 impl Terms<'_> {
     /// Whether schedules that depart first at this offer are in the part.
     fn is_part_of(self, at: usize) -> bool
-        ensures { result ≡ ((at % (self.before + 1 + self.after)) == self.before) }
+        ensures { result
+            ≡ ((at % (self.entry.before + 1 + self.entry.after)) == self.entry.before) }
     {
         let parts = u64::from(self.before) + 1 + u64::from(self.after);
         at as u64 % parts == u64::from(self.before)

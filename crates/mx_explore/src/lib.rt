@@ -29,5 +29,6 @@ pub use offers::Offer;
 pub use outcomes::{Outcome, Tally};
 pub use passing::{Departure, Met, Ran, run_passing};
 pub use schedule_laws::{
-    every_schedule_is_in_the_tree, none_is_turns, shorter_is_a_schedule, shorter_wait_is_a_schedule,
+    every_order_is_a_schedule, every_schedule_is_in_the_tree, none_is_turns, parts_join,
+    shorter_is_a_schedule, shorter_wait_is_a_schedule,
 };

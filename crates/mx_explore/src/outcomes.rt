@@ -5,9 +5,9 @@ ghost use Rattle.mx_machine.specs.Machine.{world_of};
 ghost use Rattle.mx_machine.specs.History.{replay};
 ghost use Rattle.std.specs.Str.{bytes_eq};
 ghost use Rattle.mx_explore.specs.declared.outcomes.Outcome.{Outcome as Outcomes};
-ghost use Rattle.mx_explore.specs.Outcomes.{AreOutcomes, Found, IsCounted, IsTally, first_of, found_cmp, is_before, outcome_text, state_line, state_lines, tallied};
+ghost use Rattle.mx_explore.specs.Outcomes.{AreOutcomes, Found, IsCounted, IsTally, end_text, first_of, found_cmp, is_before, outcome_text, state_line, state_lines, tallied};
 
-use crate::passing::{Departure, Ran};
+use crate::passing::{Departure, Ran, records_of};
 use mx_machine::{Kernel, Service};
 use mx_print_report::{Naming, doing_of, push_console, push_count, push_doing, push_name};
 use mx_proc::{Slot, Table};
@@ -56,25 +56,37 @@ fn push_states(text: &mut Vec<u8>, table: &Table, services: &[Service]) -> Resul
     Ok(())
 }
 
+/// Appends the states of all services, how the turns ended, and how many bytes were written to the console.
+fn push_end(text: &mut Vec<u8>, kernel: &Kernel, ending: Ending) -> Result<(), AllocError>
+    ensures { OnOk result (text.new.items
+        ≡ text.old.items ++ end_text (replay kernel.now) ending) }
+{
+    kernel.facts();
+    push_states(text, kernel.table(), kernel.services())?;
+    text.extend_from_slice(b"  ")?;
+    text.extend_from_slice(ending.word().as_bytes())?;
+    text.push(b'\n')?;
+    push_count(
+        text,
+        b"  console ",
+        kernel.table().devices().console.count(),
+    )
+}
+
 /// The text of an outcome.
 fn outcome_text(alloc: Global, kernel: &Kernel, ending: Ending) -> Result<Vec<u8>, AllocError>
     ensures { IfOk result (λ text. text.items ≡ outcome_text (replay kernel.now) ending) }
 {
-    kernel.facts();
-    let console = &kernel.table().devices().console;
-    let mut text = Vec::new(alloc);
-    push_states(&mut text, kernel.table(), kernel.services())?;
-    text.extend_from_slice(b"  ")?;
-    text.extend_from_slice(ending.word().as_bytes())?;
-    text.push(b'\n')?;
-    push_count(&mut text, b"  console ", console.count())?;
     let mut kept = Vec::new(alloc);
-    push_console(&mut kept, console)?;
+    push_console(&mut kept, &kernel.table().devices().console)?;
+    let mut text = Vec::new(alloc);
+    push_end(&mut text, kernel, ending)?;
     push_kept(&mut text, kept.as_slice())?;
     Ok(text)
 }
 
 /// The outcome of one schedule.
+#[tactic(auto, unfolding(mx_machine::specs::Machine::world_of))]
 pub(crate) fn outcome_of(
     alloc: Global,
     ran: &Ran,
@@ -88,12 +100,11 @@ pub(crate) fn outcome_of(
         }) }
     ensures one { IfOk result (λ o. o.count ≡ 1) }
 {
-    let kernel = ran.machine.kernel();
     Ok(Outcome {
-        text: outcome_text(alloc, kernel, ran.ending)?,
+        text: outcome_text(alloc, ran.machine.kernel(), ran.ending)?,
         count: 1,
         departures: Vec::from_slice(alloc, departures)?,
-        records: kernel.history().len(),
+        records: records_of(&ran.machine),
     })
 }
 

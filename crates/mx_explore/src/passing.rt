@@ -117,7 +117,7 @@ fn meet(schedule: &mut Schedule<'_>, met: Met) -> Result<bool, AllocError>
 }
 
 /// How many records a machine's history has.
-fn records_of(machine: &Machine) -> usize
+pub(crate) fn records_of(machine: &Machine) -> usize
     ensures { result ≡ (world_of machine.now).records }
 {
     let kernel = machine.kernel();

@@ -1,6 +1,7 @@
 use Rattle.std.proofs.Common.{◌∙◌, [], ap, refl, sym}
 use Rattle.std.proofs.lemmas.List.{append-nil}
 use Rattle.mx_machine.specs.History.{BootAndHistory}
+use Rattle.mx_explore.specs.declared.exploring.Explorer.{Explorer}
 use Rattle.mx_explore.proofs.CountLemmas.{err_not_ok, explored_all, shows_all, starts_at}
 use Rattle.mx_explore.proofs.exploring.explore.Goals as goal
 
@@ -10,7 +11,7 @@ returns-in_err-boot-clause-shown g c = ([], 0, sym (append-nil _), refl, err_not
 pub explore-requires : goal.explore-requires
 explore-requires g c =
     starts_at c.args.machine c.in_ok-boot.boot c.args.machine.kernel.boot.services c.into_services-services.result.items c.in_ok-boot.ensures
-    (c.into_services-services.ensures ∙ ap (λ (k : BootAndHistory). k.boot.services) c.into_kernel.ensures) c.requires
+    (c.into_services-services.ensures ∙ ap (λ (k : BootAndHistory). k.boot.services) c.into_kernel.ensures) c.requires.boot
 
 pub returns-in_err-services-clause-shown : goal.returns-in_err-services-clause-shown
 returns-in_err-services-clause-shown g c =
@@ -20,10 +21,11 @@ returns-in_err-services-clause-shown g c =
 pub returns-clause-done : goal.returns-clause-done
 returns-clause-done g c =
     let ok = c.in_ok-services.ensures in
+    let a : Explorer = record { terms = c.args.terms; boot = c.in_ok-boot.boot; departures = c.new-2.result; tally = c.new-3.result; known = 1 } in
     record {
-      found = explored_all _ c.explore.new.self c.args.terms.departures c.args.machine c.sort.new.self c.in_ok-boot.ensures c.new-2.ensures.items c.new-3.ensures ok.counted c.sort.ensures.tally;
+      found = explored_all a c.explore.new.self c.args.terms.departures c.args.machine c.sort.new.self c.in_ok-boot.ensures c.new-2.ensures.items c.new-3.ensures ok.counted c.sort.ensures.tally;
       boot = ok.same.boot ∙ c.in_ok-boot.ensures;
-      ready = starts_at c.args.machine c.args.machine c.args.machine.kernel.boot.services _ refl (ok.services ∙ c.into_services-services.ensures ∙ ap (λ (k : BootAndHistory). k.boot.services) c.into_kernel.ensures) c.requires;
+      ready = starts_at c.args.machine c.args.machine c.args.machine.kernel.boot.services _ refl (ok.services ∙ c.into_services-services.ensures ∙ ap (λ (k : BootAndHistory). k.boot.services) c.into_kernel.ensures) c.requires.boot;
     }
 
 pub returns-clause-shown : goal.returns-clause-shown

@@ -45,3 +45,44 @@ loop-preserved c =
           ∙ ap (λ (l : List OutsideLine). passed_turns (c.args.bound - (c.loop.counter + 1)) (passage n l t full)) (coming_on events at gone ∙ ap (λ k. drop k events) (sym more))
           ∙ ap (λ (b : Bool). passed_turns (c.args.bound - (c.loop.counter + 1)) (passage n (drop (at + c.from-place.result) events) t b)) c.if-turned.false;
     }
+
+pub returns-then-is_over : goal.returns-then-is_over
+returns-then-is_over c =
+    let events = outside_events c.args.outside in
+    let p = passage c.args.machine.now events (standing c.args.schedule.now) false in (
+      drop c.loop.place events,
+      false,
+      ends_over p c.args.bound events c.loop.counter c.loop.place c.loop.machine (standing c.loop.schedule) c.loop.invariant.left c.get-next.result c.get-next.ensures (sym c.is_over.ensures ∙ c.if-is_over.true),
+    )
+
+pub returns-then-turned : goal.returns-then-turned
+returns-then-turned c =
+    let events = outside_events c.args.outside in
+    let p = passage c.args.machine.now events (standing c.args.schedule.now) false in
+    let left = cond c.in_ok-turned.turned.is_gone (drop 1 (drop c.loop.place events)) (drop c.loop.place events) in
+    let q = passage c.pass_turn.new.machine left (standing c.pass_turn.new.schedule) c.in_ok-turned.turned.is_full in (
+      left,
+      c.in_ok-turned.turned.is_full,
+      ends_full p c.args.bound events c.loop.counter c.loop.place c.loop.machine (standing c.loop.schedule) q c.loop-test.true c.loop.invariant.left c.get-next.result c.get-next.ensures (sym c.is_over.ensures ∙ c.if-is_over.false)
+          (c.in_ok-turned.ensures.passed (drop c.loop.place events) (c.get-next.ensures ∙ sym (get_drop events c.loop.place))) c.if-turned.true,
+    )
+
+pub returns-then-is_over-2 : goal.returns-then-is_over-2
+returns-then-is_over-2 c =
+    let events = outside_events c.args.outside in
+    let p = passage c.args.machine.now events (standing c.args.schedule.now) false in
+    let last : c.loop.counter ≡ c.args.bound = omega (arith, c.loop-test.false, c.loop.auto.counter-end) in (
+      drop c.loop.place events,
+      false,
+      ends_last p c.args.bound events c.loop.counter c.loop.place c.loop.machine (standing c.loop.schedule) c.loop.invariant.left last c.get.result true c.get.ensures (sym c.is_over-2.ensures ∙ c.if-is_over-2.true),
+    )
+
+pub returns-else-is_over-2 : goal.returns-else-is_over-2
+returns-else-is_over-2 c =
+    let events = outside_events c.args.outside in
+    let p = passage c.args.machine.now events (standing c.args.schedule.now) false in
+    let last : c.loop.counter ≡ c.args.bound = omega (arith, c.loop-test.false, c.loop.auto.counter-end) in (
+      drop c.loop.place events,
+      false,
+      ends_last p c.args.bound events c.loop.counter c.loop.place c.loop.machine (standing c.loop.schedule) c.loop.invariant.left last c.get.result false c.get.ensures (sym c.is_over-2.ensures ∙ c.if-is_over-2.false),
+    )

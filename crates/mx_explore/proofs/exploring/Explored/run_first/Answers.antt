@@ -19,10 +19,10 @@ run_passing-requires-clause-room c = (boots c.args.self.now.boot c.in_ok-machine
 
 pub returns-clause-ran : goal.returns-clause-ran
 returns-clause-ran c =
-    let o = c.index.result in
+    let o = c.index.result.now in
     let len = c.args.self.now.tally.outcomes.ok.0 in (
       o,
-      slice_get_read c.args.self.now.tally.outcomes.items _ c.args.place o refl c.requires.there c.index.is,
+      slice_get_read c.args.self.now.tally.outcomes.items _ c.args.place o refl c.requires.there c.index.ensures,
       subst (λ (m : MachineState). IsRun (setting c.args.terms m) o.departures.items c.in_ok-ran.ran) c.in_ok-machine.ensures
           (subst (λ (ds : List Departure). IsRun (setting c.args.terms c.in_ok-machine.machine) ds c.in_ok-ran.ran) c.as_slice-departures.ensures.value c.in_ok-ran.ensures),
     )

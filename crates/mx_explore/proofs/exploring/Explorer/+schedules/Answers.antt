@@ -9,6 +9,25 @@ use Rattle.mx_explore.proofs.exploring.Explorer.+schedules.Goals as goal
 
 -- ---- a schedule and all below it
 
+pub explore-offset_bounds-as_slice-after : goal.explore-offset_bounds-as_slice-after
+explore-offset_bounds-as_slice-after g t c =
+    let fits = after_fits (here c.args.self.now) c.args.self.now.departures.items c.in_ok-tried.tried.met.items c.in_ok-tried.tried.after c.in_ok-tried.ensures.met c.in_ok-tried.ensures.after in
+    let small = c.as_slice.type_inv.1 in
+    let many : length c.as_slice.result.now ≡ length c.in_ok-tried.tried.met.items = ap length c.as_slice.ensures.value in
+    omega (arith, fits, small, many)
+
+pub explore-slice_bounds-waits_on-count : goal.explore-slice_bounds-waits_on-count
+explore-slice_bounds-waits_on-count g t c =
+    let fits = after_fits (here c.args.self.now) c.args.self.now.departures.items c.in_ok-tried.tried.met.items c.in_ok-tried.tried.after c.in_ok-tried.ensures.met c.in_ok-tried.ensures.after in
+    let len = c.in_ok-tried.tried.met.ok.0 in
+    omega (arith, fits, len)
+
+pub explore-slice_bounds-waits_on-start : goal.explore-slice_bounds-waits_on-start
+explore-slice_bounds-waits_on-start g t c =
+    let fits = after_fits (here c.args.self.now) c.args.self.now.departures.items c.in_ok-tried.tried.met.items c.in_ok-tried.tried.after c.in_ok-tried.ensures.met c.in_ok-tried.ensures.after in
+    let len = c.in_ok-tried.tried.met.ok.0 in
+    omega (arith, fits, len)
+
 pub explore-slice_bounds-waits_on-end : goal.explore-slice_bounds-waits_on-end
 explore-slice_bounds-waits_on-end g t c =
     let fits = after_fits (here c.args.self.now) c.args.self.now.departures.items c.in_ok-tried.tried.met.items c.in_ok-tried.tried.after c.in_ok-tried.ensures.met c.in_ok-tried.ensures.after in
@@ -22,7 +41,7 @@ explore-returns-then-left-eq0-clause-counted g t c =
 
 pub explore-returns-then-left-eq0-clause-can_wait : goal.explore-returns-then-left-eq0-clause-can_wait
 explore-returns-then-left-eq0-clause-can_wait g t c =
-    c.waits_on-can_wait.ensures ∙ waits_now (here c.args.self.now) c.args.self.now.departures.items c.in_ok-tried.tried.met.items c.in_ok-tried.tried.after c.in_ok-tried.ensures.met c.in_ok-tried.ensures.after
+    c.waits_on-can_wait.ensures ∙ waits_now (here c.args.self.now) c.args.self.now.departures.items c.in_ok-tried.tried.met.items c.as_slice.result.now c.in_ok-tried.tried.after c.as_slice.ensures.value c.in_ok-tried.ensures.met c.in_ok-tried.ensures.after
 
 pub explore-loop-at-init : goal.explore-loop-at-init
 explore-loop-at-init g t c =
@@ -35,12 +54,18 @@ explore-loop-at-init g t c =
     }
 
 pub explore-depart-requires : goal.explore-depart-requires
-explore-depart-requires g t c =
+explore-depart-requires g t c κs within =
     let a = c.args.self.now in
     let inv = c.loop-at.invariant in
     let len = c.in_ok-tried.tried.met.ok.0 in
-    let there = slice_get_read c.in_ok-tried.tried.met.items _ c.loop-at.at c.index.result refl (omega (arith, c.loop-at-test.true, len)) c.index.is in
-    (omega (arith, c.decreases, c.if-left-eq0.false), (at_boot a c.loop-at.self c.args.services.items c.loop-at.services.items inv.tried.same inv.services c.requires, met_there a c.loop-at.self c.in_ok-tried.tried.met.items c.loop-at.at _ inv.tried.same c.in_ok-tried.ensures.met there))
+    let there = slice_get_read c.in_ok-tried.tried.met.items _ c.loop-at.at c.index.result.now refl (omega (arith, c.loop-at-test.true, len)) c.index.ensures in
+    (
+      omega (arith, c.decreases, c.if-left-eq0.false),
+      (within, record {
+        boot = at_boot a c.loop-at.self c.args.services.items c.loop-at.services.items inv.tried.same inv.services c.requires;
+        met = met_there a c.loop-at.self c.in_ok-tried.tried.met.items c.loop-at.at c.index.result.now inv.tried.same c.in_ok-tried.ensures.met there;
+      }),
+    )
 
 pub explore-loop-at-preserved-then-not-is_asked : goal.explore-loop-at-preserved-then-not-is_asked
 explore-loop-at-preserved-then-not-is_asked g t c =
@@ -88,7 +113,7 @@ explore-returns-clause-services g t c = c.loop-at.invariant.services
 
 pub explore-returns-clause-can_wait : goal.explore-returns-clause-can_wait
 explore-returns-clause-can_wait g t c =
-    c.waits_on-can_wait.ensures ∙ waits_now (here c.args.self.now) c.args.self.now.departures.items c.in_ok-tried.tried.met.items c.in_ok-tried.tried.after c.in_ok-tried.ensures.met c.in_ok-tried.ensures.after
+    c.waits_on-can_wait.ensures ∙ waits_now (here c.args.self.now) c.args.self.now.departures.items c.in_ok-tried.tried.met.items c.as_slice.result.now c.in_ok-tried.tried.after c.as_slice.ensures.value c.in_ok-tried.ensures.met c.in_ok-tried.ensures.after
 
 pub explore-returns-clause-shown : goal.explore-returns-clause-shown
 explore-returns-clause-shown g t c = c.loop-at.invariant.shown
@@ -106,9 +131,9 @@ pub depart-returns-in_default-clause-shown : goal.depart-returns-in_default-clau
 depart-returns-in_default-clause-shown g t c = c.loop-waited.invariant.shown
 
 pub depart-explore-requires : goal.depart-explore-requires
-depart-explore-requires g t c =
+depart-explore-requires g t c κs within =
     let inv = c.loop-waited.invariant in
-    (omega (arith, c.decreases), at_boot c.args.self.now c.loop-waited.self c.args.services.items c.loop-waited.services.items inv.departed.same inv.services c.requires.boot)
+    (omega (arith, c.decreases), (within, at_boot c.args.self.now c.loop-waited.self c.args.services.items c.loop-waited.services.items inv.departed.same inv.services c.requires.boot))
 
 pub depart-returns-in_err-back-clause-shown : goal.depart-returns-in_err-back-clause-shown
 depart-returns-in_err-back-clause-shown g t c = shows_then _ _ _ _ _ _ c.loop-waited.invariant.shown c.in_err-back.ensures.shown
@@ -118,7 +143,7 @@ depart-returns-then-not-goes_on-clause-same g t c =
     let b = c.loop-waited.self in
     let ok = c.in_ok-back.ensures in
     let back = popped b.departures.items c.pop.new.self.items c.explore.new.self.departures.items _ _ (ok.same.departures ∙ c.in-Ok.ensures.items) (omega (arith, c.explore.new.self.departures.ok.0)) c.pop.ensures.rest in
-    (last_departed c.args.left c.args.at c.loop-waited.waited c.args.self.now b _ _ c.explore.new.self c.loop-waited.invariant.departed c.loop-waited-test.true refl refl refl c.in-Ok.ensures.items ok.same ok.counted refl refl refl back
+    (last_departed c.args.left c.args.at c.loop-waited.waited c.args.self.now b (record c.explore.new.self { departures = c.pop.new.self }) _ c.explore.new.self c.loop-waited.invariant.departed c.loop-waited-test.true refl refl refl c.in-Ok.ensures.items ok.same ok.counted refl refl refl back
     c.args.met c.in_ok-back.can_wait c.goes_on.result c.requires.met ok.can_wait c.goes_on.ensures c.if-not-goes_on.true).0
 
 pub depart-returns-then-not-goes_on-clause-counted : goal.depart-returns-then-not-goes_on-clause-counted
@@ -126,7 +151,7 @@ depart-returns-then-not-goes_on-clause-counted g t c =
     let b = c.loop-waited.self in
     let ok = c.in_ok-back.ensures in
     let back = popped b.departures.items c.pop.new.self.items c.explore.new.self.departures.items _ _ (ok.same.departures ∙ c.in-Ok.ensures.items) (omega (arith, c.explore.new.self.departures.ok.0)) c.pop.ensures.rest in
-    (last_departed c.args.left c.args.at c.loop-waited.waited c.args.self.now b _ _ c.explore.new.self c.loop-waited.invariant.departed c.loop-waited-test.true refl refl refl c.in-Ok.ensures.items ok.same ok.counted refl refl refl back
+    (last_departed c.args.left c.args.at c.loop-waited.waited c.args.self.now b (record c.explore.new.self { departures = c.pop.new.self }) _ c.explore.new.self c.loop-waited.invariant.departed c.loop-waited-test.true refl refl refl c.in-Ok.ensures.items ok.same ok.counted refl refl refl back
     c.args.met c.in_ok-back.can_wait c.goes_on.result c.requires.met ok.can_wait c.goes_on.ensures c.if-not-goes_on.true).1
 
 pub depart-returns-then-not-goes_on-clause-services : goal.depart-returns-then-not-goes_on-clause-services

@@ -16,7 +16,7 @@ returns-in_err-count-clause-shown g c = shows_none _ _ _ _ refl c.in_err-count.e
 
 pub returns-clause-counted : goal.returns-clause-counted
 returns-clause-counted g c =
-    one_counted c.args.self.now _ c.args.ran.now c.in_ok-outcome.outcome c.requires c.in_ok-outcome.ensures.found c.in_ok-count.ensures.counted (sym c.is_in_part.ensures ∙ c.if-not-is_in_part.false)
+    one_counted c.args.self.now (record c.args.self.now { tally = c.count.new.self }) c.args.ran.now c.in_ok-outcome.outcome c.as_slice.result.now c.requires c.as_slice.ensures.value c.in_ok-outcome.ensures.found c.in_ok-count.ensures.counted (sym c.is_in_part.ensures ∙ c.if-not-is_in_part.false)
 
 pub returns-clause-shown : goal.returns-clause-shown
 returns-clause-shown g c = shows_one _ _ _ _ _ c.show.ensures c.in_ok-count.ensures.more refl (omega (arith, c.max-all.ensures))

@@ -26,16 +26,16 @@ pub returns-in_err-ran-clause-shown : goal.returns-in_err-ran-clause-shown
 returns-in_err-ran-clause-shown g c = shows_none _ _ _ _ refl refl
 
 pub count-requires : goal.count-requires
-count-requires g c = ran_from c.args.self.now c.in_ok-machine.machine c.in_ok-ran.ran c.in_ok-machine.ensures c.in_ok-ran.ensures
+count-requires g c = ran_from c.args.self.now c.in_ok-machine.machine c.in_ok-ran.ran c.as_slice.result.now c.in_ok-machine.ensures c.as_slice.ensures.value c.in_ok-ran.ensures
 
 pub returns-clause-services : goal.returns-clause-services
 returns-clause-services g c =
     c.into_services-services.ensures ∙ ap (λ (k : BootAndHistory). k.boot.services) c.into_kernel.ensures
     ∙ services_back (setting c.args.self.now.terms c.args.self.now.boot) c.args.self.now.departures.items c.args.self.now.boot c.args.services.items c.in_ok-ran.ran c.requires refl
-    (ran_from c.args.self.now c.in_ok-machine.machine c.in_ok-ran.ran c.in_ok-machine.ensures c.in_ok-ran.ensures)
+    (ran_from c.args.self.now c.in_ok-machine.machine c.in_ok-ran.ran c.as_slice.result.now c.in_ok-machine.ensures c.as_slice.ensures.value c.in_ok-ran.ensures)
 
 pub returns-clause-met : goal.returns-clause-met
-returns-clause-met g c = (ran_from c.args.self.now c.in_ok-machine.machine c.in_ok-ran.ran c.in_ok-machine.ensures c.in_ok-ran.ensures).met
+returns-clause-met g c = (ran_from c.args.self.now c.in_ok-machine.machine c.in_ok-ran.ran c.as_slice.result.now c.in_ok-machine.ensures c.as_slice.ensures.value c.in_ok-ran.ensures).met
 
 pub returns-clause-after : goal.returns-clause-after
-returns-clause-after g c = (ran_from c.args.self.now c.in_ok-machine.machine c.in_ok-ran.ran c.in_ok-machine.ensures c.in_ok-ran.ensures).after
+returns-clause-after g c = (ran_from c.args.self.now c.in_ok-machine.machine c.in_ok-ran.ran c.as_slice.result.now c.in_ok-machine.ensures c.as_slice.ensures.value c.in_ok-ran.ensures).after

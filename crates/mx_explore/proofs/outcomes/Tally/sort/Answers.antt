@@ -1,5 +1,4 @@
-use Rattle.std.proofs.Common.{List, ap, map}
-use Rattle.std.specs.Ordering.{is_lt}
+use Rattle.std.proofs.Common.{map, rules}
 use Rattle.std.proofs.lemmas.List.MinMax.{ranks_by}
 use Rattle.std.proofs.lemmas.List.Sorted.{IsPermutation-map, answers_always}
 use Rattle.mx_explore.specs.Outcomes.{first_of, tallied}
@@ -15,5 +14,5 @@ returns-clause-tally c fs h =
         schedules = h.schedules;
         outcomes = reordered fs (map tallied c.args.self.now.outcomes.items) _ (IsPermutation-map tallied c.args.self.now.outcomes.items _ sorted.permutation) h.outcomes;
       };
-      order = sorted.sorted _ (ranks_by found_total first_of) (answers_always _ _ _ (λ f a r g called. ap is_lt called.met));
+      order = sorted.sorted _ (ranks_by found_total first_of) (answers_always _ _ _ (λ f a r g called. search rules));
     }
