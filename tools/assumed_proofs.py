@@ -1,11 +1,17 @@
 """Proofs that are taken for granted, in a scratch copy of a crate. A check of some functions also proves those that they
 call, in the same crate, although only the contracts of these count for it. Here each has no body any more, and its proof is
-one hole, the same for all. The check has to pass over holes; what it says of a function then rests on no other's body."""
+one hole, the same for all. The check has to pass over holes; what it says of a function then rests on no other's body.
+
+A check prints what to write for a function that the search doesn't prove, and reads all modules again for that. Where nobody
+wants to know, the function gets an answer that is refused in any case: then the check only says what isn't proved."""
 import os
 
 MODULE = "Assumed"
 HOLE = "pub assumed {ℓ} : {A : Type ℓ} → A\nassumed = ?\n"
-BY_HAND = "Answers.antt", "Invariants.antt", "Proof.antt"
+ANSWERS, PROOF = "Answers.antt", "Proof.antt"
+BY_HAND = ANSWERS, "Invariants.antt", PROOF
+NO_HELP = "no-help"
+REFUSED = f"pub {NO_HELP} {{ℓ}} : {{A : Type ℓ}} → A\n{NO_HELP} = no-such-name\n"
 # What antt reads as words of its own is quoted in the name of a module.
 RESERVED = {"abbrev", "axiom", "data", "deriving", "do", "elim", "module", "mutual", "open", "package", "record", "unfold"}
 
@@ -25,12 +31,27 @@ def assume(folder, crate, functions):
         for name in BY_HAND:
             if os.path.exists(os.path.join(place, name)):
                 os.remove(os.path.join(place, name))
-        write(os.path.join(place, "Proof.antt"), proof_of(crate, path))
+        write(os.path.join(place, PROOF), proof_of(crate, path))
     write(os.path.join(folder, "proofs", f"{MODULE}.antt"), HOLE)
     lib = os.path.join(folder, "proofs", "Lib.antt")
     known = open(lib, encoding="utf-8").read() if os.path.exists(lib) else ""
     if f"mod {MODULE}\n" not in known:
         write(lib, f"{known}mod {MODULE}\n")
+
+
+def drop_help(folder, path):
+    """Adds the answer that is refused to those of a function. One whose whole proof is by hand has no answers."""
+    place = os.path.join(folder, "proofs", *path)
+    if os.path.exists(os.path.join(place, PROOF)):
+        return
+    os.makedirs(place, exist_ok=True)
+    with open(os.path.join(place, ANSWERS), "a", encoding="utf-8") as file:
+        file.write(f"\n{REFUSED}")
+
+
+def without_refused(output):
+    """What a check prints, without the errors of these answers."""
+    return "".join(line for line in output.splitlines(True) if f"error: `{NO_HELP}`:" not in line)
 
 
 def drop_bodies(path, functions):

@@ -337,6 +337,224 @@ tell_statements() {
     tell_comments "$text"
 }
 
+# What the program says of a command that it refuses, both lines: it is asked once more, and what it prints is left out.
+failure_of() {
+    case " $* " in *' --explain '*) ;; *) set -- "$@" --explain ;; esac
+    (start_program "$@" </dev/null) 2>&1 >/dev/null
+}
+
+# For awk: a line of a text without quoted texts, comment and spaces at its ends, and without its labels; the last of
+# these is in `label`.
+plain_line='
+    function plain(line) {
+        gsub(/"([^"\\]|\\.)*"/, "\"", line)
+        sub(/;.*/, "", line)
+        gsub(/[ \t\r]+/, " ", line)
+        sub(/^ /, "", line)
+        sub(/ $/, "", line)
+        label = ""
+        while (match(line, /^[A-Za-z_][A-Za-z_0-9]* ?: ?/)) {
+            label = substr(line, 1, RLENGTH)
+            gsub(/[ :]/, "", label)
+            line = substr(line, RLENGTH + 1)
+        }
+        return line
+    }'
+
+# Says of the line at which a text is refused what its second line can't, which sees no other line and no whole form:
+# tell_statement TEXT LINE PROBLEM.
+tell_statement() {
+    awk -v file="$1" -v line="$2" -v problem="$3" "$plain_line"'
+        function tell(words) { if (!told++) print "mx: " file " line " line ": " words }
+        # How many bits a register or a size has; 0 of another word.
+        function bits(word) {
+            if (word ~ /^([abcd][lh]|byte)$/) return 8
+            if (word ~ /^([abcd]x|[sb]p|[sd]i|word)$/) return 16
+            return word ~ /^(e([abcd]x|[sb]p|[sd]i)|dword)$/ ? 32 : 0
+        }
+        function tell_bracket(code) {
+            if (!match(code, /\[[^\]]*\]/)) return
+            inside = substr(code, RSTART, RLENGTH)
+            if (match(inside, /\* ?[0-9][0-9A-Za-z]*/)) {
+                scale = substr(inside, RSTART + 1, RLENGTH - 1)
+                sub(/^ /, "", scale)
+                if (scale !~ /^(0x0*)?[1248]$/) tell("wanted 1, 2, 4 or 8 after *, stands \"" scale "\"")
+            }
+            if (inside ~ /esp ?\*/) tell("esp has no scale: wanted another register before *")
+            count = 0
+            split(inside, words, /[^a-z0-9_]+/)
+            for (at in words) count += bits(words[at]) == 32
+            if (count > 2) tell("wanted two registers at most in a bracket")
+        }
+        function tell_sizes(code) {
+            if (code !~ /^(mov|add|adc|sub|sbb|and|or|xor|cmp|test|xchg) /) return
+            sub(/^[a-z]+ /, "", code)
+            if (split(code, sides, / ?, ?/) != 2) return
+            for (at = 1; at <= 2; at++) {
+                sized = sides[at]
+                sub(/ .*/, "", sized)
+                if (sides[at] ~ /\[/ && bits(sized) && bits(sides[3 - at]) && bits(sized) != bits(sides[3 - at]))
+                    tell("wanted one size: " sized " has " bits(sized) " bits, and " sides[3 - at] " " bits(sides[3 - at]))
+            }
+        }
+        function tell_count(code) {
+            two = "^(mov|add|adc|sub|sbb|and|or|xor|cmp|test|xchg|lea|movzx|movsx|shl|shr|sar|rol|ror)( [^,]*)?$"
+            one = "^(push|pop|inc|dec|neg|not|mul|div|idiv|int|jmp|call|loop|loope|loopne|j[a-z]+)"
+            if (code ~ two) tell("wanted two operands, with a comma between them")
+            if (code ~ (one "$")) tell("wanted an operand after " code)
+            if (code ~ (one " .*,")) tell("wanted one operand")
+            if (code ~ /^(nop|leave|hlt|cdq|cbw|cwd|cwde|pushad|popad|pushfd|popfd|cld|std|clc|stc|cmc|lahf|sahf) /)
+                tell("wanted no operand")
+            if (code ~ /^(movs|cmps|stos|lods|scas)[bwd] /) tell("wanted no operand: the addresses are in esi and edi")
+            if (code ~ /^\.(space|stack|entry|ascii|data[124])$/) tell("wanted an operand after " code)
+        }
+        function tell_number(code) {
+            if (match(code, /^\.(stack|space) -/)) tell("wanted a number without a sign, stands \"" substr(code, RLENGTH) "\"")
+            most = code ~ /^\.data1 / ? 255 : code ~ /^\.data2 / ? 65535 : code ~ /^int [0-9]+$/ ? 255 : 0
+            sub(/^[^ ]* /, "", code)
+            for (at = split(code, words, / ?, ?/); most && at; at--)
+                if (words[at] ~ /^[0-9]+$/ && words[at] + 0 > most) tell("wanted at most " most ", stands \"" words[at] "\"")
+        }
+        function tell_operands(code) {
+            tell_number(code)
+            tell_count(code)
+            tell_bracket(code)
+            tell_sizes(code)
+            if (match(code, /(^|[ ,])r([abcd]x|[sb]p|[sd]i|[89]|1[0-5])[dwb]?($|[^A-Za-z0-9_])/))
+                tell("registers have 32 bits at most: eax, ecx, edx, ebx, esp, ebp, esi, edi")
+            if (code ~ /(^|[ ,])(byte|word|dword) [^\[]/) tell("byte, word and dword stand before a bracket alone")
+            if (code ~ /^(jmp|call|j[a-z]+) (near|far) /) tell("wanted the label alone, without near and far")
+            if (code ~ /^test [a-z]+ ?, ?\[/) tell("wanted the bracket first, as test [b], eax")
+            if (code ~ /^(mov|add|adc|sub|sbb|and|or|xor|cmp|test) -?[0-9][0-9A-Za-z]* ?,/)
+                tell("wanted the number as the second operand: the first is a register or an address")
+            gsub(/\[[^\]]*\]/, "", code)
+            if (code ~ /[ ,]e?(ax|cx|dx|bx|sp|bp|si|di) ?[-+]/)
+                tell("a register is added in brackets alone: lea eax, [ebx+4] makes eax ebx+4")
+            if (code ~ /[ ,][c-gs]s($|[ ,:])/) tell("there are no segment registers: wanted the address alone")
+        }
+        function tell_byte(code) {
+            if (code ~ /^e?[abcd]x ?[-+*]?=/) tell("wanted an instruction, as mov eax, 5 or add eax, 5")
+            if (code ~ /\(/ && code !~ /[$%]/) tell("wanted [ and ] around an address, and no ( and )")
+            if (code ~ /[0-9A-Za-z_] ?(\/|<<|>>|&|\|) ?[0-9A-Za-z_]/) tell("wanted the number itself: only name+n and name-n are computed")
+        }
+        function tell_word(word) {
+            if (word == "enter") tell("wanted push ebp, mov ebp, esp and sub esp, N in place of enter N, 0")
+            if (word ~ /^cmov/) tell("wanted a jump over a mov: the 80386 has no " word)
+            if (word ~ /^(bswap|cmpxchg|xadd|cpuid|rdtsc|ud2)$/) tell("the 80386 has no " word)
+            if (word ~ /^f(ld|st|stp|add|sub|mul|div|ild|ist|istp|com|init|chs|abs|sqrt)$/)
+                tell("there is no floating point: wanted whole numbers")
+            if (word == "times") tell(".space N makes N zero bytes; other statements are written out")
+            if (word ~ /^\.?(globl|global|extern|extrn|public|bits|use32|cpu|align|balign|org|type|size|file|model|proc|endp|end)$/)
+                tell("there is no " word ": wanted the line left out")
+            if (word ~ /^set/ && substr(word, 4) in condition) tell("wanted set" condition[substr(word, 4)] " in place of " word)
+            if (word ~ /^(mov|add|adc|sub|sbb|and|or|xor|cmp|test|lea|push|pop|inc|dec|neg|not|shl|shr|sar|imul|idiv|mul|div)[bwlq]$/)
+                tell("wanted " substr(word, 1, length(word) - 1) ", without the size in its name: registers, or byte, word and dword, say it")
+            if (word in instead) tell("wanted " instead[word] " in place of " word)
+        }
+        BEGIN {
+            pairs = "e z ne nz c b nae b nc nb ae nb g nle ge nl nge l ng le na be a nbe pe p po np"
+            count = split(pairs, words, " ")
+            for (at = 1; at < count; at += 2) condition[words[at]] = words[at + 1]
+            instead[".byte"] = ".data1"
+            instead[".word"] = instead[".short"] = instead[".value"] = ".data2"
+            instead[".long"] = instead[".int"] = instead[".dword"] = ".data4"
+            instead[".asciz"] = instead[".string"] = ".ascii, and \\0 at the end of the text,"
+            instead[".skip"] = instead[".zero"] = ".space"
+            instead[".code"] = ".text"
+            instead["loopz"] = "loope"
+            instead["loopnz"] = "loopne"
+            instead["jpe"] = "jp"
+            instead["jpo"] = "jnp"
+            instead["syscall"] = instead["sysenter"] = "int 33, with the trap in ecx,"
+            instead["move"] = instead["load"] = instead["ld"] = instead["store"] = "mov"
+            instead["return"] = instead["retn"] = "ret"
+            instead["goto"] = "jmp"
+        }
+        { code = plain($0) }
+        label != "" && !(label in first) { first[label] = NR }
+        NR == line && problem == "BadOperands" { tell_operands(code) }
+        NR == line && problem == "BadByte" { tell_byte(code) }
+        NR == line && problem == "UnknownWord" { split(code, words, " "); tell_word(words[1]) }
+        NR == line && problem == "Twice" && first[label] < NR { tell(label " is in line " first[label] " already") }
+        NR == line && problem == "TooFar" && code ~ / short / { tell("without short it reaches any place") }
+        NR == line && problem == "TooFar" && code ~ /^loop / { tell("wanted sub ecx, 1 and jnz, which reach any place") }
+        problem == "TooLarge" && code ~ /^\.(stack|space) [0-9]+$/ {
+            split(code, words, " ")
+            if (words[2] + 0 > 4194304) { line = NR; tell(code " alone is more than all may be") }
+        }' "$1" >&2
+}
+
+# Says of a text that was assembled that it has no instruction, or where the address of a number is counted with, as if it
+# were the number: right after it was put in a register that is no address anywhere in the text.
+tell_addresses() {
+    [ ! -f "$1" ] || awk -v file="$1" "$plain_line"'
+        { code = plain($0) }
+        label != "" { named = label; is_number[named] = 0 }
+        code == "" { next }
+        code ~ /^\.data[124] -?[0-9][0-9A-Fa-fx]*$/ { is_number[named] = label != ""; next }
+        code ~ /^\.(data[124]|ascii|space) / { is_number[named] = 0 }
+        code !~ /^\./ { text[++count] = code; line[count] = NR; whole = whole "\n" code }
+        END {
+            if (!count) print "mx: " file " has no instruction"
+            for (at = 1; at < count; at++) {
+                if (text[at] !~ /^mov e(ax|cx|dx|si|di|bp), ?[A-Za-z_][A-Za-z_0-9]*$/) continue
+                split(text[at], words, /[ ,]+/)
+                if (!is_number[words[3]] || whole ~ ("\\[[^\\]]*" words[2])) continue
+                if (text[at + 1] !~ ("^(add|sub|and|or|xor|cmp|test|imul|shl|shr|inc|dec|neg|not) " words[2] "(,|$)")) continue
+                print "mx: " file " line " line[at] ": " words[3] " is an address here; what stands there is [" words[3] "]"
+                exit
+            }
+        }' "$1" >&2
+}
+
+# Says of a text that was assembled, with its code apart, which data of it is among the code, if something else than a jump
+# names it.
+tell_data() {
+    [ ! -f "$1" ] || awk -v file="$1" "$plain_line"'
+        { code = plain($0) }
+        label != "" { named = label }
+        code == "" { next }
+        code == ".sep" { is_apart = 1 }
+        code ~ /^\.(text|data)$/ { is_data = code == ".data"; next }
+        code ~ /^\.(data[124]|ascii|space) / && !is_data && named != "" { labels[++count] = named; line[count] = NR }
+        code !~ /^\./ && code !~ /^(j[a-z]+|call|loop[a-z]*) / { whole = whole "\n" code }
+        { named = "" }
+        END {
+            for (at = 1; is_apart && at <= count; at++) {
+                if (whole !~ ("[^A-Za-z0-9_]" labels[at] "([^A-Za-z0-9_]|$)")) continue
+                print "mx: " file " line " line[at] ": " labels[at] \
+                    " is among the code, which a program with .sep can neither read nor write: wanted it below .data"
+                exit
+            }
+        }' "$1" >&2
+}
+
+# Says of a text that was assembled which subroutine of it doesn't take back what it pushed, or takes more: the first without
+# jumps, calls, other uses of ESP, and a push of an address for its ret.
+tell_pushes() {
+    [ ! -f "$1" ] || awk -v file="$1" "$plain_line"'
+        { code = plain($0) }
+        label != "" { routine = label; more = 0; is_plain = 1 }
+        code == "" || code ~ /^\./ { next }
+        code ~ /^call / { is_called[substr(code, 6)] = 1 }
+        code ~ /esp|^(j|loop|call|int 3$|leave|push[af]|pop[af]|push [^e]|pop [^e])/ { is_plain = 0 }
+        code ~ /^push e/ { more++ }
+        code ~ /^pop e/ { more-- }
+        code == "ret" {
+            if (is_plain && more && !is_push && routine != "") { wrong[++count] = routine; line[count] = NR; by[count] = more }
+            routine = ""
+        }
+        { is_push = code ~ /^push/ }
+        END {
+            for (at = 1; at <= count; at++) {
+                if (!is_called[wrong[at]]) continue
+                print "mx: " file " line " line[at] ": " wrong[at] (by[at] > 0 ? " pushes " by[at] " more than it pops" : \
+                    " pops " (-by[at]) " more than it pushes") ", so this ret doesn\047t go back to who called it"
+                exit
+            }
+        }' "$1" >&2
+}
+
 # Says of the configuration of these words that a comment in it begins otherwise.
 tell_comment_sign() {
     case $1 in one | as | dis | nm) return 0 ;; esac
@@ -423,6 +641,22 @@ tell_machine() {
     done
 }
 
+# Says of a configuration that two services have each other's programs, by their names.
+tell_swapped() {
+    case $1 in step | db | run | turns | explain) ;; *) return 0 ;; esac
+    config=$(nth_word 1 "$@")
+    [ ! -f "$config" ] || awk -v at="mx: $config: " '
+        { sub(/#.*/, "") }
+        $1 == "service" { program = $3; sub(/.*\//, "", program); sub(/\.out$/, "", program); has[$2] = program }
+        END {
+            for (name in has) {
+                other = has[name]
+                if (name < other && has[other] == name)
+                    print at name " has the program of " other ", and " other " that of " name
+            }
+        }' "$config" >&2
+}
+
 # Says that a history goes into a file named -.
 tell_log() {
     case $1 in
@@ -451,6 +685,22 @@ tell_names() {
     done
 }
 
+# Says to gdb that it was given a file that hasn't the code where `mx gdb` has it, if there is one beside it that has.
+tell_elf() {
+    [ "$1" = gdb ] || return 0
+    above=$PPID
+    for _ in 1 2 3; do
+        [ -r "/proc/$above/cmdline" ] || return 0
+        tr '\0' '\n' <"/proc/$above/cmdline" | while read -r word; do
+            made=${word%.elf}.gdb
+            if [ "$made" != "$word.gdb" ] && [ -f "$word" ] && [ -f "$made" ]; then
+                echo "mx: mx gdb has the code at 80000000, as $made has it and $word hasn't: gdb $made" >&2
+            fi
+        done
+        above=$(sed -n 's/^PPid:[^0-9]*//p' "/proc/$above/status")
+    done
+}
+
 # Says of a session that nobody can type, if no service of its machine may take a line; else, at a terminal, how to leave.
 tell_session() {
     [ -n "$(explains_words "$@")" ] || return 0
@@ -465,16 +715,25 @@ tell_session() {
 # Says of these words what the program doesn't, which sees neither other files nor the other commands: if it explains.
 tell_words() {
     case " $* " in *' --help '* | *' -h '*) return 0 ;; esac
-    case " $* " in *' --no-explain '*) ;; *) tell_names "$@" ;; esac
+    case " $* " in
+        *' --no-explain '*) ;;
+        *)
+            tell_names "$@"
+            tell_elf "$@" ;;
+    esac
     [ -n "$(explains_words "$@")" ] || return 0
     tell_text "$@"
     tell_statements "$@"
     tell_comment_sign "$@"
     tell_code "$@"
     tell_machine "$@"
+    tell_swapped "$@"
     tell_log "$@"
+    tell_empty "$@"
+    tell_look "$@"
     case $* in *-*) ;; *) return 0 ;; esac
     tell_option "$@"
+    tell_sign "$@"
     tell_slot "$@"
     tell_range "$@"
     tell_stop "$@"
@@ -551,6 +810,20 @@ run_live() {
     fi
     child=$!
     wait_for_child
+    [ -z "$(explains_words "$@")" ] || tell_typed "$(nth_word 1 "$@")" "$(nth_word 2 "$@")"
+    return "$status"
+}
+
+# Says of a session in which a byte was typed that no service has counted it: tell_typed CONFIG LOG.
+tell_typed() {
+    { [ -f "$1" ] && is_short "$2" && [ "$(wc -l <"$2")" -le 5000 ]; } || return 0
+    ask_program trace "$1" "$2" | awk '
+        $3 == "line" && $4 == "7:" { owner = $5 }
+        / trap SENDREC SYSTEM, DEVIO 1 255 / { is_counted = 1 }
+        END {
+            if (owner && !is_counted)
+                print "mx: " owner " has not written to register 255 (DEVIO) how many bytes it took, and no other byte comes before"
+        }' >&2
 }
 
 # The status of the program that was started, also if a signal wakes who waits for it.
@@ -571,18 +844,248 @@ is_short() {
     [ -f "$1" ] && awk '$2 == "back" { steps += $3 } END { exit NR > 20000 || steps > 10000000 }' "$1"
 }
 
-# Says of a history that was just made which calls no right machine makes were refused in it: by a mask, to nobody, or since
-# there is no such call. Others are refused by what happens, as if the other process dies. If the clock could have ticked,
-# says who waits for it too: tell_history CONFIG LOG TICKS, where TICKS is what would make it tick.
-tell_history() {
-    { [ -f "$1" ] && is_short "$2"; } || return 0
-    ask_program why "$1" "$2" | awk -v asking="mx why $1 $2" -v ticks="$3" '
-        /^refused: .*: -10[347] / { if (!count++) first = $0 }
-        /^waits: .* from CLOCK .* alarm is due / { alarm = $0 }
+# For awk: a line of `mx why` on a call that no right machine makes: refused by a mask, to nobody, with no such number or with
+# a buffer outside. Others are refused by what happens too, as if the other process dies.
+mistaken='^refused: .*: (-10[347] |-14 EFAULT .buffer.)'
+
+# Prints `= NAME MEANING` of each result of a call, as the table of $reference has it.
+result_meanings() {
+    [ ! -f "${reference-}" ] || awk -F ' *[|] *' '
+        NF == 6 && $2 ~ /^-[0-9]+$/ && length($3) == 8 && $4 ~ /^E[A-Z]+$/ { print "= " $4 " " $5 }' "$reference"
+}
+
+# Says of a history of which `mx why` says $became which calls were refused in it: the first that no right machine makes, or
+# else the first, and what its result means, if the line doesn't say it: tell_calls CONFIG LOG.
+tell_calls() {
+    { result_meanings; printf '%s\n' "$became"; } | awk -v asking="mx why $1 $2" -v mistaken="$mistaken" '
+        $1 == "=" { name = $2; sub(/^= [A-Z]* /, ""); means[name] = $0; next }
+        /^died: .*; respawned at / { name = $2; sub(/,$/, ":", name); is_back[name] = 1 }
+        /^refused: and [0-9]+ more$/ { groups += $3; next }
+        !/^refused: / { next }
+        { groups++ }
+        !any { any = $0; partner = $4 }
+        $0 ~ mistaken && !first { first = $0 }
         END {
-            if (count) print "mx: " first "; " (count > 1 ? count - 1 " more: " : "") asking
+            if (!first) first = any
+            if (!first) exit
+            print "mx: " first "; " (groups > 1 ? groups - 1 " more: " : "") asking
+            if (!match(first, /: -[0-9]+ E[A-Z]+(,| while )/)) exit
+            split(substr(first, RSTART + 2, RLENGTH - 2), result, /[ ,]/)
+            if (!(result[2] in means)) exit
+            if (result[2] == "EDEADDST" && partner in is_back) who = ": WHOIS tells who is there now"
+            print "mx: " result[2] ": " means[result[2]] who
+        }' >&2
+}
+
+# Says of a history that was just made which calls were refused in it. If the clock could have ticked, says who waits for it
+# too: tell_history CONFIG LOG TICKS, where TICKS is what would make it tick. Of who died, says what the instruction is that
+# the machine hasn't, and that nothing says where it begins. Leaves in `became` what `mx why` says, and in `shown` what `mx
+# trace` does, both empty for a long history.
+tell_history() {
+    became='' shown=''
+    { [ -f "$1" ] && is_short "$2"; } || return 0
+    became=$(ask_program why "$1" "$2")
+    [ "$(wc -l <"$2")" -gt 5000 ] || shown=$(ask_program trace "$1" "$2")
+    slots=$(awk '{ sub(/#.*/, "") } $1 == "service" { printf " %d %s", slot++, $2 }' "$1")
+    tell_calls "$1" "$2"
+    printf '%s\n' "$became" | awk -v mistaken="$mistaken" -v ticks="$3" -v slots="$slots" '
+        $0 ~ mistaken { is_mistaken = 1 }
+        /^refused: / && $3 ~ /^(SEND|SENDREC|NOTIFY)$/ && $2 == $4 && !self { self = $2; sub(/:$/, "", self) }
+        /^waits: .* from CLOCK .* alarm is due / { alarm = $0 }
+        /^refused: .*: kernel call, type 0: -107 / {
+            print "mx: the answer of a call overwrites its message, and its type is 0 then: wanted the type set again"
+        }
+        /^died: .* of fault 0 at / { print "mx: fault 0 is a division by 0, or one whose result doesn\047t fit" }
+        /^died: .* of fault 13 at .* int 0x[0-9a-f]*: no process may do this/ { print "mx: a trap is int 33, which is int 0x21" }
+        /^died: .* of fault 13 at .* no code: the code ends at / {
+            place = $0
+            sub(/.* of fault 13 at /, "", place)
+            end = place
+            sub(/.* the code ends at /, "", end)
+            if (substr(place, 1, 8) == substr(end, 1, 8)) came = $2
+        }
+        /^died: .* of fault 6 at .* \.data1 0xf0(;|$)/ {
+            print "mx: 0xf0 is the prefix LOCK, which the machine hasn\047t: gcc makes it of _Atomic and __sync"
+        }
+        /^died: .* of fault 6 at .* \.data1 0xd[89a-f](;|$)/ { print "mx: there is no floating point: wanted whole numbers" }
+        END {
+            sub(/,$/, "", came)
+            if (came && !is_mistaken) print "mx: " came " came to the end of its code: wanted EXIT, a jmp or a ret before that"
+            if (self) print "mx: " self " calls itself: slots are in the order of the services in CONFIG:" slots
             if (alarm && ticks) print "mx: " alarm "; the clock made no tick: " ticks
         }' >&2
+    tell_course "$3"
+    tell_windows
+    tell_answered
+    printf '%s\n' "$became" | sed -n 's/^died: \([A-Za-z0-9_]*\),.* (the stack is empty: .*/\1/p' | while read -r name; do
+        tell_entry "$1" "$name"
+    done
+    tell_stacks "$1" "$2"
+    tell_ud2 "$1"
+}
+
+# Says of a short history that was just made what its trace shows of calls that end well: a service that ends and comes back,
+# a kernel call's type that went to a process, words for another register than the console's; if it is full, which calls
+# were made most, and that the clock didn't tick for who reads it: tell_course TICKS.
+tell_course() {
+    [ -n "$shown" ] || return 0
+    printf '%s\n' "$shown" | awk -v ends="$became" -v ticks="$1" '
+        $3 == "back" && $7 == "trap" {
+            made = $5 " " $8 " " $9
+            if ($9 == "SYSTEM,") made = made " " $10
+            register = $10 == "DEVIO" && $11 == 1 ? $12 : 0
+            writer = $5
+            if ($10 == "DEVIO" && $11 == 0 && $12 == 0 && !reader) reader = $5
+            if (!times[made]++) order[++kinds] = made
+        }
+        $2 == "answer" && $3 == 0 && register > 0 && !other { other = writer " wrote register " register }
+        $2 == "console" { is_written = 1 }
+        $3 == "tick" { ticks = "" }
+        / -> down exit$/ { if (!exits[$2]++) enders[++ended] = $2 }
+        /: down exit -> ready$/ { returns[$2]++ }
+        $2 == "message" && $8 == "type" && $9 >= 1536 && $9 <= 1544 && !sent {
+            sent = $3 " sent " $6 " the type " sprintf("0x%x", $9) ", a call of SYSTEM, at record " $1
+        }
+        END {
+            for (at = 1; at <= ended; at++)
+                if ((name = enders[at]) in returns) print "mx: " name " ended by EXIT, " (exits[name] > 1 ? exits[name] " times" : "once") ", and came back, as after a death: restarts 0 lets it end"
+            if (sent) print "mx: " sent ": SYSTEM is -2 in EAX"
+            if (reader && !is_written) print "mx: nothing is on the console: " reader " read register 0, since p0 was 0; 1 writes"
+            if (other && !is_written) print "mx: nothing is on the console, which is register 0: " other
+            if (ends !~ /^ends: full/) exit
+            for (count = 0; count < 3; count++) {
+                most = ""
+                for (at = 1; at <= kinds; at++)
+                    if (times[order[at]] > 1 && (most == "" || times[order[at]] > times[most])) most = order[at]
+                if (most == "") break
+                list = list (list ? "; " : "") most ", " times[most] " times"
+                times[most] = 0
+            }
+            if (list) print "mx: made most: " list
+            if (list ~ /^[^;]* SENDREC SYSTEM, TIMES, / && ticks) print "mx: the clock made no tick: " ticks
+        }' >&2
+}
+
+# Says of the copies in $shown that were refused for a window which window there was then, the first of each kind.
+tell_windows() {
+    printf '%s\n' "$shown" | awk '
+        # Whether a window of the owner is there, for reading (1) or for writing (2). If not, says what there is.
+        function is_open(owner, kind, from, count) {
+            if (!(owner in name)) return 0
+            at = owner " " copier
+            owner_name = name[owner] " " name[copier]
+            held = access[at] + 0
+            if (held == 0) {
+                tell(owner_name " none", name[owner] " had opened no window to " name[copier] " by record " $1 ": GRANT opens one")
+            } else if (held != 3 && held != kind) {
+                tell(owner_name " kind", "the window of " name[owner] " to " name[copier] ", since record " since[at] ", is for " \
+                    (held == 1 ? "reading" : "writing") ", and the copy of record " $1 " wants " \
+                    (kind == 1 ? "reading" : "writing"))
+            } else if (from < begin[at] || from + count > begin[at] + size[at]) {
+                tell(owner_name " size", "the window of " name[owner] " to " name[copier] ", since record " since[at] ", has " size[at] \
+                    " bytes from " begin[at] " on, and the copy of record " $1 " wants " count " from " from " on")
+            } else return 1
+            return 0
+        }
+        function tell(kind, words) { if (!told[kind]++ && count_told++ < 3) print "mx: " words }
+        $3 == "take:" { name[$5] = $4 }
+        $3 == "back" { call = $10; copier = $6; for (word = 1; word <= 5; word++) p[word - 1] = $(word + 10) + 0 }
+        $2 == "answer" && $3 == 0 && call == "GRANT" {
+            at = p[0] < 0 ? "" : copier " " p[0]
+            access[at] = p[3]; begin[at] = p[1]; size[at] = p[2]; since[at] = $1
+        }
+        $2 == "answer" && $3 == -1 && call == "VIRCOPY" {
+            is_source = p[0] == copier || is_open(p[0], 1, p[1], p[4])
+            if (is_source && p[2] != copier) is_open(p[2], 2, p[3], p[4])
+        }' >&2
+}
+
+# Says of lines of $shown that were raised again before their owner had the notification of the time before, the first three,
+# by the words for each of all lines, if there are any: tell_raised NAMES.
+tell_raised() {
+    { printf '%s\n' "$1" | sed 's/^/= /'; printf '%s\n' "$shown"; } | awk '
+        function place(number) { return number in words ? words[number] : "record " record[number] }
+        function tell() {
+            if (!is_raised || is_noted) return
+            if (before[line] && count++ < 3)
+                print "mx: " place(raised) " (line " line ") came before " owner " had the notification of " \
+                    place(before[line]) ": it gets one for both"
+        }
+        $1 == "=" { if (NF > 1) { sub(/^= /, ""); words[++named] = $0 } next }
+        $2 == "notify" && is_raised && $1 == record[raised] { is_noted = 1; before[line] = raised }
+        $1 == last { next }
+        { tell(); last = $1; is_raised = is_noted = 0 }
+        $3 == "line" { is_raised = 1; record[++raised] = $1; line = $4; sub(/:/, "", line); owner = $5 }
+        END { tell() }' >&2
+}
+
+# Says of the first message in $shown that has the type of a notification from whom it goes to that it is one.
+tell_answered() {
+    printf '%s\n' "$shown" | awk '
+        $2 == "notify" && $5 == "to" && $8 == "type" { told[$7] = $4 }
+        $2 == "message" && $8 == "type" {
+            if ($9 == 4096 && ($4 in told) && told[$4] == $7) {
+                print "mx: the message of " $3 " to " $6 " at record " $1 " has the type of a notification, 0x1000, as " $6 \
+                    " sent one: a NOTIFY carries no words, and p0 is the uptime"
+                exit
+            }
+            delete told[$7]
+        }' >&2
+}
+
+# The program of a service of a configuration: program_of CONFIG NAME.
+program_of() {
+    awk -v name="$2" '{ sub(/#.*/, "") } $1 == "service" && $2 == name { print $3; exit }' "$1"
+}
+
+# Says of who died since its stack was used up, by $became, where its size stands: tell_stacks CONFIG LOG. Of fault 13 it asks
+# for ESP.
+tell_stacks() {
+    printf '%s\n' "$became" | sed -n 's/^died: \([A-Za-z0-9_]*\),.* at record \([0-9]*\), of fault 1\([23]\) at .*: [0-9a-f]* is past the limit \([0-9a-f]*\)\(.*\)/\1 \2 \3 \4 \5/p' |
+        while read -r name record fault limit rest; do
+            case $fault$rest in
+                2*'the stack is used up'*) ;;
+                3*)
+                    [ -n "$shown" ] || continue
+                    esp=$(printf 'goto %s\nregs %s\n' "$record" "$name" | ask_program look "$1" "$2" | sed -n 's/^ESP \([0-9a-f]*\) .*/\1/p')
+                    case $esp in [89a-f]???????) ;; *) continue ;; esac ;;
+                *) continue ;;
+            esac
+            file=$(program_of "$1" "$name")
+            stem=${file%.out}
+            if [ -f "$stem.c" ]; then more="stack_$(basename "$stem") = N in the Makefile gives it more"
+            else more=".stack N in its text gives it more"; fi
+            echo "mx: $name's stack is used up${esp:+ (ESP is $esp, outside of its memory)}: $more" >&2
+        done
+}
+
+# Says of who died at an instruction of gcc for what can't be, by $became, which line of its source that is: tell_ud2 CONFIG.
+tell_ud2() {
+    printf '%s\n' "$became" | sed -n 's/^died: \([A-Za-z0-9_]*\),.* of fault 6 at \([0-9a-f]*\) .*\.data1 0xf;.*/\1 \2/p' |
+        while read -r name place; do
+            file=$(program_of "$1" "$name")
+            is_program "$file" || continue
+            [ "$(od -An -tx1 -j $((0x$place + 32)) -N2 "$file" | tr -d ' ')" = 0f0b ] || continue
+            made=$(dirname "$file")/out/$(basename "$file" .out).elf
+            where=''
+            [ ! -f "$made" ] || where=": addr2line -e ${made#./} 0x$place says which"
+            echo "mx: 0f 0b is ud2, which gcc writes where a line can only go wrong, as by a null pointer$where" >&2
+        done
+}
+
+# Says of a service of a configuration that its text doesn't say where it begins.
+tell_entry() {
+    file=$(program_of "$1" "$2")
+    text=${file%.out}.s
+    { [ "$text" != "$file.s" ] && [ -f "$text" ] && is_made_of "$text" "$file"; } || return 0
+    awk -v file="$text" -v name="$2" "$plain_line"'
+        { code = plain($0) }
+        code ~ /^\.entry/ { has_entry = 1 }
+        code ~ /^[^.]/ && !line { line = NR }
+        END {
+            if (line && !has_entry)
+                print "mx: " file " has no .entry, so " name " begins at its first instruction, line " line
+        }' "$text" >&2
 }
 
 # Says of a history that was just made that what is on the console can't be seen, if that is so of all its bytes.
@@ -596,6 +1099,100 @@ tell_console() {
 # The option that makes the clock tick, if these words have none.
 missing_ticks() {
     [ -n "$(value_of --ticks "$@")$(value_of --events "$@")" ] || echo "--ticks T"
+}
+
+# Says of a configuration that its history has no room for a service's first turn.
+tell_room() {
+    [ ! -f "$1" ] || awk '
+        { sub(/#.*/, "") }
+        $1 == "log" && $2 == 1 { print "mx: wanted log 2 or more: a service is taken and comes back, which are 2 records" }' "$1" >&2
+}
+
+# Says that the turns of these words are made, and who is ready, if that ended them, by $became.
+tell_turns() {
+    turns=$(value_of --turns "$@") stopping=$(stop_named "$@")
+    { [ "$1" = turns ] && [ -n "$turns" ]; } || return 0
+    [ -z "$stopping" ] || [ ! -e "$stopping" ] || return 0
+    printf '%s\n' "$became" | sed -n "s/^ends: open after [0-9]* records\\(.*\\)/mx: the turns of --turns $turns are made\\1/p" >&2
+    tell_events "$turns" "$@"
+}
+
+# Says of the first `kill E` in the EVENTS of these words that was refused, if more turns were made than it has events: event
+# N is made in turn N, so it is refused if that turn adds no record of it. tell_events TURNS WORDS
+tell_events() {
+    turns=$1
+    shift
+    config=$(nth_word 1 "$@") log=$(nth_word 2 "$@") events=$(value_of --events "$@")
+    case $became in 'ends: open '*) [ -f "$events" ] || return 0 ;; *) return 0 ;; esac
+    cpus=$(cpus_of "$config") room=$(mktemp -d) || return 0
+    awk -v turns="$turns" -v actor="${cpus:-1}" '
+        NR == FNR { if ($1 == actor && $2 == "kill") made[$3]++; next }
+        { sub(/#.*/, "") }
+        NF { event++ }
+        event <= turns && $1 == "kill" && $2 ~ /^[0-9]+$/ { line[++count] = FNR; at[count] = event; whom[count] = $2; asked[$2]++ }
+        END {
+            for (each = 1; each <= count; each++)
+                if (asked[whom[each]] > made[whom[each]] + 0) { print line[each], at[each], whom[each]; if (++told == 8) exit }
+        }' "$log" "$events" | while read -r line event whom; do
+        ask_program turns "$config" "$room/before" --events "$events" --turns $((event - 1)) --no-sums --force >"$room/report" &&
+            ask_program turns "$config" "$room/after" --events "$events" --turns "$event" --no-sums --force >/dev/null || break
+        ! tail -n "+$(($(wc -l <"$room/before") + 1))" "$room/after" | grep -q ' kill ' || continue
+        awk -v at="mx: $events line $line (kill $whom) was refused: " -v whom="$whom" '
+            $1 ~ /^[0-9]+$/ && $1 == whom % 1024 && $3 != whom {
+                print at "slot " $1 " has the endpoint " $3 " then: kill " $2 " takes the one that is there"
+            }' "$room/report" >&2
+        break
+    done
+    rm -rf "$room"
+}
+
+# Says why an outside event of a run that rests has no record, which `mx why` names, if the history has room for more: tell_lost CONFIG LOG EVENTS.
+tell_lost() {
+    case $became in 'ends: rest '*) [ -f "$3" ] || return 0 ;; *) return 0 ;; esac
+    room=$(awk '{ sub(/#.*/, "") } $1 == "log" { print $2; exit }' "$1")
+    [ "$(grep -c '^[0-9]' "$2")" -lt "${room:-0}" ] || return 0
+    ask_program why "$1" "$2" --events "$3" | sed -n \
+        -e 's/^outside: EVENTS line \([0-9]*\) (line \([0-9]*\)) .*/mx: EVENTS line \1: no process owned line \2 then: IRQCTL makes it one'"'"'s/p' \
+        -e 's/^outside: EVENTS line \([0-9]*\) (kill \([0-9]*\)) .*/mx: EVENTS line \1: no process that lives had the endpoint \2 then: kill NAME finds a service/p' >&2
+}
+
+# Names once what shows the records of a new history, if nothing else is said of it.
+tell_first() {
+    case $became in
+        *'
+'*) return 0 ;;
+        'ends: rest '*) ;;
+        *) return 0 ;;
+    esac
+    debugs=''
+    [ "$1 $2" != "machine.config machine.log" ] || ! grep -q '^debug:' Makefile 2>/dev/null || debugs='; in gdb: make debug'
+    echo "mx: each call and message of it: mx trace $1 $2$debugs" >&2
+}
+
+# Says what isn't told yet of a run or of turns that ended so: tell_ended STATUS WORDS.
+tell_ended() {
+    ended=$1
+    shift
+    case $ended in
+        0)
+            tell_room "$(nth_word 1 "$@")"
+            # In a subshell, as what is said is kept until all is.
+            (
+                said=$(mktemp) || exit
+                exec 4>&2 2>"$said"
+                tell_history "$(nth_word 1 "$@")" "$(nth_word 2 "$@")" "$(missing_ticks "$@")"
+                [ -z "$(value_of --events "$@")" ] || tell_raised ''
+                tell_lost "$(nth_word 1 "$@")" "$(nth_word 2 "$@")" "$(value_of --events "$@")"
+                tell_turns "$@"
+                tell_console "$(nth_word 1 "$@")" "$(nth_word 2 "$@")"
+                [ -z "$fresh" ] || [ -s "$said" ] || tell_first "$(nth_word 1 "$@")" "$(nth_word 2 "$@")"
+                cat "$said" >&4
+                rm -f "$said"
+            ) ;;
+        1 | 3) tell_failure "$@" ;;
+        130) [ ! -f "$(nth_word 2 "$@")" ] ||
+            echo "mx: what it did until then: mx why $(nth_word 1 "$@") $(nth_word 2 "$@")" >&2 ;;
+    esac
 }
 
 # Whether these words are those of a run or of turns, in which nobody types.
@@ -614,6 +1211,8 @@ run_stoppable() {
     room=$(mktemp -d) || return 3
     stop=$(stop_named "$@")
     [ -n "$stop" ] || { stop=$room/stop; set -- "$@" --stop "$stop"; }
+    fresh=''
+    [ -e "$(nth_word 2 "$@")" ] || fresh=yes
     # What runs beside the shell has no input but what it is given, if there is one.
     if [ -e /dev/fd/0 ]; then exec 3<&0; else exec 3</dev/null; fi
     trap leave_session EXIT
@@ -621,29 +1220,339 @@ run_stoppable() {
     (trap '' INT TERM HUP; start_program "$@") <&3 3<&- &
     child=$!
     wait_for_child
-    if [ "$status" = 0 ] && [ -n "$(explains_words "$@")" ]; then
-        tell_history "$(nth_word 1 "$@")" "$(nth_word 2 "$@")" "$(missing_ticks "$@")"
-        tell_console "$(nth_word 1 "$@")" "$(nth_word 2 "$@")"
-    fi
+    [ -z "$(explains_words "$@")" ] || tell_ended "$status" "$@"
     return "$status"
 }
 
-# Whether these words are those of a `step` of which something is to be told afterwards.
+# Whether these words are those of a command of which something is to be told afterwards.
 is_told_after() {
     case " $* " in *' --help '* | *' -h '*) return 1 ;; esac
-    [ "${1-}" = step ] && [ -n "$(explains_words "$@")" ]
+    case ${1-} in
+        as | step | db | replay | trace | draw | page | sweep | explain) ;;
+        # It is made twice, so it has to be short.
+        one) [ "$(nth_word 2 "$@")" -le 1000000 ] 2>/dev/null || return 1 ;;
+        *) return 1 ;;
+    esac
+    [ -n "$(explains_words "$@")" ]
 }
 
-# Makes a step of these words, by start_program of the script that calls it, and says that its history goes nowhere, or
-# what was refused in it. The status is the program's.
+# Runs these words, by start_program of the script that calls it, and says what isn't told yet: of a failure how it is
+# mended, of a step that its history goes nowhere, and what was refused. The status is the program's.
 run_told() {
-    (start_program "$@") || return
-    log=$(value_of --save "$@")
-    if [ -n "$log" ]; then
-        tell_history "$(nth_word 1 "$@")" "$log" ''
-    else
-        echo "mx: the history isn't saved: --save LOG" >&2
+    (start_program "$@")
+    status=$?
+    case $status in
+        0) tell_done "$@" ;;
+        1 | 3) tell_failure "$@" ;;
+    esac
+    return "$status"
+}
+
+# Says what isn't told yet of a command that ended well.
+tell_done() {
+    case $1 in
+        as)
+            tell_addresses "$(nth_word 1 "$@")"
+            tell_data "$(nth_word 1 "$@")"
+            tell_pushes "$(nth_word 1 "$@")" ;;
+        one) tell_kernel "$@" ;;
+        sweep) tell_replaced "$@" ;;
+        db) tell_looks "$(nth_word 1 "$@")" "$(nth_word 2 "$@")" ;;
+        step)
+            tell_answers "$(nth_word 1 "$@")" "$(nth_word 2 "$@")"
+            log=$(value_of --save "$@")
+            if [ -n "$log" ]; then
+                tell_history "$(nth_word 1 "$@")" "$log" ''
+            else
+                echo "mx: the history isn't saved: --save LOG" >&2
+            fi ;;
+    esac
+}
+
+# Says of a program that was run alone and stopped at a call for another process that nobody answers it here.
+tell_kernel() {
+    ask_program "$@" | awk '
+        { for (at = 1; at < NF; at += 2) has[$at] = $(at + 1) }
+        /^stop trap / { is_trap = 1 }
+        END {
+            split("SEND RECEIVE SENDREC NOTIFY", call, " ")
+            number = has["ECX"] ~ /^0000000[1-4]$/ ? substr(has["ECX"], 8) : 0
+            whom = has["EAX"] == "00007ace" ? "any" : has["EAX"] ~ /^0000000[0-9]$/ ? "slot " substr(has["EAX"], 8) : ""
+            if (is_trap && number && whom)
+                print "mx: it stopped at its call " call[number] " " whom \
+                    ", which nobody answers, as mx one has no kernel: mx turns CONFIG LOG runs a machine"
+        }' >&2
+}
+
+# Says of a kill in FAULT whose endpoint no process of the history has any more from a position on that it is refused there.
+tell_replaced() {
+    config=$(nth_word 1 "$@") log=$(nth_word 2 "$@") fault=$(nth_word 3 "$@") to=$(value_of --to "$@")
+    { [ -f "$config" ] && [ -f "$log" ] && [ -f "$fault" ] && is_short "$log"; } || return 0
+    awk -v file="$fault" -v to="$to" -v names="$(names_of "$config")" '
+        BEGIN { services = split(names, name, " ") }
+        NR == FNR {
+            if ($1 ~ /^[0-9]/ && NF > 1) records++
+            if ($2 == "respawn") { slot = $3 + 0; position[slot, ++generation[slot]] = records }
+            next
+        }
+        { sub(/#.*/, "") }
+        $1 == "kill" && $2 ~ /^[0-9]+$/ && NF == 2 {
+            slot = $2 % 1024; at = position[slot, int($2 / 1024) + 1]
+            if (at && slot < services && (to == "" || at <= to + 0)) {
+                print "mx: " file " line " FNR " (kill " $2 ") is refused from position " at " on, as slot " slot \
+                    " has the endpoint " $2 + 1024 " there: kill " name[slot + 1] " takes the one that is there"
+                exit
+            }
+        }' "$log" "$fault" >&2
+}
+
+# Says what isn't told yet of a command that failed.
+tell_failure() {
+    config=$(nth_word 1 "$@") second=$(nth_word 2 "$@")
+    if [ "$1" = as ]; then
+        [ ! -f "$config" ] || tell_faulty "$config" "$(failure_of "$@")"
+        return
     fi
+    said=$(failure_of explain "$config" --check)
+    if [ -n "$said" ]; then
+        tell_config "$config" "$said"
+        return
+    fi
+    case $1 in
+        step | db)
+            if is_program "$second"; then tell_script_form "$1" "$config"
+            else ! is_short_script "$second" || tell_script "$config" "$second" "$(failure_of "$1" "$config" "$second")"; fi ;;
+        run | turns) tell_script "$config" "$(value_of --events "$@")" '' ;;
+        replay | trace | draw | page) tell_refused "$config" "$second" ;;
+        sweep) tell_fault "$config" "$second" "$(nth_word 3 "$@")" ;;
+    esac
+}
+
+# Says what the lines of a script of `step` or `db` are, as the program says it of a line that is none.
+tell_script_form() {
+    none=$(mktemp) || return 0
+    echo '?' >"$none"
+    failure_of "$1" "$2" "$none" | sed -n 's/^mx: SCRIPT .*: wanted \(.*\), stands "?"$/mx: a script is a text; a line of it is \1/p' >&2
+    rm -f "$none"
+}
+
+# Says of a text that is refused with these lines what its mistake is.
+tell_faulty() {
+    fault=$(printf '%s\n' "$2" | sed -n '1s/^mx: [0-9]* \([A-Za-z]*\) line \([0-9]*\)$/\2 \1/p')
+    [ -z "$fault" ] || tell_statement "$1" "${fault% *}" "${fault#* }"
+}
+
+# Says of a configuration that is refused with these lines what a program's file is, or its name, or how an item's word is.
+tell_config() {
+    file=$(printf '%s\n' "$2" | sed -n "s/^mx: a service's program \(.*\): wanted .*/\1/p")
+    name=${file#[\"\']}
+    name=${name%[\"\']}
+    if [ -z "$file" ]; then
+        tell_item "$1" "$(printf '%s\n' "$2" | sed -n '1s/^mx: 70 BadLine line \([0-9]*\)$/\1/p')"
+    elif [ "$name" != "$file" ] && [ -f "$name" ]; then
+        echo "mx: $1: wanted the program's name without quotes: $name is there" >&2
+    elif [ ! -e "$file" ]; then
+        tell_programs "$file"
+    fi
+    case $2 in
+        *'mx: 26 TooLarge'*) echo "mx: a program has at most 1048576 bytes of text, and 4194304 in all, with its stack" >&2 ;;
+        *'this is an ELF file'*) echo "mx: mx new NAME --c makes a folder in which make makes such programs of C" >&2 ;;
+    esac
+}
+
+# Says of a line of a configuration that its item's word has a colon, or is in upper case.
+tell_item() {
+    { [ -n "$2" ] && [ -f "$1" ]; } || return 0
+    awk -v line="$2" -v at="mx: $1 line $2: " '
+        NR == line {
+            word = tolower($1)
+            colon = sub(/:$/, "", word)
+            if (word !~ /^(cpus|others|log|rules|service)$/ || word == $1) exit
+            print at "wanted " word (colon ? ", without :" : ", in lower case")
+        }' "$1" >&2
+}
+
+# Says what makes a program that isn't there, if its text is; else which programs are in its folder, if they are few.
+tell_programs() {
+    folder=$(dirname "$1") stem=${1%.out}
+    [ ! -f "$stem.c" ] || return 0
+    if [ "$stem" != "$1" ] && [ -f "$stem.s" ]; then
+        echo "mx: $stem.s is there: mx as $stem.s $1" >&2
+        return
+    fi
+    there=''
+    for file in "$folder"/*.out; do
+        [ ! -f "$file" ] || there="$there ${file#./}"
+    done
+    [ -z "$there" ] || [ "$(echo "$there" | wc -w)" -gt 8 ] || echo "mx: these are there:$there" >&2
+}
+
+# The names of a configuration's services, in the order of their slots.
+names_of() {
+    awk '{ sub(/#.*/, "") } $1 == "service" { printf "%s ", $2 }' "$1"
+}
+
+# How many processors a configuration has.
+cpus_of() {
+    awk '{ sub(/#.*/, "") } $1 == "cpus" { print $2; exit }' "$1"
+}
+
+# Says of a script that is refused with these lines which number was wanted for a name.
+tell_script() {
+    line=$(printf '%s\n' "$3" | sed -n '1s/^mx: 73 BadRecord line \([0-9]*\)$/\1/p')
+    { [ -n "$line" ] && [ -f "$2" ]; } || return 0
+    awk -v line="$line" -v cpus="$(cpus_of "$1")" -v at="mx: $2 line $line: " '
+        NR == line && $1 ~ /^(take|step|back|go)$/ && $2 ~ /^[A-Za-z_]/ {
+            print at "C is the number of a processor, 0 to " cpus - 1 ", and no service: stands \"" $2 "\""
+        }' "$2" >&2
+}
+
+# Whether a script is as short as to be made once more.
+is_short_script() {
+    [ -f "$1" ] && awk '$1 == "step" || $1 == "go" { steps += $3 } END { exit NR > 20000 || steps > 10000000 }' "$1"
+}
+
+# Whether a line of a script is raised twice.
+raises_again() {
+    awk '$1 == "line" && is_raised[$2]++ { again = 1 } END { exit !again }' "$1"
+}
+
+# Says of the lines of a script that is made once more which were raised before their owner had the time before.
+tell_script_lines() {
+    raises_again "$2" || return 0
+    made=$(mktemp) || return 0
+    answers=$(ask_program step "$1" "$2" --numbered --save "$made" --no-sums --force)
+    shown=$(ask_program trace "$1" "$made")
+    rm -f "$made"
+    tell_raised "$(printf '%s\n' "$answers" | awk -v script="$2" '
+        NR == FNR { if ($2 == "refused") is_refused[$1 + 0] = 1; next }
+        $1 == "line" && !(FNR in is_refused) { print script " line " FNR }' - "$2")"
+}
+
+# Says of the events of a script that were refused why, the first three: they are made once more, and each answer has the
+# number of its line then.
+tell_answers() {
+    { [ -f "$1" ] && is_short_script "$2"; } || return 0
+    tell_script_lines "$1" "$2"
+    ask_program step "$1" "$2" --numbered | awk -v script="$2" -v cpus="$(cpus_of "$1")" \
+        -v services="$(programs_of "$1" | wc -l)" '
+        NR == FNR {
+            if ($2 == "refused") code[$1 + 0] = $3
+            next
+        }
+        !(FNR in code) || said[$0]++ { next }
+        { why = "" }
+        code[FNR] ~ /^5[01]$/ && $2 + 0 >= cpus { why = "there is no processor " $2 ", since CONFIG has cpus " cpus }
+        code[FNR] == 50 && $2 + 0 < cpus { why = "processor " $2 " has a process: back " $2 " comes before" }
+        code[FNR] == 51 && $2 + 0 < cpus { why = "processor " $2 " has no process: take " $2 " comes before" }
+        code[FNR] == 55 { why = "its process has stopped: back " $2 " comes before" }
+        code[FNR] == 40 { why = "the process of slot " $2 " lives: a kill comes before" }
+        code[FNR] == 53 { why = $2 + 0 > 15 ? "lines are 0 to 15" : "no process has taken line " $2 }
+        code[FNR] == 54 { why = $1 == "take" ? "no process is ready" : "no process that lives has the endpoint " $2 }
+        code[FNR] == 42 { why = "S is a slot, 0 to " services - 1 }
+        code[FNR] == 41 { why = "the restarts of CONFIG are used up" }
+        why { print "mx: " script " line " FNR " (" $0 "): " why; if (++count == 3) exit }' - "$2" >&2
+}
+
+# Says of a debugger's script which of its numbers are decimal, though they look as a listing's, and whom `regs C` is of, if
+# somebody wasn't there.
+tell_looks() {
+    { [ -f "$1" ] && is_short_script "$2"; } || return 0
+    awk -v at="mx: $2 line " '
+        $1 == "break" && $3 ~ /^0[0-9]+$/ {
+            print at NR ": " $3 " is decimal here, as all numbers: " $3 + 0
+            exit
+        }' "$2" >&2
+    if grep -Eq '^(regs|mem) [0-9]' "$2" && ask_program db "$1" "$2" | grep -q '^refused 61 NotHere'; then
+        echo "mx: regs C and mem C are of who is on processor C: of slot S they are regs of S and mem of S" >&2
+    fi
+    tell_passed "$1" "$2"
+}
+
+# Says of a debugger's script which `step` passed a breakpoint: of the first four below a `break`, with `go` in place of one
+# at a time.
+tell_passed() {
+    lines=$(awk '$1 == "break" { is_set = 1 } is_set && $1 == "step" && count++ < 4 { print NR }' "$2")
+    { [ -n "$lines" ] && changed=$(mktemp); } || return 0
+    answers=$(ask_program db "$1" "$2")
+    for line in $lines; do
+        sed "${line}s/step/go/" "$2" >"$changed"
+        place=$({ printf '%s\n=\n' "$answers"; ask_program db "$1" "$changed"; } | awk '
+            !is_second && $1 == "=" { is_second = 1; next }
+            !is_second { was[++lines] = $0; next }
+            { at++ }
+            was[at] == $0 { next }
+            $0 ~ /^stopped at / && was[at] ~ /^stepped / { split(was[at], old, " "); if ($5 + 0 < old[2] + 0) print $3 }
+            { exit }')
+        [ -n "$place" ] || continue
+        echo "mx: $2 line $line ($(sed -n "${line}p" "$2")): a step passes the breakpoint at $place, a go stops there" >&2
+        break
+    done
+    rm -f "$changed"
+}
+
+# Says of a history that is refused where it is none of this machine's, or that a number in it is too large.
+tell_refused() {
+    [ -f "$2" ] || return 0
+    awk -v file="$2" '
+        $2 == "back" && $3 ~ /^[0-9]+$/ && $3 + 0 > 2147483647 {
+            print "mx: " file " line " NR ": wanted N of at most 2147483647, stands \"" $3 "\""
+            exit
+        }' "$2" >&2
+    ! is_short "$2" || ask_program why "$1" "$2" | sed -n 's/^ends: \(record .* is refused, .*\)/mx: \1/p' >&2
+}
+
+# Says of a sweep that failed which events FAULT may have, or what its history is.
+tell_fault() {
+    tell_refused "$1" "$2"
+    [ -f "$3" ] || return 0
+    awk -v file="$3" '
+        { sub(/#.*/, "") }
+        NF && $1 !~ /^(take|step|back|line|tick|kill|respawn)$/ {
+            print "mx: " file " line " NR ": an event is take C, step C K, back C, line L, tick, kill E or respawn S"
+            exit
+        }' "$3" >&2
+}
+
+# Says of a history that a command reads, and that isn't there or has no record, how one is made; of a sweep whose turns are
+# fewer than those of its history, that they are.
+tell_empty() {
+    case $1 in replay | trace | draw | page | look | gdb | why | sweep) ;; *) return 0 ;; esac
+    config=$(nth_word 1 "$@") log=$(nth_word 2 "$@")
+    if [ -f "$config" ] && [ -n "$log" ] && [ ! -e "$log" ]; then
+        echo "mx: $log isn't there: mx turns $config $log makes it" >&2
+    fi
+    [ -f "$log" ] || return 0
+    grep -q -v -e '^rules [12]$' -e '^$' "$log" || echo "mx: $log has no record: mx turns $config LOG makes a history" >&2
+    turns=$(value_of --turns "$@")
+    case $1$turns in sweep[0-9]*) ;; *) return 0 ;; esac
+    awk -v file="$log" -v turns="$turns" '
+        $2 == "take" { taken++ }
+        END {
+            if (turns ~ /^[0-9]+$/ && turns + 0 < taken)
+                print "mx: --turns " turns ": " file " has " taken " turns, so positions may end before they are at rest"
+        }' "$log" >&2
+}
+
+# Says as a session of `look` begins what its commands are, of those that other debuggers name otherwise.
+tell_look() {
+    { [ "$1" = look ] && [ -f "$(nth_word 2 "$@")" ]; } || return 0
+    echo "mx: help lists the commands: forward and step go on, until 1 EXIT finds a call and until death 1 an end," \
+        "watch SLOT ADDRESS N takes N of 1 to 16, quit ends" >&2
+}
+
+# Says of a number with a sign that no option takes one, nor `one`.
+tell_sign() {
+    before=''
+    for word in "$@"; do
+        case $before$word in
+            --*' '-[0-9]*) echo "mx: ${before% }: wanted a number without a sign, stands \"$word\"" >&2 ;;
+        esac
+        before="$word "
+    done
+    case ${1-}' '${3-} in
+        'one -'[0-9]*) echo "mx: N: wanted a number without a sign, stands \"$3\"" >&2 ;;
+    esac
 }
 
 # Whether a file begins as sums do: with the line of a configuration's.

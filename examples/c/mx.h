@@ -97,7 +97,7 @@ static inline int sendrec(int to, message *m)
     return trap(SENDREC, to, m);
 }
 
-/* Tells the other one that there is something, and doesn't wait. */
+/* Doesn't wait, and takes no words along: the other one gets NOTIFICATION, with the uptime in p[0]. */
 static inline int notify(int to)
 {
     return trap(NOTIFY, to, NULL);

@@ -1,5 +1,5 @@
 -- No request changes the history.
-use Rattle.std.proofs.Common.{◌≡◌, ◌||◌, ℕ, Bool, true, false, cond, List, Option, Some, None, is_some, refl, subst, sym}
+use Rattle.std.proofs.Common.{◌≡◌, ◌||◌, ◌++◌, ℕ, Bool, true, false, cond, List, Option, Some, None, is_some, refl, subst, sym}
 use Rattle.mx_rsp.specs.declared.fields.Which.{Which}
 use Rattle.mx_rsp.specs.declared.moves.Action.{Action}
 use Rattle.mx_rsp.specs.declared.moves.Action.TheVariants as action
@@ -16,7 +16,7 @@ use Rattle.mx_app_look.specs.declared.happening.Happening.{Happening}
 use Rattle.mx_app_look.specs.Requests.{ends, request_of as line_of}
 use Rattle.mx_app_look.specs.Seeking.{IsGoneBack, IsGoneBy as IsSearchedBy, IsGoneOn, IsGoneUntilBackBy, IsHalted, has_points, point_made}
 use Rattle.mx_app_look.specs.Sessions.{IsAnsweredBy}
-use Rattle.mx_app_look.specs.Until.{has_slots}
+use Rattle.mx_app_look.specs.Until.{has_slots, type_note}
 use Rattle.mx_walk.specs.declared.positions.Position.{Position}
 use Rattle.mx_walk.specs.Walks.{world_here}
 use Rattle.mx_app_gdb.specs.declared.replying.After.{After}
@@ -66,7 +66,7 @@ searched_stays true IsGone s u text f a = f a
 searched_stays false IsGone s u text f (e, t) = sight_by s u s e refl
 
 happened_stays : (b : Bool) (s : Sight) (h : Happening) (u : Sight) (text : List ℕ) → IsGoneUntilBackBy b s h u text → IsSameWalk s u
-happened_stays true s h u text (at, last, halted) = halted_stays s at u text halted
+happened_stays true s h u text (at, last, halted) = halted_stays s (at.0, type_note s.walker h ++ at.1) u text halted
 happened_stays false s h u text (e, t) = sight_by s u s e refl
 
 made_stays : (s : Sight) (r : Line) (u : Sight) (text : List ℕ) → IsMade s r u text → IsSameWalk s u
