@@ -1,6 +1,6 @@
 -- The files that a request names: those that it reads, in order, and the one that it writes (our own).
-use Rattle.std.specs.Prelude.{◌&&◌, ◌||◌, ℕ, Bool, false, true, if◌then◌else◌, List, codes, drop, length, take, Option, Some, None, option_map}
-use Rattle.std.specs.List.{list_all}
+use Rattle.std.specs.Prelude.{◌&&◌, ◌||◌, ℕ, Bool, false, true, if◌then◌else◌, List, codes, drop, length, nat_eq, Option, Some, None, option_map}
+use Rattle.std.specs.List.{list_all, starts_with}
 use Rattle.std.specs.Str.{bytes_eq}
 use Rattle.mx_text.specs.Bytes.{is_digit}
 use Rattle.mx_text.specs.Fields.{has_bytes}
@@ -116,7 +116,7 @@ has_name files name = is_of name files.first || (names files.course name || name
 -- a name is another one, and then decimal digits
 abbrev pub is_numbered : List ℕ → List ℕ → Bool
 is_numbered front name =
-    bytes_eq (take (length front) name) front
+    starts_with nat_eq name front
     && (has_bytes (drop (length front) name) && list_all is_digit (drop (length front) name))
 
 abbrev pub names_numbered : Option FileWord → List ℕ → Bool

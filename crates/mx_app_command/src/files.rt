@@ -114,11 +114,18 @@ fn names(word: Option<NamedWord<'_>>, name: &str) -> bool
     }
 }
 
+/// Whether all of these bytes are decimal digits.
+fn all_digits(text: &[u8]) -> bool
+    ensures { result ≡ list_all is_digit text.now }
+{
+    text.iter().all(|byte| is_digit(*byte))
+}
+
 /// Whether bytes are one or more decimal digits.
 fn are_digits(text: &[u8]) -> bool
     ensures { result ≡ (has_bytes text.now && list_all is_digit text.now) }
 {
-    !text.is_empty() && text.iter().all(|byte| is_digit(*byte))
+    !text.is_empty() && all_digits(text)
 }
 
 /// Whether a name is another one, and then decimal digits.
