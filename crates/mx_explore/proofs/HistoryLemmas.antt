@@ -273,9 +273,11 @@ module _ (p : Passage) (o : Offered) (coming : List OutsideLine) (z : Place) (x 
   made_there w = offered w (events_of start.other x)
 
   next_calm : Calm next
-  next_calm =
-      (front.calm.0, front.calm.1,
-      ap (λ b. b || (made_there front.to.world).full) front.calm.2 ∙ ap (λ (w : World). (made_there w).full) front.same.0 ∙ ap (λ (u : Offered). u.full) (sym is) ∙ room)
+  next_calm = (
+    front.calm.0,
+    front.calm.1,
+    ap (λ b. b || (made_there front.to.world).full) front.calm.2 ∙ ap (λ (w : World). (made_there w).full) front.same.0 ∙ ap (λ (u : Offered). u.full) (sym is) ∙ room,
+  )
 
   middle : Leads start front.to (z ∷ []) next []
   middle = make_one start front.to z x front.calm (same_open start p front.to z front.same.0 (front.calm.2 ∙ sym calm.2) ∙ opened)

@@ -285,11 +285,10 @@ module _ (d : Departure) (s : Standing) (m : Met) (h : Waits d s) where
   there_still = (h.there.0, get_kept s.met m d.at h.there.0 h.there.1, h.there.2)
 
   passed_by : (g : Bool) → goes_on s m.offer ≡ g → (k : Bool) → is_outside m.offer ≡ k → (passes s m.offer ≡ g) × (passes t m.offer ≡ k)
-  passed_by g e k f =
-      (
-        ap (λ b. goes_on s m.offer || b) (none_begins s s.ahead m.offer h.ahead) ∙ or_false (goes_on s m.offer) ∙ e,
-        ap (λ b. goes_on t m.offer || b) (none_begins t s.ahead m.offer h.ahead) ∙ or_false (goes_on t m.offer) ∙ waits_more ∙ f,
-      )
+  passed_by g e k f = (
+    ap (λ b. goes_on s m.offer || b) (none_begins s s.ahead m.offer h.ahead) ∙ or_false (goes_on s m.offer) ∙ e,
+    ap (λ b. goes_on t m.offer || b) (none_begins t s.ahead m.offer h.ahead) ∙ or_false (goes_on t m.offer) ∙ waits_more ∙ f,
+  )
     where
       or_false : (a : Bool) → (a || false) ≡ a
       or_false true = refl

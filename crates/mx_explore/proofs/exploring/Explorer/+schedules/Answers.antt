@@ -58,13 +58,15 @@ explore-depart-requires g t c κs within =
     let a = c.args.self.now in
     let inv = c.loop-at.invariant in
     let len = c.in_ok-tried.tried.met.ok.0 in
-    let there = slice_get_read c.in_ok-tried.tried.met.items _ c.loop-at.at c.index.result.now refl (omega (arith, c.loop-at-test.true, len)) c.index.ensures in
-    (
+    let there = slice_get_read c.in_ok-tried.tried.met.items _ c.loop-at.at c.index.result.now refl (omega (arith, c.loop-at-test.true, len)) c.index.ensures in (
       omega (arith, c.decreases, c.if-left-eq0.false),
-      (within, record {
-        boot = at_boot a c.loop-at.self c.args.services.items c.loop-at.services.items inv.tried.same inv.services c.requires;
-        met = met_there a c.loop-at.self c.in_ok-tried.tried.met.items c.loop-at.at c.index.result.now inv.tried.same c.in_ok-tried.ensures.met there;
-      }),
+      (
+        within,
+        (
+          at_boot a c.loop-at.self c.args.services.items c.loop-at.services.items inv.tried.same inv.services c.requires,
+          met_there a c.loop-at.self c.in_ok-tried.tried.met.items c.loop-at.at c.index.result.now inv.tried.same c.in_ok-tried.ensures.met there,
+        ),
+      ),
     )
 
 pub explore-loop-at-preserved-then-not-is_asked : goal.explore-loop-at-preserved-then-not-is_asked
