@@ -970,12 +970,15 @@ tell_course() {
 tell_windows() {
     printf '%s\n' "$shown" | awk '
         # Whether a window of the owner is there, for reading (1) or for writing (2). If not, says what there is.
-        function is_open(owner, kind, from, count) {
+        function is_open(owner, kind, from, count, earlier) {
             if (!(owner in name)) return 0
             at = owner " " copier
             owner_name = name[owner] " " name[copier]
             held = access[at] + 0
-            if (held == 0) {
+            if (held == 0 && (earlier = opened_before(owner))) {
+                tell(owner_name " earlier", "the window of " name[owner] " to " name[copier] ", since record " since[earlier] \
+                    ", was to the process before it: GRANT opens one to " copier)
+            } else if (held == 0) {
                 tell(owner_name " none", name[owner] " had opened no window to " name[copier] " by record " $1 ": GRANT opens one")
             } else if (held != 3 && held != kind) {
                 tell(owner_name " kind", "the window of " name[owner] " to " name[copier] ", since record " since[at] ", is for " \
@@ -986,6 +989,14 @@ tell_windows() {
                     " bytes from " begin[at] " on, and the copy of record " $1 " wants " count " from " from " on")
             } else return 1
             return 0
+        }
+        # A window of the owner to an earlier process of the copier, which has its name.
+        function opened_before(owner, at, ends) {
+            for (at in access) {
+                split(at, ends, " ")
+                if (access[at] && ends[1] == owner && ends[2] != copier && name[ends[2]] == name[copier]) return at
+            }
+            return ""
         }
         function tell(kind, words) { if (!told[kind]++ && count_told++ < 3) print "mx: " words }
         $3 == "take:" { name[$5] = $4 }
