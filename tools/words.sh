@@ -90,6 +90,14 @@ refuse_same() {
     exit 3
 }
 
+# The same of the files whose names are the second word and a number: refuse_numbered FILE WORD EXPLAINS.
+refuse_numbered() {
+    [ -n "$2" ] || return 0
+    for numbered in "$2"[1-9]*; do
+        case ${numbered#"$2"} in *[!0-9]*) ;; *) refuse_same "$1" "$numbered" NAME "$3" ;; esac
+    done
+}
+
 # Reads the words of a command on a machine: command; config, second and third, which stand in places, and how many do;
 # the values of save, events and sums; whether they say themselves what becomes of sums; and whether they are clear to
 # this script, which knows no grammar.
@@ -128,22 +136,24 @@ take_place() {
     esac
 }
 
-# Ends with status 3 if these words are those of a `step`, `run`, `turns` or `sweep` that would write its history or its
-# sums over a file that it reads, or its sums over its history, also by another name of the same file.
+# Ends with status 3 if these words are those of a `step`, `run`, `turns`, `sweep` or `explore` that would write a history
+# or its sums over a file that it reads, or its sums over its history, also by another name of the same file.
 refuse_own_files() {
-    case ${1-} in step | run | turns | sweep) ;; *) return 0 ;; esac
+    case ${1-} in step | run | turns | sweep | explore) ;; *) return 0 ;; esac
     read_words "$@"
-    explains=$(explains_words "$@") label=LOG compared=''
+    explains=$(explains_words "$@") label=LOG compared='' several=''
     [ "$places" -lt 3 ] || [ "$command$places" = sweep3 ] || return 0
     written=$save read=$second
     case $command in
         run | turns) written=$second read=$events ;;
         # It compares SUMS, and doesn't write it.
         sweep) label=FILE compared=$sums sums='' ;;
+        explore) several=$save written='' read=$events compared=$sums sums='' ;;
     esac
     [ -n "$config" ] || return 0
     while read -r file; do
         refuse_same "$file" "$written" "$label" "$explains"
+        refuse_numbered "$file" "$several" "$explains"
         refuse_same "$file" "$sums" SUMS "$explains"
     done <<END
 $(files_read "$config" "$read" "$third" "$compared")

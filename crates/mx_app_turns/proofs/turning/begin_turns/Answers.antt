@@ -1,5 +1,5 @@
 use Rattle.std.proofs.lemmas.Result.{err_from_is_err_and}
-use Rattle.mx_app_turns.proofs.turning.begin.Goals as goal
+use Rattle.mx_app_turns.proofs.turning.begin_turns.Goals as goal
 
 pub returns-in-None-clause-begun : goal.returns-in-None-clause-begun
 returns-in-None-clause-begun g c = rw c.in-None.is c.begin_alone.ensures.begun
