@@ -1,9 +1,8 @@
 -- Two runs that go together, up to an offer where they part.
 use Rattle.std.proofs.Common.{◌≡◌, ◌∙◌, ◌⊎◌, ℕ, zero, suc, Bool, true, false, List, [], ◌∷◌, length, cond, Option, Some, None, inl, inr, refl, ap, sym, subst}
-use Rattle.mx_machine.specs.World.{World}
 use Rattle.mx_turns.specs.Turns.{is_over}
 use Rattle.mx_turns.specs.declared.turns.Ending.{Ending}
-use Rattle.mx_turns.specs.declared.turns.Ending.TheVariants.{Rest, Turns, Full}
+use Rattle.mx_turns.specs.declared.turns.Ending.TheVariants.{Rest, Full}
 use Rattle.mx_explore.specs.declared.offers.Offer.{Offer}
 use Rattle.mx_explore.specs.declared.passing.Met.{Met}
 use Rattle.mx_explore.specs.declared.passing.TurnStart.{TurnStart}

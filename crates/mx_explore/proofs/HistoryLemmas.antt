@@ -1,5 +1,5 @@
 -- Every history is that of a schedule: in each turn what comes at one place is made, and all else is passed.
-use Rattle.std.proofs.Common.{◌≡◌, ◌∙◌, ◌≤◌, ◌<◌, ◌+◌, ◌-◌, ◌==◌, ◌&&◌, ◌||◌, ◌++◌, ℕ, zero, suc, Bool, true, false, List, [], ◌∷◌, map, drop, length, length-append, append_assoc, cond, nat_lt, Option, Some, None, inl, inr, refl, ap, sym, subst, arith, true≢false}
+use Rattle.std.proofs.Common.{◌≡◌, ◌∙◌, ◌≤◌, ◌<◌, ◌+◌, ◌-◌, ◌==◌, ◌&&◌, ◌||◌, ◌++◌, ℕ, zero, suc, Bool, true, false, List, [], ◌∷◌, map, drop, length, length-append, append_assoc, cond, nat_lt, Option, Some, None, inl, inr, refl, ap, sym, subst, arith}
 use Rattle.std.specs.Prelude.{⊤, option_map, slice_get}
 use Rattle.std.specs.List.{range_with_len}
 use Rattle.std.proofs.lemmas.Bool.{cases_Bool, cases_lt, eq-eqb, ltb-true, ne_eqb}
@@ -16,7 +16,7 @@ use Rattle.mx_machine.specs.Service.{Service}
 use Rattle.mx_machine.specs.World.{World, HeldProcess, free_records, held_by}
 use Rattle.mx_machine.proofs.ReplayLemmas.{after_append}
 use Rattle.mx_machine.proofs.WorldStepLemmas.{holds_in}
-use Rattle.mx_turns.specs.Turns.{Offered, is_over, next_now, offered, offered_first, outside, run_of, world_after}
+use Rattle.mx_turns.specs.Turns.{Offered, next_now, offered, offered_first, outside, world_after}
 use Rattle.mx_turns.specs.declared.outside.OutsideLine.{OutsideLine}
 use Rattle.mx_turns.specs.declared.turns.Ending.{Ending}
 use Rattle.mx_turns.proofs.MadeLemmas.{kept_append}
@@ -28,7 +28,7 @@ use Rattle.mx_explore.specs.declared.offers.Offer.TheVariants.{Take, Back, Outsi
 use Rattle.mx_explore.specs.declared.passing.Departure.{Departure}
 use Rattle.mx_explore.specs.declared.passing.Met.{Met}
 use Rattle.mx_explore.specs.declared.passing.TurnStart.{TurnStart}
-use Rattle.mx_explore.specs.Passing.{Passage, Place, Setting, Standing, at_place, begins, events_of, from_boot, goes_on, is_at, made, meets, meets_if, met_in, noted, open_at, passed_turn, passed_turns, passes, places, run_of_schedule, turn_start}
+use Rattle.mx_explore.specs.Passing.{Passage, Place, Setting, Standing, begins, events_of, from_boot, goes_on, is_at, made, meets, meets_if, met_in, noted, open_at, passed_turns, passes, places, run_of_schedule, turn_start}
 use Rattle.mx_explore.specs.Passing.{BackBy, FromOutside, NewIn, TakeBy}
 use Rattle.mx_explore.proofs.FollowLemmas.{none_goes, noted_if}
 use Rattle.mx_explore.proofs.NoneLemmas.{back_closed, no_event, none_held, none_left, offers_accepted, refused, respawn_closed, take_closed}

@@ -7,7 +7,7 @@ use Rattle.mx_walk.specs.Kept.{kept_of}
 use Rattle.mx_machine.specs.declared.events.Event.{Event}
 use Rattle.mx_machine.specs.declared.events.Event.TheVariants as events
 use Rattle.mx_machine.specs.declared.events.Refusal.{Refusal}
-use Rattle.mx_machine.specs.declared.events.Refusal.TheVariants.{CpuBusy, CpuEmpty, LogFull, NotDown, Worn}
+use Rattle.mx_machine.specs.declared.events.Refusal.TheVariants.{CpuBusy, LogFull, NotDown, Worn}
 use Rattle.mx_machine.specs.History.{AreAccepted, BootAndHistory, world_after_events}
 use Rattle.mx_machine.specs.Move.{back_refusal, event_refusal, if_full, respawn_refusal, take_refusal, world_after_event}
 use Rattle.mx_machine.specs.Proc.Queues.{first_ready}
@@ -21,7 +21,7 @@ use Rattle.mx_machine.proofs.ReplayLemmas.{accepted_append, after_append}
 use Rattle.mx_turns.specs.Turns.{Course, Offered, is_over, most_steps, next_now, offered, offered_first, outside, respawns, run_of, runs, takes, then_offered, then_turns, turn, turns, world_after}
 use Rattle.mx_turns.specs.declared.outside.OutsideLine.{OutsideLine}
 use Rattle.mx_turns.specs.declared.turns.Ending.{Ending}
-use Rattle.mx_turns.specs.declared.turns.Ending.TheVariants.{Rest, Turns, Full}
+use Rattle.mx_turns.specs.declared.turns.Ending.TheVariants.{Rest, Full}
 use Rattle.mx_turns.proofs.MadeLemmas.{back_not_full, kept_append}
 use Rattle.mx_turns.proofs.OfferLemmas.{Offers, empty_offered, offered_full, offered_more, respawns_more, runs_more, steps_offered, takes_more}
 use Rattle.mx_explore.specs.Offers.{can_respawn, is_outside, open_back, open_outside, open_respawn, open_take}
@@ -29,7 +29,7 @@ use Rattle.mx_explore.specs.declared.offers.Offer.{Offer}
 use Rattle.mx_explore.specs.declared.offers.Offer.TheVariants.{Take, Back, Outside, Respawn}
 use Rattle.mx_explore.specs.declared.passing.Met.{Met}
 use Rattle.mx_explore.specs.declared.passing.TurnStart.{TurnStart}
-use Rattle.mx_explore.specs.Passing.{Passage, Place, Setting, Standing, at_place, begins, events_of, from_boot, made, meets, meets_if, met_in, noted, open_at, passed_turn, passed_turns, passes, places, run_of_schedule, turn_start}
+use Rattle.mx_explore.specs.Passing.{Passage, Place, Setting, Standing, at_place, begins, events_of, from_boot, made, meets, meets_if, met_in, noted, open_at, passed_turn, passed_turns, passes, run_of_schedule, turn_start}
 use Rattle.mx_explore.specs.Passing.{BackBy, FromOutside, NewIn, TakeBy}
 use Rattle.mx_explore.proofs.FollowLemmas.{none_begins, none_goes}
 use Rattle.mx_explore.proofs.PassageLemmas.{At, NeedsRoom, back_open, one_more, respawn_open, respawns_need, stood, take_open, takes_need}

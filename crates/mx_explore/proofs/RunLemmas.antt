@@ -8,7 +8,7 @@ use Rattle.mx_turns.specs.Made.{HasOffered}
 use Rattle.mx_turns.specs.Turns.{Offered, is_over, offered}
 use Rattle.mx_turns.specs.declared.outside.OutsideLine.{OutsideLine}
 use Rattle.mx_turns.specs.declared.turns.Ending.{Ending}
-use Rattle.mx_turns.specs.declared.turns.Ending.TheVariants.{Rest, Turns, Full}
+use Rattle.mx_turns.specs.declared.turns.Ending.TheVariants.{Rest, Full}
 use Rattle.mx_turns.proofs.MadeLemmas.{kept_boot}
 use Rattle.mx_turns.proofs.TurnLemmas.{cpus_stay}
 use Rattle.mx_explore.specs.declared.offers.Offer.{Offer}

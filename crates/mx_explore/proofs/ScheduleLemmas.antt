@@ -1,14 +1,14 @@
 -- Which lists are schedules, by those with a departure less.
-use Rattle.std.proofs.Common.{◌≡◌, ◌∙◌, ◌⊎◌, ◌≤◌, ◌<◌, ◌+◌, ◌-◌, ◌==◌, ◌&&◌, ◌||◌, ◌++◌, ℕ, zero, suc, Bool, true, false, List, [], ◌∷◌, drop, length, cond, nat_lt, Option, Some, None, inl, inr, refl, ap, sym, subst, arith, true≢false}
+use Rattle.std.proofs.Common.{◌≡◌, ◌∙◌, ◌≤◌, ◌<◌, ◌+◌, ◌-◌, ◌==◌, ◌&&◌, ◌||◌, ◌++◌, ℕ, Bool, true, false, List, [], ◌∷◌, drop, nat_lt, Some, inl, inr, refl, ap, sym, arith, true≢false}
 use Rattle.std.specs.Prelude.{slice_get}
 use Rattle.std.proofs.lemmas.Bool.{eq-eqb}
 use Rattle.mx_explore.specs.Offers.{is_outside}
 use Rattle.mx_explore.specs.declared.passing.Departure.{Departure}
 use Rattle.mx_explore.specs.declared.passing.Met.{Met}
 use Rattle.mx_explore.specs.Passing.{IsSchedule, Setting, Standing, end_of, is_at}
-use Rattle.mx_explore.specs.Tree.{can_wait, is_of_outside, waits_on}
+use Rattle.mx_explore.specs.Tree.{can_wait}
 use Rattle.mx_explore.proofs.FollowLemmas.{departed_by, longer_run}
-use Rattle.mx_explore.proofs.WaitLemmas.{begun_of, first_outside, longer_wait, longer_waiting, waits_by}
+use Rattle.mx_explore.proofs.WaitLemmas.{begun_of, longer_wait, longer_waiting, waits_by}
 
 pub no_end : {X : Type 0} (xs : List X) (x : X) → xs ++ x ∷ [] ≡ [] → ⊥
 no_end [] x e = cc

@@ -1,5 +1,5 @@
 -- Turns of a machine in which open offers are passed.
-use Rattle.std.proofs.Common.{◌≡◌, ◌∙◌, ℕ, zero, suc, ◌+◌, ◌-◌, ◌<◌, ◌≤◌, ◌++◌, ◌&&◌, Bool, true, false, List, [], ◌∷◌, map, drop, length, append_assoc, cond, Option, Some, None, is_none, refl, ap, sym, subst, arith}
+use Rattle.std.proofs.Common.{◌≡◌, ◌∙◌, ℕ, zero, suc, ◌+◌, ◌-◌, ◌<◌, ◌++◌, ◌&&◌, Bool, true, false, List, [], ◌∷◌, map, drop, length, append_assoc, cond, Option, is_none, refl, ap, sym, arith}
 use Rattle.std.specs.Prelude.{slice_get}
 use Rattle.std.specs.List.{range_with_len}
 use Rattle.std.proofs.lemmas.List.{drop-drop}
@@ -7,13 +7,12 @@ use Rattle.mx_turns.specs.declared.outside.OutsideLine.{OutsideLine}
 use Rattle.mx_machine.specs.declared.events.Event.{Event}
 use Rattle.mx_machine.specs.Machine.{MachineState, world_of}
 use Rattle.mx_machine.specs.Rest.{at_rest}
-use Rattle.mx_machine.specs.World.{World}
 use Rattle.mx_turns.specs.Turns.{is_over, next_now}
 use Rattle.mx_turns.specs.declared.turns.Ending.{Ending}
 use Rattle.mx_turns.specs.declared.turns.Ending.TheVariants.{Rest, Turns, Full}
 use Rattle.mx_explore.specs.Passages.{passage}
 use Rattle.mx_explore.specs.declared.passing.TurnStart.{TurnStart}
-use Rattle.mx_explore.specs.Passing.{Passage, Place, Standing, at_place, meets_if, open_at, passed_turn, passed_turns, places, turn_start}
+use Rattle.mx_explore.specs.Passing.{Passage, Place, Standing, at_place, meets_if, passed_turn, passed_turns, places, turn_start}
 use Rattle.mx_explore.specs.Passing.{BackBy, FromOutside, NewIn, TakeBy}
 use Rattle.mx_explore.proofs.PassageLemmas.{At, at_append, none_after, outside_needs, respawns_need}
 

@@ -1,5 +1,5 @@
 -- A run whose last departure lasts a turn more goes as the run in which it doesn't, up to the next offer of the outside.
-use Rattle.std.proofs.Common.{◌≡◌, ◌∙◌, ◌⊎◌, ◌≤◌, ◌<◌, ◌+◌, ◌-◌, ◌==◌, ◌&&◌, ◌||◌, ◌++◌, ℕ, zero, suc, Bool, true, false, List, [], ◌∷◌, drop, length, length-append, cond, nat_lt, Option, Some, None, is_none, inl, inr, refl, ap, sym, subst, arith, true≢false}
+use Rattle.std.proofs.Common.{◌≡◌, ◌∙◌, ◌⊎◌, ◌≤◌, ◌<◌, ◌+◌, ◌-◌, ◌==◌, ◌&&◌, ◌||◌, ◌++◌, ℕ, zero, suc, Bool, true, false, List, [], ◌∷◌, drop, length, length-append, cond, nat_lt, Option, Some, None, is_none, inl, inr, refl, ap, sym, subst, arith}
 use Rattle.std.specs.Prelude.{slice_get}
 use Rattle.std.proofs.lemmas.Bool.{cases_Bool, lt-ltb, ltb-false, ltb-true, ne_eqb}
 use Rattle.std.proofs.lemmas.Bool.Decides.{nat_tests}
@@ -7,7 +7,7 @@ use Rattle.mx_explore.specs.Offers.{is_outside}
 use Rattle.mx_explore.specs.declared.offers.Offer.{Offer}
 use Rattle.mx_explore.specs.declared.passing.Departure.{Departure}
 use Rattle.mx_explore.specs.declared.passing.Met.{Met}
-use Rattle.mx_explore.specs.Passing.{Setting, Standing, begins, end_of, from_boot, goes_on, is_at, noted, passes, run_of_schedule, turns_of}
+use Rattle.mx_explore.specs.Passing.{Setting, Standing, begins, end_of, from_boot, goes_on, is_at, noted, passes, run_of_schedule}
 use Rattle.mx_explore.specs.Tree.{waits_on}
 use Rattle.mx_explore.proofs.AlongLemmas.{goes_turns}
 use Rattle.mx_explore.proofs.FollowLemmas.{Bounded, begun_here, begins_now, bounded, departed_by, get_kept, get_last, longer, none_begins, none_goes, noted_if, noted_longer, parts, passes_longer}

@@ -1,6 +1,6 @@
 -- HISTORIES IN ANY ORDER: takes, returns at stops, new processes, and the outside events that are to come, as they come
 -- (our own).
-use Rattle.std.specs.Prelude.{ℕ, ◌≡◌, Bool, false, List, [], ◌∷◌, ◌++◌, drop, length, Option, slice_get}
+use Rattle.std.specs.Prelude.{ℕ, ◌≡◌, false, List, [], ◌∷◌, ◌++◌, drop, length, Option, slice_get}
 use Rattle.mx_walk.specs.Kept.{kept_of}
 use Rattle.mx_machine.specs.declared.events.Event.{Event}
 use Rattle.mx_machine.specs.declared.events.Event.TheVariants as events

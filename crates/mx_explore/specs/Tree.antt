@@ -1,5 +1,5 @@
 -- THE TREE OF SCHEDULES: each one's longer ones, by the offers that its run meets after its last departure (our own).
-use Rattle.std.specs.Prelude.{ℕ, zero, suc, ◌+◌, ◌-◌, ◌&&◌, if◌then◌else◌, Bool, true, false, List, [], ◌∷◌, ◌++◌, drop, filter, length, Option, Some, None, slice_get}
+use Rattle.std.specs.Prelude.{ℕ, zero, suc, ◌+◌, ◌-◌, ◌&&◌, if◌then◌else◌, Bool, false, List, [], ◌∷◌, ◌++◌, drop, filter, length, Option, Some, None, slice_get}
 use Rattle.std.specs.List.{flat_map, range_with_len}
 use Rattle.mx_explore.specs.Offers.{is_outside}
 use Rattle.mx_explore.specs.declared.passing.Departure.{Departure}

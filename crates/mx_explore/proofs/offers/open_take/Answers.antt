@@ -1,4 +1,4 @@
-use Rattle.std.proofs.Common.{◌∙◌, Option, ap, sym}
+use Rattle.std.proofs.Common.{◌∙◌, ap, sym}
 use Rattle.std.specs.Prelude.{option_map}
 use Rattle.mx_machine.specs.History.{BootAndHistory, replay}
 use Rattle.mx_machine.specs.Proc.Queues.{first_ready}

@@ -1,6 +1,6 @@
 use Rattle.std.proofs.Common.{false, true, rules}
 use Rattle.mx_explore.specs.Passages.{standing}
-use Rattle.mx_explore.proofs.MeetLemmas.{not_passed, noted_begins, noted_on, noted_only, passed_begins, passed_on}
+use Rattle.mx_explore.proofs.MeetLemmas.{not_passed, noted_on, noted_only, passed_begins, passed_on}
 use Rattle.mx_explore.proofs.passing.meet.Goals as goal
 
 pub returns-then-goes_on-clause-passed : goal.returns-then-goes_on-clause-passed

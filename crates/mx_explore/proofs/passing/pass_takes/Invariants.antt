@@ -1,4 +1,4 @@
-use Rattle.std.proofs.Common.{◌≡◌, List, length, map, ℕ, false}
+use Rattle.std.proofs.Common.{◌≡◌, List, length, map, false}
 use Rattle.std.specs.List.{range_with_len}
 use Rattle.mx_turns.specs.declared.outside.OutsideLine.{OutsideLine}
 use Rattle.mx_machine.specs.Machine.{world_of}

@@ -1,8 +1,5 @@
-use Rattle.std.proofs.Common.{◌≡◌, ◌∙◌, ◌+◌, ◌-◌, ◌≤◌, ◌&&◌, ℕ, Bool, List, Option, true, false, cond, drop, is_none, refl, ap, sym, arith}
+use Rattle.std.proofs.Common.{◌≡◌, ◌∙◌, ◌+◌, ◌-◌, ◌≤◌, Bool, List, true, false, cond, drop, refl, ap, sym, arith}
 use Rattle.std.specs.Int.{from_bool}
-use Rattle.std.specs.Prelude.{slice_get}
-use Rattle.mx_machine.specs.Machine.{world_of}
-use Rattle.mx_machine.specs.Rest.{at_rest}
 use Rattle.mx_turns.specs.Made.{outside_events}
 use Rattle.mx_turns.specs.declared.outside.OutsideLine.{OutsideLine}
 use Rattle.mx_explore.specs.Passages.{passage, standing}

@@ -1,5 +1,5 @@
 use Rattle.std.proofs.Common.{◌∙◌, arith, refl, sym}
-use Rattle.mx_explore.proofs.CountLemmas.{one_counted, other_part, same_itself, shows_none, shows_one}
+use Rattle.mx_explore.proofs.CountLemmas.{one_counted, other_part, shows_none, shows_one}
 use Rattle.mx_explore.proofs.exploring.Explorer.count.Goals as goal
 
 pub returns-then-not-is_in_part-clause-counted : goal.returns-then-not-is_in_part-clause-counted

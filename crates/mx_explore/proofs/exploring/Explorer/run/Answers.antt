@@ -1,9 +1,6 @@
-use Rattle.std.proofs.Common.{◌≡◌, ◌∙◌, ap, refl, subst, sym}
+use Rattle.std.proofs.Common.{◌∙◌, ap, refl, sym}
 use Rattle.mx_machine.specs.History.{BootAndHistory}
-use Rattle.mx_machine.specs.Machine.{MachineState}
-use Rattle.mx_explore.specs.declared.passing.Ran.{Ran}
-use Rattle.mx_explore.specs.Exploring.{IsAtBoot, setting}
-use Rattle.mx_explore.specs.Passages.{IsRun}
+use Rattle.mx_explore.specs.Exploring.{setting}
 use Rattle.mx_explore.proofs.CountLemmas.{boots, ran_from, services_back, shows_none}
 use Rattle.mx_explore.proofs.exploring.Explorer.run.Goals as goal
 
