@@ -1,5 +1,5 @@
 -- What is printed and saved of outcomes.
-use Rattle.std.proofs.Common.{◌≡◌, ◌∙◌, ◌⊎◌, ◌<◌, Bool, ℕ, zero, suc, ◌+◌, ◌++◌, true, false, List, [], ◌∷◌, length, take, Option, Some, None, Result, Ok, Err, IfErr, append_assoc, inl, inr, refl, ap, sym, subst, arith}
+use Rattle.std.proofs.Common.{◌≡◌, ◌∙◌, ◌⊎◌, ◌<◌, Bool, ℕ, zero, suc, ◌+◌, ◌++◌, true, false, List, [], ◌∷◌, length, take, Option, Some, Result, Ok, Err, IfErr, append_assoc, inl, inr, refl, ap, sym, subst, arith}
 use Rattle.std.specs.Prelude.{IfOk, IsErrAnd, get_or, replicate, slice_get}
 use Rattle.std.proofs.lemmas.Option.{get_or_from_slice_get}
 use Rattle.std.specs.Io.KnownBytes.{Appends}
@@ -41,7 +41,7 @@ use Rattle.mx_explore.specs.declared.passing.Departure.{Departure}
 use Rattle.mx_explore.specs.declared.passing.Met.{Met}
 use Rattle.mx_explore.specs.declared.passing.Ran.{Ran}
 use Rattle.mx_app_explore.specs.declared.exploring.Found.{Found}
-use Rattle.mx_app_explore.specs.FoundText.{departure_lines, found_text, numbered, outcome_lines, total_text}
+use Rattle.mx_app_explore.specs.FoundText.{departure_lines, found_text, head_text, numbered, outcome_lines, total_text}
 use Rattle.mx_app_explore.specs.Exploring.{AreAllFree, AreFree, Explores, IsOneSpared, IsUnsaved, IsUnsavedOne, asking, found_of, history_text, name_spared, saved_of, saved_one, saves_program}
 
 pub err_both : {A E : Type 0} (r : Result A E) (P Q : E → Type 0) → IfErr r P → IfErr r Q → IfErr r (λ e. P e × Q e)
@@ -226,6 +226,19 @@ module _ (t : Setting) (o : Outcome) (r : Ran) (ran : IsRun t o.departures.items
   departures_told =
       ap (λ (vs : List Service). departure_lines vs r.met.items o.departures.items) services_told ∙ ap (λ (met : List Met). departure_lines (run_of_schedule t o.departures.items).0.world.services met o.departures.items) ran.met
 
+  -- the lines as they are made: from no text, by the services, offers and departures that are read
+  pub lines_made : (vs : List Service) (met : List Met) (ds : List Departure) (end none first second last : List ℕ) → none ≡ [] → vs ≡ (replay r.machine.kernel).services → met ≡ r.met.items → ds ≡ o.departures.items → end ≡ o.text.items
+      → first ≡ none ++ head_text number o → second ≡ first ++ departure_lines vs met ds → last ≡ second ++ end → last ≡ outcome_lines t number o
+  lines_made vs met ds end none first second last empty services offers departures text head lines all =
+      let begun : first ≡ head_text number o = head ∙ ap (λ (l : List ℕ). l ++ head_text number o) empty in
+      let told : departure_lines vs met ds ≡ departure_lines (run_of_schedule t o.departures.items).0.world.services (end_of t o.departures.items).met o.departures.items =
+      ap (λ (l : List Service). departure_lines l met ds) services ∙ ap (λ (l : List Met). departure_lines (replay r.machine.kernel).services l ds) offers
+      ∙ ap (λ (l : List Departure). departure_lines (replay r.machine.kernel).services r.met.items l) departures ∙ departures_told in
+      let then : second ≡ head_text number o ++ departure_lines (run_of_schedule t o.departures.items).0.world.services (end_of t o.departures.items).met o.departures.items =
+      lines ∙ ap (λ (l : List ℕ). l ++ departure_lines vs met ds) begun ∙ ap (λ (l : List ℕ). head_text number o ++ l) told in
+      all ∙ ap (λ (l : List ℕ). l ++ end) then
+      ∙ ap (λ (l : List ℕ). head_text number o ++ departure_lines (run_of_schedule t o.departures.items).0.world.services (end_of t o.departures.items).met o.departures.items ++ l) text
+
   pub unsaved_as : (ws : List Written) (f : Kind) → IsUnsavedOne save number (text_kept r.machine.kernel) ws f → IsUnsavedOne save number (history_text t o) ws f
   unsaved_as ws f h = subst (λ (text : List ℕ). IsUnsavedOne save number text ws f) history h
 
@@ -263,7 +276,7 @@ one_free name k m read now more qs is h e one =
 -- or it is spared
 pub one_spared : (name : List ℕ) (n k m : ℕ) (read now more qs : List Asked) (f : Kind) → k < n → k + 1 ≡ m → (us : List Asked) × (now ≡ read ++ us) × AreFree name k us → more ≡ now ++ qs → SparesNumbered History name m qs (Err f) → (us : List Asked) × (more ≡ read ++ us) × IsOneSpared (Some name) n us f
 one_spared name n k m read now more qs f below is h e one =
-    (h.0 ++ qs, e ∙ ap (λ (l : List Asked). l ++ qs) h.1 ∙ append_assoc read h.0 qs, k, h.0, qs, below, refl, h.2, subst (λ i. SparesNumbered History name i qs (Err f)) (sym is) one)
+    (h.0 ++ qs, e ∙ ap (λ (l : List Asked). l ++ qs) h.1 ∙ append_assoc read h.0 qs, (k, h.0, qs, below, refl, h.2, subst (λ i. SparesNumbered History name i qs (Err f)) (sym is) one))
 
 -- ---- all of it
 
@@ -325,7 +338,7 @@ module _ (config : List ℕ) (events save : Option (List ℕ)) (force : Bool) (k
               × IfErr r (λ f. (m : ℕ) × (us : List Written) × (now ≡ old ++ saved_of s save (take m os) ++ us) × (((us ≡ []) × IsWanting f) ⊎ IsUnsaved s save m (slice_get os m) us f) × PrintsFront Prints (found_text s k found))
 
           ended : (r : Result Found Kind) → IsEnd asked r → (ws : List Written) × (now ≡ old ++ ws) × Explores config events save force k n before after (read ++ looked) ws ps Prints r
-          ended (Ok how) (ok, err) = (saved_of asked save os, ok.1, c, vs, xs, read, looked, refl, begun, other, found, all, shown, free, ok.0, refl, ok.2)
+          ended (Ok how) (ok, err) = (saved_of asked save os, ok.1, (c, vs, xs, read, looked, refl, begun, other, (found, all, shown, free, ok.0, refl, ok.2)))
           ended (Err f) (ok, err) =
               let ws = saved_of asked save (take err.0 os) in
               (ws ++ err.1, err.2 ∙ append_assoc old ws err.1, inr (inr (c, vs, xs, read, looked, refl, begun, other, inr (inr (found, err.0, err.1, all, shown, free, refl, err.3, err.4)))))

@@ -1,1 +1,2 @@
 mod FoundLemmas
+mod Pieces

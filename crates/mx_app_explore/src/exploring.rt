@@ -55,7 +55,7 @@ impl<'a> ExploreWanted<'a> {
     /// The name of the files that are spared if they hold something else.
     fn spared(self) -> Option<&'a str>
         ensures { option_map (λ s. s.now) result
-            ≡ name_spared self.force (option_map (λ s. s.now) self.save) }
+            ≡ name_spared self.entry.force (option_map (λ s. s.now) self.entry.save) }
     {
         if self.force { None } else { self.save }
     }
@@ -69,6 +69,17 @@ pub enum Found {
     Several,
 }
 
+/// Whether the file of a service's program has the name of one that may be saved.
+fn saves_program(config: &Config, name: &str) -> bool
+    ensures { result ≡ saves_program config.now (Some name.now) }
+{
+    config
+        .lines
+        .as_slice()
+        .iter()
+        .any(|line| is_numbered(name, line.file.as_str()))
+}
+
 /// Refuses to write over the program of a service: its file has the name of one that may be saved.
 fn spare_programs(config: &Config, save: Option<&str>) -> Result<(), Failure>
     ensures spared { OnOk result
@@ -80,12 +91,7 @@ fn spare_programs(config: &Config, save: Option<&str>) -> Result<(), Failure>
     let Some(name) = save else {
         return Ok(());
     };
-    if config
-        .lines
-        .as_slice()
-        .iter()
-        .any(|line| is_numbered(name, line.file.as_str()))
-    {
+    if saves_program(config, name) {
         return Err(Failure::of(Some(FileProblem::OverProgram), About::Written));
     }
     Ok(())

@@ -1,4 +1,4 @@
-use Rattle.std.proofs.Common.{◌≡◌, ◌∙◌, ◌++◌, List, Option, ℕ, [], ap, append_assoc, length, refl, subst, sym}
+use Rattle.std.proofs.Common.{◌≡◌, ◌∙◌, ◌++◌, List, Option, ℕ, [], ap, append_assoc, arith, length, refl, subst, sym}
 use Rattle.std.specs.Prelude.{option_map}
 use Rattle.std.specs.Io.KnownBytes.{Appends}
 use Rattle.std.proofs.lemmas.List.{append-nil}
@@ -9,7 +9,7 @@ use Rattle.mx_machine.specs.declared.config.Config.{Config}
 use Rattle.mx_machine.specs.Boot.{world_at_boot}
 use Rattle.mx_machine.specs.Machine.{world_of}
 use Rattle.mx_app_turns.specs.Turned.{IsBegun}
-use Rattle.mx_explore.specs.Exploring.{ShowsCounts, setting}
+use Rattle.mx_explore.specs.Exploring.{ShowsCounts}
 use Rattle.mx_app_explore.specs.Exploring.{AreAllFree, IsOneSpared}
 use Rattle.mx_app_explore.proofs.FoundLemmas.{at_boot, ends, explored_all, explored_setting, held_back, not_begun, spared, unexplored}
 use Rattle.mx_app_explore.proofs.exploring.explore.Goals as goal
@@ -42,8 +42,8 @@ returns-in_err-spare_programs g c =
           c.in_err-spare_programs.field-0.0 c.from_residual-in_err-spare_programs.result h.0 h.1 (appends_nothing _) c.from_residual-in_err-spare_programs.ensures.1,
     )
 
-pub explore_machine-requires : goal.explore_machine-requires
-explore_machine-requires g c = at_boot c.in_ok-begun.begun.machine c.in_ok-begun.ensures.kernel c.in_ok-begun.ensures.other
+pub explore-requires : goal.explore-requires
+explore-requires g c = record { boot = at_boot c.in_ok-begun.begun.machine c.in_ok-begun.ensures.kernel c.in_ok-begun.ensures.other }
 
 pub returns-in_err-explored : goal.returns-in_err-explored
 returns-in_err-explored g c =
@@ -81,9 +81,10 @@ returns-in_err-spare_found g c =
     let counts = subst (λ i. ShowsCounts 0 shown.0 i) (sym shown.4) shown.3 in
     let same = explored_setting _ _ _ done b.config s.2 b.events.items c.as_slice.ensures.value refl booted in
     let all = explored_all _ _ _ done b.config s.2 b.events.items c.as_slice.ensures.value refl booted in
+    let count : c.len-outcomes.result ≡ length e.tally.outcomes.items = omega (arith, c.len-outcomes.ensures, e.tally.outcomes.ok.0) in
     let h = c.in_err-spare_found.ensures.spared in
     let f = c.in_err-spare_found.field-0.0 in
-    let why = subst (λ (o : Option (List ℕ)). IsOneSpared o (length e.tally.outcomes.items) h.0 f) c.spared.ensures (subst (λ i. IsOneSpared (option_map (λ x. x.now) c.spared.result) i h.0 f) c.len-outcomes.ensures h.2) in (
+    let why = subst (λ (o : Option (List ℕ)). IsOneSpared o (length e.tally.outcomes.items) h.0 f) c.spared.ensures (subst (λ i. IsOneSpared (option_map (λ x. x.now) c.spared.result) i h.0 f) count h.2) in (
       s.0 ++ h.0,
       [],
       shown.0,
@@ -110,8 +111,9 @@ returns g c =
     let counts = subst (λ i. ShowsCounts 0 shown.0 i) (sym shown.4) shown.3 in
     let same = explored_setting _ _ _ done b.config s.2 b.events.items c.as_slice.ensures.value refl booted in
     let all = explored_all _ _ _ done b.config s.2 b.events.items c.as_slice.ensures.value refl booted in
+    let count : c.len-outcomes.result ≡ length e.tally.outcomes.items = omega (arith, c.len-outcomes.ensures, e.tally.outcomes.ok.0) in
     let h = c.in_ok-spare_found.ensures.free in
-    let free = subst (λ (o : Option (List ℕ)). AreAllFree o (length e.tally.outcomes.items) h.0) c.spared.ensures (subst (λ i. AreAllFree (option_map (λ x. x.now) c.spared.result) i h.0) c.len-outcomes.ensures h.2) in
+    let free = subst (λ (o : Option (List ℕ)). AreAllFree o (length e.tally.outcomes.items) h.0) c.spared.ensures (subst (λ i. AreAllFree (option_map (λ x. x.now) c.spared.result) i h.0) count h.2) in
     let end = ends config file save w.force w.departures w.bound w.before w.after s.0 (λ (text : List ℕ). Appends (g.W.Write.contents c.args.channels.now.out) (g.W.Write.contents c.print_found.new.out) text) b.config s.2 b.events.items begun
     c.in_ok-spare_programs.ensures.spared shown.0 e.tally _ same all counts h.0 free _ _ c.print_found.result (c.print_found.ensures.told, c.print_found.ensures.untold) in
     (s.0 ++ h.0, end.0, shown.0, h.1 ∙ ap (λ (l : List Asked). l ++ h.0) s.3 ∙ append_assoc _ s.0 h.0, end.1, c.clear.ensures ∙ shown.2, end.2)

@@ -1,4 +1,4 @@
-use Rattle.std.proofs.Common.{◌≡◌, ◌≤◌, length, option_map}
+use Rattle.std.proofs.Common.{◌≡◌, option_map}
 use Rattle.mx_explore.specs.Exploring.{IsAtBoot, setting}
 use Rattle.mx_app_explore.proofs.FoundLemmas.{IsSoFar}
 use Rattle.mx_app_explore.proofs.exploring.print_found.Given as goal
