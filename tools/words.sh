@@ -929,11 +929,14 @@ tell_history() {
     [ "$(wc -l <"$2")" -gt 5000 ] || shown=$(ask_program trace "$1" "$2")
     slots=$(awk '{ sub(/#.*/, "") } $1 == "service" { printf " %d %s", slot++, $2 }' "$1")
     tell_calls "$1" "$2"
-    printf '%s\n' "$became" | awk -v mistaken="$mistaken" -v ticks="$3" -v slots="$slots" '
+    tell_unset "$1" "$2"
+    printf '%s\n' "$became" | awk -v mistaken="$mistaken" -v ticks="$3" -v slots="$slots" -v unset="$unset" '
         $0 ~ mistaken { is_mistaken = 1 }
-        /^refused: / && $3 ~ /^(SEND|SENDREC|NOTIFY)$/ && $2 == $4 && !self { self = $2; sub(/:$/, "", self) }
+        # Of a caller whose message is elsewhere the partner and the type are there by chance.
+        /^refused: / { caller = $2; sub(/:$/, "", caller); is_unset = index(unset, " " caller " ") }
+        /^refused: / && $3 ~ /^(SEND|SENDREC|NOTIFY)$/ && $2 == $4 && !self && !is_unset { self = caller }
         /^waits: .* from CLOCK .* alarm is due / { alarm = $0 }
-        /^refused: .*: kernel call, type 0: -107 / {
+        /^refused: .*: kernel call, type 0: -107 / && !is_unset {
             print "mx: the answer of a call overwrites its message, and its type is 0 then: wanted the type set again"
         }
         /^died: .* of fault 0 at / { print "mx: fault 0 is a division by 0, or one whose result doesn\047t fit" }
