@@ -295,7 +295,7 @@ is_program() {
     [ -f "$1" ] && [ "$(od -An -tx1 -N2 "$1" | tr -d ' ')" = 0103 ]
 }
 
-# Says of an `as` that it was given the program first, or a text in C.
+# Says of an `as` that it was given the program first, or a text in C, or a configuration.
 tell_text() {
     [ "$1" = as ] || return 0
     text=$(nth_word 1 "$@") file=$(nth_word 2 "$@")
@@ -304,6 +304,8 @@ tell_text() {
     esac
     if is_program "$text" && [ -s "$file" ] && ! is_program "$file"; then
         echo "mx: $text is a program: wanted the text first: mx as $file $text" >&2
+    elif [ -f "$text" ] && ! is_program "$text" && has_items "$text"; then
+        echo "mx: $text is a configuration, which mx explain takes; as takes TEXT, the text of one program" >&2
     fi
 }
 
@@ -555,11 +557,29 @@ tell_pushes() {
         }' "$1" >&2
 }
 
-# Says of the configuration of these words that a comment in it begins otherwise.
-tell_comment_sign() {
+# Whether a text has an item of a configuration.
+has_items() {
+    awk '$1 ~ /^(cpus|log|others|rules|service)$/ { is_there = 1; exit } END { exit !is_there }' "$1"
+}
+
+# Says of the configuration of these words that it is another file, by which command takes that: a program; or a text for the
+# assembler or in C, by its name. Else that a comment in it begins otherwise.
+tell_config_place() {
     case $1 in one | as | dis | nm) return 0 ;; esac
     config=$(nth_word 1 "$@")
     [ -f "$config" ] || return 0
+    kind=''
+    if is_program "$config"; then kind="a program, which mx dis, nm and one take"
+    elif ! has_items "$config"; then
+        case $config in
+            *.s) kind="a text for the assembler, which mx as takes" ;;
+            *.c) kind="a text in C, which gcc takes: mx new NAME --c makes a folder for such" ;;
+        esac
+    fi
+    if [ -n "$kind" ]; then
+        echo "mx: $config is $kind; $1 takes CONFIG, which names the programs of its services" >&2
+        return
+    fi
     line=$(awk '/^ *(;|\/\/|--)/ { print NR; exit }' "$config")
     [ -z "$line" ] || echo "mx: $config line $line: wanted # before a comment" >&2
 }
@@ -724,7 +744,7 @@ tell_words() {
     [ -n "$(explains_words "$@")" ] || return 0
     tell_text "$@"
     tell_statements "$@"
-    tell_comment_sign "$@"
+    tell_config_place "$@"
     tell_code "$@"
     tell_machine "$@"
     tell_swapped "$@"
@@ -877,6 +897,27 @@ tell_calls() {
         }' >&2
 }
 
+# Says of who had a call refused, or died of a fault, by $became, that nothing was put in EBX for its first call with a
+# message: it is 0, and no instruction above that call names it. Leaves their names in `unset`: tell_unset CONFIG LOG.
+tell_unset() {
+    unset=' '
+    [ -n "$shown" ] || return 0
+    for name in $(printf '%s\n' "$became" | sed -n 's/^refused: \([A-Za-z0-9_]*\): .*/\1/p; s/^died: \([A-Za-z0-9_]*\),.* of fault .*/\1/p' | sort -u); do
+        call=$(printf '%s\n' "$shown" | awk -v name="$name" '
+            $3 == "back" && $5 == name && $7 == "trap" && $8 ~ /^(SEND|RECEIVE|SENDREC)$/ { print $8 " at record " $1; exit }')
+        [ -n "$call" ] || continue
+        registers=$(printf 'goto %s\nregs %s\n' "${call##* }" "$name" | ask_program look "$1" "$2")
+        case $registers in *'EBX 00000000'*) ;; *) continue ;; esac
+        place=$(printf '%s\n' "$registers" | sed -n 's/^EIP \([0-9a-f]*\) .*/\1/p')
+        ! ask_program dis "$(program_of "$1" "$name")" | awk -v place="$place" '
+            $1 >= place { exit }
+            / (ebx|bx|bl|bh)(,|$)/ { is_named = 1; exit }
+            END { exit !is_named }' || continue
+        echo "mx: $name put nothing in EBX for its $call, so the message is at address 0: wanted mov ebx, and where it is" >&2
+        unset="$unset$name "
+    done
+}
+
 # Says of a history that was just made which calls were refused in it. If the clock could have ticked, says who waits for it
 # too: tell_history CONFIG LOG TICKS, where TICKS is what would make it tick. Of who died, says what the instruction is that
 # the machine hasn't, and that nothing says where it begins. Leaves in `became` what `mx why` says, and in `shown` what `mx
@@ -888,11 +929,14 @@ tell_history() {
     [ "$(wc -l <"$2")" -gt 5000 ] || shown=$(ask_program trace "$1" "$2")
     slots=$(awk '{ sub(/#.*/, "") } $1 == "service" { printf " %d %s", slot++, $2 }' "$1")
     tell_calls "$1" "$2"
-    printf '%s\n' "$became" | awk -v mistaken="$mistaken" -v ticks="$3" -v slots="$slots" '
+    tell_unset "$1" "$2"
+    printf '%s\n' "$became" | awk -v mistaken="$mistaken" -v ticks="$3" -v slots="$slots" -v unset="$unset" '
         $0 ~ mistaken { is_mistaken = 1 }
-        /^refused: / && $3 ~ /^(SEND|SENDREC|NOTIFY)$/ && $2 == $4 && !self { self = $2; sub(/:$/, "", self) }
+        # Of a caller whose message is elsewhere the partner and the type are there by chance.
+        /^refused: / { caller = $2; sub(/:$/, "", caller); is_unset = index(unset, " " caller " ") }
+        /^refused: / && $3 ~ /^(SEND|SENDREC|NOTIFY)$/ && $2 == $4 && !self && !is_unset { self = caller }
         /^waits: .* from CLOCK .* alarm is due / { alarm = $0 }
-        /^refused: .*: kernel call, type 0: -107 / {
+        /^refused: .*: kernel call, type 0: -107 / && !is_unset {
             print "mx: the answer of a call overwrites its message, and its type is 0 then: wanted the type set again"
         }
         /^died: .* of fault 0 at / { print "mx: fault 0 is a division by 0, or one whose result doesn\047t fit" }
