@@ -1,5 +1,5 @@
 -- Which files of a request are spared (our own).
-use Rattle.std.specs.Prelude.{◌≡◌, ◌⊎◌, ℕ, Bool, true, false, if◌then◌else◌, List, [], ◌∷◌, Option, Some, None, Result, Ok, Err}
+use Rattle.std.specs.Prelude.{◌≡◌, ◌⊎◌, ℕ, Bool, true, false, List, [], ◌∷◌, Option, Some, None, Result, Ok, Err}
 use Rattle.std.specs.declared.io.ErrorKind.{ErrorKind}
 use Rattle.mx_app_command.specs.Files.{FileWord, file_written, writes_several, written_kind}
 use Rattle.mx_app_command.specs.declared.command_line.CommandRequest.{CommandRequest}
@@ -17,10 +17,14 @@ abbrev pub file_spared : CommandRequest → Bool → Option FileWord
 file_spared request true = None
 file_spared request false = file_written request
 
+-- the first of several files of a name, or the one that has it
+abbrev pub SparesFirst : Bool → FileKind → List ℕ → List Asked → Result (Unit {0}) Kind → Type 0
+SparesFirst true kind name qs r = SparesNumbered kind name 1 qs r
+SparesFirst false kind name qs r = SparesName kind name qs r
+
 abbrev pub SparesWord : FileKind → Bool → Option FileWord → List Asked → Result (Unit {0}) Kind → Type 0
 SparesWord kind several None qs r = (qs ≡ []) × (r ≡ Ok tt)
-SparesWord kind several (Some w) qs r =
-    if several then SparesNumbered kind w.name 1 qs r else SparesName kind w.name qs r
+SparesWord kind several (Some w) qs r = SparesFirst several kind w.name qs r
 
 -- the file that a request writes; of several the first, and no other
 abbrev pub SparesRequest : CommandRequest → Bool → List Asked → Result (Unit {0}) Kind → Type 0
