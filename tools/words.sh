@@ -1,5 +1,15 @@
 # What the script mx of the repository and that of a package share, for sh.
 
+# What these can't read isn't said twice, nor in their words: the program says it. A file may go while they read it.
+awk() { command awk "$@" 2>/dev/null; }
+grep() { command grep "$@" 2>/dev/null; }
+sed() { command sed "$@" 2>/dev/null; }
+
+# Whether a file is a regular one, which can be read.
+is_readable() {
+    [ -f "$1" ] && [ -r "$1" ]
+}
+
 # Prints what to do first: show_first_steps COMMAND TOP ABOUT. COMMAND is how mx was called, TOP the folder that has the
 # pages, and ABOUT what --prove does. The pages and files are named as they are seen from here.
 show_first_steps() {
@@ -48,7 +58,7 @@ refuse_own_text() {
 
 # Prints the programs of a configuration's services, one a line, in the order of their slots.
 programs_of() {
-    [ ! -f "$1" ] || awk '{ sub(/#.*/, "") } $1 == "service" { print $3 }' "$1"
+    ! is_readable "$1" || awk '{ sub(/#.*/, "") } $1 == "service" { print $3 }' "$1"
 }
 
 # Prints the files that a command on this configuration's machine reads, one a line: CONFIG [FILE ..].
@@ -260,7 +270,7 @@ tell_slot() {
     name=$(value_of --slot "$@")
     case $name in '' | *[!0-9A-Za-z_]*) return 0 ;; *[!0-9]*) ;; *) return 0 ;; esac
     config=$(nth_word 1 "$@") slot=''
-    [ ! -f "$config" ] || slot=$(awk -v name="$name" '
+    ! is_readable "$config" || slot=$(awk -v name="$name" '
         { sub(/#.*/, "") } $1 == "service" { if ($2 == name) { print slot + 0; exit } slot++ }' "$config")
     echo "mx: --slot: wanted a slot's number${slot:+: $name is slot $slot}" >&2
 }
@@ -276,7 +286,7 @@ tell_range() {
         return
     fi
     log=$(nth_word 2 "$@")
-    [ -f "$log" ] || return 0
+    is_readable "$log" || return 0
     records=$(grep -c '^[0-9]' "$log")
     [ "$from" -le "$records" ] 2>/dev/null ||
         echo "mx: no record is shown: --from $from is after the end: $log has $records" >&2
@@ -292,7 +302,7 @@ tell_stop() {
 
 # Whether a file begins as a program.
 is_program() {
-    [ -f "$1" ] && [ "$(od -An -tx1 -N2 "$1" | tr -d ' ')" = 0103 ]
+    is_readable "$1" && [ "$(od -An -tx1 -N2 "$1" | tr -d ' ')" = 0103 ]
 }
 
 # Says of an `as` that it was given the program first, or a text in C.
@@ -331,7 +341,7 @@ tell_comments() {
 
 # Says of the text of an `as` what is none of its statements, though it looks as one.
 tell_statements() {
-    { [ "$1" = as ] && text=$(nth_word 1 "$@") && [ -f "$text" ] && ! is_program "$text"; } || return 0
+    { [ "$1" = as ] && text=$(nth_word 1 "$@") && is_readable "$text" && ! is_program "$text"; } || return 0
     line=$(awk '/^[ \t]*[#%][ \t]*(define|include|ifn?def|macro)/ { print NR; exit }' "$text")
     [ -z "$line" ] || echo "mx: $text line $line: there is no preprocessor: wanted numbers in place of names, and one file" >&2
     tell_comments "$text"
@@ -487,7 +497,7 @@ tell_statement() {
 # Says of a text that was assembled that it has no instruction, or where the address of a number is counted with, as if it
 # were the number: right after it was put in a register that is no address anywhere in the text.
 tell_addresses() {
-    [ ! -f "$1" ] || awk -v file="$1" "$plain_line"'
+    ! is_readable "$1" || awk -v file="$1" "$plain_line"'
         { code = plain($0) }
         label != "" { named = label; is_number[named] = 0 }
         code == "" { next }
@@ -510,7 +520,7 @@ tell_addresses() {
 # Says of a text that was assembled, with its code apart, which data of it is among the code, if something else than a jump
 # names it.
 tell_data() {
-    [ ! -f "$1" ] || awk -v file="$1" "$plain_line"'
+    ! is_readable "$1" || awk -v file="$1" "$plain_line"'
         { code = plain($0) }
         label != "" { named = label }
         code == "" { next }
@@ -532,7 +542,7 @@ tell_data() {
 # Says of a text that was assembled which subroutine of it doesn't take back what it pushed, or takes more: the first without
 # jumps, calls, other uses of ESP, and a push of an address for its ret.
 tell_pushes() {
-    [ ! -f "$1" ] || awk -v file="$1" "$plain_line"'
+    ! is_readable "$1" || awk -v file="$1" "$plain_line"'
         { code = plain($0) }
         label != "" { routine = label; more = 0; is_plain = 1 }
         code == "" || code ~ /^\./ { next }
@@ -559,14 +569,14 @@ tell_pushes() {
 tell_comment_sign() {
     case $1 in one | as | dis | nm) return 0 ;; esac
     config=$(nth_word 1 "$@")
-    [ -f "$config" ] || return 0
+    is_readable "$config" || return 0
     line=$(awk '/^ *(;|\/\/|--)/ { print NR; exit }' "$config")
     [ -z "$line" ] || echo "mx: $config line $line: wanted # before a comment" >&2
 }
 
 # Says of an `explain` of a code or its name what it means, as the tables of $reference have it.
 tell_code() {
-    { [ "$1" = explain ] && [ -f "$reference" ]; } || return 0
+    { [ "$1" = explain ] && is_readable "$reference"; } || return 0
     shift
     for word in "$@"; do
         case $word in --*) continue ;; esac
@@ -594,7 +604,7 @@ is_checked_out() {
 is_made_of() {
     made=$(mktemp) || return 0
     ask_program as "$1" "$made" --force </dev/null
-    [ $? -gt 9 ] || cmp -s "$made" "$2"
+    [ $? -gt 9 ] || cmp -s "$made" "$2" 2>/dev/null
     same=$?
     rm -f "$made"
     return $same
@@ -602,7 +612,7 @@ is_made_of() {
 
 # The command that makes the programs of a folder, if one does.
 making() {
-    [ -f "$1/Makefile" ] || return
+    is_readable "$1/Makefile" || return
     if [ "$1" = . ]; then echo make; else echo "make -C $1"; fi
 }
 
@@ -645,7 +655,7 @@ tell_machine() {
 tell_swapped() {
     case $1 in step | db | run | turns | explain) ;; *) return 0 ;; esac
     config=$(nth_word 1 "$@")
-    [ ! -f "$config" ] || awk -v at="mx: $config: " '
+    ! is_readable "$config" || awk -v at="mx: $config: " '
         { sub(/#.*/, "") }
         $1 == "service" { program = $3; sub(/.*\//, "", program); sub(/\.out$/, "", program); has[$2] = program }
         END {
@@ -816,7 +826,7 @@ run_live() {
 
 # Says of a session in which a byte was typed that no service has counted it: tell_typed CONFIG LOG.
 tell_typed() {
-    { [ -f "$1" ] && is_short "$2" && [ "$(wc -l <"$2")" -le 5000 ]; } || return 0
+    { is_readable "$1" && is_short "$2" && [ "$(wc -l <"$2")" -le 5000 ]; } || return 0
     ask_program trace "$1" "$2" | awk '
         $3 == "line" && $4 == "7:" { owner = $5 }
         / trap SENDREC SYSTEM, DEVIO 1 255 / { is_counted = 1 }
@@ -841,7 +851,7 @@ wait_for_child() {
 
 # Whether a history is as short as those of which the program itself says what went wrong.
 is_short() {
-    [ -f "$1" ] && awk '$2 == "back" { steps += $3 } END { exit NR > 20000 || steps > 10000000 }' "$1"
+    is_readable "$1" && awk '$2 == "back" { steps += $3 } END { exit NR > 20000 || steps > 10000000 }' "$1"
 }
 
 # For awk: a line of `mx why` on a call that no right machine makes: refused by a mask, to nobody, with no such number or with
@@ -850,7 +860,7 @@ mistaken='^refused: .*: (-10[347] |-14 EFAULT .buffer.)'
 
 # Prints `= NAME MEANING` of each result of a call, as the table of $reference has it.
 result_meanings() {
-    [ ! -f "${reference-}" ] || awk -F ' *[|] *' '
+    ! is_readable "${reference-}" || awk -F ' *[|] *' '
         NF == 6 && $2 ~ /^-[0-9]+$/ && length($3) == 8 && $4 ~ /^E[A-Z]+$/ { print "= " $4 " " $5 }' "$reference"
 }
 
@@ -883,7 +893,7 @@ tell_calls() {
 # trace` does, both empty for a long history.
 tell_history() {
     became='' shown=''
-    { [ -f "$1" ] && is_short "$2"; } || return 0
+    { is_readable "$1" && is_short "$2"; } || return 0
     became=$(ask_program why "$1" "$2")
     [ "$(wc -l <"$2")" -gt 5000 ] || shown=$(ask_program trace "$1" "$2")
     slots=$(awk '{ sub(/#.*/, "") } $1 == "service" { printf " %d %s", slot++, $2 }' "$1")
@@ -1088,7 +1098,7 @@ tell_ud2() {
 tell_entry() {
     file=$(program_of "$1" "$2")
     text=${file%.out}.s
-    { [ "$text" != "$file.s" ] && [ -f "$text" ] && is_made_of "$text" "$file"; } || return 0
+    { [ "$text" != "$file.s" ] && is_readable "$text" && is_made_of "$text" "$file"; } || return 0
     awk -v file="$text" -v name="$2" "$plain_line"'
         { code = plain($0) }
         code ~ /^\.entry/ { has_entry = 1 }
@@ -1101,7 +1111,7 @@ tell_entry() {
 
 # Says of a history that was just made that what is on the console can't be seen, if that is so of all its bytes.
 tell_console() {
-    { [ -f "$1" ] && is_short "$2"; } || return 0
+    { is_readable "$1" && is_short "$2"; } || return 0
     ask_program replay "$1" "$2" | LC_ALL=C sed '1,/^console [0-9]*$/d' | LC_ALL=C tr -d ' \t\n\r' | od -An -v -tx1 | awk '
         { for (at = 1; at <= NF; at++) { bytes = bytes " " $at; if ("" $at > "20" && $at != "7f") is_seen = 1 } }
         END { if (bytes && !is_seen) print "mx: nothing on the console can be seen: its bytes are" substr(bytes, 1, 48) }' >&2
@@ -1114,7 +1124,7 @@ missing_ticks() {
 
 # Says of a configuration that its history has no room for a service's first turn.
 tell_room() {
-    [ ! -f "$1" ] || awk '
+    ! is_readable "$1" || awk '
         { sub(/#.*/, "") }
         $1 == "log" && $2 == 1 { print "mx: wanted log 2 or more: a service is taken and comes back, which are 2 records" }' "$1" >&2
 }
@@ -1134,7 +1144,7 @@ tell_events() {
     turns=$1
     shift
     config=$(nth_word 1 "$@") log=$(nth_word 2 "$@") events=$(value_of --events "$@")
-    case $became in 'ends: open '*) [ -f "$events" ] || return 0 ;; *) return 0 ;; esac
+    case $became in 'ends: open '*) is_readable "$events" || return 0 ;; *) return 0 ;; esac
     cpus=$(cpus_of "$config") room=$(mktemp -d) || return 0
     awk -v turns="$turns" -v actor="${cpus:-1}" '
         NR == FNR { if ($1 == actor && $2 == "kill") made[$3]++; next }
@@ -1159,7 +1169,7 @@ tell_events() {
 
 # Says why an outside event of a run that rests has no record, which `mx why` names, if the history has room for more: tell_lost CONFIG LOG EVENTS.
 tell_lost() {
-    case $became in 'ends: rest '*) [ -f "$3" ] || return 0 ;; *) return 0 ;; esac
+    case $became in 'ends: rest '*) is_readable "$3" || return 0 ;; *) return 0 ;; esac
     room=$(awk '{ sub(/#.*/, "") } $1 == "log" { print $2; exit }' "$1")
     [ "$(grep -c '^[0-9]' "$2")" -lt "${room:-0}" ] || return 0
     ask_program why "$1" "$2" --events "$3" | sed -n \
@@ -1298,7 +1308,7 @@ tell_kernel() {
 # Says of a kill in FAULT whose endpoint no process of the history has any more from a position on that it is refused there.
 tell_replaced() {
     config=$(nth_word 1 "$@") log=$(nth_word 2 "$@") fault=$(nth_word 3 "$@") to=$(value_of --to "$@")
-    { [ -f "$config" ] && [ -f "$log" ] && [ -f "$fault" ] && is_short "$log"; } || return 0
+    { is_readable "$config" && is_readable "$fault" && is_short "$log"; } || return 0
     awk -v file="$fault" -v to="$to" -v names="$(names_of "$config")" '
         BEGIN { services = split(names, name, " ") }
         NR == FNR {
@@ -1321,7 +1331,7 @@ tell_replaced() {
 tell_failure() {
     config=$(nth_word 1 "$@") second=$(nth_word 2 "$@")
     if [ "$1" = as ]; then
-        [ ! -f "$config" ] || tell_faulty "$config" "$(failure_of "$@")"
+        ! is_readable "$config" || tell_faulty "$config" "$(failure_of "$@")"
         return
     fi
     said=$(failure_of explain "$config" --check)
@@ -1373,7 +1383,7 @@ tell_config() {
 
 # Says of a line of a configuration that its item's word has a colon, or is in upper case.
 tell_item() {
-    { [ -n "$2" ] && [ -f "$1" ]; } || return 0
+    { [ -n "$2" ] && is_readable "$1"; } || return 0
     awk -v line="$2" -v at="mx: $1 line $2: " '
         NR == line {
             word = tolower($1)
@@ -1411,7 +1421,7 @@ cpus_of() {
 # Says of a script that is refused with these lines which number was wanted for a name.
 tell_script() {
     line=$(printf '%s\n' "$3" | sed -n '1s/^mx: 73 BadRecord line \([0-9]*\)$/\1/p')
-    { [ -n "$line" ] && [ -f "$2" ]; } || return 0
+    { [ -n "$line" ] && is_readable "$2"; } || return 0
     awk -v line="$line" -v cpus="$(cpus_of "$1")" -v at="mx: $2 line $line: " '
         NR == line && $1 ~ /^(take|step|back|go)$/ && $2 ~ /^[A-Za-z_]/ {
             print at "C is the number of a processor, 0 to " cpus - 1 ", and no service: stands \"" $2 "\""
@@ -1420,7 +1430,7 @@ tell_script() {
 
 # Whether a script is as short as to be made once more.
 is_short_script() {
-    [ -f "$1" ] && awk '$1 == "step" || $1 == "go" { steps += $3 } END { exit NR > 20000 || steps > 10000000 }' "$1"
+    is_readable "$1" && awk '$1 == "step" || $1 == "go" { steps += $3 } END { exit NR > 20000 || steps > 10000000 }' "$1"
 }
 
 # Whether a line of a script is raised twice.
@@ -1443,7 +1453,7 @@ tell_script_lines() {
 # Says of the events of a script that were refused why, the first three: they are made once more, and each answer has the
 # number of its line then.
 tell_answers() {
-    { [ -f "$1" ] && is_short_script "$2"; } || return 0
+    { is_readable "$1" && is_short_script "$2"; } || return 0
     tell_script_lines "$1" "$2"
     ask_program step "$1" "$2" --numbered | awk -v script="$2" -v cpus="$(cpus_of "$1")" \
         -v services="$(programs_of "$1" | wc -l)" '
@@ -1468,7 +1478,7 @@ tell_answers() {
 # Says of a debugger's script which of its numbers are decimal, though they look as a listing's, and whom `regs C` is of, if
 # somebody wasn't there.
 tell_looks() {
-    { [ -f "$1" ] && is_short_script "$2"; } || return 0
+    { is_readable "$1" && is_short_script "$2"; } || return 0
     awk -v at="mx: $2 line " '
         $1 == "break" && $3 ~ /^0[0-9]+$/ {
             print at NR ": " $3 " is decimal here, as all numbers: " $3 + 0
@@ -1504,7 +1514,7 @@ tell_passed() {
 
 # Says of a history that is refused where it is none of this machine's, or that a number in it is too large.
 tell_refused() {
-    [ -f "$2" ] || return 0
+    is_readable "$2" || return 0
     awk -v file="$2" '
         $2 == "back" && $3 ~ /^[0-9]+$/ && $3 + 0 > 2147483647 {
             print "mx: " file " line " NR ": wanted N of at most 2147483647, stands \"" $3 "\""
@@ -1516,7 +1526,7 @@ tell_refused() {
 # Says of a sweep that failed which events FAULT may have, or what its history is.
 tell_fault() {
     tell_refused "$1" "$2"
-    [ -f "$3" ] || return 0
+    is_readable "$3" || return 0
     awk -v file="$3" '
         { sub(/#.*/, "") }
         NF && $1 !~ /^(take|step|back|line|tick|kill|respawn)$/ {
@@ -1533,7 +1543,7 @@ tell_empty() {
     if [ -f "$config" ] && [ -n "$log" ] && [ ! -e "$log" ]; then
         echo "mx: $log isn't there: mx turns $config $log makes it" >&2
     fi
-    [ -f "$log" ] || return 0
+    is_readable "$log" || return 0
     grep -q -v -e '^rules [12]$' -e '^$' "$log" || echo "mx: $log has no record: mx turns $config LOG makes a history" >&2
     turns=$(value_of --turns "$@")
     case $1$turns in sweep[0-9]*) ;; *) return 0 ;; esac
