@@ -1618,15 +1618,13 @@ can_write_sums() {
     return 1
 }
 
-# Whether sums stand beside a history, and are to be compared.
+# Whether sums stand beside a history, and can be compared.
 can_compare_sums() {
-    { [ -f "$log" ] && [ -f "$beside" ] && [ ! -L "$beside" ]; } || return 1
+    { is_readable "$log" && [ -f "$beside" ] && [ ! -L "$beside" ]; } || return 1
     if [ ! -r "$beside" ]; then
         tell_sums "isn't compared: there is no right to read it"
     elif ! holds_sums "$beside"; then
         tell_sums "isn't compared: it has no sums"
-    elif changed_since "$log" "$beside"; then
-        tell_sums "isn't compared: $log has changed since it was written"
     else
         return 0
     fi
@@ -1654,26 +1652,30 @@ find_beside() {
 }
 
 # Which sums go with the history of these words by itself, where they say nothing of sums: sums_word is --sums=LOG.sums,
-# or empty. A replay takes none: it is of any machine, and tell_changed says of which one.
+# or empty. A replay takes none: it is of any machine, and tell_changed says of which one. So it is of a history that may
+# be another one than its sums are of: by the time of its change nobody sees whether that was of its bytes, or a copy of
+# both files, which are compared all the same.
 choose_sums() {
-    sums_word='' replayed=''
+    sums_word='' told_sums='' excuse=''
     explains=$(explains_words "$@")
     find_beside "$@" || return 0
     case $command in
         step | run | turns) can_write_sums || return 0 ;;
-        replay)
-            [ -z "$explains" ] || ! can_compare_sums || replayed=$beside
-            return 0 ;;
-        *) can_compare_sums || return 0 ;;
+        *)
+            can_compare_sums || return 0
+            [ "$command" != replay ] || excuse="$log was made: it is replayed all the same"
+            ! changed_since "$log" "$beside" ||
+                excuse="$beside was written: $log changed later, or was copied, so nothing is refused" ;;
     esac
-    sums_word=--sums=$beside
+    if [ -z "$excuse" ]; then sums_word=--sums=$beside
+    elif [ -n "$explains" ]; then told_sums=$beside; fi
 }
 
-# Says of a replay what isn't as it was when its history was made, by the comparison of start_program, which goes before
-# all records.
+# Says what isn't as it was when the sums beside a history were written, where they refuse nobody, by the comparison of
+# start_program, which goes before all records.
 tell_changed() {
-    [ -n "$replayed" ] || return 0
-    part=$( (start_program replay "$config" /dev/null "--sums=$replayed" --no-explain) 2>&1 >/dev/null |
+    [ -n "$told_sums" ] || return 0
+    part=$( (start_program replay "$config" /dev/null "--sums=$told_sums" --no-explain) 2>&1 >/dev/null |
         sed -n 's/^mx: 64 OtherMachine //p')
-    [ -z "$part" ] || echo "mx: SUMS $replayed: $part isn't as it was when $log was made: it is replayed all the same" >&2
+    [ -z "$part" ] || echo "mx: SUMS $told_sums: $part isn't as it was when $excuse" >&2
 }
