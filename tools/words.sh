@@ -37,11 +37,33 @@ explains_words() {
     [ -z "$explained" ] || echo yes
 }
 
+# Whether a file is there and is protected against writing: nobody may, or who asks may not. The rights of its folder would
+# let another one take its place, and to the superuser all is allowed.
+is_protected() {
+    [ -f "$1" ] || return 1
+    case $1 in */*) at=${1%/*}/ ;; *) at=./ ;; esac
+    if [ ! -w "$1" ] && [ -w "$at" ]; then return 0; fi
+    [ -z "$(find -L "$at${1##*/}" -prune \( -perm -200 -o -perm -20 -o -perm -2 \) 2>/dev/null || echo unknown)" ]
+}
+
+# Ends with status 3 if a file that is to be written is protected, unless $forced is set: refuse_protected FILE LABEL EXPLAINS.
+refuse_protected() {
+    { [ -n "$1" ] && [ -z "$forced" ] && is_protected "$1"; } || return 0
+    echo "mx: 80 File" >&2
+    [ -z "$3" ] || echo "mx: $2 $1: wanted a file that can be written: it is protected, and --force goes over that" >&2
+    exit 3
+}
+
+# Prints yes if these words force what they do.
+forces() {
+    case " $* " in *' --force '*) echo yes ;; esac
+}
+
 # Ends with status 3 if these words are those of an `as` that would write a program over its own text, also by another
-# name of the same file.
+# name of the same file, or over a file that is protected.
 refuse_own_text() {
     [ "${1-}" = as ] || return 0
-    text='' file='' explains=$(explains_words "$@")
+    text='' file='' explains=$(explains_words "$@") forced=$(forces "$@")
     for word in "$@"; do
         case $word in
             as | --explain | --no-explain | --force) ;;
@@ -50,10 +72,8 @@ refuse_own_text() {
                 if [ -z "$text" ]; then text=$word; else file=$word; fi ;;
         esac
     done
-    { [ -n "$file" ] && [ "$text" -ef "$file" ]; } || return 0
-    echo "mx: 80 File" >&2
-    [ -z "$explains" ] || echo "mx: FILE $file: wanted another file than the one that is read" >&2
-    exit 3
+    refuse_same "$text" "$file" FILE "$explains"
+    refuse_protected "$file" FILE "$explains"
 }
 
 # Prints the programs of a configuration's services, one a line, in the order of their slots.
@@ -100,11 +120,14 @@ refuse_same() {
     exit 3
 }
 
-# The same of the files whose names are the second word and a number: refuse_numbered FILE WORD EXPLAINS.
+# The same of the files whose names are the second word and a number, and of those that are protected: refuse_numbered FILE
+# WORD EXPLAINS.
 refuse_numbered() {
     [ -n "$2" ] || return 0
     for numbered in "$2"[1-9]*; do
-        case ${numbered#"$2"} in *[!0-9]*) ;; *) refuse_same "$1" "$numbered" NAME "$3" ;; esac
+        case ${numbered#"$2"} in *[!0-9]*) continue ;; esac
+        refuse_same "$1" "$numbered" NAME "$3"
+        refuse_protected "$numbered" NAME "$3"
     done
 }
 
@@ -147,11 +170,12 @@ take_place() {
 }
 
 # Ends with status 3 if these words are those of a `step`, `run`, `turns`, `sweep` or `explore` that would write a history
-# or its sums over a file that it reads, or its sums over its history, also by another name of the same file.
+# or its sums over a file that it reads, or its sums over its history, also by another name of the same file, or over a file
+# that is protected.
 refuse_own_files() {
     case ${1-} in step | run | turns | sweep | explore) ;; *) return 0 ;; esac
     read_words "$@"
-    explains=$(explains_words "$@") label=LOG compared='' several=''
+    explains=$(explains_words "$@") forced=$(forces "$@") label=LOG compared='' several=''
     [ "$places" -lt 3 ] || [ "$command$places" = sweep3 ] || return 0
     written=$save read=$second
     case $command in
@@ -169,6 +193,9 @@ refuse_own_files() {
 $(files_read "$config" "$read" "$third" "$compared")
 END
     refuse_same "$written" "$sums" SUMS "$explains"
+    [ -n "$is_clear" ] || return 0
+    refuse_protected "$written" "$label" "$explains"
+    refuse_protected "$sums" SUMS "$explains"
 }
 
 # Ends with status 3 if a file of these words is standard output too: the shell has emptied it, or what is printed would be
@@ -1613,7 +1640,7 @@ can_write_sums() {
         case $beside in */*) at=${beside%/*}/ ;; esac
         [ -d "$at" ] || return 1
     fi
-    [ ! -w "$at" ] || return 0
+    if [ -w "$at" ] && ! is_protected "$beside"; then return 0; fi
     tell_sums "isn't written: there is no right to"
     return 1
 }
