@@ -892,39 +892,48 @@ result_meanings() {
 }
 
 # Says of a history of which `mx why` says $became which calls were refused in it: the first that no right machine makes, or
-# else the first, and what its result means, if the line doesn't say it: tell_calls CONFIG LOG.
+# else the first, and what its result means, if the line doesn't say it: tell_calls CONFIG LOG DRIVEN, where DRIVEN is the
+# command, if that is `run` or `turns`. The program has told the first whose result had to be read, if nothing goes before
+# that and the history wasn't stopped: then it isn't said again.
 tell_calls() {
-    { result_meanings; printf '%s\n' "$became"; } | awk -v asking="mx why $1 $2" -v mistaken="$mistaken" '
+    stopped=''
+    case $3$became in ?*'ends: open '*) stopped=yes ;; esac
+    { result_meanings; printf '%s\n' "$became"; } | awk -v asking="mx why $1 $2" -v mistaken="$mistaken" -v stopped="$stopped" '
         $1 == "=" { name = $2; sub(/^= [A-Z]* /, ""); means[name] = $0; next }
+        /^(never|busy): |^waits: .*(none of them RECEIVE| since is refused|, without a call)$|^died: .* of fault / { goes_before = 1 }
         /^died: .*; respawned at / { name = $2; sub(/,$/, ":", name); is_back[name] = 1 }
         /^refused: and [0-9]+ more$/ { groups += $3; next }
         !/^refused: / { next }
         { groups++ }
-        !any { any = $0; partner = $4 }
+        !any { any = $0 }
         $0 ~ mistaken && !first { first = $0 }
+        # Who sends to one that is absent need not care.
+        / is never read$/ && !($3 ~ /^(SEND|NOTIFY)$/ && /: -10[56] /) && !careless { careless = $0 }
         END {
             if (!first) first = any
             if (!first) exit
-            print "mx: " first "; " (groups > 1 ? groups - 1 " more: " : "") asking
+            if (careless && !goes_before && !stopped) first = careless
+            else print "mx: " first "; " (groups > 1 ? groups - 1 " more: " : "") asking
             if (!match(first, /: -[0-9]+ E[A-Z]+(,| while )/)) exit
             split(substr(first, RSTART + 2, RLENGTH - 2), result, /[ ,]/)
             if (!(result[2] in means)) exit
-            if (result[2] == "EDEADDST" && partner in is_back) who = ": WHOIS tells who is there now"
+            split(first, word, " ")
+            if (result[2] == "EDEADDST" && word[4] in is_back) who = ": WHOIS tells who is there now"
             print "mx: " result[2] ": " means[result[2]] who
         }' >&2
 }
 
 # Says of a history that was just made which calls were refused in it. If the clock could have ticked, says who waits for it
-# too: tell_history CONFIG LOG TICKS, where TICKS is what would make it tick. Of who died, says what the instruction is that
-# the machine hasn't, and that nothing says where it begins. Leaves in `became` what `mx why` says, and in `shown` what `mx
-# trace` does, both empty for a long history.
+# too: tell_history CONFIG LOG TICKS DRIVEN, where TICKS is what would make it tick. Of who died, says what the instruction is
+# that the machine hasn't, and that nothing says where it begins. Leaves in `became` what `mx why` says, and in `shown` what
+# `mx trace` does, both empty for a long history.
 tell_history() {
     became='' shown=''
     { is_readable "$1" && is_short "$2"; } || return 0
     became=$(ask_program why "$1" "$2")
     [ "$(wc -l <"$2")" -gt 5000 ] || shown=$(ask_program trace "$1" "$2")
     slots=$(awk '{ sub(/#.*/, "") } $1 == "service" { printf " %d %s", slot++, $2 }' "$1")
-    tell_calls "$1" "$2"
+    tell_calls "$1" "$2" "$4"
     printf '%s\n' "$became" | awk -v mistaken="$mistaken" -v ticks="$3" -v slots="$slots" '
         $0 ~ mistaken { is_mistaken = 1 }
         /^refused: / && $3 ~ /^(SEND|SENDREC|NOTIFY)$/ && $2 == $4 && !self { self = $2; sub(/:$/, "", self) }
@@ -1228,7 +1237,7 @@ tell_ended() {
             (
                 said=$(mktemp) || exit
                 exec 4>&2 2>"$said"
-                tell_history "$(nth_word 1 "$@")" "$(nth_word 2 "$@")" "$(missing_ticks "$@")"
+                tell_history "$(nth_word 1 "$@")" "$(nth_word 2 "$@")" "$(missing_ticks "$@")" "$1"
                 [ -z "$(value_of --events "$@")" ] || tell_raised ''
                 tell_lost "$(nth_word 1 "$@")" "$(nth_word 2 "$@")" "$(value_of --events "$@")"
                 tell_turns "$@"
@@ -1310,7 +1319,7 @@ tell_done() {
             tell_answers "$(nth_word 1 "$@")" "$(nth_word 2 "$@")"
             log=$(value_of --save "$@")
             if [ -n "$log" ]; then
-                tell_history "$(nth_word 1 "$@")" "$log" ''
+                tell_history "$(nth_word 1 "$@")" "$log" '' ''
             else
                 echo "mx: the history isn't saved: --save LOG" >&2
             fi ;;
