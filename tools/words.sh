@@ -517,12 +517,13 @@ tell_statement() {
         NR == line && problem == "TooFar" && code ~ /^loop / { tell("wanted sub ecx, 1 and jnz, which reach any place") }
         problem == "TooLarge" && code ~ /^\.(stack|space) [0-9]+$/ {
             split(code, words, " ")
-            if (words[2] + 0 > 4194304) { line = NR; tell(code " alone is more than all may be") }
+            if (words[2] + 0 > 4194304) { line = NR; tell(code " alone is more than the 4194304 bytes that all may have") }
         }' "$1" >&2
 }
 
-# Says of a text that was assembled that it has no instruction, or where the address of a number is counted with, as if it
-# were the number: right after it was put in a register that is no address anywhere in the text.
+# Says of a text that was assembled that it has no instruction, or where the address of a number is taken for the number: it
+# is counted with, right after it was put in a register that is no address anywhere in the text, or added to another one, or
+# it is the process that is called.
 tell_addresses() {
     ! is_readable "$1" || awk -v file="$1" "$plain_line"'
         { code = plain($0) }
@@ -531,13 +532,33 @@ tell_addresses() {
         code ~ /^\.data[124] -?[0-9][0-9A-Fa-fx]*$/ { is_number[named] = label != ""; next }
         code ~ /^\.(data[124]|ascii|space) / { is_number[named] = 0 }
         code !~ /^\./ { text[++count] = code; line[count] = NR; whole = whole "\n" code }
+        # Whether an instruction puts the address of a number in a register; both are in `words`.
+        function is_put(code) {
+            if (code !~ /^mov e[a-z][a-z], ?[A-Za-z_][A-Za-z_0-9]*$/) return 0
+            split(code, words, /[ ,]+/)
+            return is_number[words[3]]
+        }
+        function is_counted(at) {
+            if (words[2] ~ /^e(bx|sp)$/ || whole ~ ("\\[[^\\]]*" words[2])) return 0
+            return text[at + 1] ~ ("^(add|sub|and|or|xor|cmp|test|imul|shl|shr|inc|dec|neg|not) " words[2] "(,|$)")
+        }
+        function is_added(at, register) {
+            register = words[2]
+            if (!is_put(text[at + 1])) return 0
+            other = words[2]
+            is_put(text[at])
+            return text[at + 2] ~ ("^(add|imul) (" register ", ?" other "|" other ", ?" register ")$")
+        }
+        # Whether EAX is so at the next call: only other registers are put in between.
+        function is_called(at) {
+            if (words[2] != "eax") return 0
+            for (at++; text[at] ~ /^mov e(bx|cx|dx|si|di|bp), ?[A-Za-z_0-9]*$/; at++);
+            return text[at] ~ /^int (33|0x21)$/
+        }
         END {
             if (!count) print "mx: " file " has no instruction"
             for (at = 1; at < count; at++) {
-                if (text[at] !~ /^mov e(ax|cx|dx|si|di|bp), ?[A-Za-z_][A-Za-z_0-9]*$/) continue
-                split(text[at], words, /[ ,]+/)
-                if (!is_number[words[3]] || whole ~ ("\\[[^\\]]*" words[2])) continue
-                if (text[at + 1] !~ ("^(add|sub|and|or|xor|cmp|test|imul|shl|shr|inc|dec|neg|not) " words[2] "(,|$)")) continue
+                if (!is_put(text[at]) || !(is_counted(at) || is_added(at) || is_called(at))) continue
                 print "mx: " file " line " line[at] ": " words[3] " is an address here; what stands there is [" words[3] "]"
                 exit
             }
@@ -770,7 +791,7 @@ tell_words() {
     tell_look "$@"
     case $* in *-*) ;; *) return 0 ;; esac
     tell_option "$@"
-    tell_sign "$@"
+    refuse_sign "$@"
     tell_slot "$@"
     tell_range "$@"
     tell_stop "$@"
@@ -950,13 +971,14 @@ tell_history() {
             sub(/.* the code ends at /, "", end)
             if (substr(place, 1, 8) == substr(end, 1, 8)) came = $2
         }
+        /^CONFIG: .*: its program .* has no instruction$/ { empty[$2]; print "mx: " $0 }
         /^died: .* of fault 6 at .* \.data1 0xf0(;|$)/ {
             print "mx: 0xf0 is the prefix LOCK, which the machine hasn\047t: gcc makes it of _Atomic and __sync"
         }
         /^died: .* of fault 6 at .* \.data1 0xd[89a-f](;|$)/ { print "mx: there is no floating point: wanted whole numbers" }
         END {
             sub(/,$/, "", came)
-            if (came && !is_mistaken) print "mx: " came " came to the end of its code: wanted EXIT, a jmp or a ret before that"
+            if (came && !is_mistaken && !((came ":") in empty)) print "mx: " came " came to the end of its code: wanted EXIT, a jmp or a ret before that"
             if (self) print "mx: " self " calls itself: slots are in the order of the services in CONFIG:" slots
             if (alarm && ticks) print "mx: " alarm "; the clock made no tick: " ticks
         }' >&2
@@ -971,8 +993,9 @@ tell_history() {
 }
 
 # Says of a short history that was just made what its trace shows of calls that end well: a service that ends and comes back,
-# a kernel call's type that went to a process, words for another register than the console's; if it is full, which calls
-# were made most, and that the clock didn't tick for who reads it: tell_course TICKS.
+# a kernel call's type that went to a process, words for another register than the console's, and that all wait for a message
+# and nobody sends one; if it is full, which calls were made most, and that the clock didn't tick for who reads it: tell_course
+# TICKS.
 tell_course() {
     [ -n "$shown" ] || return 0
     printf '%s\n' "$shown" | awk -v ends="$became" -v ticks="$1" '
@@ -983,7 +1006,10 @@ tell_course() {
             writer = $5
             if ($10 == "DEVIO" && $11 == 0 && $12 == 0 && !reader) reader = $5
             if (!times[made]++) order[++kinds] = made
+            if ($8 != "RECEIVE") others++
+            else if (!received[$5]++) waiting = waiting (waiting ? ", " : "") $5
         }
+        / -> down / { others++ }
         $2 == "answer" && $3 == 0 && register > 0 && !other { other = writer " wrote register " register }
         $2 == "console" { is_written = 1 }
         $3 == "tick" { ticks = "" }
@@ -998,6 +1024,7 @@ tell_course() {
             if (sent) print "mx: " sent ": SYSTEM is -2 in EAX"
             if (reader && !is_written) print "mx: nothing is on the console: " reader " read register 0, since p0 was 0; 1 writes"
             if (other && !is_written) print "mx: nothing is on the console, which is register 0: " other
+            if (waiting && !others && ends ~ /^ends: rest [^\n]*$/) print "mx: nobody sends: all wait in RECEIVE, " waiting
             if (ends !~ /^ends: full/) exit
             for (count = 0; count < 3; count++) {
                 most = ""
@@ -1296,6 +1323,10 @@ is_told_after() {
 # Runs these words, by start_program of the script that calls it, and says what isn't told yet: of a failure how it is
 # mended, of a step that its history goes nowhere, and what was refused. The status is the program's.
 run_told() {
+    if [ "$1" = as ]; then
+        run_as "$@"
+        return
+    fi
     (start_program "$@")
     status=$?
     case $status in
@@ -1305,13 +1336,30 @@ run_told() {
     return "$status"
 }
 
+# Assembles by these words and says what isn't told yet. Of a text that is refused the program's second line is left out where
+# it names a number without its sign, or tells what all may have and one has alone.
+run_as() {
+    exec 4>&1
+    case " $* " in
+        *' --explain '*) said=$( (start_program "$@") 2>&1 >&4 4>&-) ;;
+        *) said=$( (start_program "$@" --explain) 2>&1 >&4 4>&-) ;;
+    esac
+    status=$? text=$(nth_word 1 "$@") tip=''
+    exec 4>&-
+    case $status in
+        0) tip=$(tell_addresses "$text" 2>&1; tell_data "$text" 2>&1; tell_pushes "$text" 2>&1) ;;
+        1) ! is_readable "$text" || tip=$(tell_faulty "$text" "$said" 2>&1) ;;
+    esac
+    case $tip in *': wanted a number without a sign, '* | *' alone is more than '*) said=$(printf '%s\n' "$said" | head -n 1) ;; esac
+    for lines in "$said" "$tip"; do
+        [ -z "$lines" ] || printf '%s\n' "$lines" >&2
+    done
+    return "$status"
+}
+
 # Says what isn't told yet of a command that ended well.
 tell_done() {
     case $1 in
-        as)
-            tell_addresses "$(nth_word 1 "$@")"
-            tell_data "$(nth_word 1 "$@")"
-            tell_pushes "$(nth_word 1 "$@")" ;;
         one) tell_kernel "$@" ;;
         sweep) tell_replaced "$@" ;;
         db) tell_looks "$(nth_word 1 "$@")" "$(nth_word 2 "$@")" ;;
@@ -1366,10 +1414,6 @@ tell_replaced() {
 # Says what isn't told yet of a command that failed.
 tell_failure() {
     config=$(nth_word 1 "$@") second=$(nth_word 2 "$@")
-    if [ "$1" = as ]; then
-        ! is_readable "$config" || tell_faulty "$config" "$(failure_of "$@")"
-        return
-    fi
     said=$(failure_of explain "$config" --check)
     if [ -n "$said" ]; then
         tell_config "$config" "$said"
@@ -1454,14 +1498,16 @@ cpus_of() {
     awk '{ sub(/#.*/, "") } $1 == "cpus" { print $2; exit }' "$1"
 }
 
-# Says of a script that is refused with these lines which number was wanted for a name.
+# Says of a script that is refused with these lines which number was wanted for a name, or that a line has more than an event,
+# or none.
 tell_script() {
     line=$(printf '%s\n' "$3" | sed -n '1s/^mx: 73 BadRecord line \([0-9]*\)$/\1/p')
     { [ -n "$line" ] && is_readable "$2"; } || return 0
     awk -v line="$line" -v cpus="$(cpus_of "$1")" -v at="mx: $2 line $line: " '
         NR == line && $1 ~ /^(take|step|back|go)$/ && $2 ~ /^[A-Za-z_]/ {
             print at "C is the number of a processor, 0 to " cpus - 1 ", and no service: stands \"" $2 "\""
-        }' "$2" >&2
+        }
+        NR == line && /^[ \t\r]*$|[;#]|\/\// { print at "blank lines, comments and ; aren\047t allowed in a script" }' "$2" >&2
 }
 
 # Whether a script is as short as to be made once more.
@@ -1598,18 +1644,27 @@ tell_look() {
         "watch SLOT ADDRESS N takes N of 1 to 16, quit ends" >&2
 }
 
-# Says of a number with a sign that no option takes one, nor `one`.
-tell_sign() {
+# The option of these words whose number has a sign; N if that of `one` has. The words behind -- are no options.
+signed_option() {
     before=''
     for word in "$@"; do
-        case $before$word in
-            --*' '-[0-9]*) echo "mx: ${before% }: wanted a number without a sign, stands \"$word\"" >&2 ;;
+        [ "$word" != -- ] || return 0
+        case $before' '$word in
+            --save' '* | --sums' '* | --events' '* | --stop' '* | --out' '* | *=*) ;;
+            --[a-z]*' '-[0-9]*) is_flag "$before" || { printf '%s' "$before $word"; return; } ;;
         esac
-        before="$word "
+        before=$word
     done
-    case ${1-}' '${3-} in
-        'one -'[0-9]*) echo "mx: N: wanted a number without a sign, stands \"$3\"" >&2 ;;
-    esac
+    case ${1-}' '${3-} in 'one -'[0-9]*) printf '%s' "N $3" ;; esac
+}
+
+# Ends with status 2 if a number of these words has a sign: the program refuses that too, and tells how another word than a
+# number is given.
+refuse_sign() {
+    signed=$(signed_option "$@")
+    [ -n "$signed" ] || return 0
+    echo "mx: ${signed% *}: wanted a number without a sign, stands \"${signed#* }\"" >&2
+    exit 2
 }
 
 # Whether a file begins as sums do: with the line of a configuration's.
