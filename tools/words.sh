@@ -542,12 +542,12 @@ tell_addresses() {
             if (words[2] ~ /^e(bx|sp)$/ || whole ~ ("\\[[^\\]]*" words[2])) return 0
             return text[at + 1] ~ ("^(add|sub|and|or|xor|cmp|test|imul|shl|shr|inc|dec|neg|not) " words[2] "(,|$)")
         }
-        function is_added(at, register) {
+        function is_added(at, register, other, is_second) {
             register = words[2]
-            if (!is_put(text[at + 1])) return 0
+            is_second = is_put(text[at + 1])
             other = words[2]
             is_put(text[at])
-            return text[at + 2] ~ ("^(add|imul) (" register ", ?" other "|" other ", ?" register ")$")
+            return is_second && text[at + 2] ~ ("^(add|imul) (" register ", ?" other "|" other ", ?" register ")$")
         }
         # Whether EAX is so at the next call: only other registers are put in between.
         function is_called(at) {
@@ -1603,6 +1603,7 @@ tell_refused() {
             exit
         }' "$2" >&2
     ! is_short "$2" || ask_program why "$1" "$2" | sed -n 's/^ends: \(record .* is refused, .*\)/mx: \1/p' >&2
+    tell_newer
 }
 
 # Says of a sweep that failed which events FAULT may have, or what its history is.
@@ -1769,4 +1770,10 @@ tell_changed() {
     part=$( (start_program replay "$config" /dev/null "--sums=$told_sums" --no-explain) 2>&1 >/dev/null |
         sed -n 's/^mx: 64 OtherMachine //p')
     [ -z "$part" ] || echo "mx: SUMS $told_sums: $part isn't as it was when $excuse" >&2
+}
+
+# Says of a history that was refused, of a machine that is as it was, that the history is newer than its sums.
+tell_newer() {
+    { [ -n "${told_sums-}" ] && [ -z "$part" ] && [ "$log" -nt "$told_sums" ]; } || return 0
+    echo "mx: $log is newer than $told_sums: it was changed or copied, and the machine is as it was" >&2
 }
