@@ -989,6 +989,7 @@ tell_history() {
         tell_entry "$1" "$name"
     done
     tell_stacks "$1" "$2"
+    tell_null "$1" "$2"
     tell_ud2 "$1"
 }
 
@@ -1155,6 +1156,26 @@ tell_ud2() {
             [ ! -f "$made" ] || where=": addr2line -e ${made#./} 0x$place says which"
             echo "mx: 0f 0b is ud2, which gcc writes where a line can only go wrong, as by a null pointer$where" >&2
         done
+}
+
+# Whether a program is one of C whose data begins with 16 bytes that no object has, by the linker script beside it.
+has_unused_front() {
+    stem=${1%.out}
+    { [ "$stem" != "$1" ] && [ -f "$stem.c" ] && is_program "$1"; } || return 1
+    [ "$(od -An -tx1 -j 2 -N 1 "$1" | tr -d ' ')" = 30 ] || return 1
+    { is_readable "$(dirname "$1")/separate.ld" && grep -q '^ *\. += 16;' "$(dirname "$1")/separate.ld"; } || return 1
+    size=$(od -An -tu4 -j 8 -N 4 "$1" | tr -d ' ')
+    [ "$(od -An -v -tx1 -j $((size + 32)) -N 16 "$1" | tr -d ' \n')" = 00000000000000000000000000000000 ]
+}
+
+# Says of who is made of C that bytes were written which no object has, by a null pointer: tell_null CONFIG LOG.
+tell_null() {
+    [ -n "$shown" ] || return 0
+    awk '{ sub(/#.*/, "") } $1 == "service" { print $2, $3 }' "$1" | while read -r name file; do
+        has_unused_front "$file" || continue
+        printf 'goto end\nmem %s 0 16\n' "$name" | ask_program look "$1" "$2" | grep -q '^00000000 .*[1-9a-f]' || continue
+        echo "mx: $name: the bytes at 0 to 15 were written, where C has no object: a null pointer is used, or an index is outside" >&2
+    done
 }
 
 # Says of a service of a configuration that its text doesn't say where it begins.
