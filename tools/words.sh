@@ -983,6 +983,7 @@ tell_history() {
             if (alarm && ticks) print "mx: " alarm "; the clock made no tick: " ticks
         }' >&2
     tell_course "$3"
+    tell_silence
     tell_windows
     tell_answered
     printf '%s\n' "$became" | sed -n 's/^died: \([A-Za-z0-9_]*\),.* (the stack is empty: .*/\1/p' | while read -r name; do
@@ -994,9 +995,8 @@ tell_history() {
 }
 
 # Says of a short history that was just made what its trace shows of calls that end well: a service that ends and comes back,
-# a kernel call's type that went to a process, words for another register than the console's, and that all wait for a message
-# and nobody sends one; if it is full, which calls were made most, and that the clock didn't tick for who reads it: tell_course
-# TICKS.
+# a kernel call's type that went to a process, words for another register than the console's; if it is full, which calls
+# were made most, and that the clock didn't tick for who reads it: tell_course TICKS.
 tell_course() {
     [ -n "$shown" ] || return 0
     printf '%s\n' "$shown" | awk -v ends="$became" -v ticks="$1" '
@@ -1007,10 +1007,7 @@ tell_course() {
             writer = $5
             if ($10 == "DEVIO" && $11 == 0 && $12 == 0 && !reader) reader = $5
             if (!times[made]++) order[++kinds] = made
-            if ($8 != "RECEIVE") others++
-            else if (!received[$5]++) waiting = waiting (waiting ? ", " : "") $5
         }
-        / -> down / { others++ }
         $2 == "answer" && $3 == 0 && register > 0 && !other { other = writer " wrote register " register }
         $2 == "console" { is_written = 1 }
         $3 == "tick" { ticks = "" }
@@ -1025,7 +1022,6 @@ tell_course() {
             if (sent) print "mx: " sent ": SYSTEM is -2 in EAX"
             if (reader && !is_written) print "mx: nothing is on the console: " reader " read register 0, since p0 was 0; 1 writes"
             if (other && !is_written) print "mx: nothing is on the console, which is register 0: " other
-            if (waiting && !others && ends ~ /^ends: rest [^\n]*$/) print "mx: nobody sends: all wait in RECEIVE, " waiting
             if (ends !~ /^ends: full/) exit
             for (count = 0; count < 3; count++) {
                 most = ""
@@ -1038,6 +1034,21 @@ tell_course() {
             if (list) print "mx: made most: " list
             if (list ~ /^[^;]* SENDREC SYSTEM, TIMES, / && ticks) print "mx: the clock made no tick: " ticks
         }' >&2
+}
+
+# Says of a history at rest, of which `mx why` says no more, that nobody sends: no other call than RECEIVE is in $shown, and
+# nobody is down.
+tell_silence() {
+    case $became in
+        *'
+'*) return 0 ;;
+        'ends: rest '*) ;;
+        *) return 0 ;;
+    esac
+    printf '%s\n' "$shown" | awk '
+        / -> down / || ($3 == "back" && $7 == "trap" && $8 != "RECEIVE") { others = 1 }
+        $3 == "back" && $8 == "RECEIVE" && !received[$5]++ { waiting = waiting (waiting ? ", " : "") $5 }
+        END { if (waiting && !others) print "mx: nobody sends: all wait in RECEIVE, " waiting }' >&2
 }
 
 # Says of the copies in $shown that were refused for a window which window there was then, the first of each kind.
