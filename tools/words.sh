@@ -933,12 +933,12 @@ result_meanings() {
 }
 
 # Says of a history of which `mx why` says $became which calls were refused in it: the first that no right machine makes, or
-# else the first, and what its result means, if the line doesn't say it: tell_calls CONFIG LOG DRIVEN, where DRIVEN is the
-# command, if that is `run` or `turns`. The program has told the first whose result had to be read, if nothing goes before
-# that and the history wasn't stopped: then it isn't said again.
+# else the first, and what its result means, if the line doesn't say it: tell_calls CONFIG LOG. The program has told the
+# first whose result had to be read, if nothing goes before that and the history wasn't stopped, as $driven ones are that are
+# open: then it isn't said again.
 tell_calls() {
     stopped=''
-    case $3$became in ?*'ends: open '*) stopped=yes ;; esac
+    case $driven$became in ?*'ends: open '*) stopped=yes ;; esac
     { result_meanings; printf '%s\n' "$became"; } | awk -v asking="mx why $1 $2" -v mistaken="$mistaken" -v stopped="$stopped" '
         $1 == "=" { name = $2; sub(/^= [A-Z]* /, ""); means[name] = $0; next }
         /^(never|busy): |^waits: .*(none of them RECEIVE| since is refused|, without a call)$|^died: .* of fault / { goes_before = 1 }
@@ -986,16 +986,16 @@ tell_unset() {
 }
 
 # Says of a history that was just made which calls were refused in it. If the clock could have ticked, says who waits for it
-# too: tell_history CONFIG LOG TICKS DRIVEN, where TICKS is what would make it tick. Of who died, says what the instruction is
-# that the machine hasn't, and that nothing says where it begins. Leaves in `became` what `mx why` says, and in `shown` what
-# `mx trace` does, both empty for a long history.
+# too: tell_history CONFIG LOG TICKS DRIVEN, where TICKS is what would make it tick, and DRIVEN the command, if that is `run`
+# or `turns`. Of who died, says what the instruction is that the machine hasn't, and that nothing says where it begins. Leaves
+# in `became` what `mx why` says, and in `shown` what `mx trace` does, both empty for a long history.
 tell_history() {
-    became='' shown=''
+    became='' shown='' driven=$4
     { is_readable "$1" && is_short "$2"; } || return 0
     became=$(ask_program why "$1" "$2")
     [ "$(wc -l <"$2")" -gt 5000 ] || shown=$(ask_program trace "$1" "$2")
     slots=$(awk '{ sub(/#.*/, "") } $1 == "service" { printf " %d %s", slot++, $2 }' "$1")
-    tell_calls "$1" "$2" "$4"
+    tell_calls "$1" "$2"
     tell_unset "$1" "$2"
     printf '%s\n' "$became" | awk -v mistaken="$mistaken" -v ticks="$3" -v slots="$slots" -v unset="$unset" '
         $0 ~ mistaken { is_mistaken = 1 }
