@@ -1,5 +1,15 @@
 # What the script mx of the repository and that of a package share, for sh.
 
+# What these can't read isn't said twice, nor in their words: the program says it. A file may go while they read it.
+awk() { command awk "$@" 2>/dev/null; }
+grep() { command grep "$@" 2>/dev/null; }
+sed() { command sed "$@" 2>/dev/null; }
+
+# Whether a file is a regular one, which can be read.
+is_readable() {
+    [ -f "$1" ] && [ -r "$1" ]
+}
+
 # Prints what to do first: show_first_steps COMMAND TOP ABOUT. COMMAND is how mx was called, TOP the folder that has the
 # pages, and ABOUT what --prove does. The pages and files are named as they are seen from here.
 show_first_steps() {
@@ -27,11 +37,33 @@ explains_words() {
     [ -z "$explained" ] || echo yes
 }
 
+# Whether a file is there and is protected against writing: nobody may, or who asks may not. The rights of its folder would
+# let another one take its place, and to the superuser all is allowed.
+is_protected() {
+    [ -f "$1" ] || return 1
+    case $1 in */*) at=${1%/*}/ ;; *) at=./ ;; esac
+    if [ ! -w "$1" ] && [ -w "$at" ]; then return 0; fi
+    [ -z "$(find -L "$at${1##*/}" -prune \( -perm -200 -o -perm -20 -o -perm -2 \) 2>/dev/null || echo unknown)" ]
+}
+
+# Ends with status 3 if a file that is to be written is protected, unless $forced is set: refuse_protected FILE LABEL EXPLAINS.
+refuse_protected() {
+    { [ -n "$1" ] && [ -z "$forced" ] && is_protected "$1"; } || return 0
+    echo "mx: 80 File" >&2
+    [ -z "$3" ] || echo "mx: $2 $1: wanted a file that can be written: it is protected, and --force goes over that" >&2
+    exit 3
+}
+
+# Prints yes if these words force what they do.
+forces() {
+    case " $* " in *' --force '*) echo yes ;; esac
+}
+
 # Ends with status 3 if these words are those of an `as` that would write a program over its own text, also by another
-# name of the same file.
+# name of the same file, or over a file that is protected.
 refuse_own_text() {
     [ "${1-}" = as ] || return 0
-    text='' file='' explains=$(explains_words "$@")
+    text='' file='' explains=$(explains_words "$@") forced=$(forces "$@")
     for word in "$@"; do
         case $word in
             as | --explain | --no-explain | --force) ;;
@@ -40,15 +72,13 @@ refuse_own_text() {
                 if [ -z "$text" ]; then text=$word; else file=$word; fi ;;
         esac
     done
-    { [ -n "$file" ] && [ "$text" -ef "$file" ]; } || return 0
-    echo "mx: 80 File" >&2
-    [ -z "$explains" ] || echo "mx: FILE $file: wanted another file than the one that is read" >&2
-    exit 3
+    refuse_same "$text" "$file" FILE "$explains"
+    refuse_protected "$file" FILE "$explains"
 }
 
 # Prints the programs of a configuration's services, one a line, in the order of their slots.
 programs_of() {
-    [ ! -f "$1" ] || awk '{ sub(/#.*/, "") } $1 == "service" { print $3 }' "$1"
+    ! is_readable "$1" || awk '{ sub(/#.*/, "") } $1 == "service" { print $3 }' "$1"
 }
 
 # Prints the files that a command on this configuration's machine reads, one a line: CONFIG [FILE ..].
@@ -90,6 +120,17 @@ refuse_same() {
     exit 3
 }
 
+# The same of the files whose names are the second word and a number, and of those that are protected: refuse_numbered FILE
+# WORD EXPLAINS.
+refuse_numbered() {
+    [ -n "$2" ] || return 0
+    for numbered in "$2"[1-9]*; do
+        case ${numbered#"$2"} in *[!0-9]*) continue ;; esac
+        refuse_same "$1" "$numbered" NAME "$3"
+        refuse_protected "$numbered" NAME "$3"
+    done
+}
+
 # Reads the words of a command on a machine: command; config, second and third, which stand in places, and how many do;
 # the values of save, events and sums; whether they say themselves what becomes of sums; and whether they are clear to
 # this script, which knows no grammar.
@@ -128,27 +169,33 @@ take_place() {
     esac
 }
 
-# Ends with status 3 if these words are those of a `step`, `run`, `turns` or `sweep` that would write its history or its
-# sums over a file that it reads, or its sums over its history, also by another name of the same file.
+# Ends with status 3 if these words are those of a `step`, `run`, `turns`, `sweep` or `explore` that would write a history
+# or its sums over a file that it reads, or its sums over its history, also by another name of the same file, or over a file
+# that is protected.
 refuse_own_files() {
-    case ${1-} in step | run | turns | sweep) ;; *) return 0 ;; esac
+    case ${1-} in step | run | turns | sweep | explore) ;; *) return 0 ;; esac
     read_words "$@"
-    explains=$(explains_words "$@") label=LOG compared=''
+    explains=$(explains_words "$@") forced=$(forces "$@") label=LOG compared='' several=''
     [ "$places" -lt 3 ] || [ "$command$places" = sweep3 ] || return 0
     written=$save read=$second
     case $command in
         run | turns) written=$second read=$events ;;
         # It compares SUMS, and doesn't write it.
         sweep) label=FILE compared=$sums sums='' ;;
+        explore) several=$save written='' read=$events compared=$sums sums='' ;;
     esac
     [ -n "$config" ] || return 0
     while read -r file; do
         refuse_same "$file" "$written" "$label" "$explains"
+        refuse_numbered "$file" "$several" "$explains"
         refuse_same "$file" "$sums" SUMS "$explains"
     done <<END
 $(files_read "$config" "$read" "$third" "$compared")
 END
     refuse_same "$written" "$sums" SUMS "$explains"
+    [ -n "$is_clear" ] || return 0
+    refuse_protected "$written" "$label" "$explains"
+    refuse_protected "$sums" SUMS "$explains"
 }
 
 # Ends with status 3 if a file of these words is standard output too: the shell has emptied it, or what is printed would be
@@ -250,7 +297,7 @@ tell_slot() {
     name=$(value_of --slot "$@")
     case $name in '' | *[!0-9A-Za-z_]*) return 0 ;; *[!0-9]*) ;; *) return 0 ;; esac
     config=$(nth_word 1 "$@") slot=''
-    [ ! -f "$config" ] || slot=$(awk -v name="$name" '
+    ! is_readable "$config" || slot=$(awk -v name="$name" '
         { sub(/#.*/, "") } $1 == "service" { if ($2 == name) { print slot + 0; exit } slot++ }' "$config")
     echo "mx: --slot: wanted a slot's number${slot:+: $name is slot $slot}" >&2
 }
@@ -266,7 +313,7 @@ tell_range() {
         return
     fi
     log=$(nth_word 2 "$@")
-    [ -f "$log" ] || return 0
+    is_readable "$log" || return 0
     records=$(grep -c '^[0-9]' "$log")
     [ "$from" -le "$records" ] 2>/dev/null ||
         echo "mx: no record is shown: --from $from is after the end: $log has $records" >&2
@@ -282,10 +329,10 @@ tell_stop() {
 
 # Whether a file begins as a program.
 is_program() {
-    [ -f "$1" ] && [ "$(od -An -tx1 -N2 "$1" | tr -d ' ')" = 0103 ]
+    is_readable "$1" && [ "$(od -An -tx1 -N2 "$1" | tr -d ' ')" = 0103 ]
 }
 
-# Says of an `as` that it was given the program first, or a text in C.
+# Says of an `as` that it was given the program first, or a text in C, or a configuration.
 tell_text() {
     [ "$1" = as ] || return 0
     text=$(nth_word 1 "$@") file=$(nth_word 2 "$@")
@@ -294,6 +341,8 @@ tell_text() {
     esac
     if is_program "$text" && [ -s "$file" ] && ! is_program "$file"; then
         echo "mx: $text is a program: wanted the text first: mx as $file $text" >&2
+    elif [ -f "$text" ] && ! is_program "$text" && has_items "$text"; then
+        echo "mx: $text is a configuration, which mx explain takes; as takes TEXT, the text of one program" >&2
     fi
 }
 
@@ -321,7 +370,7 @@ tell_comments() {
 
 # Says of the text of an `as` what is none of its statements, though it looks as one.
 tell_statements() {
-    { [ "$1" = as ] && text=$(nth_word 1 "$@") && [ -f "$text" ] && ! is_program "$text"; } || return 0
+    { [ "$1" = as ] && text=$(nth_word 1 "$@") && is_readable "$text" && ! is_program "$text"; } || return 0
     line=$(awk '/^[ \t]*[#%][ \t]*(define|include|ifn?def|macro)/ { print NR; exit }' "$text")
     [ -z "$line" ] || echo "mx: $text line $line: there is no preprocessor: wanted numbers in place of names, and one file" >&2
     tell_comments "$text"
@@ -470,27 +519,48 @@ tell_statement() {
         NR == line && problem == "TooFar" && code ~ /^loop / { tell("wanted sub ecx, 1 and jnz, which reach any place") }
         problem == "TooLarge" && code ~ /^\.(stack|space) [0-9]+$/ {
             split(code, words, " ")
-            if (words[2] + 0 > 4194304) { line = NR; tell(code " alone is more than all may be") }
+            if (words[2] + 0 > 4194304) { line = NR; tell(code " alone is more than the 4194304 bytes that all may have") }
         }' "$1" >&2
 }
 
-# Says of a text that was assembled that it has no instruction, or where the address of a number is counted with, as if it
-# were the number: right after it was put in a register that is no address anywhere in the text.
+# Says of a text that was assembled that it has no instruction, or where the address of a number is taken for the number: it
+# is counted with, right after it was put in a register that is no address anywhere in the text, or added to another one, or
+# it is the process that is called.
 tell_addresses() {
-    [ ! -f "$1" ] || awk -v file="$1" "$plain_line"'
+    ! is_readable "$1" || awk -v file="$1" "$plain_line"'
         { code = plain($0) }
         label != "" { named = label; is_number[named] = 0 }
         code == "" { next }
         code ~ /^\.data[124] -?[0-9][0-9A-Fa-fx]*$/ { is_number[named] = label != ""; next }
         code ~ /^\.(data[124]|ascii|space) / { is_number[named] = 0 }
         code !~ /^\./ { text[++count] = code; line[count] = NR; whole = whole "\n" code }
+        # Whether an instruction puts the address of a number in a register; both are in `words`.
+        function is_put(code) {
+            if (code !~ /^mov e[a-z][a-z], ?[A-Za-z_][A-Za-z_0-9]*$/) return 0
+            split(code, words, /[ ,]+/)
+            return is_number[words[3]]
+        }
+        function is_counted(at) {
+            if (words[2] ~ /^e(bx|sp)$/ || whole ~ ("\\[[^\\]]*" words[2])) return 0
+            return text[at + 1] ~ ("^(add|sub|and|or|xor|cmp|test|imul|shl|shr|inc|dec|neg|not) " words[2] "(,|$)")
+        }
+        function is_added(at, register, other, is_second) {
+            register = words[2]
+            is_second = is_put(text[at + 1])
+            other = words[2]
+            is_put(text[at])
+            return is_second && text[at + 2] ~ ("^(add|imul) (" register ", ?" other "|" other ", ?" register ")$")
+        }
+        # Whether EAX is so at the next call: only other registers are put in between.
+        function is_called(at) {
+            if (words[2] != "eax") return 0
+            for (at++; text[at] ~ /^mov e(bx|cx|dx|si|di|bp), ?[A-Za-z_0-9]*$/; at++);
+            return text[at] ~ /^int (33|0x21)$/
+        }
         END {
             if (!count) print "mx: " file " has no instruction"
             for (at = 1; at < count; at++) {
-                if (text[at] !~ /^mov e(ax|cx|dx|si|di|bp), ?[A-Za-z_][A-Za-z_0-9]*$/) continue
-                split(text[at], words, /[ ,]+/)
-                if (!is_number[words[3]] || whole ~ ("\\[[^\\]]*" words[2])) continue
-                if (text[at + 1] !~ ("^(add|sub|and|or|xor|cmp|test|imul|shl|shr|inc|dec|neg|not) " words[2] "(,|$)")) continue
+                if (!is_put(text[at]) || !(is_counted(at) || is_added(at) || is_called(at))) continue
                 print "mx: " file " line " line[at] ": " words[3] " is an address here; what stands there is [" words[3] "]"
                 exit
             }
@@ -500,7 +570,7 @@ tell_addresses() {
 # Says of a text that was assembled, with its code apart, which data of it is among the code, if something else than a jump
 # names it.
 tell_data() {
-    [ ! -f "$1" ] || awk -v file="$1" "$plain_line"'
+    ! is_readable "$1" || awk -v file="$1" "$plain_line"'
         { code = plain($0) }
         label != "" { named = label }
         code == "" { next }
@@ -522,7 +592,7 @@ tell_data() {
 # Says of a text that was assembled which subroutine of it doesn't take back what it pushed, or takes more: the first without
 # jumps, calls, other uses of ESP, and a push of an address for its ret.
 tell_pushes() {
-    [ ! -f "$1" ] || awk -v file="$1" "$plain_line"'
+    ! is_readable "$1" || awk -v file="$1" "$plain_line"'
         { code = plain($0) }
         label != "" { routine = label; more = 0; is_plain = 1 }
         code == "" || code ~ /^\./ { next }
@@ -545,18 +615,36 @@ tell_pushes() {
         }' "$1" >&2
 }
 
-# Says of the configuration of these words that a comment in it begins otherwise.
-tell_comment_sign() {
+# Whether a text has an item of a configuration.
+has_items() {
+    awk '$1 ~ /^(cpus|log|others|rules|service)$/ { is_there = 1; exit } END { exit !is_there }' "$1"
+}
+
+# Says of the configuration of these words that it is another file, by which command takes that: a program; or a text for the
+# assembler or in C, by its name. Else that a comment in it begins otherwise.
+tell_config_place() {
     case $1 in one | as | dis | nm) return 0 ;; esac
     config=$(nth_word 1 "$@")
-    [ -f "$config" ] || return 0
+    is_readable "$config" || return 0
+    kind=''
+    if is_program "$config"; then kind="a program, which mx dis, nm and one take"
+    elif ! has_items "$config"; then
+        case $config in
+            *.s) kind="a text for the assembler, which mx as takes" ;;
+            *.c) kind="a text in C, which gcc takes: mx new NAME --c makes a folder for such" ;;
+        esac
+    fi
+    if [ -n "$kind" ]; then
+        echo "mx: $config is $kind; $1 takes CONFIG, which names the programs of its services" >&2
+        return
+    fi
     line=$(awk '/^ *(;|\/\/|--)/ { print NR; exit }' "$config")
     [ -z "$line" ] || echo "mx: $config line $line: wanted # before a comment" >&2
 }
 
 # Says of an `explain` of a code or its name what it means, as the tables of $reference have it.
 tell_code() {
-    { [ "$1" = explain ] && [ -f "$reference" ]; } || return 0
+    { [ "$1" = explain ] && is_readable "$reference"; } || return 0
     shift
     for word in "$@"; do
         case $word in --*) continue ;; esac
@@ -584,7 +672,7 @@ is_checked_out() {
 is_made_of() {
     made=$(mktemp) || return 0
     ask_program as "$1" "$made" --force </dev/null
-    [ $? -gt 9 ] || cmp -s "$made" "$2"
+    [ $? -gt 9 ] || cmp -s "$made" "$2" 2>/dev/null
     same=$?
     rm -f "$made"
     return $same
@@ -592,7 +680,7 @@ is_made_of() {
 
 # The command that makes the programs of a folder, if one does.
 making() {
-    [ -f "$1/Makefile" ] || return
+    is_readable "$1/Makefile" || return
     if [ "$1" = . ]; then echo make; else echo "make -C $1"; fi
 }
 
@@ -635,7 +723,7 @@ tell_machine() {
 tell_swapped() {
     case $1 in step | db | run | turns | explain) ;; *) return 0 ;; esac
     config=$(nth_word 1 "$@")
-    [ ! -f "$config" ] || awk -v at="mx: $config: " '
+    ! is_readable "$config" || awk -v at="mx: $config: " '
         { sub(/#.*/, "") }
         $1 == "service" { program = $3; sub(/.*\//, "", program); sub(/\.out$/, "", program); has[$2] = program }
         END {
@@ -714,7 +802,7 @@ tell_words() {
     [ -n "$(explains_words "$@")" ] || return 0
     tell_text "$@"
     tell_statements "$@"
-    tell_comment_sign "$@"
+    tell_config_place "$@"
     tell_code "$@"
     tell_machine "$@"
     tell_swapped "$@"
@@ -723,7 +811,7 @@ tell_words() {
     tell_look "$@"
     case $* in *-*) ;; *) return 0 ;; esac
     tell_option "$@"
-    tell_sign "$@"
+    refuse_sign "$@"
     tell_slot "$@"
     tell_range "$@"
     tell_stop "$@"
@@ -806,7 +894,7 @@ run_live() {
 
 # Says of a session in which a byte was typed that no service has counted it: tell_typed CONFIG LOG.
 tell_typed() {
-    { [ -f "$1" ] && is_short "$2" && [ "$(wc -l <"$2")" -le 5000 ]; } || return 0
+    { is_readable "$1" && is_short "$2" && [ "$(wc -l <"$2")" -le 5000 ]; } || return 0
     ask_program trace "$1" "$2" | awk '
         $3 == "line" && $4 == "7:" { owner = $5 }
         / trap SENDREC SYSTEM, DEVIO 1 255 / { is_counted = 1 }
@@ -831,7 +919,7 @@ wait_for_child() {
 
 # Whether a history is as short as those of which the program itself says what went wrong.
 is_short() {
-    [ -f "$1" ] && awk '$2 == "back" { steps += $3 } END { exit NR > 20000 || steps > 10000000 }' "$1"
+    is_readable "$1" && awk '$2 == "back" { steps += $3 } END { exit NR > 20000 || steps > 10000000 }' "$1"
 }
 
 # For awk: a line of `mx why` on a call that no right machine makes: refused by a mask, to nobody, with no such number or with
@@ -840,49 +928,82 @@ mistaken='^refused: .*: (-10[347] |-14 EFAULT .buffer.)'
 
 # Prints `= NAME MEANING` of each result of a call, as the table of $reference has it.
 result_meanings() {
-    [ ! -f "${reference-}" ] || awk -F ' *[|] *' '
+    ! is_readable "${reference-}" || awk -F ' *[|] *' '
         NF == 6 && $2 ~ /^-[0-9]+$/ && length($3) == 8 && $4 ~ /^E[A-Z]+$/ { print "= " $4 " " $5 }' "$reference"
 }
 
 # Says of a history of which `mx why` says $became which calls were refused in it: the first that no right machine makes, or
-# else the first, and what its result means, if the line doesn't say it: tell_calls CONFIG LOG.
+# else the first, and what its result means, if the line doesn't say it: tell_calls CONFIG LOG. The program has told the
+# first whose result had to be read, if nothing goes before that and the history wasn't stopped, as $driven ones are that are
+# open: then it isn't said again.
 tell_calls() {
-    { result_meanings; printf '%s\n' "$became"; } | awk -v asking="mx why $1 $2" -v mistaken="$mistaken" '
+    stopped=''
+    case $driven$became in ?*'ends: open '*) stopped=yes ;; esac
+    { result_meanings; printf '%s\n' "$became"; } | awk -v asking="mx why $1 $2" -v mistaken="$mistaken" -v stopped="$stopped" '
         $1 == "=" { name = $2; sub(/^= [A-Z]* /, ""); means[name] = $0; next }
+        /^(never|busy): |^waits: .*(none of them RECEIVE| since is refused|, without a call)$|^died: .* of fault / { goes_before = 1 }
         /^died: .*; respawned at / { name = $2; sub(/,$/, ":", name); is_back[name] = 1 }
         /^refused: and [0-9]+ more$/ { groups += $3; next }
         !/^refused: / { next }
         { groups++ }
-        !any { any = $0; partner = $4 }
+        !any { any = $0 }
         $0 ~ mistaken && !first { first = $0 }
+        # Who sends to one that is absent need not care.
+        / is never read$/ && !($3 ~ /^(SEND|NOTIFY)$/ && /: -10[56] /) && !careless { careless = $0 }
         END {
             if (!first) first = any
             if (!first) exit
-            print "mx: " first "; " (groups > 1 ? groups - 1 " more: " : "") asking
+            if (careless && !goes_before && !stopped) first = careless
+            else print "mx: " first "; " (groups > 1 ? groups - 1 " more: " : "") asking
             if (!match(first, /: -[0-9]+ E[A-Z]+(,| while )/)) exit
             split(substr(first, RSTART + 2, RLENGTH - 2), result, /[ ,]/)
             if (!(result[2] in means)) exit
-            if (result[2] == "EDEADDST" && partner in is_back) who = ": WHOIS tells who is there now"
+            split(first, word, " ")
+            if (result[2] == "EDEADDST" && word[4] in is_back) who = ": WHOIS tells who is there now"
             print "mx: " result[2] ": " means[result[2]] who
         }' >&2
 }
 
+# Says of who had a call refused, or died of a fault, by $became, that nothing was put in EBX for its first call with a
+# message: it is 0, and no instruction above that call names it. Leaves their names in `unset`: tell_unset CONFIG LOG.
+tell_unset() {
+    unset=' '
+    [ -n "$shown" ] || return 0
+    for name in $(printf '%s\n' "$became" | sed -n 's/^refused: \([A-Za-z0-9_]*\): .*/\1/p; s/^died: \([A-Za-z0-9_]*\),.* of fault .*/\1/p' | sort -u); do
+        call=$(printf '%s\n' "$shown" | awk -v name="$name" '
+            $3 == "back" && $5 == name && $7 == "trap" && $8 ~ /^(SEND|RECEIVE|SENDREC)$/ { print $8 " at record " $1; exit }')
+        [ -n "$call" ] || continue
+        registers=$(printf 'goto %s\nregs %s\n' "${call##* }" "$name" | ask_program look "$1" "$2")
+        case $registers in *'EBX 00000000'*) ;; *) continue ;; esac
+        place=$(printf '%s\n' "$registers" | sed -n 's/^EIP \([0-9a-f]*\) .*/\1/p')
+        ! ask_program dis "$(program_of "$1" "$name")" | awk -v place="$place" '
+            $1 >= place { exit }
+            / (ebx|bx|bl|bh)(,|$)/ { is_named = 1; exit }
+            END { exit !is_named }' || continue
+        echo "mx: $name put nothing in EBX for its $call, so the message is at address 0: wanted mov ebx, and where it is" >&2
+        unset="$unset$name "
+    done
+}
+
 # Says of a history that was just made which calls were refused in it. If the clock could have ticked, says who waits for it
-# too: tell_history CONFIG LOG TICKS, where TICKS is what would make it tick. Of who died, says what the instruction is that
-# the machine hasn't, and that nothing says where it begins. Leaves in `became` what `mx why` says, and in `shown` what `mx
-# trace` does, both empty for a long history.
+# too: tell_history CONFIG LOG TICKS DRIVEN, where TICKS is what would make it tick, and DRIVEN the command, if that is `run`
+# or `turns`. Of who died, says what the instruction is that the machine hasn't, and that nothing says where it begins. Leaves
+# in `became` what `mx why` says, and in `shown` what `mx trace` does, both empty for a long history.
 tell_history() {
-    became='' shown=''
-    { [ -f "$1" ] && is_short "$2"; } || return 0
+    became='' shown='' driven=$4
+    { is_readable "$1" && is_short "$2"; } || return 0
     became=$(ask_program why "$1" "$2")
     [ "$(wc -l <"$2")" -gt 5000 ] || shown=$(ask_program trace "$1" "$2")
     slots=$(awk '{ sub(/#.*/, "") } $1 == "service" { printf " %d %s", slot++, $2 }' "$1")
     tell_calls "$1" "$2"
-    printf '%s\n' "$became" | awk -v mistaken="$mistaken" -v ticks="$3" -v slots="$slots" '
+    tell_unset "$1" "$2"
+    printf '%s\n' "$became" | awk -v mistaken="$mistaken" -v ticks="$3" -v slots="$slots" -v unset="$unset" '
         $0 ~ mistaken { is_mistaken = 1 }
-        /^refused: / && $3 ~ /^(SEND|SENDREC|NOTIFY)$/ && $2 == $4 && !self { self = $2; sub(/:$/, "", self) }
+        # Of a caller whose message is elsewhere the partner and the type are there by chance.
+        /^refused: / { caller = $2; sub(/:$/, "", caller); is_unset = index(unset, " " caller " ") }
+        /^refused: / && $3 ~ /^(SEND|SENDREC|NOTIFY)$/ && $2 == $4 && !self && !is_unset { self = caller }
         /^waits: .* from CLOCK .* alarm is due / { alarm = $0 }
-        /^refused: .*: kernel call, type 0: -107 / {
+        /^refused: .*: kernel call, type 0: -107 / && !is_unset {
             print "mx: the answer of a call overwrites its message, and its type is 0 then: wanted the type set again"
         }
         /^died: .* of fault 0 at / { print "mx: fault 0 is a division by 0, or one whose result doesn\047t fit" }
@@ -894,23 +1015,26 @@ tell_history() {
             sub(/.* the code ends at /, "", end)
             if (substr(place, 1, 8) == substr(end, 1, 8)) came = $2
         }
+        /^CONFIG: .*: its program .* has no instruction$/ { empty[$2]; print "mx: " $0 }
         /^died: .* of fault 6 at .* \.data1 0xf0(;|$)/ {
             print "mx: 0xf0 is the prefix LOCK, which the machine hasn\047t: gcc makes it of _Atomic and __sync"
         }
         /^died: .* of fault 6 at .* \.data1 0xd[89a-f](;|$)/ { print "mx: there is no floating point: wanted whole numbers" }
         END {
             sub(/,$/, "", came)
-            if (came && !is_mistaken) print "mx: " came " came to the end of its code: wanted EXIT, a jmp or a ret before that"
+            if (came && !is_mistaken && !((came ":") in empty)) print "mx: " came " came to the end of its code: wanted EXIT, a jmp or a ret before that"
             if (self) print "mx: " self " calls itself: slots are in the order of the services in CONFIG:" slots
             if (alarm && ticks) print "mx: " alarm "; the clock made no tick: " ticks
         }' >&2
     tell_course "$3"
+    tell_silence
     tell_windows
     tell_answered
     printf '%s\n' "$became" | sed -n 's/^died: \([A-Za-z0-9_]*\),.* (the stack is empty: .*/\1/p' | while read -r name; do
         tell_entry "$1" "$name"
     done
     tell_stacks "$1" "$2"
+    tell_null "$1" "$2"
     tell_ud2 "$1"
 }
 
@@ -954,6 +1078,21 @@ tell_course() {
             if (list) print "mx: made most: " list
             if (list ~ /^[^;]* SENDREC SYSTEM, TIMES, / && ticks) print "mx: the clock made no tick: " ticks
         }' >&2
+}
+
+# Says of a history at rest, of which `mx why` says no more, that nobody sends: no other call than RECEIVE is in $shown, and
+# nobody is down.
+tell_silence() {
+    case $became in
+        *'
+'*) return 0 ;;
+        'ends: rest '*) ;;
+        *) return 0 ;;
+    esac
+    printf '%s\n' "$shown" | awk '
+        / -> down / || ($3 == "back" && $7 == "trap" && $8 != "RECEIVE") { others = 1 }
+        $3 == "back" && $8 == "RECEIVE" && !received[$5]++ { waiting = waiting (waiting ? ", " : "") $5 }
+        END { if (waiting && !others) print "mx: nobody sends: all wait in RECEIVE, " waiting }' >&2
 }
 
 # Says of the copies in $shown that were refused for a window which window there was then, the first of each kind.
@@ -1074,11 +1213,31 @@ tell_ud2() {
         done
 }
 
+# Whether a program is one of C whose data begins with 16 bytes that no object has, by the linker script beside it.
+has_unused_front() {
+    stem=${1%.out}
+    { [ "$stem" != "$1" ] && [ -f "$stem.c" ] && is_program "$1"; } || return 1
+    [ "$(od -An -tx1 -j 2 -N 1 "$1" | tr -d ' ')" = 30 ] || return 1
+    { is_readable "$(dirname "$1")/separate.ld" && grep -q '^ *\. += 16;' "$(dirname "$1")/separate.ld"; } || return 1
+    size=$(od -An -tu4 -j 8 -N 4 "$1" | tr -d ' ')
+    [ "$(od -An -v -tx1 -j $((size + 32)) -N 16 "$1" | tr -d ' \n')" = 00000000000000000000000000000000 ]
+}
+
+# Says of who is made of C that bytes were written which no object has, by a null pointer: tell_null CONFIG LOG.
+tell_null() {
+    [ -n "$shown" ] || return 0
+    awk '{ sub(/#.*/, "") } $1 == "service" { print $2, $3 }' "$1" | while read -r name file; do
+        has_unused_front "$file" || continue
+        printf 'goto end\nmem %s 0 16\n' "$name" | ask_program look "$1" "$2" | grep -q '^00000000 .*[1-9a-f]' || continue
+        echo "mx: $name: the bytes at 0 to 15 were written, where C has no object: a null pointer is used, or an index is outside" >&2
+    done
+}
+
 # Says of a service of a configuration that its text doesn't say where it begins.
 tell_entry() {
     file=$(program_of "$1" "$2")
     text=${file%.out}.s
-    { [ "$text" != "$file.s" ] && [ -f "$text" ] && is_made_of "$text" "$file"; } || return 0
+    { [ "$text" != "$file.s" ] && is_readable "$text" && is_made_of "$text" "$file"; } || return 0
     awk -v file="$text" -v name="$2" "$plain_line"'
         { code = plain($0) }
         code ~ /^\.entry/ { has_entry = 1 }
@@ -1091,7 +1250,7 @@ tell_entry() {
 
 # Says of a history that was just made that what is on the console can't be seen, if that is so of all its bytes.
 tell_console() {
-    { [ -f "$1" ] && is_short "$2"; } || return 0
+    { is_readable "$1" && is_short "$2"; } || return 0
     ask_program replay "$1" "$2" | LC_ALL=C sed '1,/^console [0-9]*$/d' | LC_ALL=C tr -d ' \t\n\r' | od -An -v -tx1 | awk '
         { for (at = 1; at <= NF; at++) { bytes = bytes " " $at; if ("" $at > "20" && $at != "7f") is_seen = 1 } }
         END { if (bytes && !is_seen) print "mx: nothing on the console can be seen: its bytes are" substr(bytes, 1, 48) }' >&2
@@ -1104,7 +1263,7 @@ missing_ticks() {
 
 # Says of a configuration that its history has no room for a service's first turn.
 tell_room() {
-    [ ! -f "$1" ] || awk '
+    ! is_readable "$1" || awk '
         { sub(/#.*/, "") }
         $1 == "log" && $2 == 1 { print "mx: wanted log 2 or more: a service is taken and comes back, which are 2 records" }' "$1" >&2
 }
@@ -1124,7 +1283,7 @@ tell_events() {
     turns=$1
     shift
     config=$(nth_word 1 "$@") log=$(nth_word 2 "$@") events=$(value_of --events "$@")
-    case $became in 'ends: open '*) [ -f "$events" ] || return 0 ;; *) return 0 ;; esac
+    case $became in 'ends: open '*) is_readable "$events" || return 0 ;; *) return 0 ;; esac
     cpus=$(cpus_of "$config") room=$(mktemp -d) || return 0
     awk -v turns="$turns" -v actor="${cpus:-1}" '
         NR == FNR { if ($1 == actor && $2 == "kill") made[$3]++; next }
@@ -1149,7 +1308,7 @@ tell_events() {
 
 # Says why an outside event of a run that rests has no record, which `mx why` names, if the history has room for more: tell_lost CONFIG LOG EVENTS.
 tell_lost() {
-    case $became in 'ends: rest '*) [ -f "$3" ] || return 0 ;; *) return 0 ;; esac
+    case $became in 'ends: rest '*) is_readable "$3" || return 0 ;; *) return 0 ;; esac
     room=$(awk '{ sub(/#.*/, "") } $1 == "log" { print $2; exit }' "$1")
     [ "$(grep -c '^[0-9]' "$2")" -lt "${room:-0}" ] || return 0
     ask_program why "$1" "$2" --events "$3" | sed -n \
@@ -1181,7 +1340,7 @@ tell_ended() {
             (
                 said=$(mktemp) || exit
                 exec 4>&2 2>"$said"
-                tell_history "$(nth_word 1 "$@")" "$(nth_word 2 "$@")" "$(missing_ticks "$@")"
+                tell_history "$(nth_word 1 "$@")" "$(nth_word 2 "$@")" "$(missing_ticks "$@")" "$1"
                 [ -z "$(value_of --events "$@")" ] || tell_raised ''
                 tell_lost "$(nth_word 1 "$@")" "$(nth_word 2 "$@")" "$(value_of --events "$@")"
                 tell_turns "$@"
@@ -1240,6 +1399,10 @@ is_told_after() {
 # Runs these words, by start_program of the script that calls it, and says what isn't told yet: of a failure how it is
 # mended, of a step that its history goes nowhere, and what was refused. The status is the program's.
 run_told() {
+    if [ "$1" = as ]; then
+        run_as "$@"
+        return
+    fi
     (start_program "$@")
     status=$?
     case $status in
@@ -1249,13 +1412,30 @@ run_told() {
     return "$status"
 }
 
+# Assembles by these words and says what isn't told yet. Of a text that is refused the program's second line is left out where
+# it names a number without its sign, or tells what all may have and one has alone.
+run_as() {
+    exec 4>&1
+    case " $* " in
+        *' --explain '*) said=$( (start_program "$@") 2>&1 >&4 4>&-) ;;
+        *) said=$( (start_program "$@" --explain) 2>&1 >&4 4>&-) ;;
+    esac
+    status=$? text=$(nth_word 1 "$@") tip=''
+    exec 4>&-
+    case $status in
+        0) tip=$(tell_addresses "$text" 2>&1; tell_data "$text" 2>&1; tell_pushes "$text" 2>&1) ;;
+        1) ! is_readable "$text" || tip=$(tell_faulty "$text" "$said" 2>&1) ;;
+    esac
+    case $tip in *': wanted a number without a sign, '* | *' alone is more than '*) said=$(printf '%s\n' "$said" | head -n 1) ;; esac
+    for lines in "$said" "$tip"; do
+        [ -z "$lines" ] || printf '%s\n' "$lines" >&2
+    done
+    return "$status"
+}
+
 # Says what isn't told yet of a command that ended well.
 tell_done() {
     case $1 in
-        as)
-            tell_addresses "$(nth_word 1 "$@")"
-            tell_data "$(nth_word 1 "$@")"
-            tell_pushes "$(nth_word 1 "$@")" ;;
         one) tell_kernel "$@" ;;
         sweep) tell_replaced "$@" ;;
         db) tell_looks "$(nth_word 1 "$@")" "$(nth_word 2 "$@")" ;;
@@ -1263,7 +1443,7 @@ tell_done() {
             tell_answers "$(nth_word 1 "$@")" "$(nth_word 2 "$@")"
             log=$(value_of --save "$@")
             if [ -n "$log" ]; then
-                tell_history "$(nth_word 1 "$@")" "$log" ''
+                tell_history "$(nth_word 1 "$@")" "$log" '' ''
             else
                 echo "mx: the history isn't saved: --save LOG" >&2
             fi ;;
@@ -1288,7 +1468,7 @@ tell_kernel() {
 # Says of a kill in FAULT whose endpoint no process of the history has any more from a position on that it is refused there.
 tell_replaced() {
     config=$(nth_word 1 "$@") log=$(nth_word 2 "$@") fault=$(nth_word 3 "$@") to=$(value_of --to "$@")
-    { [ -f "$config" ] && [ -f "$log" ] && [ -f "$fault" ] && is_short "$log"; } || return 0
+    { is_readable "$config" && is_readable "$fault" && is_short "$log"; } || return 0
     awk -v file="$fault" -v to="$to" -v names="$(names_of "$config")" '
         BEGIN { services = split(names, name, " ") }
         NR == FNR {
@@ -1310,10 +1490,6 @@ tell_replaced() {
 # Says what isn't told yet of a command that failed.
 tell_failure() {
     config=$(nth_word 1 "$@") second=$(nth_word 2 "$@")
-    if [ "$1" = as ]; then
-        [ ! -f "$config" ] || tell_faulty "$config" "$(failure_of "$@")"
-        return
-    fi
     said=$(failure_of explain "$config" --check)
     if [ -n "$said" ]; then
         tell_config "$config" "$said"
@@ -1363,7 +1539,7 @@ tell_config() {
 
 # Says of a line of a configuration that its item's word has a colon, or is in upper case.
 tell_item() {
-    { [ -n "$2" ] && [ -f "$1" ]; } || return 0
+    { [ -n "$2" ] && is_readable "$1"; } || return 0
     awk -v line="$2" -v at="mx: $1 line $2: " '
         NR == line {
             word = tolower($1)
@@ -1398,19 +1574,21 @@ cpus_of() {
     awk '{ sub(/#.*/, "") } $1 == "cpus" { print $2; exit }' "$1"
 }
 
-# Says of a script that is refused with these lines which number was wanted for a name.
+# Says of a script that is refused with these lines which number was wanted for a name, or that a line has more than an event,
+# or none.
 tell_script() {
     line=$(printf '%s\n' "$3" | sed -n '1s/^mx: 73 BadRecord line \([0-9]*\)$/\1/p')
-    { [ -n "$line" ] && [ -f "$2" ]; } || return 0
+    { [ -n "$line" ] && is_readable "$2"; } || return 0
     awk -v line="$line" -v cpus="$(cpus_of "$1")" -v at="mx: $2 line $line: " '
         NR == line && $1 ~ /^(take|step|back|go)$/ && $2 ~ /^[A-Za-z_]/ {
             print at "C is the number of a processor, 0 to " cpus - 1 ", and no service: stands \"" $2 "\""
-        }' "$2" >&2
+        }
+        NR == line && /^[ \t\r]*$|[;#]|\/\// { print at "blank lines, comments and ; aren\047t allowed in a script" }' "$2" >&2
 }
 
 # Whether a script is as short as to be made once more.
 is_short_script() {
-    [ -f "$1" ] && awk '$1 == "step" || $1 == "go" { steps += $3 } END { exit NR > 20000 || steps > 10000000 }' "$1"
+    is_readable "$1" && awk '$1 == "step" || $1 == "go" { steps += $3 } END { exit NR > 20000 || steps > 10000000 }' "$1"
 }
 
 # Whether a line of a script is raised twice.
@@ -1433,7 +1611,7 @@ tell_script_lines() {
 # Says of the events of a script that were refused why, the first three: they are made once more, and each answer has the
 # number of its line then.
 tell_answers() {
-    { [ -f "$1" ] && is_short_script "$2"; } || return 0
+    { is_readable "$1" && is_short_script "$2"; } || return 0
     tell_script_lines "$1" "$2"
     ask_program step "$1" "$2" --numbered | awk -v script="$2" -v cpus="$(cpus_of "$1")" \
         -v services="$(programs_of "$1" | wc -l)" '
@@ -1458,7 +1636,7 @@ tell_answers() {
 # Says of a debugger's script which of its numbers are decimal, though they look as a listing's, and whom `regs C` is of, if
 # somebody wasn't there.
 tell_looks() {
-    { [ -f "$1" ] && is_short_script "$2"; } || return 0
+    { is_readable "$1" && is_short_script "$2"; } || return 0
     awk -v at="mx: $2 line " '
         $1 == "break" && $3 ~ /^0[0-9]+$/ {
             print at NR ": " $3 " is decimal here, as all numbers: " $3 + 0
@@ -1494,19 +1672,20 @@ tell_passed() {
 
 # Says of a history that is refused where it is none of this machine's, or that a number in it is too large.
 tell_refused() {
-    [ -f "$2" ] || return 0
+    is_readable "$2" || return 0
     awk -v file="$2" '
         $2 == "back" && $3 ~ /^[0-9]+$/ && $3 + 0 > 2147483647 {
             print "mx: " file " line " NR ": wanted N of at most 2147483647, stands \"" $3 "\""
             exit
         }' "$2" >&2
     ! is_short "$2" || ask_program why "$1" "$2" | sed -n 's/^ends: \(record .* is refused, .*\)/mx: \1/p' >&2
+    tell_newer
 }
 
 # Says of a sweep that failed which events FAULT may have, or what its history is.
 tell_fault() {
     tell_refused "$1" "$2"
-    [ -f "$3" ] || return 0
+    is_readable "$3" || return 0
     awk -v file="$3" '
         { sub(/#.*/, "") }
         NF && $1 !~ /^(take|step|back|line|tick|kill|respawn)$/ {
@@ -1523,7 +1702,7 @@ tell_empty() {
     if [ -f "$config" ] && [ -n "$log" ] && [ ! -e "$log" ]; then
         echo "mx: $log isn't there: mx turns $config $log makes it" >&2
     fi
-    [ -f "$log" ] || return 0
+    is_readable "$log" || return 0
     grep -q -v -e '^rules [12]$' -e '^$' "$log" || echo "mx: $log has no record: mx turns $config LOG makes a history" >&2
     turns=$(value_of --turns "$@")
     case $1$turns in sweep[0-9]*) ;; *) return 0 ;; esac
@@ -1542,18 +1721,27 @@ tell_look() {
         "watch SLOT ADDRESS N takes N of 1 to 16, quit ends" >&2
 }
 
-# Says of a number with a sign that no option takes one, nor `one`.
-tell_sign() {
+# The option of these words whose number has a sign; N if that of `one` has. The words behind -- are no options.
+signed_option() {
     before=''
     for word in "$@"; do
-        case $before$word in
-            --*' '-[0-9]*) echo "mx: ${before% }: wanted a number without a sign, stands \"$word\"" >&2 ;;
+        [ "$word" != -- ] || return 0
+        case $before' '$word in
+            --save' '* | --sums' '* | --events' '* | --stop' '* | --out' '* | *=*) ;;
+            --[a-z]*' '-[0-9]*) is_flag "$before" || { printf '%s' "$before $word"; return; } ;;
         esac
-        before="$word "
+        before=$word
     done
-    case ${1-}' '${3-} in
-        'one -'[0-9]*) echo "mx: N: wanted a number without a sign, stands \"$3\"" >&2 ;;
-    esac
+    case ${1-}' '${3-} in 'one -'[0-9]*) printf '%s' "N $3" ;; esac
+}
+
+# Ends with status 2 if a number of these words has a sign: the program refuses that too, and tells how another word than a
+# number is given.
+refuse_sign() {
+    signed=$(signed_option "$@")
+    [ -n "$signed" ] || return 0
+    echo "mx: ${signed% *}: wanted a number without a sign, stands \"${signed#* }\"" >&2
+    exit 2
 }
 
 # Whether a file begins as sums do: with the line of a configuration's.
@@ -1593,20 +1781,18 @@ can_write_sums() {
         case $beside in */*) at=${beside%/*}/ ;; esac
         [ -d "$at" ] || return 1
     fi
-    [ ! -w "$at" ] || return 0
+    if [ -w "$at" ] && ! is_protected "$beside"; then return 0; fi
     tell_sums "isn't written: there is no right to"
     return 1
 }
 
-# Whether sums stand beside a history, and are to be compared.
+# Whether sums stand beside a history, and can be compared.
 can_compare_sums() {
-    { [ -f "$log" ] && [ -f "$beside" ] && [ ! -L "$beside" ]; } || return 1
+    { is_readable "$log" && [ -f "$beside" ] && [ ! -L "$beside" ]; } || return 1
     if [ ! -r "$beside" ]; then
         tell_sums "isn't compared: there is no right to read it"
     elif ! holds_sums "$beside"; then
         tell_sums "isn't compared: it has no sums"
-    elif changed_since "$log" "$beside"; then
-        tell_sums "isn't compared: $log has changed since it was written"
     else
         return 0
     fi
@@ -1634,26 +1820,36 @@ find_beside() {
 }
 
 # Which sums go with the history of these words by itself, where they say nothing of sums: sums_word is --sums=LOG.sums,
-# or empty. A replay takes none: it is of any machine, and tell_changed says of which one.
+# or empty. A replay takes none: it is of any machine, and tell_changed says of which one. So it is of a history that may
+# be another one than its sums are of: by the time of its change nobody sees whether that was of its bytes, or a copy of
+# both files, which are compared all the same.
 choose_sums() {
-    sums_word='' replayed=''
+    sums_word='' told_sums='' excuse=''
     explains=$(explains_words "$@")
     find_beside "$@" || return 0
     case $command in
         step | run | turns) can_write_sums || return 0 ;;
-        replay)
-            [ -z "$explains" ] || ! can_compare_sums || replayed=$beside
-            return 0 ;;
-        *) can_compare_sums || return 0 ;;
+        *)
+            can_compare_sums || return 0
+            [ "$command" != replay ] || excuse="$log was made: it is replayed all the same"
+            ! changed_since "$log" "$beside" ||
+                excuse="$beside was written: $log changed later, or was copied, so nothing is refused" ;;
     esac
-    sums_word=--sums=$beside
+    if [ -z "$excuse" ]; then sums_word=--sums=$beside
+    elif [ -n "$explains" ]; then told_sums=$beside; fi
 }
 
-# Says of a replay what isn't as it was when its history was made, by the comparison of start_program, which goes before
-# all records.
+# Says what isn't as it was when the sums beside a history were written, where they refuse nobody, by the comparison of
+# start_program, which goes before all records.
 tell_changed() {
-    [ -n "$replayed" ] || return 0
-    part=$( (start_program replay "$config" /dev/null "--sums=$replayed" --no-explain) 2>&1 >/dev/null |
+    [ -n "$told_sums" ] || return 0
+    part=$( (start_program replay "$config" /dev/null "--sums=$told_sums" --no-explain) 2>&1 >/dev/null |
         sed -n 's/^mx: 64 OtherMachine //p')
-    [ -z "$part" ] || echo "mx: SUMS $replayed: $part isn't as it was when $log was made: it is replayed all the same" >&2
+    [ -z "$part" ] || echo "mx: SUMS $told_sums: $part isn't as it was when $excuse" >&2
+}
+
+# Says of a history that was refused, of a machine that is as it was, that the history is newer than its sums.
+tell_newer() {
+    { [ -n "${told_sums-}" ] && [ -z "$part" ] && [ "$log" -nt "$told_sums" ]; } || return 0
+    echo "mx: $log is newer than $told_sums: it was changed or copied, and the machine is as it was" >&2
 }

@@ -31,7 +31,8 @@ def print_results(graded):
         print(f"{it['points']} of {it['of']}  {it['check']}")
         for line in lines_of(it):
             print("        " + line.replace("\n", "\n        "))
-    if graded["points"] < graded["of"]:
+    # Where a file is missing, nothing was run.
+    if any("run" in it for it in graded["checks"]):
         print(f"what was run is in {printable(graded['room'])}: paste the commands there")
     print(f"{graded['points']} of {graded['of']} points", flush=True)
 

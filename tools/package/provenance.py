@@ -96,7 +96,7 @@ def head(program, count):
         "",
         f"Proved: the {count} crates below, whole, each over the statements of those below it: a function whose proof",
         "fails isn't built. PROVED.md in the sources' docs says what the statements say. Not proved: the scripts (mx, new,",
-        "join_sweeps, pcapng, gdb_names, those of labs), the files of lib/ beside lib/mx (the C library of the kit's toolchain),",
+        "join_sweeps, join_explores, pcapng, gdb_names, those of labs), the files of lib/ beside lib/mx (the C library of the kit's toolchain),",
         "completions, and the files for editors, gdb and Wireshark.",
         "",
         "Make it again: in a clone at that commit, with that kit, ./mx --prove and then ./mx --package FOLDER.",

@@ -1,11 +1,11 @@
 -- What is done of a request, from what its subcommand does.
-use Rattle.std.proofs.Common.{◌≡◌, ◌∙◌, ◌⊎◌, ◌++◌, ◌-◌, ℕ, Bool, List, [], ◌∷◌, Option, Some, None, Result, Ok, Err, IfErr, OnOk, false, true, inl, inr, refl, subst, sym, take}
+use Rattle.std.proofs.Common.{◌≡◌, ◌∙◌, ◌⊎◌, ◌++◌, ◌-◌, ℕ, Bool, List, [], ◌∷◌, Option, Result, Ok, Err, IfErr, OnOk, false, true, inl, inr, refl, subst, sym, take}
 use Rattle.std.specs.Prelude.{IfOk}
 use Rattle.std.specs.Io.KnownBytes.{Appends}
 use Rattle.std.proofs.lemmas.List.{append-nil}
 use Rattle.mx_app_command.specs.Files.{writes_over}
 use Rattle.mx_app_command.specs.declared.command_line.CommandRequest.{CommandRequest}
-use Rattle.mx_app_command.specs.declared.command_line.CommandRequest.TheVariants.{Gdb, Live, Look, Run, Sweep, SweptPage, Turns}
+use Rattle.mx_app_command.specs.declared.command_line.CommandRequest.TheVariants.{Explore, Gdb, Live, Look, Run, Sweep, SweptPage, Turns}
 use Rattle.mx_app_command.specs.declared.command_line.RecordRange.{RecordRange}
 use Rattle.mx_app_db.specs.ScriptLine.{ScriptLine}
 use Rattle.mx_app_db.specs.declared.script.DebugLine.{DebugLine}
@@ -39,6 +39,8 @@ use Rattle.mx_app_gdb.specs.Talks.{HasTalkFailed, IsTalked}
 use Rattle.mx_app_gdb.specs.declared.talking.TalkEnding.{TalkEnding}
 use Rattle.mx_app_page.specs.Pages.{IsPagePrinted, run_of_files}
 use Rattle.mx_app_page.specs.Strips.{PrintsSweptPage}
+use Rattle.mx_app_explore.specs.Exploring.{Explores}
+use Rattle.mx_app_explore.specs.declared.exploring.Found.{Found}
 use Rattle.mx_app_look.specs.Sessions.{HasFailed, IsBegun, IsSession, IsWhole, begun_text, sight_at}
 use Rattle.mx_app_run.specs.Run.{Runs}
 use Rattle.mx_app_turns.specs.Sweeping.{Sweeps}
@@ -62,7 +64,7 @@ use Rattle.mx_app.specs.Named.{Assembles, ShowsFile}
 use Rattle.mx_app.specs.Sparing.{SparesRequest}
 use Rattle.mx_app.specs.declared.performing.Done.{Done}
 use Rattle.mx_why.specs.declared.telling.Told.{Told}
-use Rattle.mx_app.specs.Requests.{Debugs, Draws, Explains, Looks, Pages, Performs, PerformsApart, PerformsUntyped, Replays, SavesSteps, Shows, Steps, Talks, Traces, Whys, done_after_check, done_after_gdb, done_after_live, done_after_replay, done_after_run, done_after_sweep, done_after_turns, done_after_why, done_after_work, over_read}
+use Rattle.mx_app.specs.Requests.{Debugs, Draws, Explains, Looks, Pages, Performs, PerformsApart, PerformsUntyped, Replays, SavesSteps, Shows, Steps, Talks, Traces, Whys, done_after_explore, done_after_check, done_after_gdb, done_after_live, done_after_replay, done_after_run, done_after_sweep, done_after_turns, done_after_why, done_after_work, over_read}
 
 -- what a request asked for and wrote, and what is done of it
 abbrev pub AsksAndWrites : List Asked → List Asked → List Written → List Written → (List Asked → List Written → Type 0) → Type 0
@@ -76,16 +78,17 @@ Grows asked asked_now written written_now given given_now heard heard_now told t
     × (given_now ≡ given ++ did.typed) × (heard_now ≡ heard ++ did.heard) × (told_now ≡ told ++ did.told) × (shown_now ≡ shown ++ did.shown) × Holds did
 
 -- a request that takes no lines and shows no progress
-untyped : (WasShown : Part → Type 0) (request : CommandRequest) (asks : Bool) (qs : List Asked) (ws : List Written) (Prints : List ℕ → Type 0) (r : Result Done Kind)
-    → PerformsUntyped request qs ws Prints r → PerformsApart WasShown request asks (record { asked = qs; written = ws; typed = []; heard = []; told = []; shown = [] }) Prints r
-untyped WasShown (Run config log ticks events stop) asks qs ws Prints r h = absurd h
-untyped WasShown (Look config log) asks qs ws Prints r h = absurd h
-untyped WasShown (Gdb config log slot) asks qs ws Prints r h = absurd h
-untyped WasShown (Turns config log ticks events bound stop) asks qs ws Prints r h = absurd h
-untyped WasShown (Live config log raw hertz stop) asks qs ws Prints r h = absurd h
-untyped WasShown (Sweep config log fault bound from to jobs strict save) asks qs ws Prints r h = absurd h
-untyped WasShown (SweptPage config log fault bound from to jobs) asks qs ws Prints r h = absurd h
-untyped WasShown request asks qs ws Prints r h = ((refl, refl), refl, refl, h)
+untyped : (WasShown : Part → Type 0) (request : CommandRequest) (force asks : Bool) (qs : List Asked) (ws : List Written) (Prints : List ℕ → Type 0) (r : Result Done Kind)
+    → PerformsUntyped request qs ws Prints r → PerformsApart WasShown request force asks (record { asked = qs; written = ws; typed = []; heard = []; told = []; shown = [] }) Prints r
+untyped WasShown (Run config log ticks events stop) force asks qs ws Prints r h = absurd h
+untyped WasShown (Look config log) force asks qs ws Prints r h = absurd h
+untyped WasShown (Gdb config log slot) force asks qs ws Prints r h = absurd h
+untyped WasShown (Turns config log ticks events bound stop) force asks qs ws Prints r h = absurd h
+untyped WasShown (Live config log raw hertz stop) force asks qs ws Prints r h = absurd h
+untyped WasShown (Sweep config log fault bound from to jobs strict save) force asks qs ws Prints r h = absurd h
+untyped WasShown (SweptPage config log fault bound from to jobs) force asks qs ws Prints r h = absurd h
+untyped WasShown (Explore config departures events bound part strict save) force asks qs ws Prints r h = absurd h
+untyped WasShown request force asks qs ws Prints r h = ((refl, refl), refl, refl, h)
 
 -- what is done of the request that this one is
 pub as_known : (asked now : List Asked) (files written : List Written) (Prints : List ℕ → Type 0) (r : Result Done Kind) (request known : CommandRequest) → request ≡ known
@@ -95,10 +98,10 @@ as_known asked now files written Prints r request known same done =
     subst (λ (x : CommandRequest). AsksAndWrites asked now files written (λ qs ws. PerformsUntyped x qs ws Prints r)) (sym same) done
 
 -- what is done of it, if no lines are typed and no progress is shown
-pub as_asked : (WasShown : Part → Type 0) {given : List (Option (List ℕ))} {heard : List Heard} {told : List Note} {shown : List Part} (asks : Bool) (asked now : List Asked) (files written : List Written) (Prints : List ℕ → Type 0) (r : Result Done Kind) (request : CommandRequest)
+pub as_asked : (WasShown : Part → Type 0) {given : List (Option (List ℕ))} {heard : List Heard} {told : List Note} {shown : List Part} (force asks : Bool) (asked now : List Asked) (files written : List Written) (Prints : List ℕ → Type 0) (r : Result Done Kind) (request : CommandRequest)
     → AsksAndWrites asked now files written (λ qs ws. PerformsUntyped request qs ws Prints r)
-    → Grows asked now files written given given heard heard told told shown shown (λ did. PerformsApart WasShown request asks did Prints r)
-as_asked WasShown {given} {heard} {told} {shown} asks asked now files written Prints r request done = (
+    → Grows asked now files written given given heard heard told told shown shown (λ did. PerformsApart WasShown request force asks did Prints r)
+as_asked WasShown {given} {heard} {told} {shown} force asks asked now files written Prints r request done = (
   record { asked = done.0; written = done.1; typed = []; heard = []; told = []; shown = [] },
   done.2,
   done.3,
@@ -106,15 +109,15 @@ as_asked WasShown {given} {heard} {told} {shown} asks asked now files written Pr
   sym (append-nil heard),
   sym (append-nil told),
   sym (append-nil shown),
-  untyped WasShown request asks done.0 done.1 Prints r done.4,
+  untyped WasShown request force asks done.0 done.1 Prints r done.4,
 )
 
 -- what is done of the request that this one is, if it takes lines, shows progress or has threads
-pub as_typed : (WasShown : Part → Type 0) (asked now : List Asked) (files written : List Written) (given typed : List (Option (List ℕ))) (heard heard_now : List Heard) (told told_now : List Note) (shown later : List Part) (asks : Bool) (Prints : List ℕ → Type 0) (r : Result Done Kind) (request known : CommandRequest) → request ≡ known
-    → Grows asked now files written given typed heard heard_now told told_now shown later (λ did. PerformsApart WasShown known asks did Prints r)
-    → Grows asked now files written given typed heard heard_now told told_now shown later (λ did. PerformsApart WasShown request asks did Prints r)
-as_typed WasShown asked now files written given typed heard heard_now told told_now shown later asks Prints r request known same done =
-    subst (λ (x : CommandRequest). Grows asked now files written given typed heard heard_now told told_now shown later (λ did. PerformsApart WasShown x asks did Prints r)) (sym same) done
+pub as_typed : (WasShown : Part → Type 0) (asked now : List Asked) (files written : List Written) (given typed : List (Option (List ℕ))) (heard heard_now : List Heard) (told told_now : List Note) (shown later : List Part) (force asks : Bool) (Prints : List ℕ → Type 0) (r : Result Done Kind) (request known : CommandRequest) → request ≡ known
+    → Grows asked now files written given typed heard heard_now told told_now shown later (λ did. PerformsApart WasShown known force asks did Prints r)
+    → Grows asked now files written given typed heard heard_now told told_now shown later (λ did. PerformsApart WasShown request force asks did Prints r)
+as_typed WasShown asked now files written given typed heard heard_now told told_now shown later force asks Prints r request known same done =
+    subst (λ (x : CommandRequest). Grows asked now files written given typed heard heard_now told told_now shown later (λ did. PerformsApart WasShown x force asks did Prints r)) (sym same) done
 
 -- a session was held, or its machine wasn't started
 pub looks : {heard : List Heard} {told : List Note} (asked now : List Asked) (files files_now : List Written) (given given_now : List (Option (List ℕ))) (shown later : List Part) (config log : List ℕ) (asks : Bool) (x y : Option (List ℕ)) (d : Result (Unit {0}) Kind) (r : Result Done Kind)
@@ -197,6 +200,14 @@ pub swept_pages : {given : List (Option (List ℕ))} {heard : List Heard} {told 
     → Grows asked now files files given given heard heard told told shown later (λ did. IsAlone did × (did.written ≡ []) × (did.typed ≡ []) × (e : Result Swept Kind) × PrintsSweptPage config log fault from to bound did.asked did.shown (λ text. Appends x y text) e × (r ≡ done_after_sweep false e))
 swept_pages {given} {heard} {told} asked now files shown later config log fault from to bound x y d r p e =
     (record nothing_done { asked = p.0; shown = p.1 }, p.2, sym (append-nil files), sym (append-nil given), sym (append-nil heard), sym (append-nil told), p.3, ((refl, refl), refl, refl, d, p.4, e))
+
+-- schedules were explored, or they weren't
+pub explored : {given : List (Option (List ℕ))} {heard : List Heard} {told : List Note} (asked now : List Asked) (files written : List Written) (shown later : List Part) (config : List ℕ) (events save : Option (List ℕ)) (force : Bool) (departures bound part parts : ℕ) (strict : Bool) (x y : Option (List ℕ)) (d : Result Found Kind) (r : Result Done Kind)
+    → (qs : List Asked) × (ws : List Written) × (ps : List Part) × (now ≡ asked ++ qs) × (written ≡ files ++ ws) × (later ≡ shown ++ ps) × Explores config events save force departures bound part parts qs ws ps (λ text. Appends x y text) d
+    → r ≡ done_after_explore strict d
+    → Grows asked now files written given given heard heard told told shown later (λ did. IsAlone did × (did.typed ≡ []) × (e : Result Found Kind) × Explores config events save force departures bound part parts did.asked did.written did.shown (λ text. Appends x y text) e × (r ≡ done_after_explore strict e))
+explored {given} {heard} {told} asked now files written shown later config events save force departures bound part parts strict x y d r p e =
+    (record { asked = p.0; written = p.1; typed = []; heard = []; told = []; shown = p.2 }, p.3, p.4, sym (append-nil given), sym (append-nil heard), sym (append-nil told), p.5, ((refl, refl), refl, d, p.6, e))
 
 -- a script was done, and its history saved or not
 pub saved : (asked now : List Asked) (files written : List Written) (config script log : List ℕ) (numbered : Bool) (x y : Option (List ℕ)) (d : Result (Unit {0}) Kind) (r : Result Done Kind)
@@ -324,7 +335,7 @@ spared WasShown {given} {heard} {told} {shown} asks force asked now files known 
 pub apart : (WasShown : Part → Type 0) (asked between now : List Asked) (files written : List Written) (given typed : List (Option (List ℕ))) (heard heard_now : List Heard) (told told_now : List Note) (shown later : List Part) (asks force : Bool) (Prints : List ℕ → Type 0) (r : Result Done Kind) (request : CommandRequest)
     → writes_over request ≡ false
     → (qs : List Asked) × (between ≡ asked ++ qs) × SparesRequest request force qs (Ok tt)
-    → Grows between now files written given typed heard heard_now told told_now shown later (λ did. PerformsApart WasShown request asks did Prints r)
+    → Grows between now files written given typed heard heard_now told told_now shown later (λ did. PerformsApart WasShown request force asks did Prints r)
     → Grows asked now files written given typed heard heard_now told told_now shown later (λ did. Performs WasShown request force asks did Prints r)
 apart WasShown asked between now files written given typed heard heard_now told told_now shown later asks force Prints r request other p done =
     (record done.0 { asked = p.0 ++ done.0.asked }, asked_on asked between now p.0 done.0.asked p.1 done.1, done.2, done.3, done.4, done.5, done.6, inr (other, inr (p.0, done.0.asked, refl, p.2, done.7)))

@@ -7,3 +7,4 @@ mod Grown
 mod Moved
 mod Summed
 mod Afterwards
+mod Spared

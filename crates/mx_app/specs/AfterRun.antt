@@ -1,9 +1,14 @@
 -- What standard error gets after a command that made a history (our own).
-use Rattle.std.specs.Prelude.{◌≡◌, ℕ, ◌==◌, ◌&&◌, ◌||◌, not, if◌then◌else◌, Bool, true, false, List, [], ◌++◌, codes, Option, Some, None, Result, Ok, Err, option_map, take}
+use Rattle.std.specs.Prelude.{◌≡◌, ◌⊎◌, ℕ, ◌==◌, ◌&&◌, ◌||◌, not, if◌then◌else◌, Bool, true, false, List, [], ◌∷◌, ◌++◌, codes, length, Option, Some, None, Result, Ok, Err, option_map, take}
+use Rattle.std.specs.declared.io.ErrorKind.{ErrorKind}
 use Rattle.mx_app_command.specs.declared.command_line.CommandRequest.{CommandRequest}
 use Rattle.mx_app_command.specs.declared.command_line.CommandRequest.TheVariants as requests
+use Rattle.mx_app_failure.specs.Failure.{failure_if, problem_of_reading}
+use Rattle.mx_app_failure.specs.declared.failure.About.TheVariants.{Written as FileWritten}
+use Rattle.mx_app_failure.specs.declared.failure.Access.TheVariants as access
 use Rattle.mx_app_failure.specs.declared.failure.Failure.{Failure as Kind}
-use Rattle.mx_app_db.specs.Asked.{Asked}
+use Rattle.mx_app_failure.specs.declared.failure.FileProblem.TheVariants.{Unread}
+use Rattle.mx_app_db.specs.Asked.{Asked, file_given, file_missed}
 use Rattle.mx_app_db.specs.Config.{Config}
 use Rattle.mx_app_db.specs.Service.{Service}
 use Rattle.mx_machine.specs.declared.history.Record.{Record}
@@ -64,7 +69,20 @@ TellsOf strict names qs (Ok told) =
     × IsToldWithin strict (world_at_boot c vs) (take 4294967295 records) c said names told
 TellsOf strict names qs (Err f) = IsUntold names qs f
 
+-- the history can't be read again: its first bytes are missed; or it has none, as a new name or that of a pipe
+abbrev pub IsNotAgain : List ℕ → List Asked → Kind → Type 0
+IsNotAgain log qs f =
+    ((k : ErrorKind) × (qs ≡ file_missed log k ∷ []) × (f ≡ failure_if (problem_of_reading k) FileWritten))
+    ⊎ ((qs ≡ file_given log [] ∷ []) × (f ≡ failure_if (Some (Unread access.Other)) FileWritten))
+
+-- what is told of the history in these files, if it can be read again
+abbrev pub TellsAgain : Bool → FileNames → List Asked → Result AfterRun Kind → Type 0
+TellsAgain strict names qs r =
+    ((front : List ℕ) × (rest : List Asked) × (qs ≡ file_given names.log front ∷ rest) × ((length front == 0) ≡ false)
+    × TellsOf strict names rest r)
+    ⊎ ((f : Kind) × IsNotAgain names.log qs f × (r ≡ Err f))
+
 -- WHAT IS TOLD AFTER A COMMAND: nothing is read, if it makes no history
 abbrev pub TellsAfter : Bool → Option FileNames → List Asked → Result AfterRun Kind → Type 0
 TellsAfter strict None qs r = (qs ≡ []) × (r ≡ Ok after.Nothing)
-TellsAfter strict (Some names) qs r = TellsOf strict names qs r
+TellsAfter strict (Some names) qs r = TellsAgain strict names qs r

@@ -3,7 +3,7 @@ use Rattle.std.specs.Prelude.{◌≡◌, ◌⊎◌, ◌&&◌, ℕ, ◌-◌, Bool
 use Rattle.mx_app_command.specs.Files.{writes_over}
 use Rattle.mx_app_command.specs.declared.command_line.CommandRequest.{CommandRequest}
 use Rattle.mx_app_command.specs.declared.command_line.RecordRange.{RecordRange}
-use Rattle.mx_app_command.specs.declared.command_line.CommandRequest.TheVariants.{One, As, Show, Explain, Check, Step, Run, Turns, Live, Sweep, Replay, Trace, Draw, Page, SweptPage, Look, Gdb, Why, Db}
+use Rattle.mx_app_command.specs.declared.command_line.CommandRequest.TheVariants.{One, As, Show, Explain, Check, Step, Run, Turns, Live, Sweep, Explore, Replay, Trace, Draw, Page, SweptPage, Look, Gdb, Why, Db}
 use Rattle.mx_app_db.specs.ScriptLine.{ScriptLine}
 use Rattle.mx_app_db.specs.declared.script.DebugLine.{DebugLine}
 use Rattle.mx_app_failure.specs.declared.failure.Failure.{Failure as Kind}
@@ -37,6 +37,9 @@ use Rattle.mx_app_draw.specs.Scenes.{IsDrawingPrinted}
 use Rattle.mx_app_gdb.specs.Talks.{HasTalkFailed, IsTalked}
 use Rattle.mx_app_gdb.specs.declared.talking.TalkEnding.{TalkEnding}
 use Rattle.mx_app_gdb.specs.declared.talking.TalkEnding.TheVariants as talks
+use Rattle.mx_app_explore.specs.Exploring.{Explores}
+use Rattle.mx_app_explore.specs.declared.exploring.Found.{Found}
+use Rattle.mx_app_explore.specs.declared.exploring.Found.TheVariants as found
 use Rattle.mx_app_page.specs.Pages.{IsPagePrinted, run_of_files}
 use Rattle.mx_app_page.specs.Strips.{PrintsSweptPage}
 use Rattle.mx_app_live.specs.declared.session.SessionEnding.{SessionEnding}
@@ -137,6 +140,12 @@ done_after_why strict (Err f) = Err f
 abbrev pub done_after_check : Result Bool Kind → Result Done Kind
 done_after_check (Ok lacks) = Ok (with_status (if lacks then 1 else 0))
 done_after_check (Err f) = Err f
+
+-- schedules were explored; the status is 1 if that is strict, and there are several outcomes
+abbrev pub done_after_explore : Bool → Result Found Kind → Result Done Kind
+done_after_explore strict (Ok found.One) = Ok (with_status 0)
+done_after_explore strict (Ok found.Several) = Ok (with_status (if strict then 1 else 0))
+done_after_explore strict (Err f) = Err f
 
 -- ---- machines: the files are as the start wants them, and the text is printed, after the lines' numbers if that is
 -- asked; or it fails by the first fault
@@ -271,6 +280,7 @@ PerformsUntyped (Run config log ticks events stop) qs ws Prints r = ⊥
 PerformsUntyped (Turns config log ticks events bound stop) qs ws Prints r = ⊥
 PerformsUntyped (Live config log raw hertz stop) qs ws Prints r = ⊥
 PerformsUntyped (Sweep config log fault bound from to jobs strict save) qs ws Prints r = ⊥
+PerformsUntyped (Explore config departures events bound part strict save) qs ws Prints r = ⊥
 PerformsUntyped (Replay config log) qs ws Prints r =
     (d : Result Replayed Kind) × (ws ≡ []) × Replays config.now log.now qs Prints d × (r ≡ done_after_replay d)
 PerformsUntyped (Trace config log range) qs ws Prints r =
@@ -288,42 +298,47 @@ PerformsUntyped (Why config log events strict) qs ws Prints r =
 PerformsUntyped (Db config script) qs ws Prints r =
     (d : Result (Unit {0}) Kind) × (ws ≡ []) × Debugs config.now script.now qs Prints d × (r ≡ done_after_work d)
 
--- what is done of a request that writes over nothing that it reads, by what a command did, by what is printed, and by
--- how it ends. Only `look` takes lines, and `gdb` bytes; somebody sits only at a live machine; these two, turns, a sweep
--- and a page with one show progress. What the threads of a run show is no list, since they have no order: WasShown holds
--- of it.
-abbrev pub PerformsApart : (Part → Type 0) → CommandRequest → Bool → Deeds → (List ℕ → Type 0) → Result Done Kind
-    → Type 0
-PerformsApart WasShown (Look config log) asks did Prints r =
+-- what is done of a request that writes over nothing that it reads, and may be forced to write over any other file: by
+-- what a command did, by what is printed, and by how it ends. Only `look` takes lines, and `gdb` bytes; somebody sits
+-- only at a live machine; these two, turns, a sweep, a page with one and `explore` show progress. What the threads of a
+-- run show is no list, since they have no order: WasShown holds of it.
+abbrev pub PerformsApart : (Part → Type 0) → CommandRequest → Bool → Bool → Deeds → (List ℕ → Type 0)
+    → Result Done Kind → Type 0
+PerformsApart WasShown (Look config log) force asks did Prints r =
     IsAlone did × (d : Result (Unit {0}) Kind) × (did.written ≡ [])
     × Looks config.now log.now asks did.asked did.typed did.shown Prints d × (r ≡ done_after_work d)
-PerformsApart WasShown (Gdb config log slot) asks did Prints r =
+PerformsApart WasShown (Gdb config log slot) force asks did Prints r =
     IsAlone did × (d : Result TalkEnding Kind) × (did.written ≡ [])
     × Talks config.now log.now slot did.asked did.typed did.shown Prints d × (r ≡ done_after_gdb d)
-PerformsApart WasShown (Run config log ticks events stop) asks did Prints r =
+PerformsApart WasShown (Run config log ticks events stop) force asks did Prints r =
     IsAlone did × (did.typed ≡ []) × (did.shown ≡ []) × (d : Result RunEnding Kind)
     × Runs WasShown (is_some stop) config.now
     (option_map (λ s. s.now) events) log.now ticks did.asked did.written Prints d
     × (r ≡ done_after_run (is_some stop) d)
-PerformsApart WasShown (Turns config log ticks events bound stop) asks did Prints r =
+PerformsApart WasShown (Turns config log ticks events bound stop) force asks did Prints r =
     IsAlone did × (did.typed ≡ []) × (d : Result TurnsEnd Kind)
     × MakesTurns (is_some stop) config.now
     (option_map (λ s. s.now) events) log.now ticks bound did.asked did.written did.shown Prints d
     × (r ≡ done_after_turns d)
-PerformsApart WasShown (Live config log raw hertz stop) asks did Prints r =
+PerformsApart WasShown (Live config log raw hertz stop) force asks did Prints r =
     (did.typed ≡ []) × (did.shown ≡ []) × (d : Result SessionEnding Kind)
     × Lives config.now log.now (nat_lt 0 hertz) did.asked did.written did.heard did.told Prints d
     × (r ≡ done_after_live d)
-PerformsApart WasShown (Sweep config log fault bound from to jobs strict save) asks did Prints r =
+PerformsApart WasShown (Sweep config log fault bound from to jobs strict save) force asks did Prints r =
     IsAlone did × (did.typed ≡ []) × (d : Result Swept Kind)
     × Sweeps config.now log.now fault.now
     (option_map (λ s. s.now) save) from to bound did.asked did.written did.shown Prints d
     × (r ≡ done_after_sweep strict d)
-PerformsApart WasShown (SweptPage config log fault bound from to jobs) asks did Prints r =
+PerformsApart WasShown (SweptPage config log fault bound from to jobs) force asks did Prints r =
     IsAlone did × (did.written ≡ []) × (did.typed ≡ []) × (d : Result Swept Kind)
     × PrintsSweptPage config.now log.now fault.now from to bound did.asked did.shown Prints d
     × (r ≡ done_after_sweep false d)
-PerformsApart WasShown request asks did Prints r =
+PerformsApart WasShown (Explore config departures events bound part strict save) force asks did Prints r =
+    IsAlone did × (did.typed ≡ []) × (d : Result Found Kind)
+    × Explores config.now (option_map (λ s. s.now) events) (option_map (λ s. s.now) save) force departures bound
+    part.before part.after did.asked did.written did.shown Prints d
+    × (r ≡ done_after_explore strict d)
+PerformsApart WasShown request force asks did Prints r =
     IsAlone did × (did.typed ≡ []) × (did.shown ≡ []) × PerformsUntyped request did.asked did.written Prints r
 
 -- the failure of a request that would write over what it reads
@@ -337,7 +352,7 @@ abbrev pub PerformsSpared : (Part → Type 0) → CommandRequest → Bool → Bo
 PerformsSpared WasShown request force asks did Prints r =
     ((f : Kind) × IsIdle did Prints × SparesRequest request force did.asked (Err f) × (r ≡ Err f))
     ⊎ ((before after : List Asked) × (did.asked ≡ before ++ after) × SparesRequest request force before (Ok tt)
-    × PerformsApart WasShown request asks (record did { asked = after }) Prints r)
+    × PerformsApart WasShown request force asks (record did { asked = after }) Prints r)
 
 -- WHAT IS DONE OF A REQUEST, which may be forced to write over any file: nothing, if it would write over what it reads
 abbrev pub Performs : (Part → Type 0) → CommandRequest → Bool → Bool → Deeds → (List ℕ → Type 0) → Result Done Kind

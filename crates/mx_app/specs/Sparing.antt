@@ -1,69 +1,35 @@
--- What is written over: a file that is empty, or that begins as what is written does; any other is spared (our own).
-use Rattle.std.specs.Prelude.{◌≡◌, ◌⊎◌, ◌==◌, ◌&&◌, ◌||◌, not, ℕ, Bool, true, false, if◌then◌else◌, List, [], ◌∷◌, codes, drop, length, nat_eq, nat_lt, Option, Some, None, Result, Ok, Err, slice_index, take}
-use Rattle.std.specs.List.{list_all, starts_with}
-use Rattle.std.specs.Char.{is_ascii_hexdigit}
+-- Which files of a request are spared (our own).
+use Rattle.std.specs.Prelude.{◌≡◌, ◌⊎◌, ℕ, Bool, true, false, List, [], ◌∷◌, Option, Some, None, Result, Ok, Err}
 use Rattle.std.specs.declared.io.ErrorKind.{ErrorKind}
-use Rattle.mx_app_command.specs.Files.{FileWord, file_written, written_kind}
+use Rattle.mx_app_command.specs.Files.{FileWord, file_written, writes_several, written_kind}
 use Rattle.mx_app_command.specs.declared.command_line.CommandRequest.{CommandRequest}
 use Rattle.mx_app_command.specs.declared.files.FileKind.{FileKind}
 use Rattle.mx_app_command.specs.declared.files.FileKind.TheVariants as kinds
-use Rattle.mx_app_db.specs.Asked.{Asked, file_given, file_missed}
+use Rattle.mx_app_start.specs.Asked.{Asked, file_missed}
 use Rattle.mx_app_explain.specs.SumsFaults.{unread_of}
 use Rattle.mx_app_explain.specs.declared.sums_fault.SumsFault.{SumsFault}
 use Rattle.mx_app_explain.specs.declared.sums_fault.SumsFault.TheVariants as faults
-use Rattle.mx_app_failure.specs.Failure.{failure_if, problem_of_reading}
-use Rattle.mx_app_failure.specs.declared.failure.About.TheVariants.{Written as FileWritten}
 use Rattle.mx_app_failure.specs.declared.failure.Failure.{Failure as Kind}
-use Rattle.mx_app_failure.specs.declared.failure.FileProblem.TheVariants.{OtherKind}
-use Rattle.mx_boot.specs.Log.{begins_history}
-
--- ---- by its first bytes
-
--- a program: the magic number 01 03, the flags A_EXEC, A_SEP or both, and the processor, the 80386
-abbrev pub begins_program : List ℕ → Bool
-begins_program b =
-    nat_lt 3 (length b) && slice_index b 0 == 1 && slice_index b 1 == 3
-    && (slice_index b 2 == 0x10 || slice_index b 2 == 0x20 || slice_index b 2 == 0x30) && slice_index b 3 == 0x10
-
--- sums: the line of the configuration's, in the form of `sha256sum`
-abbrev pub begins_sums : List ℕ → Bool
-begins_sums b =
-    if nat_lt (length b) 64 then false
-    else list_all is_ascii_hexdigit (take 64 b) && starts_with nat_eq (drop 64 b) (codes "  configuration\n")
-
-abbrev pub begins_as : FileKind → List ℕ → Bool
-begins_as kinds.Program front = begins_program front
-begins_as kinds.History front = begins_history front
-begins_as kinds.Sums front = begins_sums front
-
--- WHICH FILE IS SPARED where one of this kind is to be written
-abbrev pub is_spared : FileKind → List ℕ → Bool
-is_spared kind front = not (length front == 0) && not (begins_as kind front)
-
--- ---- what is asked, and what comes of it
-
--- the first bytes of the file were given, and it isn't spared
-abbrev pub IsFree : FileKind → List ℕ → List Asked → Type 0
-IsFree kind name qs = (front : List ℕ) × (qs ≡ file_given name front ∷ []) × (is_spared kind front ≡ false)
-
--- they were given, and it is
-abbrev pub IsSpared : FileKind → List ℕ → List Asked → Type 0
-IsSpared kind name qs = (front : List ℕ) × (qs ≡ file_given name front ∷ []) × (is_spared kind front ≡ true)
+use Rattle.mx_app_spare.specs.Sparing.{IsFree, IsSpared, SparesName, SparesNumbered}
 
 -- the file of a request, which may write none, or be forced to write over any
 abbrev pub file_spared : CommandRequest → Bool → Option FileWord
 file_spared request true = None
 file_spared request false = file_written request
 
-abbrev pub SparesWord : FileKind → Option FileWord → List Asked → Result (Unit {0}) Kind → Type 0
-SparesWord kind None qs r = (qs ≡ []) × (r ≡ Ok tt)
-SparesWord kind (Some w) qs r =
-    (IsFree kind w.name qs × (r ≡ Ok tt))
-    ⊎ ((IsSpared kind w.name qs × (r ≡ Err (failure_if (Some OtherKind) FileWritten)))
-    ⊎ ((k : ErrorKind) × (qs ≡ file_missed w.name k ∷ []) × (r ≡ Err (failure_if (problem_of_reading k) FileWritten))))
+-- the first of several files of a name, or the one that has it
+abbrev pub SparesFirst : Bool → FileKind → List ℕ → List Asked → Result (Unit {0}) Kind → Type 0
+SparesFirst true kind name qs r = SparesNumbered kind name 1 qs r
+SparesFirst false kind name qs r = SparesName kind name qs r
 
+abbrev pub SparesWord : FileKind → Bool → Option FileWord → List Asked → Result (Unit {0}) Kind → Type 0
+SparesWord kind several None qs r = (qs ≡ []) × (r ≡ Ok tt)
+SparesWord kind several (Some w) qs r = SparesFirst several kind w.name qs r
+
+-- the file that a request writes; of several the first, and no other
 abbrev pub SparesRequest : CommandRequest → Bool → List Asked → Result (Unit {0}) Kind → Type 0
-SparesRequest request force qs r = SparesWord (written_kind request) (file_spared request force) qs r
+SparesRequest request force qs r =
+    SparesWord (written_kind request) (writes_several request) (file_spared request force) qs r
 
 -- the file of sums
 abbrev pub SparesSums : List ℕ → Bool → List Asked → Result (Unit {0}) SumsFault → Type 0

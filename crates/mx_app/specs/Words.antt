@@ -25,7 +25,7 @@ use Rattle.mx_app_explain.specs.SumsFaults.{fault_explained}
 use Rattle.mx_walk.specs.declared.progress.Part.{Part}
 use Rattle.mx_app.specs.declared.performing.Done.{Done}
 use Rattle.mx_app.specs.declared.complaint.Complaint.{Complaint}
-use Rattle.mx_app.specs.declared.complaint.Complaint.TheVariants.{Mistaken, TicksAndEvents, LiveWithCourse, NotLive, NoFault, Failed, Explained, Unexplained}
+use Rattle.mx_app.specs.declared.complaint.Complaint.TheVariants.{Mistaken, TicksAndEvents, LiveWithCourse, NotLive, NoFault, NoPart, Failed, Explained, Unexplained}
 
 -- why they can't be had
 abbrev pub words_failure_of : ErrorKind → Kind
@@ -39,6 +39,7 @@ complaint_status TicksAndEvents = 2
 complaint_status LiveWithCourse = 2
 complaint_status NotLive = 2
 complaint_status NoFault = 2
+complaint_status NoPart = 2
 complaint_status (Failed f) = line_failure_status f
 complaint_status (Explained f s) = line_failure_status f
 complaint_status (Unexplained f) = line_failure_status f
@@ -67,6 +68,12 @@ no_fault_text =
     codes "error: the arguments '--turns <N>' and '--jobs <J>' need '--fault <FAULT>'\n\n"
     ++ codes "Usage: mx page [OPTIONS] <CONFIG> <LOG>\n\nFor more information, try '--help'.\n"
 
+-- and of a word that names no part, at `explore`
+abbrev pub no_part_text : List ℕ
+no_part_text =
+    codes "error: invalid value for '--part <I/N>': wanted two numbers, the first below the second\n\n"
+    ++ codes "Usage: mx explore [OPTIONS] --departures <K> <CONFIG>\n\nFor more information, try '--help'.\n"
+
 -- what standard error gets: of a mistake what clap says, which isn't pinned here; of a failure its line, and the line
 -- that explains it, or that there is no memory for this line
 abbrev pub complaint_text : Complaint → Option (List ℕ)
@@ -75,6 +82,7 @@ complaint_text TicksAndEvents = Some both_text
 complaint_text LiveWithCourse = Some course_text
 complaint_text NotLive = Some not_live_text
 complaint_text NoFault = Some no_fault_text
+complaint_text NoPart = Some no_part_text
 complaint_text (Failed f) = Some (line_failure_line f ++ codes "\n")
 complaint_text (Explained f s) = Some (line_failure_line f ++ codes "\n" ++ string_bytes s ++ codes "\n")
 complaint_text (Unexplained f) = Some (line_failure_line f ++ codes "\nmx: memory: wanted more of it\n")
@@ -105,6 +113,7 @@ AnswersMistake mistakes.TicksAndEvents Prints r = Prints [] × (r ≡ Err TicksA
 AnswersMistake mistakes.LiveWithCourse Prints r = Prints [] × (r ≡ Err LiveWithCourse)
 AnswersMistake mistakes.NotLive Prints r = Prints [] × (r ≡ Err NotLive)
 AnswersMistake mistakes.NoFault Prints r = Prints [] × (r ≡ Err NoFault)
+AnswersMistake mistakes.NoPart Prints r = Prints [] × (r ≡ Err NoPart)
 
 -- ---- all words
 

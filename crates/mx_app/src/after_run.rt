@@ -1,13 +1,13 @@
 //! What standard error gets after a command that made a history, if that has a mark.
 
-ghost use Rattle.std.specs.Prelude.{◌≡◌, ◌++◌, IfOk, List, OnOk, option_map};
-ghost use Rattle.mx_app_db.specs.Asked.{Asked};
+ghost use Rattle.std.specs.Prelude.{◌≡◌, ◌==◌, ◌++◌, ◌∷◌, [], IfErr, IfOk, List, OnOk, false, length, option_map, ℕ};
+ghost use Rattle.mx_app_db.specs.Asked.{Asked, file_given};
 ghost use Rattle.mx_why.specs.Begun.{names_of};
-ghost use Rattle.mx_app.specs.AfterRun.{TellsAfter, ended_text, is_stopped, made_by, pointer_text, status_after, unknown_line, unknown_text, wants_marks};
+ghost use Rattle.mx_app.specs.AfterRun.{IsNotAgain, TellsAfter, TellsAgain, ended_text, is_stopped, made_by, pointer_text, status_after, unknown_line, unknown_text, wants_marks};
 
 use crate::ending::DrivenEnding;
 use mx_app_command::CommandRequest;
-use mx_app_failure::Failure;
+use mx_app_failure::{About, Access, Failure, FileProblem};
 use mx_app_run::RunEnding;
 use mx_app_start::Reader;
 use mx_why::{AfterRun, HistoryNames, line_after_run, push_command};
@@ -80,6 +80,39 @@ fn made_by(request: CommandRequest<'_>) -> Option<HistoryNames<'_>>
     }
 }
 
+/// Refuses a history that can't be read again. A pipe has no first bytes: to read it waits for who writes to it.
+fn first_again<R: Reader>(alloc: Global, reader: &mut R, log: &str) -> Result<(), Failure>
+    ensures again { IfOk result (λ _. (front : List ℕ)
+        × (R.asked reader.new ≡ R.asked reader.old ++ file_given log.now front ∷ [])
+        × ((length front == 0) ≡ false)) }
+    ensures not_again { IfErr result (λ f. (qs : List Asked)
+        × (R.asked reader.new ≡ R.asked reader.old ++ qs) × IsNotAgain log.now qs f) }
+{
+    match reader.read_front(alloc, log) {
+        Ok(front) => if front.is_empty() {
+            let problem = FileProblem::Unread(Access::Other);
+            Err(Failure::of(Some(problem), About::Written))
+        } else {
+            Ok(())
+        },
+        Err(error) => Err(Failure::unread(&error, About::Written)),
+    }
+}
+
+/// What is told of the history in these files, which is run again.
+fn told_again<R: Reader>(
+    alloc: Global,
+    reader: &mut R,
+    names: HistoryNames<'_>,
+    strict: bool,
+) -> Result<AfterRun, Failure>
+    ensures { (qs : List Asked) × (R.asked reader.new ≡ R.asked reader.old ++ qs)
+        × TellsAgain strict (names_of names.entry) qs result }
+{
+    first_again(alloc, reader, names.log)?;
+    line_after_run(alloc, reader, names, strict)
+}
+
 /// What is told of the history that a request has made, if it makes one and that has a mark: how it ended, the
 /// first line with a mark, and how many more there are. The history is run again for it. A long one is only if a mark is
 /// an error: nobody waits for what wasn't asked for.
@@ -93,7 +126,7 @@ pub fn told_after<R: Reader>(
         × TellsAfter strict (made_by request.entry) qs result }
 {
     match made_by(request) {
-        Some(names) => line_after_run(alloc, reader, names, strict),
+        Some(names) => told_again(alloc, reader, names, strict),
         None => Ok(AfterRun::Nothing),
     }
 }

@@ -62,6 +62,7 @@ fn complain<W: Write>(alloc: Global, mistake: Mistake, out: &mut W) -> Result<Do
         Mistake::LiveWithCourse => Err(Complaint::LiveWithCourse),
         Mistake::NotLive => Err(Complaint::NotLive),
         Mistake::NoFault => Err(Complaint::NoFault),
+        Mistake::NoPart => Err(Complaint::NoPart),
     }
 }
 

@@ -40,6 +40,15 @@ Usage: mx page [OPTIONS] <CONFIG> <LOG>
 For more information, try '--help'.
 ";
 
+/// What is printed of `explore` with a word that names no part.
+const NO_PART: &str =
+    "error: invalid value for '--part <I/N>': wanted two numbers, the first below the second
+
+Usage: mx explore [OPTIONS] --departures <K> <CONFIG>
+
+For more information, try '--help'.
+";
+
 /// Why the program didn't do what its words ask for.
 #[derive(Drop)]
 pub enum Complaint {
@@ -53,6 +62,8 @@ pub enum Complaint {
     NotLive,
     /// They are those of `page` with `--turns` or `--jobs`, and without `--fault`.
     NoFault,
+    /// They are those of `explore` with a word that names no part.
+    NoPart,
     /// What they ask for failed.
     Failed(LineFailure),
     /// It failed: with the line that explains the failure, without its end.
@@ -69,7 +80,7 @@ impl Complaint {
         match self {
             Complaint::Mistaken(_) => 2,
             Complaint::TicksAndEvents | Complaint::LiveWithCourse | Complaint::NotLive => 2,
-            Complaint::NoFault => 2,
+            Complaint::NoFault | Complaint::NoPart => 2,
             Complaint::Failed(failure) => failure.status(),
             Complaint::Explained(failure, _) => failure.status(),
             Complaint::Unexplained(failure) => failure.status(),
@@ -90,6 +101,7 @@ impl fmt::Display for Complaint {
             Complaint::LiveWithCourse => f.write_str(LIVE_COURSE),
             Complaint::NotLive => f.write_str(NOT_LIVE),
             Complaint::NoFault => f.write_str(NO_FAULT),
+            Complaint::NoPart => f.write_str(NO_PART),
             Complaint::Failed(failure) => write!(f, "{failure}\n"),
             Complaint::Explained(failure, line) => write!(f, "{failure}\n{line}\n"),
             Complaint::Unexplained(failure) => {

@@ -2,7 +2,7 @@
 
 ghost use Rattle.std.specs.Prelude.{◌≡◌};
 ghost use Rattle.mx_app.specs.Deeds.{Does};
-ghost use Rattle.mx_app.specs.Requests.{Performs, PerformsApart, done_after_check, done_after_driving, done_after_gdb, done_after_live, done_after_replay, done_after_run, done_after_sweep, done_after_turns, done_after_why, done_after_work, with_status};
+ghost use Rattle.mx_app.specs.Requests.{Performs, PerformsApart, done_after_check, done_after_driving, done_after_explore, done_after_gdb, done_after_live, done_after_replay, done_after_run, done_after_sweep, done_after_turns, done_after_why, done_after_work, with_status};
 
 use crate::command_io::CommandIo;
 use crate::ending::DrivenEnding;
@@ -12,6 +12,7 @@ use crate::sparing::spare_for_request;
 use mx_app_command::{CommandRequest, RecordRange};
 use mx_app_db::{HistoryPart, NamedScript, Replayed, db, replay, step, step_saved, trace};
 use mx_app_draw::draw;
+use mx_app_explore::{ExploreNames, ExploreWanted, Found, explore};
 use mx_app_failure::{About, Failure, FileProblem};
 use mx_app_gdb::{TalkEnding, TalkWanted, gdb};
 use mx_app_live::{LiveNames, Outside, SessionEnding, Sitting, live};
@@ -198,6 +199,17 @@ fn done_after_gdb(done: Result<TalkEnding, Failure>) -> Result<Done, Failure>
     }
 }
 
+/// What is done after schedules were explored: the status is 1 if that is strict, and there are several outcomes.
+fn done_after_explore(done: Result<Found, Failure>, strict: bool) -> Result<Done, Failure>
+    ensures { result ≡ done_after_explore strict done }
+{
+    match done {
+        Ok(Found::One) => Ok(Done::with_status(0)),
+        Ok(Found::Several) => Ok(Done::with_status(u8::from(strict))),
+        Err(failure) => Err(failure),
+    }
+}
+
 /// Does what a request asks for that writes over nothing that it reads.
 fn perform_apart<
     T: Threads + Wait + Clock + Files + Sync,
@@ -212,6 +224,7 @@ fn perform_apart<
     alloc: Global,
     io: &mut CommandIo<R, F, W, L, O, P>,
     request: CommandRequest<'_>,
+    force: bool,
 ) -> Result<Done, Failure>
 where
     T::File: Send,
@@ -219,7 +232,7 @@ where
     ensures asks { io.new.asks ≡ io.old.asks }
     ensures done { Does io.old io.new R.asked F.written W.contents L.given O.heard O.told P.shown
         (λ did Prints. PerformsApart (P.was_shown io.old.progress)
-        request.entry io.old.asks did Prints result) }
+        request.entry force io.old.asks did Prints result) }
 {
     let channels = &mut io.channels;
     match request {
@@ -344,6 +357,27 @@ where
             let swept = sweep(rt, alloc, channels, &mut io.progress, names, wanted);
             done_after_sweep(swept, strict)
         }
+        CommandRequest::Explore {
+            config,
+            departures,
+            events,
+            bound,
+            part,
+            strict,
+            save,
+        } => {
+            let names = ExploreNames { config, events };
+            let wanted = ExploreWanted {
+                departures,
+                bound,
+                before: part.before,
+                after: part.after,
+                save,
+                force,
+            };
+            let found = explore(alloc, channels, names, wanted, &mut io.progress);
+            done_after_explore(found, strict)
+        }
         CommandRequest::Replay { config, log } => {
             let reader = &mut channels.reader;
             let out = &mut channels.out;
@@ -441,9 +475,10 @@ where
 
 /// Does what a request asks for, and answers the status to end with, and how turns or a run ended. The
 /// processors of `run` are threads, and `sweep` has some. `look` answers the typed lines, and `gdb` the bytes that
-/// come. They show their progress, and so do `run`, `turns`, `sweep` and a page with a sweep. No file that is read is
-/// written over: nothing is read or written then. Two names of one file aren't seen to be one. Nor is a file written over
-/// that holds something else than what is written, unless that is forced: only its first bytes are read then.
+/// come. They show their progress, and so do `run`, `turns`, `sweep`, a page with a sweep and `explore`. No file that is
+/// read is written over: nothing is read or written then. Two names of one file aren't seen to be one. Nor is a file
+/// written over that holds something else than what is written, unless that is forced: only its first bytes are read
+/// then. Of the files of `explore` the first is looked at then, and all after its schedules.
 pub fn perform<
     T: Threads + Wait + Clock + Files + Sync,
     R: Reader + Drop,
@@ -471,5 +506,5 @@ where
         return Err(Failure::of(Some(FileProblem::OverRead), About::Written));
     }
     spare_for_request(alloc, &mut io.channels.reader, request, force)?;
-    perform_apart(rt, alloc, io, request)
+    perform_apart(rt, alloc, io, request, force)
 }

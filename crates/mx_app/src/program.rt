@@ -214,6 +214,8 @@ fn status_of(answer: Result<Done, Complaint>) -> Result<u8, Complaint>
 fn unit_of(words: &[&str]) -> &'static str {
     if begin_with(words, "sweep") || begin_with(words, "page") {
         "positions"
+    } else if begin_with(words, "explore") {
+        "schedules"
     } else {
         "records"
     }

@@ -2,15 +2,79 @@
 use Rattle.std.proofs.Common.{◌≡◌, ◌∙◌, ◌⊎◌, true, false, List, codes, ap, inl, inr, sym, refl, true≢false}
 use Rattle.std.specs.Str.{bytes_eq}
 use Rattle.clap.specs.Words.{Row, Text}
-use Rattle.mx_app_command.specs.Words.{IsHistoryAsked, IsMachineAsked, IsOtherHistoryAsked, IsRecordsAsked, MayHaveNumber, MayHaveRange, MayHaveStrip, MayHaveSweep}
+use Rattle.mx_app_command.specs.Words.{IsAloneAsked, IsHistoryAsked, IsMachineAsked, IsOtherHistoryAsked, IsRecordsAsked, MayHaveExplore, MayHaveNumber, MayHaveRange, MayHaveStrip, MayHaveSweep, is_alone}
 
 not_named : (name word : Text) → bytes_eq word word ≡ true → bytes_eq name word ≡ false → name ≡ word → ⊥
 not_named name word same h e = true≢false (sym same ∙ ap (λ (t : Text). bytes_eq t word) (sym e) ∙ h)
 
--- neither `explain` nor a script's
-pub history_left : (name : Text) (rows : List Row) → bytes_eq name (codes "explain") ≡ false → bytes_eq name (codes "step") ≡ false → bytes_eq name (codes "db") ≡ false → IsMachineAsked name rows → IsHistoryAsked name rows
-history_left name rows explain step db asked = elim asked.1 [
+-- what has a history isn't alone
+other_history : (name : Text) (rows : List Row) → IsOtherHistoryAsked name rows → is_alone name ≡ false
+other_history name rows asked = elim asked [
+  | inl reads ↦ elim reads [
+    | inl e ↦ ap (λ (t : Text). is_alone t) e
+    | inr two ↦ elim two [
+      | inl e ↦ ap (λ (t : Text). is_alone t) e
+      | inr e ↦ ap (λ (t : Text). is_alone t) e
+    ]
+  ]
+  | inr rest ↦ elim rest [
+    | inl records ↦ elim records.0 [
+      | inl e ↦ ap (λ (t : Text). is_alone t) e
+      | inr two ↦ elim two [
+        | inl e ↦ ap (λ (t : Text). is_alone t) e
+        | inr p ↦ ap (λ (t : Text). is_alone t) p.0
+      ]
+    ]
+    | inr more ↦ elim more [
+      | inl p ↦ ap (λ (t : Text). is_alone t) p.0
+      | inr two ↦ elim two [
+        | inl p ↦ ap (λ (t : Text). is_alone t) p.0
+        | inr p ↦ ap (λ (t : Text). is_alone t) p.0
+      ]
+    ]
+  ]
+]
+
+with_history : (name : Text) (rows : List Row) → IsHistoryAsked name rows → is_alone name ≡ false
+with_history name rows asked = elim asked.1 [
+  | inl p ↦ ap (λ (t : Text). is_alone t) p.0
+  | inr other ↦ other_history name rows other
+]
+
+one_of_them : (name : Text) (rows : List Row) → IsAloneAsked name rows → is_alone name ≡ true
+one_of_them name rows asked = elim asked [
+  | inl e ↦ ap (λ (t : Text). is_alone t) e
+  | inr p ↦ ap (λ (t : Text). is_alone t) p.0
+]
+
+-- neither `explain` nor `explore`
+not_alone : (name : Text) (rows : List Row) → is_alone name ≡ false → IsAloneAsked name rows → ⊥
+not_alone name rows alone asked = true≢false (sym (one_of_them name rows asked) ∙ alone)
+
+-- what is asked for without a script and without a history
+pub alone_left : (name : Text) (rows : List Row) → is_alone name ≡ true → IsMachineAsked name rows → IsAloneAsked name rows
+alone_left name rows alone asked = elim asked.1 [
+  | inl one ↦ one
+  | inr rest ↦ elim rest [
+    | inl script ↦ elim script.1 [
+      | inl e ↦ absurd (true≢false (sym alone ∙ ap (λ (t : Text). is_alone t) e))
+      | inr e ↦ absurd (true≢false (sym alone ∙ ap (λ (t : Text). is_alone t) e))
+    ]
+    | inr history ↦ absurd (true≢false (sym alone ∙ with_history name rows history))
+  ]
+]
+
+-- it isn't `explain`, so it is `explore`
+pub explore_left : (name : Text) (rows : List Row) → bytes_eq name (codes "explain") ≡ false → IsAloneAsked name rows → (name ≡ codes "explore") × MayHaveExplore rows
+explore_left name rows explain asked = elim asked [
   | inl e ↦ absurd (not_named name (codes "explain") refl explain e)
+  | inr p ↦ p
+]
+
+-- neither `explain` nor `explore`, nor a script's
+pub history_left : (name : Text) (rows : List Row) → is_alone name ≡ false → bytes_eq name (codes "step") ≡ false → bytes_eq name (codes "db") ≡ false → IsMachineAsked name rows → IsHistoryAsked name rows
+history_left name rows alone step db asked = elim asked.1 [
+  | inl one ↦ absurd (not_alone name rows alone one)
   | inr rest ↦ elim rest [
     | inl script ↦ elim script.1 [
       | inl s ↦ absurd (not_named name (codes "step") refl step s)

@@ -15,7 +15,7 @@ use Rattle.clap.specs.Faults.{defaults_fault, entered_fault, level_fault, settle
 use Rattle.clap.specs.Walk.{answers_to, finished, nothing_held, rows_after, settled, stop_after, walk, walk_from}
 use Rattle.clap.specs.declared.builder.value_parser.ValueParser.TheVariants.{Signed}
 use Rattle.clap.proofs.ValueTestLemmas.{accepts-Accepts}
-use Rattle.mx_app_command.specs.Words.{HasNumber, IsAsked, IsGiven, MayHaveNumber, MayHaveRange, as_shape, explain_shape, flag, following_shape, gdb_shape, jobs_after, looking_shape, mx_grammar, number_after, of_one, of_two, one_shape, page_shape, run_shape, step_shape, sweep_shape, turns_shape, why_shape, required_text, required_number}
+use Rattle.mx_app_command.specs.Words.{HasNumber, IsAsked, IsGiven, MayHaveNumber, MayHaveRange, as_shape, departures_after, explore_shape, explain_shape, flag, following_shape, gdb_shape, jobs_after, looking_shape, mx_grammar, number_after, of_one, of_two, one_shape, page_shape, run_shape, step_shape, sweep_shape, turns_shape, why_shape, required_text, required_number}
 use Rattle.mx_app_command.proofs.Given.{IsOnly, SetsValue, all_found, has_wanted, no_fault, value_given, value_if_given}
 
 -- the grammar as a parse sees it: with the help flag, and each argument's place
@@ -324,6 +324,36 @@ sweep_fits words fine =
     let jobs = jobs_if_given sweep_whole (codes "jobs") (codes "J") 7 only_sweep_jobs words fine in
     ((λ e. (ap is_some config.1, inr (inr (ap is_some log.1, inr (inr (inr (inr (inl (refl, record { fault = ap is_some fault.1; bound = bound; range = (from, to); jobs = jobs }))))))))), (λ e. absurd (true≢false e)))
 
+abbrev explore_whole : Shape
+explore_whole = whole_of explore_shape
+
+-- a number of departures is one of 32 bits
+departures_of : (t : Text) → IsSignedIn (pos 0) (pos 8) t → IsSignedIn (pos 0) (pos 4294967295) t
+departures_of t passed = (passed.0, passed.1, passed.2, omega (arith, ints, passed.3))
+
+abbrev departures_rule : Rule
+departures_rule = with_index 2 (filled (departures_after (codes "departures") (codes "K")))
+
+departures_sets : SetsValue departures_rule
+departures_sets = record { set = refl; least = omega arith; defaults = refl }
+
+only_explore_config : IsOnly config_rule explore_whole.rules
+only_explore_config = ((λ e. refl), ((λ e. never e), ((λ e. never e), ((λ e. never e), ((λ e. never e), ((λ e. never e), ((λ e. never e), ((λ e. never e), ((λ e. never e), ((λ e. never e), ((λ e. never e), ((λ e. never e), ((λ e. never e), tt)))))))))))))
+
+only_departures : IsOnly departures_rule explore_whole.rules
+only_departures = ((λ e. never e), ((λ e. refl), ((λ e. never e), ((λ e. never e), ((λ e. never e), ((λ e. never e), ((λ e. never e), ((λ e. never e), ((λ e. never e), ((λ e. never e), ((λ e. never e), ((λ e. never e), ((λ e. never e), tt)))))))))))))
+
+only_explore_bound : IsOnly (with_index 4 (filled (number_after (codes "turns") (codes "N")))) explore_whole.rules
+only_explore_bound = ((λ e. never e), ((λ e. never e), ((λ e. never e), ((λ e. refl), ((λ e. never e), ((λ e. never e), ((λ e. never e), ((λ e. never e), ((λ e. never e), ((λ e. never e), ((λ e. never e), ((λ e. never e), ((λ e. never e), tt)))))))))))))
+
+explore_fits : Fits explore_whole
+explore_fits words fine =
+    let config = value_given config_rule (required_sets (codes "CONFIG") 1) explore_whole only_explore_config words refl (inl refl) refl fine in
+    let departures = value_given departures_rule departures_sets explore_whole only_departures words refl (inr (inl refl)) refl fine in
+    let number = number_of departures.0 (departures_of departures.0 (accepts-Accepts departures_rule.ignore_case (Signed (pos 0) (pos 8)) departures.0 departures.3)) in
+    let bound = number_if_given explore_whole (codes "turns") (codes "N") 4 only_explore_bound words fine in
+    ((λ e. (ap is_some config.1, inl (inr (refl, ((number.0, (without_minus departures.0, departures.2, number.1)), bound))))), (λ e. absurd (true≢false e)))
+
 abbrev following_whole : Text → Shape
 following_whole name = whole_of (following_shape name)
 
@@ -466,10 +496,10 @@ db_fits words fine = let given = two_texts_given (codes "db") (codes "CONFIG") (
 
 explain_fits : Fits (whole_of explain_shape)
 explain_fits words fine = let given = one_text_given (codes "explain") (codes "CONFIG") (flag (codes "check") ∷ []) refl words fine in
-    ((λ e. (given, inl refl)), (λ e. absurd (true≢false e)))
+    ((λ e. (given, inl (inl refl))), (λ e. absurd (true≢false e)))
 
 all_fit : AllByRecursion Fits whole.subs
-all_fit = (one_fits, (as_fits, (dis_fits, (nm_fits, (explain_fits, (step_fits, (run_fits, (turns_fits, (sweep_fits, (replay_fits, (trace_fits, (draw_fits, (page_fits, (look_fits, (gdb_fits, (why_fits, (db_fits, tt)))))))))))))))))
+all_fit = (one_fits, (as_fits, (dis_fits, (nm_fits, (explain_fits, (step_fits, (run_fits, (turns_fits, (sweep_fits, (explore_fits, (replay_fits, (trace_fits, (draw_fits, (page_fits, (look_fits, (gdb_fits, (why_fits, (db_fits, tt))))))))))))))))))
 
 -- ---- the words of a command line
 

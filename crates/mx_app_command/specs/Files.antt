@@ -1,12 +1,15 @@
 -- The files that a request names: those that it reads, in order, and the one that it writes (our own).
-use Rattle.std.specs.Prelude.{◌||◌, ℕ, Bool, false, List, codes, Option, Some, None, option_map}
+use Rattle.std.specs.Prelude.{◌&&◌, ◌||◌, ℕ, Bool, false, true, if◌then◌else◌, List, codes, drop, length, nat_eq, Option, Some, None, option_map}
+use Rattle.std.specs.List.{list_all, starts_with}
 use Rattle.std.specs.Str.{bytes_eq}
+use Rattle.mx_text.specs.Bytes.{is_digit}
+use Rattle.mx_text.specs.Fields.{has_bytes}
 use Rattle.mx_app_command.specs.declared.files.FileKind.{FileKind}
 use Rattle.mx_app_command.specs.declared.files.FileKind.TheVariants as kinds
 use Rattle.mx_app_command.specs.declared.files.NamedWord.{NamedWord}
 use Rattle.mx_app_command.specs.declared.files.ReadWords.{ReadWords}
 use Rattle.mx_app_command.specs.declared.command_line.CommandRequest.{CommandRequest}
-use Rattle.mx_app_command.specs.declared.command_line.CommandRequest.TheVariants.{One, As, Show, Explain, Check, Step, Run, Turns, Live, Sweep, Replay, Trace, Draw, Page, SweptPage, Look, Gdb, Why, Db}
+use Rattle.mx_app_command.specs.declared.command_line.CommandRequest.TheVariants.{One, As, Show, Explain, Check, Step, Run, Turns, Live, Sweep, Explore, Replay, Trace, Draw, Page, SweptPage, Look, Gdb, Why, Db}
 
 -- A word of the command line that names a file: the word as help has it, and the name.
 pub record FileWord : Type 0 where
@@ -64,6 +67,7 @@ files_read (Run config log ticks events stop) = with_events config.now (option_m
 files_read (Turns config log ticks events bound stop) = with_events config.now (option_map (λ s. s.now) events)
 files_read (Live config log raw hertz stop) = one_file (codes "CONFIG") config.now
 files_read (Sweep config log fault bound from to jobs strict save) = with_fault config.now log.now fault.now
+files_read (Explore config departures events bound part strict save) = with_events config.now (option_map (λ s. s.now) events)
 files_read (Replay config log) = with_course config.now (codes "LOG") log.now
 files_read (Trace config log range) = with_course config.now (codes "LOG") log.now
 files_read (Draw config log range) = with_course config.now (codes "LOG") log.now
@@ -74,7 +78,7 @@ files_read (Gdb config log slot) = with_course config.now (codes "LOG") log.now
 files_read (Why config log events strict) = with_log config.now log.now (option_map (λ s. s.now) events)
 files_read (Db config script) = with_course config.now (codes "SCRIPT") script.now
 
--- THE FILE THAT IS WRITTEN
+-- THE FILE THAT IS WRITTEN; of `explore` how the names of several begin
 abbrev pub file_written : CommandRequest → Option FileWord
 file_written (As text file) = Some (file_word (codes "FILE") file.now)
 file_written (Step config script (Some log) numbered) = Some (file_word (codes "LOG") log.now)
@@ -82,12 +86,18 @@ file_written (Run config log ticks events stop) = Some (file_word (codes "LOG") 
 file_written (Turns config log ticks events bound stop) = Some (file_word (codes "LOG") log.now)
 file_written (Live config log raw hertz stop) = Some (file_word (codes "LOG") log.now)
 file_written (Sweep config log fault bound from to jobs strict (Some file)) = Some (file_word (codes "FILE") file.now)
+file_written (Explore config departures events bound part strict (Some name)) = Some (file_word (codes "NAME") name.now)
 file_written r = None
 
--- what that file holds
+-- what that file holds, or each of several
 abbrev pub written_kind : CommandRequest → FileKind
 written_kind (As text file) = kinds.Program
 written_kind r = kinds.History
+
+-- several files are written: their names are this one and then a number
+abbrev pub writes_several : CommandRequest → Bool
+writes_several (Explore config departures events bound part strict save) = true
+writes_several r = false
 
 -- ---- names
 
@@ -103,16 +113,36 @@ names (Some w) name = is_of name w
 abbrev pub has_name : FilesRead → List ℕ → Bool
 has_name files name = is_of name files.first || (names files.course name || names files.further name)
 
--- what is read would be written over
-abbrev pub is_over : FilesRead → Option FileWord → Bool
-is_over files None = false
-is_over files (Some w) = has_name files w.name
+-- a name is another one, and then decimal digits
+abbrev pub is_numbered : List ℕ → List ℕ → Bool
+is_numbered front name =
+    starts_with nat_eq name front
+    && (has_bytes (drop (length front) name) && list_all is_digit (drop (length front) name))
+
+abbrev pub names_numbered : Option FileWord → List ℕ → Bool
+names_numbered None front = false
+names_numbered (Some w) front = is_numbered front w.name
+
+-- one of these files has a name that begins so, and ends with digits
+abbrev pub has_numbered : FilesRead → List ℕ → Bool
+has_numbered files front =
+    is_numbered front files.first.name || (names_numbered files.course front || names_numbered files.further front)
+
+-- what is read would be written over, by one file or by several
+abbrev pub is_over : Bool → FilesRead → Option FileWord → Bool
+is_over several files None = false
+is_over several files (Some w) = if several then has_numbered files w.name else has_name files w.name
 
 abbrev pub writes_over : CommandRequest → Bool
-writes_over r = is_over (files_read r) (file_written r)
+writes_over r = is_over (writes_several r) (files_read r) (file_written r)
+
+-- a file of this name is written
+abbrev pub is_written : Bool → Option FileWord → List ℕ → Bool
+is_written several None name = false
+is_written several (Some w) name = if several then is_numbered w.name name else is_of name w
 
 abbrev pub names_file : CommandRequest → List ℕ → Bool
-names_file r name = has_name (files_read r) name || names (file_written r) name
+names_file r name = has_name (files_read r) name || is_written (writes_several r) (file_written r) name
 
 -- ---- as values
 

@@ -1,4 +1,5 @@
 pub mod Files
+pub mod Parts
 pub mod Tables
 pub mod Words
 pub mod Mistakes

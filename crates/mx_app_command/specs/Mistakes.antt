@@ -1,10 +1,11 @@
 -- Why the words of a command line ask for nothing (our own).
-use Rattle.std.specs.Prelude.{◌≡◌, ◌&&◌, ◌||◌, if◌then◌else◌, not, Bool, is_some, codes, List, [], Option, Some, None}
+use Rattle.std.specs.Prelude.{◌≡◌, ◌&&◌, ◌||◌, if◌then◌else◌, not, Bool, is_none, is_some, codes, List, [], Option, Some, None}
 use Rattle.std.specs.Str.{bytes_eq}
 use Rattle.clap.specs.Words.{HasKind, Row, Text, fault_of, first_of, kind_of, subcommand_of}
 use Rattle.clap.specs.declared.error.kind.ErrorKind.TheVariants.{OutOfMemory}
 use Rattle.mx_app_command.specs.declared.command_line.Mistake.{Mistake}
-use Rattle.mx_app_command.specs.declared.command_line.Mistake.TheVariants.{Grammar, TicksAndEvents, LiveWithCourse, NotLive, NoFault}
+use Rattle.mx_app_command.specs.declared.command_line.Mistake.TheVariants.{Grammar, TicksAndEvents, LiveWithCourse, NotLive, NoFault, NoPart}
+use Rattle.mx_app_command.specs.Parts.{part_asked}
 use Rattle.mx_app_command.specs.Words.{is_on, mx_grammar}
 
 -- these are the words of `turns` with both `--ticks` and `--events`
@@ -35,6 +36,10 @@ lacks_fault name rows =
     bytes_eq name (codes "page")
     && (not (is_there (codes "FAULT") rows) && (is_there (codes "N") rows || is_there (codes "J") rows))
 
+-- those of `explore` with a word that names no part
+abbrev pub lacks_part : Text → List Row → Bool
+lacks_part name rows = bytes_eq name (codes "explore") && is_none (part_asked (first_of (codes "I/N") rows))
+
 -- what is wrong with the words of a subcommand that the grammar takes
 abbrev pub mistake_in : Text → List Row → Option Mistake
 mistake_in name rows =
@@ -42,6 +47,7 @@ mistake_in name rows =
     else if has_course name rows then Some LiveWithCourse
     else if lacks_live name rows then Some NotLive
     else if lacks_fault name rows then Some NoFault
+    else if lacks_part name rows then Some NoPart
     else None
 
 -- what is wrong with those of the subcommand that is met, if one is

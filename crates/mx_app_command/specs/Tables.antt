@@ -1,7 +1,7 @@
 -- What a row of the grammar's table says.
 use Rattle.std.specs.Prelude.{fold, map}
 use Rattle.clap.specs.Words.{Rule, Shape, Text, new_app, with_rule}
-use Rattle.mx_app_command.specs.Words.{after_name, flag, jobs_after, number_after, required_number, required_text}
+use Rattle.mx_app_command.specs.Words.{after_name, departures_after, flag, jobs_after, number_after, required_number, required_text}
 use Rattle.mx_app_command.specs.declared.grammar.ArgumentForm.{ArgumentForm}
 use Rattle.mx_app_command.specs.declared.grammar.ArgumentForm.TheVariants as form
 use Rattle.mx_app_command.specs.declared.grammar.CommandArgument.{CommandArgument}
@@ -14,6 +14,7 @@ rule_of_form form.Number name = required_number name
 rule_of_form (form.After long) name = after_name long.now name
 rule_of_form (form.NumberAfter long) name = number_after long.now name
 rule_of_form (form.JobsAfter long) name = jobs_after long.now name
+rule_of_form (form.DeparturesAfter long) name = departures_after long.now name
 
 abbrev pub rule_of_argument : CommandArgument → Rule
 rule_of_argument a = rule_of_form a.form a.name.now

@@ -1,5 +1,5 @@
 -- The command line's grammar, and what a request says of its words.
-use Rattle.std.specs.Prelude.{◌≡◌, ◌⊎◌, ◌||◌, ◌++◌, if◌then◌else◌, is_some, Bool, ℕ, true, false, List, [], ◌∷◌, Option, Some, None, Ok, codes, option_map, pos}
+use Rattle.std.specs.Prelude.{◌≡◌, ◌⊎◌, ◌||◌, ◌++◌, if◌then◌else◌, is_some, Bool, ℕ, true, false, List, [], ◌∷◌, Option, Some, None, Ok, codes, option_map, pos, unwrap_or}
 use Rattle.std.specs.Str.{bytes_eq}
 use Rattle.std.specs.Str.Parse.{ParsesUnsigned}
 use Rattle.std.specs.declared.num.ParseIntError.{ParseIntError}
@@ -10,10 +10,12 @@ use Rattle.clap.specs.declared.builder.command.Command.{Command}
 use Rattle.clap.specs.declared.builder.command.Command.TheViews.{out-Command}
 use Rattle.clap.specs.declared.builder.value_parser.ValueParser.TheVariants.{Signed}
 use Rattle.mx_app_command.specs.declared.command_line.CommandRequest.{CommandRequest}
+use Rattle.mx_app_command.specs.declared.parts.SchedulePart.{SchedulePart}
+use Rattle.mx_app_command.specs.Parts.{part_asked, whole_part}
 use Rattle.mx_app_command.specs.declared.command_line.Listing.{Listing}
 use Rattle.mx_app_command.specs.declared.command_line.Listing.TheVariants.{Instructions, Symbols}
 use Rattle.mx_app_command.specs.declared.command_line.RecordRange.{RecordRange}
-use Rattle.mx_app_command.specs.declared.command_line.CommandRequest.TheVariants.{One, As, Show, Explain, Check, Step, Run, Turns, Live, Sweep, Replay, Trace, Draw, Page, SweptPage, Look, Gdb, Why, Db}
+use Rattle.mx_app_command.specs.declared.command_line.CommandRequest.TheVariants.{One, As, Show, Explain, Check, Step, Run, Turns, Live, Sweep, Explore, Replay, Trace, Draw, Page, SweptPage, Look, Gdb, Why, Db}
 
 -- ---- the grammar
 
@@ -36,6 +38,10 @@ number_after long id = record (after_name long id) { parser = Some (Signed (pos 
 -- an argument that may be given once, after a long name, a number of jobs: 1 to 64
 abbrev pub jobs_after : Text → Text → Rule
 jobs_after long id = record (after_name long id) { parser = Some (Signed (pos 1) (pos 64)) }
+
+-- an argument that has to be given once, after a long name, a number of departures: 0 to 8
+abbrev pub departures_after : Text → Text → Rule
+departures_after long id = record (after_name long id) { required = true; parser = Some (Signed (pos 0) (pos 8)) }
 
 -- a flag, by its name
 abbrev pub flag : Text → Rule
@@ -123,6 +129,15 @@ sweep_shape =
     ∷ number_after (codes "to") (codes "B") ∷ jobs_after (codes "jobs") (codes "J") ∷ flag (codes "strict")
     ∷ after_name (codes "save") (codes "FILE") ∷ sums_rule ∷ no_sums_rule ∷ force_rule ∷ [])
 
+-- `explore CONFIG --departures K --events EVENTS --turns N --part I/N --strict --save NAME --sums SUMS --no-sums --force`
+abbrev pub explore_shape : Shape
+explore_shape =
+    subcommand (codes "explore")
+    (required_text (codes "CONFIG") ∷ departures_after (codes "departures") (codes "K")
+    ∷ after_name (codes "events") (codes "EVENTS") ∷ number_after (codes "turns") (codes "N")
+    ∷ after_name (codes "part") (codes "I/N") ∷ flag (codes "strict") ∷ after_name (codes "save") (codes "NAME")
+    ∷ sums_rule ∷ no_sums_rule ∷ force_rule ∷ [])
+
 -- `NAME CONFIG LOG --from A --to B --sums SUMS --no-sums`, what is printed of a history's records
 abbrev pub looking_shape : Text → Shape
 looking_shape name =
@@ -187,7 +202,7 @@ machine_app = record { top = program_app.top; subs = program_shapes ++ machine_s
 
 -- those that make turns
 abbrev pub turn_shapes : List Shape
-turn_shapes = turns_shape ∷ sweep_shape ∷ []
+turn_shapes = turns_shape ∷ sweep_shape ∷ explore_shape ∷ []
 
 abbrev pub turn_app : App
 turn_app = record { top = program_app.top; subs = program_shapes ++ machine_shapes ++ turn_shapes }
@@ -230,6 +245,10 @@ HasNumberIf id rows (Some n) = HasNumber id rows n
 -- the records from A, by default the first, to B, by default the last: a history has fewer than 2 ^ 32
 abbrev pub HasRange : List Row → RecordRange → Type 0
 HasRange rows range = HasNumberOr 1 (codes "A") rows range.from × HasNumberOr 4294967295 (codes "B") rows range.to
+
+-- the part of the schedules; `Mistakes` refuses a word that names none
+abbrev pub HasPart : List Row → SchedulePart → Type 0
+HasPart rows part = part ≡ unwrap_or (part_asked (first_of (codes "I/N") rows)) whole_part
 
 -- the argument's text is this one
 abbrev pub HasText : Text → List Row → Text → Type 0
@@ -293,6 +312,11 @@ AsksBy (Sweep config log fault bound from to jobs strict save) name rows =
     × HasNumberOr 1000 (codes "N") rows bound × HasNumberOr 0 (codes "A") rows from
     × HasNumberOr 4294967295 (codes "B") rows to × HasNumberIf (codes "J") rows jobs
     × IsFlag (codes "strict") rows strict × MayHaveText (codes "FILE") rows (option_map (λ s. s.now) save)
+AsksBy (Explore config departures events bound part strict save) name rows =
+    (name ≡ codes "explore") × HasText (codes "CONFIG") rows config.now × HasNumber (codes "K") rows departures
+    × MayHaveText (codes "EVENTS") rows (option_map (λ s. s.now) events) × HasNumberOr 1000 (codes "N") rows bound
+    × HasPart rows part × IsFlag (codes "strict") rows strict
+    × MayHaveText (codes "NAME") rows (option_map (λ s. s.now) save)
 AsksBy (Replay config log) name rows =
     (name ≡ codes "replay") × HasText (codes "CONFIG") rows config.now × HasText (codes "LOG") rows log.now
 AsksBy (Trace config log range) name rows =
@@ -391,6 +415,10 @@ pub record MayHaveSweep (rows : List Row) : Type 0 where
   pub range : MayHaveRange rows
   pub jobs : MayHaveNumber (codes "J") rows
 
+-- `explore` has a number of departures, and may have one of turns
+abbrev pub MayHaveExplore : List Row → Type 0
+MayHaveExplore rows = ((n : ℕ) × HasNumber (codes "K") rows n) × MayHaveNumber (codes "N") rows
+
 -- a page may have the numbers of turns and of jobs
 abbrev pub MayHaveStrip : List Row → Type 0
 MayHaveStrip rows = MayHaveNumber (codes "N") rows × MayHaveNumber (codes "J") rows
@@ -416,10 +444,14 @@ IsHistoryAsked name rows =
     × (((name ≡ codes "run") × MayHaveNumber (codes "T") rows)
     ⊎ IsOtherHistoryAsked name rows)
 
--- those that work on a machine: each has a configuration, and all but `explain` a script or a history
+-- those without a script and without a history
+abbrev pub IsAloneAsked : Text → List Row → Type 0
+IsAloneAsked name rows = (name ≡ codes "explain") ⊎ ((name ≡ codes "explore") × MayHaveExplore rows)
+
+-- those that work on a machine: each has a configuration, and a script, a history or neither
 abbrev pub IsMachineAsked : Text → List Row → Type 0
 IsMachineAsked name rows =
-    IsGiven (codes "CONFIG") rows × ((name ≡ codes "explain") ⊎ (IsScriptAsked name rows ⊎ IsHistoryAsked name rows))
+    IsGiven (codes "CONFIG") rows × (IsAloneAsked name rows ⊎ (IsScriptAsked name rows ⊎ IsHistoryAsked name rows))
 
 -- those that follow a history, or a script with breakpoints
 abbrev pub is_following : Text → Bool
@@ -431,9 +463,13 @@ is_following name =
     || (bytes_eq name (codes "look")
     || (bytes_eq name (codes "gdb") || (bytes_eq name (codes "why") || bytes_eq name (codes "db")))))))
 
+-- those without a script and without a history
+abbrev pub is_alone : Text → Bool
+is_alone name = bytes_eq name (codes "explain") || bytes_eq name (codes "explore")
+
 abbrev pub is_machine : Text → Bool
 is_machine name =
-    bytes_eq name (codes "explain")
+    is_alone name
     || (bytes_eq name (codes "step")
     || (bytes_eq name (codes "run")
     || (bytes_eq name (codes "turns")

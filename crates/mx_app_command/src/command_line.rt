@@ -2,10 +2,11 @@
 
 ghost use Rattle.std.specs.Prelude.{◌≡◌, ◌&&◌, ◌⊎◌, ℕ, Bool, IfErr, IfOk, MatchResult, None, [], codes, is_none, is_some, map, option_map, true};
 ghost use Rattle.clap.specs.Words.{FailsBy, HasMatchesOf, fault_of, first_of, found_of, kind_of, rows_of, subcommand_of, takes};
-ghost use Rattle.mx_app_command.specs.Words.{Asks, AsksBy, AsksForForce, AsksForSilence, AsksForSums, AsksToBeStrict, AsksToExplain, HasNumber, HasNumberIf, HasNumberOr, HasRange, HasText, IsAsked, IsFlag, IsHistoryAsked, IsMachineAsked, IsOtherHistoryAsked, IsProgramAsked, IsRecordsAsked, IsScriptAsked, MayHaveNumber, MayHaveRange, MayHaveStrip, MayHaveSweep, MayHaveText, MayHaveTurns, is_following, is_machine, is_on, mx_grammar, sums_asked};
-ghost use Rattle.mx_app_command.specs.Mistakes.{IsMistake, IsOutOfMemory, has_both, has_course, lacks_fault, lacks_live, mistake_given, mistake_in};
+ghost use Rattle.mx_app_command.specs.Words.{Asks, AsksBy, AsksForForce, AsksForSilence, AsksForSums, AsksToBeStrict, AsksToExplain, HasNumber, HasNumberIf, HasNumberOr, HasPart, HasRange, HasText, IsAloneAsked, IsAsked, IsFlag, IsHistoryAsked, IsMachineAsked, IsOtherHistoryAsked, IsProgramAsked, IsRecordsAsked, IsScriptAsked, MayHaveExplore, MayHaveNumber, MayHaveRange, MayHaveStrip, MayHaveSweep, MayHaveText, MayHaveTurns, is_alone, is_following, is_machine, is_on, mx_grammar, sums_asked};
+ghost use Rattle.mx_app_command.specs.Mistakes.{IsMistake, IsOutOfMemory, has_both, has_course, lacks_fault, lacks_live, lacks_part, mistake_given, mistake_in};
 
 use crate::grammar::grammar;
+use crate::parts::{SchedulePart, WHOLE, part_asked};
 use clap::error::ErrorKind;
 use clap::{ArgMatches, Error};
 use std::alloc::Global;
@@ -20,7 +21,7 @@ pub struct RecordRange {
     pub to: u32,
 }
 
-/// The most turns after each position, if none are given.
+/// The most turns after each position, or of each schedule, if none are given.
 const TURNS_AFTER: u32 = 1000;
 
 /// What is listed of a program, one a line.
@@ -111,6 +112,20 @@ pub enum CommandRequest<'a> {
         /// How many threads try positions.
         jobs: Option<u32>,
         strict: bool,
+        save: Option<&'a str>,
+    },
+    /// `explore CONFIG --departures K`, with `--events EVENTS`, `--turns N`, `--part I/N`, `--strict` and
+    /// `--save NAME` or without.
+    Explore {
+        config: &'a str,
+        /// In how many places at most a schedule departs from the order of turns.
+        departures: u32,
+        events: Option<&'a str>,
+        /// The most turns of a schedule.
+        bound: u32,
+        part: SchedulePart,
+        strict: bool,
+        /// How the files begin that histories are written to.
         save: Option<&'a str>,
     },
     /// `replay CONFIG LOG`.
@@ -206,6 +221,8 @@ pub enum Mistake {
     NotLive,
     /// `page` has `--turns` or `--jobs`, and no `--fault`.
     NoFault,
+    /// `explore` has `--part`, with a word that names no part.
+    NoPart,
 }
 
 impl From<Error> for Mistake {
@@ -406,6 +423,61 @@ fn sweep_request<'a>(config: &'a str, log: &'a str, matches: &ArgMatches<'a>) ->
     }
 }
 
+/// The part of the schedules that is asked for: all, if the words name none.
+fn part_or_whole(matches: &ArgMatches<'_>) -> SchedulePart
+    ensures { HasPart (rows_of (found_of matches.now)) result }
+{
+    part_asked(value_if_asked(matches, "I/N")).unwrap_or(WHOLE)
+}
+
+/// What the words of `explore` ask for.
+fn explore_request<'a>(config: &'a str, matches: &ArgMatches<'a>) -> CommandRequest<'a>
+    requires config { HasText (codes "CONFIG") (rows_of (found_of matches.now)) config.now }
+    requires asked { MayHaveExplore (rows_of (found_of matches.now)) }
+    ensures { AsksBy result (codes "explore") (rows_of (found_of matches.now)) }
+{
+    let departures = number_asked(matches, "K");
+    let events = value_if_asked(matches, "EVENTS");
+    let bound = number_or(matches, "N", TURNS_AFTER);
+    let part = part_or_whole(matches);
+    let strict = flag_asked(matches, "strict");
+    let save = value_if_asked(matches, "NAME");
+    CommandRequest::Explore {
+        config,
+        departures,
+        events,
+        bound,
+        part,
+        strict,
+        save,
+    }
+}
+
+/// What the words of `explain` ask for.
+fn explain_request<'a>(config: &'a str, matches: &ArgMatches<'a>) -> CommandRequest<'a>
+    requires { HasText (codes "CONFIG") (rows_of (found_of matches.now)) config.now }
+    ensures { AsksBy result (codes "explain") (rows_of (found_of matches.now)) }
+{
+    if is_on(matches, "check") {
+        CommandRequest::Check { config }
+    } else {
+        CommandRequest::Explain { config }
+    }
+}
+
+/// What the words of a subcommand without a script and without a history ask for.
+fn alone_request<'a>(name: &str, config: &'a str, matches: &ArgMatches<'a>) -> CommandRequest<'a>
+    requires config { HasText (codes "CONFIG") (rows_of (found_of matches.now)) config.now }
+    requires asked { IsAloneAsked name.now (rows_of (found_of matches.now)) }
+    ensures { AsksBy result name.now (rows_of (found_of matches.now)) }
+{
+    if name == "explain" {
+        explain_request(config, matches)
+    } else {
+        explore_request(config, matches)
+    }
+}
+
 /// What the words of `run` ask for.
 fn run_request<'a>(config: &'a str, log: &'a str, matches: &ArgMatches<'a>) -> CommandRequest<'a>
     requires config { HasText (codes "CONFIG") (rows_of (found_of matches.now)) config.now }
@@ -566,26 +638,14 @@ fn history_request<'a>(name: &str, config: &'a str, matches: &ArgMatches<'a>) ->
     }
 }
 
-/// What the words of `explain` ask for.
-fn explain_request<'a>(config: &'a str, matches: &ArgMatches<'a>) -> CommandRequest<'a>
-    requires { HasText (codes "CONFIG") (rows_of (found_of matches.now)) config.now }
-    ensures { AsksBy result (codes "explain") (rows_of (found_of matches.now)) }
-{
-    if is_on(matches, "check") {
-        CommandRequest::Check { config }
-    } else {
-        CommandRequest::Explain { config }
-    }
-}
-
 /// What the words of a subcommand on a machine ask for.
 fn machine_request<'a>(name: &str, matches: &ArgMatches<'a>) -> CommandRequest<'a>
     requires { IsMachineAsked name.now (rows_of (found_of matches.now)) }
     ensures { AsksBy result name.now (rows_of (found_of matches.now)) }
 {
     let config = value_asked(matches, "CONFIG");
-    if name == "explain" {
-        explain_request(config, matches)
+    if is_alone(name) {
+        alone_request(name, config, matches)
     } else if name == "step" || name == "db" {
         script_request(name, config, matches)
     } else {
@@ -607,11 +667,18 @@ fn is_following(name: &str) -> bool
         || name == "db"
 }
 
+/// Whether the subcommand of this name works on a machine, without a script and without a history.
+fn is_alone(name: &str) -> bool
+    ensures { result ≡ is_alone name.now }
+{
+    name == "explain" || name == "explore"
+}
+
 /// Whether the subcommand of this name works on a machine.
 fn is_machine(name: &str) -> bool
     ensures { result ≡ is_machine name.now }
 {
-    name == "explain"
+    is_alone(name)
         || name == "step"
         || name == "run"
         || name == "turns"
@@ -680,6 +747,13 @@ fn lacks_fault(name: &str, matches: &ArgMatches<'_>) -> bool
         && (is_given(matches, "N") || is_given(matches, "J"))
 }
 
+/// Whether these are the words of `explore` with a word that names no part.
+fn lacks_part(name: &str, matches: &ArgMatches<'_>) -> bool
+    ensures { result ≡ lacks_part name.now (rows_of (found_of matches.now)) }
+{
+    name == "explore" && part_asked(value_if_asked(matches, "I/N")).is_none()
+}
+
 /// What is wrong with the words of a subcommand that its grammar takes.
 fn mistake_of(name: &str, matches: &ArgMatches<'_>) -> Option<Mistake>
     ensures { result ≡ mistake_in name.now (rows_of (found_of matches.now)) }
@@ -692,6 +766,8 @@ fn mistake_of(name: &str, matches: &ArgMatches<'_>) -> Option<Mistake>
         Some(Mistake::NotLive)
     } else if lacks_fault(name, matches) {
         Some(Mistake::NoFault)
+    } else if lacks_part(name, matches) {
+        Some(Mistake::NoPart)
     } else {
         None
     }

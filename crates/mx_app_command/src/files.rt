@@ -1,9 +1,13 @@
 //! The files that a request names: those that it reads, and the one that it writes.
 
-ghost use Rattle.std.specs.Prelude.{◌≡◌, codes, option_map};
-ghost use Rattle.mx_app_command.specs.Files.{file_word, file_written, files_in, files_read, has_name, names, names_file, one_file, with_course, with_events, with_fault, with_log, word_of, writes_over, written_kind};
+ghost use Rattle.std.specs.Prelude.{◌≡◌, ◌&&◌, codes, option_map};
+ghost use Rattle.std.specs.List.{list_all};
+ghost use Rattle.mx_text.specs.Bytes.{is_digit};
+ghost use Rattle.mx_text.specs.Fields.{has_bytes};
+ghost use Rattle.mx_app_command.specs.Files.{file_word, file_written, files_in, files_read, has_name, has_numbered, is_numbered, is_written, names, names_file, names_numbered, one_file, with_course, with_events, with_fault, with_log, word_of, writes_over, writes_several, written_kind};
 
 use crate::command_line::CommandRequest;
+use mx_text::is_digit;
 
 /// A word of the command line that names a file: the word as help has it, and the file's name.
 #[derive(Clone, Copy)]
@@ -110,12 +114,53 @@ fn names(word: Option<NamedWord<'_>>, name: &str) -> bool
     }
 }
 
+/// Whether all of these bytes are decimal digits.
+fn all_digits(text: &[u8]) -> bool
+    ensures { result ≡ list_all is_digit text.now }
+{
+    text.iter().all(|byte| is_digit(*byte))
+}
+
+/// Whether bytes are one or more decimal digits.
+fn are_digits(text: &[u8]) -> bool
+    ensures { result ≡ (has_bytes text.now && list_all is_digit text.now) }
+{
+    !text.is_empty() && all_digits(text)
+}
+
+/// Whether a name is another one, and then decimal digits.
+pub fn is_numbered(front: &str, name: &str) -> bool
+    ensures { result ≡ is_numbered front.now name.now }
+{
+    let (front, name) = (front.as_bytes(), name.as_bytes());
+    name.starts_with(front) && are_digits(&name[front.len()..])
+}
+
+/// Whether a word that may be there names a file by this front, and then digits.
+fn names_numbered(word: Option<NamedWord<'_>>, front: &str) -> bool
+    ensures { result ≡ names_numbered (option_map word_of word.entry) front.now }
+{
+    match word {
+        None => false,
+        Some(word) => is_numbered(front, word.name),
+    }
+}
+
 impl ReadWords<'_> {
     /// Whether one of them is the file of this name, byte for byte.
     pub fn has(self, name: &str) -> bool
         ensures { result ≡ has_name (files_in self.entry) name.now }
     {
         self.first.name == name || names(self.course, name) || names(self.further, name)
+    }
+
+    /// Whether one of them has a name that begins so, and ends with digits.
+    fn has_numbered(self, front: &str) -> bool
+        ensures { result ≡ has_numbered (files_in self.entry) front.now }
+    {
+        is_numbered(front, self.first.name)
+            || names_numbered(self.course, front)
+            || names_numbered(self.further, front)
     }
 }
 
@@ -147,6 +192,7 @@ impl<'a> CommandRequest<'a> {
                 fault,
                 ..
             } => with_fault(config, log, fault),
+            CommandRequest::Explore { config, events, .. } => with_events(config, events),
             CommandRequest::Replay { config, log } => with_course(config, "LOG", log),
             CommandRequest::Trace { config, log, .. } => with_course(config, "LOG", log),
             CommandRequest::Draw { config, log, .. } => with_course(config, "LOG", log),
@@ -162,7 +208,14 @@ impl<'a> CommandRequest<'a> {
         }
     }
 
-    /// The file that it writes, if it writes one.
+    /// Whether it writes several files, whose names are a word of it and then a number.
+    pub fn writes_several(self) -> bool
+        ensures { result ≡ writes_several self.entry }
+    {
+        matches!(self, CommandRequest::Explore { .. })
+    }
+
+    /// The file that it writes, if it writes one; if it writes several, how their names begin.
     pub fn writes(self) -> Option<NamedWord<'a>>
         ensures { option_map word_of result ≡ file_written self.entry }
     {
@@ -179,11 +232,15 @@ impl<'a> CommandRequest<'a> {
                 save: Some(file),
                 ..
             } => Some(word("FILE", file)),
+            CommandRequest::Explore {
+                save: Some(name),
+                ..
+            } => Some(word("NAME", name)),
             _ => None,
         }
     }
 
-    /// What the file holds that it writes.
+    /// What the file holds that it writes, or each of several.
     pub fn written_kind(self) -> FileKind
         ensures { result ≡ written_kind self.entry }
     {
@@ -193,11 +250,28 @@ impl<'a> CommandRequest<'a> {
         }
     }
 
+    /// Whether it writes a file of this name.
+    fn is_written(self, name: &str) -> bool
+        ensures { result ≡ is_written (writes_several self.entry) (file_written self.entry)
+            name.now }
+    {
+        match self.writes() {
+            None => false,
+            Some(word) => {
+                if self.writes_several() {
+                    is_numbered(word.name, name)
+                } else {
+                    word.name == name
+                }
+            }
+        }
+    }
+
     /// Whether a word of it names this file.
     pub fn names_file(self, name: &str) -> bool
         ensures { result ≡ names_file self.entry name.now }
     {
-        self.reads().has(name) || names(self.writes(), name)
+        self.reads().has(name) || self.is_written(name)
     }
 
     /// Whether it would write over what it reads. Two names of one file aren't seen to be one.
@@ -206,7 +280,13 @@ impl<'a> CommandRequest<'a> {
     {
         match self.writes() {
             None => false,
-            Some(word) => self.reads().has(word.name),
+            Some(word) => {
+                if self.writes_several() {
+                    self.reads().has_numbered(word.name)
+                } else {
+                    self.reads().has(word.name)
+                }
+            }
         }
     }
 }

@@ -2,7 +2,7 @@
 
 ghost use Rattle.std.specs.Prelude.{◌≡◌, IfOk, false, fold, map};
 ghost use Rattle.clap.specs.Words.{app_of, rule_of, shape_of, with_subcommand};
-ghost use Rattle.mx_app_command.specs.Words.{IsLocal, after_name, flag, jobs_after, machine_app, mx_grammar, number_after, program_app, top_app, turn_app, required_text, required_number};
+ghost use Rattle.mx_app_command.specs.Words.{IsLocal, after_name, departures_after, flag, jobs_after, machine_app, mx_grammar, number_after, program_app, top_app, turn_app, required_text, required_number};
 ghost use Rattle.mx_app_command.specs.Tables.{rule_of_argument, shape_of_subcommand};
 
 use crate::help::Example;
@@ -11,6 +11,9 @@ use std::alloc::{AllocError, Global};
 
 /// The most jobs that a sweep may have.
 const MOST_JOBS: i64 = 64;
+
+/// The most departures that schedules may have.
+const MOST_DEPARTURES: i64 = 8;
 
 /// What an argument is, and its place.
 #[derive(Clone, Copy)]
@@ -27,6 +30,8 @@ enum ArgumentForm<'a> {
     NumberAfter(&'a str),
     /// A number of jobs that may be given, after this long name.
     JobsAfter(&'a str),
+    /// A number of departures that has to be given, after this long name.
+    DeparturesAfter(&'a str),
 }
 
 /// An argument of a subcommand, with a line of help.
@@ -249,6 +254,48 @@ const SAVED_FAULT: CommandArgument<'static> = CommandArgument {
     form: ArgumentForm::After("save"),
 };
 
+/// How often a schedule departs from the order of turns.
+const DEPARTURES: CommandArgument<'static> = CommandArgument {
+    name: "K",
+    help: "In how many places at most a schedule departs from the order of turns, 0 to 8",
+    form: ArgumentForm::DeparturesAfter("departures"),
+};
+
+/// How many turns a schedule has.
+const TURNS_OF_EACH: CommandArgument<'static> = CommandArgument {
+    name: "N",
+    help: "How many turns at most in each schedule, 1000 by default",
+    form: ArgumentForm::NumberAfter("turns"),
+};
+
+/// What happens from outside in each schedule.
+const EXPLORED_EVENTS: CommandArgument<'static> = CommandArgument {
+    name: "EVENTS",
+    help: "A file of outside events, one for each turn: line L, tick or kill E",
+    form: ArgumentForm::After("events"),
+};
+
+/// Which of the schedules are run.
+const PART: CommandArgument<'static> = CommandArgument {
+    name: "I/N",
+    help: "Runs part I of N of the schedules, 0 to N - 1, by their first departure",
+    form: ArgumentForm::After("part"),
+};
+
+/// Whether several outcomes are an error.
+const STRICT_OUTCOMES: CommandArgument<'static> = CommandArgument {
+    name: "strict",
+    help: "Ends with status 1 if there are several outcomes",
+    form: ArgumentForm::Flag,
+};
+
+/// How the files begin that histories are written to.
+const SAVED_OUTCOMES: CommandArgument<'static> = CommandArgument {
+    name: "NAME",
+    help: "Writes the history of each outcome's first schedule to NAME1, NAME2 and so on",
+    form: ArgumentForm::After("save"),
+};
+
 /// The first record that is printed or drawn.
 const FROM: CommandArgument<'static> = CommandArgument {
     name: "A",
@@ -434,7 +481,7 @@ static MACHINE_COMMANDS: [Subcommand<'static>; 3] = [
 ];
 
 /// Those that make turns.
-static TURN_COMMANDS: [Subcommand<'static>; 2] = [
+static TURN_COMMANDS: [Subcommand<'static>; 3] = [
     Subcommand {
         name: "turns",
         help: "Runs a machine on one thread, always the same, writes its history and prints a report",
@@ -477,6 +524,25 @@ static TURN_COMMANDS: [Subcommand<'static>; 2] = [
             SILENT,
         ],
         example: Example::Sweep,
+    },
+    Subcommand {
+        name: "explore",
+        help: "Runs every schedule that departs from the order of turns in few places",
+        arguments: &[
+            CONFIG,
+            DEPARTURES,
+            EXPLORED_EVENTS,
+            TURNS_OF_EACH,
+            PART,
+            STRICT_OUTCOMES,
+            SAVED_OUTCOMES,
+            SUMS,
+            ANY_SUMS,
+            FORCE,
+            EXPLAIN,
+            SILENT,
+        ],
+        example: Example::Explore,
     },
 ];
 
@@ -577,6 +643,16 @@ fn jobs_after<'a>(alloc: Global, long: &'a str, name: &'a str) -> Arg<'a>
     after_name(alloc, long, name).value_parser(clap::value_parser!(u32).range(1..=MOST_JOBS))
 }
 
+/// A number of departures that has to be given, after a long name.
+fn departures_after<'a>(alloc: Global, long: &'a str, name: &'a str) -> Arg<'a>
+    ensures rule { rule_of result ≡ departures_after long.entry.now name.entry.now }
+    ensures local { result.global ≡ false }
+{
+    after_name(alloc, long, name)
+        .required(true)
+        .value_parser(clap::value_parser!(u32).range(0..=MOST_DEPARTURES))
+}
+
 /// A flag that may be given, by its own name.
 fn flag<'a>(alloc: Global, name: &'a str) -> Arg<'a>
     ensures rule { rule_of result ≡ flag name.entry.now }
@@ -598,6 +674,7 @@ fn argument_of<'a>(alloc: Global, argument: &CommandArgument<'a>) -> Arg<'a>
         ArgumentForm::Flag => flag(alloc, name),
         ArgumentForm::NumberAfter(long) => number_after(alloc, long, name),
         ArgumentForm::JobsAfter(long) => jobs_after(alloc, long, name),
+        ArgumentForm::DeparturesAfter(long) => departures_after(alloc, long, name),
     };
     arg.help(argument.help)
 }

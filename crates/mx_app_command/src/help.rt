@@ -22,6 +22,8 @@ pub(crate) enum Example {
     Turns,
     /// A history with a fault at each position.
     Sweep,
+    /// Schedules that depart from the order of turns.
+    Explore,
     /// A history, and what a refused event of it gives.
     Replay,
     /// What a history's records did.
@@ -53,6 +55,7 @@ impl Example {
             Example::Run => RUN_EXAMPLE,
             Example::Turns => TURNS_EXAMPLE,
             Example::Sweep => SWEEP_EXAMPLE,
+            Example::Explore => EXPLORE_EXAMPLE,
             Example::Replay => REPLAY_EXAMPLE,
             Example::Trace => TRACE_EXAMPLE,
             Example::Draw => DRAW_EXAMPLE,
@@ -289,6 +292,31 @@ Status: 0 done; 1 a text or a program's file is refused, or an event of LOG, or,
 --strict, a position ends otherwise than without the fault, or nothing was tested; 2 a
 mistake in the words; 3 a file can't be read or written; 4 no memory. Formats:
 docs/use/REFERENCE.md.";
+
+/// Schedules that depart from the order of turns.
+const EXPLORE_EXAMPLE: &str = "In the folder examples/machines/pair:
+
+$ mx explore pair.config --departures 2
+outcome 1: 66 schedules, the first with 0 departures and 10 records
+  drv receiving any
+  cli down exit
+  rest
+  console 0
+66 schedules with at most 2 departures, 1 outcomes
+
+Runs every schedule that departs from the order of mx turns in at most K places, each
+from boot. A turn offers each event once, in a fixed order; a departure is an offer of
+which something would come and that is not made: who is ready waits, or who is on a
+processor, or what comes from outside, or a new process. An outside event may wait for
+several turns. Prints each outcome (each service's state, how the turns ended, and the
+console) with how many schedules lead to it, and of the first of these where it departs:
+after how many records, and what waits. --save NAME writes the history of outcome 1 to
+NAME1, and so on. --part I/N runs the schedules whose first departure is an offer whose
+number leaves I when it is divided by N.
+
+Status: 0 done; 1 a text or a program's file is refused, or, with --strict, there are
+several outcomes; 2 a mistake in the words; 3 a file can't be read or written; 4 no
+memory. Formats: docs/use/REFERENCE.md.";
 
 /// A history, and what a refused event of it gives.
 const REPLAY_EXAMPLE: &str = "In the folder examples/machines/pair:

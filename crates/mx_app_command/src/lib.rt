@@ -13,6 +13,8 @@ mod command_line;
 mod files;
 mod grammar;
 mod help;
+mod parts;
 
 pub use command_line::{CommandLine, CommandRequest, Listing, Mistake, RecordRange, command};
-pub use files::{FileKind, NamedWord, ReadWords};
+pub use files::{FileKind, NamedWord, ReadWords, is_numbered};
+pub use parts::SchedulePart;

@@ -5,7 +5,7 @@ use Rattle.std.specs.Path.{rfind_below}
 use Rattle.std.specs.Str.{bytes_eq}
 use Rattle.mx_text.specs.declared.error.BootError.{BootError}
 use Rattle.mx_text.specs.declared.error.BootError.TheVariants as lines
-use Rattle.mx_app_command.specs.Files.{FileWord, file_written, files_read, written_kind}
+use Rattle.mx_app_command.specs.Files.{FileWord, file_written, files_read, writes_several, written_kind}
 use Rattle.mx_app_command.specs.declared.command_line.CommandRequest.{CommandRequest}
 use Rattle.mx_aout.specs.declared.program.FileError.{FileError}
 use Rattle.mx_app_failure.specs.declared.failure.About.{About}
@@ -130,9 +130,13 @@ file_wanted r a OtherKind = kind_wanted (written_kind r)
 
 -- ---- the word at fault
 
+-- what is wrong with a file that is there; of several files it is the first
+abbrev pub other_said : CommandRequest → List ℕ
+other_said r = if writes_several r then codes "a file NAME1, NAME2 .. is there and is no history" else kind_said (written_kind r)
+
 -- of a file that would be written over it is said first that it is there
 abbrev pub file_label : CommandRequest → FileProblem → List ℕ
-file_label r OtherKind = kind_said (written_kind r) ++ codes "; "
+file_label r OtherKind = other_said r ++ codes "; "
 file_label r p = []
 
 -- the folder in a file's name: what is before its last stroke

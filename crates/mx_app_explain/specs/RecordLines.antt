@@ -7,7 +7,7 @@ use Rattle.mx_boot.specs.Items.{said_in}
 use Rattle.mx_text.specs.Bytes.{begins_name}
 use Rattle.mx_text.specs.NumberFields.{number_up_to}
 use Rattle.mx_app_command.specs.declared.command_line.CommandRequest.{CommandRequest}
-use Rattle.mx_app_command.specs.declared.command_line.CommandRequest.TheVariants.{Step, Run, Turns, Sweep, SweptPage, Why, Db}
+use Rattle.mx_app_command.specs.declared.command_line.CommandRequest.TheVariants.{Step, Run, Turns, Sweep, Explore, SweptPage, Why, Db}
 use Rattle.mx_app_db.specs.Looks.{script_lines}
 use Rattle.mx_app_failure.specs.declared.failure.About.{About}
 use Rattle.mx_app_failure.specs.declared.failure.About.TheVariants.{Fault}
@@ -19,6 +19,11 @@ use Rattle.mx_app_explain.specs.Hints.{words_told}
 use Rattle.mx_app_explain.specs.LineLooks.{hint_at, is_debug_line, is_debugger}
 use Rattle.mx_app_explain.specs.declared.line_looks.LineLooks.{LineLooks}
 use Rattle.mx_app_explain.specs.declared.line_looks.LineLooks.TheVariants.{Script, Debugger, History}
+
+-- the lines of a file of outside events
+abbrev pub outside_wanted : List ℕ
+outside_wanted =
+    codes "an outside event: line L, tick, kill E or respawn S, where a service's name may stand for E and S"
 
 -- the lines of the file, by the command
 abbrev pub history_wanted : List ℕ
@@ -37,8 +42,8 @@ record_wanted (Db config script) about = script_lines
 record_wanted (Run config log ticks events stop) about =
     codes "line L, tick, kill E, respawn S or wait N, where a service's name may stand for E and S; --events "
     ++ codes "wants others 2 or more in CONFIG"
-record_wanted (Turns config log ticks events bound stop) about =
-    codes "an outside event: line L, tick, kill E or respawn S, where a service's name may stand for E and S"
+record_wanted (Turns config log ticks events bound stop) about = outside_wanted
+record_wanted (Explore config departures events bound part strict save) about = outside_wanted
 record_wanted (Sweep config log fault bound from to jobs strict save) Fault = fault_wanted
 record_wanted (SweptPage config log fault bound from to jobs) Fault = fault_wanted
 record_wanted (Why config log events strict) Fault =
@@ -52,6 +57,7 @@ own_looks (Step config script save numbered) about = Script
 own_looks (Db config script) about = Debugger
 own_looks (Run config log ticks events stop) about = Script
 own_looks (Turns config log ticks events bound stop) about = Script
+own_looks (Explore config departures events bound part strict save) about = Script
 own_looks (Sweep config log fault bound from to jobs strict save) Fault = Script
 own_looks (SweptPage config log fault bound from to jobs) Fault = Script
 own_looks (Why config log events strict) Fault = Script

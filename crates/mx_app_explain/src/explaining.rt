@@ -14,7 +14,7 @@ use crate::record_line::record_detail;
 use crate::subject::{Subject, file_subject, first_subject};
 use crate::text_advice::advice_on;
 use crate::text_words::with_spaces;
-use crate::wanted::{file_wanted, kind_said};
+use crate::wanted::{file_wanted, other_said};
 use mx_app_command::{CommandRequest, NamedWord};
 use mx_app_failure::{About, Access, Failure, FileFailure, FileProblem, OutputProblem};
 use mx_text::BootError;
@@ -135,7 +135,7 @@ fn file_label<'a>(request: CommandRequest<'_>, problem: FileProblem) -> Label<'a
     ensures { label_told result ≡ file_label request.entry problem }
 {
     match problem {
-        FileProblem::OtherKind => Label::In(kind_said(request.written_kind())),
+        FileProblem::OtherKind => Label::In(other_said(request)),
         _ => Label::Nowhere,
     }
 }

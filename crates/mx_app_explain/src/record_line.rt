@@ -35,7 +35,10 @@ fn own_looks(request: CommandRequest<'_>, about: &About) -> LineLooks
         ) => LineLooks::Script,
         (CommandRequest::Db { .. }, _) => LineLooks::Debugger,
         (
-            CommandRequest::Step { .. } | CommandRequest::Run { .. } | CommandRequest::Turns { .. },
+            CommandRequest::Step { .. }
+            | CommandRequest::Run { .. }
+            | CommandRequest::Turns { .. }
+            | CommandRequest::Explore { .. },
             _,
         ) => LineLooks::Script,
         _ => LineLooks::History,

@@ -2,7 +2,7 @@
 
 ghost use Rattle.std.specs.Prelude.{◌≡◌};
 ghost use Rattle.mx_app_explain.specs.Wanted.{kind_said, kind_wanted, problem_wanted, refusal_wanted};
-ghost use Rattle.mx_app_explain.specs.Explaining.{file_wanted, lines_wanted, program_wanted, read_wanted, write_wanted};
+ghost use Rattle.mx_app_explain.specs.Explaining.{file_wanted, lines_wanted, other_said, program_wanted, read_wanted, write_wanted};
 ghost use Rattle.mx_app_explain.specs.RecordLines.{record_wanted};
 
 use mx_aout::FileError;
@@ -71,7 +71,7 @@ pub(crate) fn record_wanted(request: CommandRequest<'_>, about: &About) -> &'sta
             "line L, tick, kill E, respawn S or wait N, where a service's name may stand for E \
              and S; --events wants others 2 or more in CONFIG"
         }
-        (CommandRequest::Turns { .. }, _) => {
+        (CommandRequest::Turns { .. } | CommandRequest::Explore { .. }, _) => {
             "an outside event: line L, tick, kill E or respawn S, where a service's name may \
              stand for E and S"
         }
@@ -116,6 +116,17 @@ pub(crate) fn kind_said(kind: FileKind) -> &'static str
         FileKind::Program => "is there and is no program",
         FileKind::History => "is there and is no history",
         FileKind::Sums => "is there and has no sums",
+    }
+}
+
+/// What is wrong with the file that is there where a request would write, which may be one of several.
+pub(crate) fn other_said(request: CommandRequest<'_>) -> &'static str
+    ensures { result.now ≡ other_said request.entry }
+{
+    if request.writes_several() {
+        "a file NAME1, NAME2 .. is there and is no history"
+    } else {
+        kind_said(request.written_kind())
     }
 }
 

@@ -23,5 +23,5 @@ pub use sweeping::{
     Begun, SweepNames, SweepPlan, SweepWanted, Swept, begin_sweep, how_ended, jobs_of, range_of,
     sweep, told_shown,
 };
-pub use turning::{TurnsEnd, TurnsNames, TurnsWanted, turns};
+pub use turning::{TurnsBegun, TurnsEnd, TurnsNames, TurnsWanted, begin_turns, turns};
 pub use turns_laws::{bound_is_not_met, turns_again};

@@ -98,14 +98,14 @@ fn make_turns_watched<S: StopSign, P: Progress>(
 /// A machine at boot, the configuration that it booted by, and the outside events of a file. The
 /// machine has an actor that is no processor.
 #[derive(Drop)]
-struct Begun {
-    config: Config,
-    machine: Machine,
-    events: Vec<OutsideLine>,
+pub struct TurnsBegun {
+    pub config: Config,
+    pub machine: Machine,
+    pub events: Vec<OutsideLine>,
 }
 
 /// The machine of a configuration that no file of outside events drives.
-fn begin_alone<R: Reader>(alloc: Global, reader: &mut R, name: &str) -> Result<Begun, Failure>
+fn begin_alone<R: Reader>(alloc: Global, reader: &mut R, name: &str) -> Result<TurnsBegun, Failure>
     ensures begun { IfOk result (λ b. (qs : List Asked) × (c : Configured) × (vs : List Service)
         × (R.asked reader.new ≡ R.asked reader.old ++ qs)
         × IsBegun name.now None qs c vs b.events.items
@@ -119,7 +119,7 @@ fn begin_alone<R: Reader>(alloc: Global, reader: &mut R, name: &str) -> Result<B
 {
     let (config, services) = setup_of(alloc, reader, name)?;
     let machine = boot(alloc, &config, services)?;
-    Ok(Begun {
+    Ok(TurnsBegun {
         config,
         machine,
         events: Vec::new(alloc),
@@ -127,12 +127,12 @@ fn begin_alone<R: Reader>(alloc: Global, reader: &mut R, name: &str) -> Result<B
 }
 
 /// Boots the machine of a configuration, after the file of outside events is read, if one is named.
-fn begin<R: Reader>(
+pub fn begin_turns<R: Reader>(
     alloc: Global,
     reader: &mut R,
     name: &str,
     events: Option<&str>,
-) -> Result<Begun, Failure>
+) -> Result<TurnsBegun, Failure>
     ensures begun { IfOk result (λ b. (qs : List Asked) × (c : Configured) × (vs : List Service)
         × (R.asked reader.new ≡ R.asked reader.old ++ qs)
         × IsBegun name.entry.now (option_map (λ s. s.now) events.entry) qs c vs b.events.items
@@ -149,7 +149,7 @@ fn begin<R: Reader>(
         None => begin_alone(alloc, reader, name),
         Some(file) => {
             let started = start::<OutsideEvents, R>(alloc, reader, name, file)?;
-            Ok(Begun {
+            Ok(TurnsBegun {
                 config: started.config,
                 machine: started.machine,
                 events: started.lines,
@@ -161,7 +161,7 @@ fn begin<R: Reader>(
 /// Makes the turns of a machine that was begun, with its outside events and then ticks to come. Answers how they
 /// ended.
 fn drive<S: StopSign, P: Progress>(
-    begun: &mut Begun,
+    begun: &mut TurnsBegun,
     wanted: TurnsWanted,
     sign: &S,
     progress: &mut P,
@@ -230,7 +230,7 @@ pub fn turns<R: Reader + Drop, F: FileWriter + Drop, W: Write + Drop, S: StopSig
         names.entry.log.now wanted.ticks wanted.bound qs ws ps
         (λ text. Appends (W.contents channels.old.out) (W.contents channels.new.out) text) result }
 {
-    let mut begun = begin(alloc, &mut channels.reader, names.config, names.events)?;
+    let mut begun = begin_turns(alloc, &mut channels.reader, names.config, names.events)?;
     spare_programs(&begun.config, names.log)?;
     let end = drive(&mut begun, wanted, sign, progress);
     save_and_report(alloc, channels, begun.machine.kernel(), names.log)?;

@@ -37,6 +37,7 @@ fn scale(field: u8) -> Scale
     }
 }
 
+#[inline(always)]
 #[tactic(auto, unfolding(crate::specs::Given::number_at, crate::specs::Reading::take_exact))]
 fn byte(bytes: &[u8]) -> Result<(u32, &[u8]), DecodeFault>
     ensures value { Gives (λ x. (x.0, x.1.now)) result (number_at 1 bytes.now) }
@@ -48,6 +49,7 @@ fn byte(bytes: &[u8]) -> Result<(u32, &[u8]), DecodeFault>
     }
 }
 
+#[inline(always)]
 #[tactic(auto, unfolding(crate::specs::Given::number_at, crate::specs::Reading::take_exact))]
 fn word(bytes: &[u8]) -> Result<(u32, &[u8]), DecodeFault>
     ensures value { Gives (λ x. (x.0, x.1.now)) result (number_at 2 bytes.now) }
@@ -59,6 +61,7 @@ fn word(bytes: &[u8]) -> Result<(u32, &[u8]), DecodeFault>
     }
 }
 
+#[inline(always)]
 #[tactic(auto, unfolding(crate::specs::Given::number_at, crate::specs::Reading::take_exact))]
 fn dword(bytes: &[u8]) -> Result<(u32, &[u8]), DecodeFault>
     ensures { Gives (λ x. (x.0, x.1.now)) result (number_at 4 bytes.now) }
@@ -70,6 +73,7 @@ fn dword(bytes: &[u8]) -> Result<(u32, &[u8]), DecodeFault>
 }
 
 /// A byte with its sign extended.
+#[inline(always)]
 fn sign_extended(byte: u32, size: Size) -> u32
     requires { byte < 256 }
     ensures value { result ≡ sign_extended (width size) byte }
@@ -78,6 +82,7 @@ fn sign_extended(byte: u32, size: Size) -> u32
     size.modulo(signed(Size::Byte, byte))
 }
 
+#[inline(always)]
 #[tactic(auto, unfolding(crate::specs::Given::displacement_at, crate::specs::Given::number_at, crate::specs::Reading::take_exact))]
 fn displacement(mode: u8, base: u8, bytes: &[u8]) -> Result<(u32, &[u8]), DecodeFault>
     requires { mode < 3 }
@@ -109,6 +114,7 @@ fn index(sib: u8) -> Option<Index>
     }
 }
 
+#[inline(always)]
 #[tactic(auto, unfolding(crate::specs::Given::sib_parts))]
 fn sib(bytes: &[u8]) -> Result<(u8, Option<Index>, &[u8]), DecodeFault>
     ensures { Gives (λ x. ((x.0, x.1), x.2.now)) result (sib_parts bytes.now) }
@@ -120,6 +126,7 @@ fn sib(bytes: &[u8]) -> Result<(u8, Option<Index>, &[u8]), DecodeFault>
 }
 
 /// The field that names the base, and the index.
+#[inline(always)]
 #[tactic(auto, unfolding(crate::specs::Given::base_field_parts))]
 fn base(rm: u8, bytes: &[u8]) -> Result<(u8, Option<Index>, &[u8]), DecodeFault>
     ensures { Gives (λ x. ((x.0, x.1), x.2.now)) result (base_field_parts rm bytes.now) }
@@ -140,6 +147,7 @@ fn base_of(mode: u8, field: u8) -> Option<Register>
     Some(register(field))
 }
 
+#[inline(always)]
 #[tactic(auto, unfolding(crate::specs::Given::memory_field))]
 fn memory(mode: u8, rm: u8, bytes: &[u8]) -> Result<(Memory, &[u8]), DecodeFault>
     requires { mode < 3 }
@@ -157,43 +165,57 @@ fn memory(mode: u8, rm: u8, bytes: &[u8]) -> Result<(Memory, &[u8]), DecodeFault
     ))
 }
 
+/// Puts what mod and rm name into `to`, and answers what follows.
+#[inline(always)]
 #[tactic(auto, unfolding(crate::specs::Given::operand_field))]
-fn operand(mode: u8, rm: u8, bytes: &[u8]) -> Result<(Operand, &[u8]), DecodeFault>
+fn operand<'a>(mode: u8, rm: u8, bytes: &'a [u8], to: &mut Operand) -> Result<&'a [u8], DecodeFault>
     requires { mode < 4 }
-    ensures { Gives (λ x. (x.0, x.1.now)) result (operand_field mode rm bytes.now) }
+    ensures { Gives (λ x. (to.new, x.now)) result (operand_field mode rm bytes.now) }
 {
     if mode == 3 {
-        return Ok((Operand::Register(register(rm)), bytes));
+        *to = Operand::Register(register(rm));
+        return Ok(bytes);
     }
     let (memory, rest) = memory(mode, rm, bytes)?;
-    Ok((Operand::Memory(memory), rest))
+    *to = Operand::Memory(memory);
+    Ok(rest)
 }
 
-/// The reg field of a ModRM byte, and what mod and rm name.
+/// The reg field of a ModRM byte, and what follows it. What mod and rm name is put into `rm`.
+#[inline(always)]
 #[tactic(auto, unfolding(crate::specs::Given::modrm_at))]
-fn modrm(bytes: &[u8]) -> Result<(u8, Operand, &[u8]), DecodeFault>
-    ensures { Gives (λ x. ((x.0, x.1), x.2.now)) result (modrm_at bytes.now) }
+fn modrm<'a>(bytes: &'a [u8], rm: &mut Operand) -> Result<(u8, &'a [u8]), DecodeFault>
+    ensures { Gives (λ x. ((x.0, rm.new), x.1.now)) result (modrm_at bytes.now) }
 {
     match bytes {
         [] => Err(DecodeFault::Short),
         [modrm, rest @ ..] => {
-            let (operand, rest) = operand(*modrm / 64, *modrm % 8, rest)?;
-            Ok((*modrm / 8 % 8, operand, rest))
+            let rest = operand(*modrm / 64, *modrm % 8, rest, rm)?;
+            Ok((*modrm / 8 % 8, rest))
         }
     }
 }
 
-/// The reg field and the operand that mod and rm name, if the row has a ModRM byte.
+/// The reg field, if the row has a ModRM byte, and what follows it. What mod and rm name is put into `rm`.
+#[inline(always)]
 #[tactic(auto, unfolding(crate::specs::Given::place_code))]
-pub fn place(column: ModRm, bytes: &[u8]) -> Result<(u8, Operand, &[u8]), DecodeFault>
-    ensures { Gives (λ x. ((x.0, x.1), x.2.now)) result (place_code column bytes.now) }
+pub fn place<'a>(
+    column: ModRm,
+    bytes: &'a [u8],
+    rm: &mut Operand,
+) -> Result<(u8, &'a [u8]), DecodeFault>
+    ensures { Gives (λ x. ((x.0, rm.new), x.1.now)) result (place_code column bytes.now) }
 {
     match column {
-        ModRm::Absent => Ok((0, Operand::Register(Register::Eax), bytes)),
-        ModRm::Any | ModRm::AnyMemory | ModRm::AnyRegister | ModRm::Only(_) => modrm(bytes),
+        ModRm::Absent => {
+            *rm = Operand::Register(Register::Eax);
+            Ok((0, bytes))
+        }
+        ModRm::Any | ModRm::AnyMemory | ModRm::AnyRegister | ModRm::Only(_) => modrm(bytes, rm),
     }
 }
 
+#[inline(always)]
 pub fn row_size(sizes: SizeMark, operand_size: OperandSize) -> Size
     ensures { result ≡ row_size sizes (is_resized operand_size) }
 {
@@ -204,6 +226,7 @@ pub fn row_size(sizes: SizeMark, operand_size: OperandSize) -> Size
     }
 }
 
+#[inline(always)]
 #[tactic(auto, unfolding(crate::specs::Given::immediate_at, crate::specs::Given::number_at, crate::specs::Reading::take_exact))]
 pub fn immediate(
     column: ImmediateColumn,

@@ -1,8 +1,8 @@
 //! The head of an instruction's bytes: its prefixes and its opcode.
 
-ghost use Rattle.std.specs.Prelude.{None, Some};
+ghost use Rattle.std.specs.Prelude.{◌≡◌, None, Some, false};
 ghost use Rattle.mx_insn.specs.declared.insn.Repeat.TheVariants as repeats;
-ghost use Rattle.mx_decode.specs.Reading.{escaped_at, opcode_at, resized_then, repeat_then, head_at};
+ghost use Rattle.mx_decode.specs.Reading.{escaped_at, opcode_at, resized_then, repeat_then, head, head_at};
 ghost use Rattle.mx_insn.specs.Spelling.{is_resized};
 ghost use Rattle.mx_decode.specs.Given.{Gives, head_seen};
 
@@ -17,6 +17,19 @@ pub struct Head {
     pub repeat: Option<Repeat>,
     pub map: OpcodeMap,
     pub opcode: u8,
+}
+
+/// The head that is an opcode alone.
+#[inline(always)]
+pub fn plain_head(opcode: u8) -> Head
+    ensures { head_seen result ≡ head false None false opcode }
+{
+    Head {
+        operand_size: OperandSize::Dword,
+        repeat: None,
+        map: OpcodeMap::OneByte,
+        opcode,
+    }
 }
 
 fn after_0f(

@@ -24,5 +24,5 @@ pub enum DecodeFault {
     Short = 2,
 }
 
-pub use single::decode;
+pub use single::{decode, decode_to};
 pub use spellings::{few_bytes, front_is, front_of_fifteen, one_spelling};

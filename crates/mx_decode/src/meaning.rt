@@ -10,18 +10,18 @@ ghost use Rattle.mx_decode.specs.Given.{narrow_bound, shift_bound, parts_in, is_
 use crate::fields::register;
 use mx_insn::{
     Count, CountColumn, Extension, Immediate, Insn, Memory, Operand, OperandSize, Operands,
-    Pattern, Port, PortSize, Repeat, WideImmediate,
+    Pattern, Port, PortSize, Repeat, Row, WideImmediate,
 };
 use mx_word::{Arithmetic, Condition, Register, Size};
 
 /// What an instruction's bytes have besides the row: prefixes, fields and the immediate.
 #[derive(Clone, Copy)]
-pub struct FieldValues {
+pub struct FieldValues<'a> {
     pub operand_size: OperandSize,
     pub repeat: Option<Repeat>,
     pub number: u8,
     pub reg: u8,
-    pub rm: Operand,
+    pub rm: &'a Operand,
     pub immediate: u32,
 }
 
@@ -154,268 +154,267 @@ fn shift_count(column: CountColumn, immediate: u32) -> Count
     }
 }
 
-const ACCUMULATOR: Operand = Operand::Register(Register::Eax);
+/// The accumulator, as an operand.
+pub const ACCUMULATOR: Operand = Operand::Register(Register::Eax);
 
-/// The instruction that a row's instruction column makes.
-pub fn insn_of(pattern: Pattern, size: Size, values: FieldValues) -> Insn
-    requires narrow { values.immediate
-        < narrow_bound pattern size (is_resized values.operand_size) }
-    requires number { values.number < 255 }
-    ensures { result ≡ made pattern size (parts_in values) }
+/// Puts the instruction that a row's instruction column makes into `insn`. Each pattern does so itself: so nothing is
+/// copied, and no parts of different patterns are joined.
+#[inline(never)]
+pub fn put_insn(row: &Row, size: Size, values: &FieldValues, insn: &mut Insn)
+    requires narrow { values.now.immediate
+        < narrow_bound row.now.pattern size (is_resized values.now.operand_size) }
+    requires number { values.now.number < 255 }
+    ensures { insn.new ≡ made row.now.pattern size (parts_in values.now) }
 {
-    let FieldValues { rm, immediate, .. } = values;
     let reg = register(values.reg);
-    match pattern {
-        Pattern::ArithmeticRmReg => Insn::Arithmetic {
+    match row.pattern {
+        Pattern::ArithmeticRmReg => *insn = Insn::Arithmetic {
             operation: arithmetic(values.number),
-            operands: to_rm(size, rm, reg),
+            operands: to_rm(size, *values.rm, reg),
         },
-        Pattern::ArithmeticRegRm => Insn::Arithmetic {
+        Pattern::ArithmeticRegRm => *insn = Insn::Arithmetic {
             operation: arithmetic(values.number),
             operands: Operands::ToRegister {
                 size,
                 to: reg,
-                from: rm,
+                from: *values.rm,
             },
         },
-        Pattern::ArithmeticAccImmediate => Insn::Arithmetic {
+        Pattern::ArithmeticAccImmediate => *insn = Insn::Arithmetic {
             operation: arithmetic(values.number),
             operands: Operands::Immediate {
                 to: ACCUMULATOR,
-                value: immediate_of(size, immediate),
+                value: immediate_of(size, values.immediate),
             },
         },
-        Pattern::ArithmeticRmImmediate => Insn::Arithmetic {
+        Pattern::ArithmeticRmImmediate => *insn = Insn::Arithmetic {
             operation: arithmetic(values.reg),
             operands: Operands::Immediate {
-                to: rm,
-                value: immediate_of(size, immediate),
+                to: *values.rm,
+                value: immediate_of(size, values.immediate),
             },
         },
-        Pattern::MoveRmReg => Insn::Move(to_rm(size, rm, reg)),
-        Pattern::MoveRegRm => Insn::Move(Operands::ToRegister {
+        Pattern::MoveRmReg => *insn = Insn::Move(to_rm(size, *values.rm, reg)),
+        Pattern::MoveRegRm => *insn = Insn::Move(Operands::ToRegister {
             size,
             to: reg,
-            from: rm,
+            from: *values.rm,
         }),
-        Pattern::MoveAccAt => Insn::Move(Operands::ToRegister {
+        Pattern::MoveAccAt => *insn = Insn::Move(Operands::ToRegister {
             size,
             to: Register::Eax,
-            from: Operand::Memory(at(immediate)),
+            from: Operand::Memory(at(values.immediate)),
         }),
-        Pattern::MoveAtAcc => Insn::Move(Operands::ToMemory {
+        Pattern::MoveAtAcc => *insn = Insn::Move(Operands::ToMemory {
             size,
-            to: at(immediate),
+            to: at(values.immediate),
             from: Register::Eax,
         }),
-        Pattern::MoveRegImmediate => Insn::Move(Operands::Immediate {
+        Pattern::MoveRegImmediate => *insn = Insn::Move(Operands::Immediate {
             to: Operand::Register(register(values.number)),
-            value: immediate_of(size, immediate),
+            value: immediate_of(size, values.immediate),
         }),
-        Pattern::MoveRmImmediate => Insn::Move(Operands::Immediate {
-            to: rm,
-            value: immediate_of(size, immediate),
+        Pattern::MoveRmImmediate => *insn = Insn::Move(Operands::Immediate {
+            to: *values.rm,
+            value: immediate_of(size, values.immediate),
         }),
-        Pattern::ExchangeRmReg => Insn::Exchange {
+        Pattern::ExchangeRmReg => *insn = Insn::Exchange {
             size,
-            operand: rm,
+            operand: *values.rm,
             register: reg,
         },
-        Pattern::ExchangeRegAcc => Insn::Exchange {
+        Pattern::ExchangeRegAcc => *insn = Insn::Exchange {
             size,
             operand: Operand::Register(register(values.number + 1)),
             register: Register::Eax,
         },
-        _ => calculation_of(pattern, size, values),
+        _ => put_calculation(row, size, values, insn),
     }
 }
 
-/// The instruction of a pattern that `insn_of` leaves: of TEST and LEA, of what has one operand, of
-/// products and shifts; else `conversion_of`.
+/// Puts the instruction of a pattern that `put_insn` leaves: of TEST and LEA, of what has one operand, of
+/// products and shifts; else `put_conversion`.
 #[tactic(auto, using(crate::proofs::Sizes::size_again))]
-fn calculation_of(pattern: Pattern, size: Size, values: FieldValues) -> Insn
-    requires not_of_two { is_of_two pattern ≡ false }
-    requires narrow { values.immediate
-        < narrow_bound pattern size (is_resized values.operand_size) }
-    requires number { values.number < 255 }
-    ensures { result ≡ made pattern size (parts_in values) }
+fn put_calculation(row: &Row, size: Size, values: &FieldValues, insn: &mut Insn)
+    requires not_of_two { is_of_two row.now.pattern ≡ false }
+    requires narrow { values.now.immediate
+        < narrow_bound row.now.pattern size (is_resized values.now.operand_size) }
+    requires number { values.now.number < 255 }
+    ensures { insn.new ≡ made row.now.pattern size (parts_in values.now) }
 {
-    let FieldValues { rm, immediate, .. } = values;
     let reg = register(values.reg);
-    match pattern {
-        Pattern::TestRmReg => Insn::Test {
+    match row.pattern {
+        Pattern::TestRmReg => *insn = Insn::Test {
             size,
-            operand: rm,
+            operand: *values.rm,
             register: reg,
         },
-        Pattern::TestAccImmediate => Insn::TestImmediate {
+        Pattern::TestAccImmediate => *insn = Insn::TestImmediate {
             operand: ACCUMULATOR,
-            value: immediate_of(size, immediate),
+            value: immediate_of(size, values.immediate),
         },
-        Pattern::TestRmImmediate => Insn::TestImmediate {
-            operand: rm,
-            value: immediate_of(size, immediate),
+        Pattern::TestRmImmediate => *insn = Insn::TestImmediate {
+            operand: *values.rm,
+            value: immediate_of(size, values.immediate),
         },
-        Pattern::LoadAddress => Insn::LoadAddress {
+        Pattern::LoadAddress => *insn = Insn::LoadAddress {
             size: values.operand_size,
             to: reg,
-            memory: memory_of(rm),
+            memory: memory_of(*values.rm),
         },
-        Pattern::UnaryReg(operation) => Insn::Unary {
+        Pattern::UnaryReg(operation) => *insn = Insn::Unary {
             operation,
             size,
             operand: Operand::Register(register(values.number)),
         },
-        Pattern::UnaryRm(operation) => Insn::Unary {
+        Pattern::UnaryRm(operation) => *insn = Insn::Unary {
             operation,
             size,
-            operand: rm,
+            operand: *values.rm,
         },
-        Pattern::ProductRm(operation) => Insn::Product {
+        Pattern::ProductRm(operation) => *insn = Insn::Product {
             operation,
             size,
-            operand: rm,
+            operand: *values.rm,
         },
-        Pattern::MultiplyRegRm => Insn::Multiply {
+        Pattern::MultiplyRegRm => *insn = Insn::Multiply {
             size: values.operand_size,
             to: reg,
-            from: rm,
+            from: *values.rm,
         },
-        Pattern::MultiplyRegRmImmediate => Insn::MultiplyImmediate {
+        Pattern::MultiplyRegRmImmediate => *insn = Insn::MultiplyImmediate {
             to: reg,
-            from: rm,
-            by: wide_immediate(values.operand_size, immediate),
+            from: *values.rm,
+            by: wide_immediate(values.operand_size, values.immediate),
         },
-        Pattern::ShiftRm(operation, column) => Insn::Shift {
+        Pattern::ShiftRm(operation, column) => *insn = Insn::Shift {
             operation,
             size,
-            operand: rm,
-            count: shift_count(column, immediate),
+            operand: *values.rm,
+            count: shift_count(column, values.immediate),
         },
-        Pattern::DoubleShiftRmReg(operation, column) => Insn::DoubleShift {
+        Pattern::DoubleShiftRmReg(operation, column) => *insn = Insn::DoubleShift {
             operation,
-            operand: rm,
+            operand: *values.rm,
             register: reg,
-            count: shift_count(column, immediate),
+            count: shift_count(column, values.immediate),
         },
-        _ => conversion_of(pattern, size, values),
+        _ => put_conversion(row, size, values, insn),
     }
 }
 
-/// The instruction of a pattern that `calculation_of` leaves: of bits, of extensions, of SETcc and the
-/// stack; else `control_of`.
+/// Puts the instruction of a pattern that `put_calculation` leaves: of bits, of extensions, of SETcc and the
+/// stack; else `put_control`.
 #[tactic(auto, using(crate::proofs::Sizes::size_again))]
-fn conversion_of(pattern: Pattern, size: Size, values: FieldValues) -> Insn
-    requires not_of_two { is_of_two pattern ≡ false }
-    requires not_calculation { is_of_calculation pattern ≡ false }
-    requires narrow { values.immediate
-        < narrow_bound pattern size (is_resized values.operand_size) }
-    requires number { values.number < 255 }
-    ensures { result ≡ made pattern size (parts_in values) }
+fn put_conversion(row: &Row, size: Size, values: &FieldValues, insn: &mut Insn)
+    requires not_of_two { is_of_two row.now.pattern ≡ false }
+    requires not_calculation { is_of_calculation row.now.pattern ≡ false }
+    requires narrow { values.now.immediate
+        < narrow_bound row.now.pattern size (is_resized values.now.operand_size) }
+    requires number { values.now.number < 255 }
+    ensures { insn.new ≡ made row.now.pattern size (parts_in values.now) }
 {
-    let FieldValues { rm, immediate, .. } = values;
     let reg = register(values.reg);
-    match pattern {
-        Pattern::BitTestRmImmediate(operation) => Insn::BitTest {
+    match row.pattern {
+        Pattern::BitTestRmImmediate(operation) => *insn = Insn::BitTest {
             operation,
-            operand: rm,
-            number: immediate as u8,
+            operand: *values.rm,
+            number: values.immediate as u8,
         },
-        Pattern::BitTestRmReg(operation) => Insn::BitTestRegister {
+        Pattern::BitTestRmReg(operation) => *insn = Insn::BitTestRegister {
             operation,
-            register: register_of(rm),
+            register: register_of(*values.rm),
             number: reg,
         },
-        Pattern::BitScanRegRm(operation) => Insn::BitScan {
+        Pattern::BitScanRegRm(operation) => *insn = Insn::BitScan {
             operation,
             to: reg,
-            from: rm,
+            from: *values.rm,
         },
-        Pattern::ZeroExtendByte => Insn::ZeroExtend {
+        Pattern::ZeroExtendByte => *insn = Insn::ZeroExtend {
             extension: byte_extension(values.operand_size),
             to: reg,
-            from: rm,
+            from: *values.rm,
         },
-        Pattern::ZeroExtendWord => Insn::ZeroExtend {
+        Pattern::ZeroExtendWord => *insn = Insn::ZeroExtend {
             extension: Extension::WordToDword,
             to: reg,
-            from: rm,
+            from: *values.rm,
         },
-        Pattern::SignExtendByte => Insn::SignExtend {
+        Pattern::SignExtendByte => *insn = Insn::SignExtend {
             extension: byte_extension(values.operand_size),
             to: reg,
-            from: rm,
+            from: *values.rm,
         },
-        Pattern::SignExtendWord => Insn::SignExtend {
+        Pattern::SignExtendWord => *insn = Insn::SignExtend {
             extension: Extension::WordToDword,
             to: reg,
-            from: rm,
+            from: *values.rm,
         },
-        Pattern::ExtendAccumulator => Insn::ExtendAccumulator(values.operand_size),
-        Pattern::SpreadSign => Insn::SpreadSign(values.operand_size),
-        Pattern::SetCondition => Insn::SetCondition {
+        Pattern::ExtendAccumulator => *insn = Insn::ExtendAccumulator(values.operand_size),
+        Pattern::SpreadSign => *insn = Insn::SpreadSign(values.operand_size),
+        Pattern::SetCondition => *insn = Insn::SetCondition {
             condition: condition(values.number),
-            operand: rm,
+            operand: *values.rm,
         },
-        Pattern::PushReg => Insn::Push(Operand::Register(register(values.number))),
-        Pattern::PushRm => Insn::Push(rm),
-        Pattern::PushImmediate => Insn::PushImmediate(immediate),
-        Pattern::PopReg => Insn::Pop(register(values.number)),
-        _ => control_of(pattern, size, values),
+        Pattern::PushReg => *insn = Insn::Push(Operand::Register(register(values.number))),
+        Pattern::PushRm => *insn = Insn::Push(*values.rm),
+        Pattern::PushImmediate => *insn = Insn::PushImmediate(values.immediate),
+        Pattern::PopReg => *insn = Insn::Pop(register(values.number)),
+        _ => put_control(row, size, values, insn),
     }
 }
 
-/// The instruction of a pattern of control transfer, of strings and ports, or without operands.
-fn control_of(pattern: Pattern, size: Size, values: FieldValues) -> Insn
-    requires control { is_of_control pattern ≡ true }
-    requires narrow { values.immediate
-        < narrow_bound pattern size (is_resized values.operand_size) }
-    requires number { values.number < 255 }
-    ensures { result ≡ made pattern size (parts_in values) }
+/// Puts the instruction of a pattern of control transfer, of strings and ports, or without operands.
+fn put_control(row: &Row, size: Size, values: &FieldValues, insn: &mut Insn)
+    requires control { is_of_control row.now.pattern ≡ true }
+    requires narrow { values.now.immediate
+        < narrow_bound row.now.pattern size (is_resized values.now.operand_size) }
+    requires number { values.now.number < 255 }
+    ensures { insn.new ≡ made row.now.pattern size (parts_in values.now) }
 {
-    let FieldValues { rm, immediate, .. } = values;
-    match pattern {
-        Pattern::JumpIf => Insn::JumpIf {
+    match row.pattern {
+        Pattern::JumpIf => *insn = Insn::JumpIf {
             condition: condition(values.number),
-            displacement: immediate,
+            displacement: values.immediate,
         },
-        Pattern::Jump => Insn::Jump(immediate),
-        Pattern::JumpRm => Insn::JumpTo(rm),
-        Pattern::Call => Insn::Call(immediate),
-        Pattern::CallRm => Insn::CallTo(rm),
-        Pattern::Loop(operation) => Insn::Loop {
+        Pattern::Jump => *insn = Insn::Jump(values.immediate),
+        Pattern::JumpRm => *insn = Insn::JumpTo(*values.rm),
+        Pattern::Call => *insn = Insn::Call(values.immediate),
+        Pattern::CallRm => *insn = Insn::CallTo(*values.rm),
+        Pattern::Loop(operation) => *insn = Insn::Loop {
             operation,
-            displacement: immediate,
+            displacement: values.immediate,
         },
-        Pattern::Return => Insn::Return(immediate as u16),
-        Pattern::Interrupt => Insn::Interrupt(immediate as u8),
-        Pattern::Transfer(operation) => Insn::Transfer {
+        Pattern::Return => *insn = Insn::Return(values.immediate as u16),
+        Pattern::Interrupt => *insn = Insn::Interrupt(values.immediate as u8),
+        Pattern::Transfer(operation) => *insn = Insn::Transfer {
             operation,
             size,
             repeated: values.repeat.is_some(),
         },
-        Pattern::Compare(operation) => Insn::Compare {
+        Pattern::Compare(operation) => *insn = Insn::Compare {
             operation,
             size,
             repeat: values.repeat,
         },
-        Pattern::InImmediate => Insn::In {
+        Pattern::InImmediate => *insn = Insn::In {
             size: port_size(size),
-            port: Port::Immediate(immediate as u8),
+            port: Port::Immediate(values.immediate as u8),
         },
-        Pattern::InDx => Insn::In {
-            size: port_size(size),
-            port: Port::Dx,
-        },
-        Pattern::OutImmediate => Insn::Out {
-            size: port_size(size),
-            port: Port::Immediate(immediate as u8),
-        },
-        Pattern::OutDx => Insn::Out {
+        Pattern::InDx => *insn = Insn::In {
             size: port_size(size),
             port: Port::Dx,
         },
-        Pattern::Plain(operation) => Insn::Plain(operation),
+        Pattern::OutImmediate => *insn = Insn::Out {
+            size: port_size(size),
+            port: Port::Immediate(values.immediate as u8),
+        },
+        Pattern::OutDx => *insn = Insn::Out {
+            size: port_size(size),
+            port: Port::Dx,
+        },
+        Pattern::Plain(operation) => *insn = Insn::Plain(operation),
         _ => unreachable!(),
     }
 }

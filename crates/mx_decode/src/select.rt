@@ -2,33 +2,14 @@
 
 ghost use Rattle.std.specs.Prelude.{◌≡◌, ℕ, List, [], ◌∷◌, find, option_copied};
 ghost use Rattle.mx_insn.specs.Spelling.{allows_resized, allows_repeat, is_resized, is_escaped};
-ghost use Rattle.mx_decode.specs.Reading.{same, has_opcode, is_absent, stands, row_after};
-ghost use Rattle.mx_decode.specs.Map.{may_follow, begins};
+ghost use Rattle.mx_decode.specs.Reading.{is_absent, stands, rows_of, row_after};
+ghost use Rattle.mx_decode.specs.Map.{may_follow, fits};
 ghost use Rattle.mx_decode.specs.Given.{Gives, head_seen};
 
 use crate::DecodeFault;
 use crate::head::Head;
-use crate::table::rows_near;
+use crate::table::rows_with;
 use mx_insn::{ModRm, OpcodeMap, OperandSize, Repeat, Repeats, Row, SizeMark};
-
-fn is_in_map(row: &Row, map: OpcodeMap) -> bool
-    ensures { result ≡ same (is_escaped map) row.now.escaped }
-{
-    match map {
-        OpcodeMap::OneByte => !row.escaped,
-        OpcodeMap::TwoByte => row.escaped,
-    }
-}
-
-fn has_opcode(row: &Row, map: OpcodeMap, opcode: u8) -> bool
-    ensures { result ≡ has_opcode (is_escaped map) opcode row.now }
-{
-    is_in_map(row, map)
-        && row.first <= opcode
-        && 0 < row.step
-        && (opcode - row.first) / row.step < row.count
-        && (opcode - row.first) % row.step == 0
-}
 
 /// The operand-size prefix comes only before a row that has a form for words.
 fn allows_size(sizes: SizeMark, operand_size: OperandSize) -> bool
@@ -78,26 +59,30 @@ fn stands(row: &Row, operand_size: OperandSize, repeat: Option<Repeat>) -> bool
     allows_size(row.sizes, operand_size) && allows_repeat(row.repeats, repeat)
 }
 
-/// The row has this head's opcode and prefixes, and fits the byte after them.
-fn begins(row: &Row, head: Head, next: Option<u8>) -> bool
-    ensures { result ≡ begins (head_seen head) next row.now }
+/// The row may follow the prefixes, and fits the byte after the opcode.
+fn fits(row: &Row, head: Head, next: Option<u8>) -> bool
+    ensures { result ≡ fits (head_seen head) next row.now }
 {
-    has_opcode(row, head.map, head.opcode)
-        && stands(row, head.operand_size, head.repeat)
-        && may_follow(row.modrm, next)
+    stands(row, head.operand_size, head.repeat) && may_follow(row.modrm, next)
 }
 
-fn first(rows: &'static [Row], head: Head, next: Option<u8>) -> Option<&'static Row>
-    ensures { option_copied result ≡ find (begins (head_seen head) next) rows.now }
+/// The first row of the opcode that fits.
+#[inline(always)]
+fn first(head: Head, next: Option<u8>) -> Option<&'static Row>
+    ensures { option_copied result ≡ find (fits (head_seen head) next)
+        (rows_of (is_escaped head.map) head.opcode) }
 {
-    rows.iter().find(|row| begins(row, head, next))
+    rows_with(head.map, head.opcode)
+        .iter()
+        .find(|row| fits(row, head, next))
 }
 
 /// The row if nothing follows the opcode.
+#[inline(always)]
 fn bare(head: Head) -> Result<&'static Row, DecodeFault>
     ensures { Gives (λ x. x.now) result (row_after (head_seen head) []) }
 {
-    match first(rows_near(head.map, head.opcode), head, None) {
+    match first(head, None) {
         None => Err(DecodeFault::NotInTable),
         Some(row) => {
             if is_absent(row.modrm) {
@@ -109,17 +94,19 @@ fn bare(head: Head) -> Result<&'static Row, DecodeFault>
 }
 
 /// The row if this byte follows.
+#[inline(always)]
 fn row_with_byte(head: Head, modrm: u8) -> Result<&'static Row, DecodeFault>
     ensures { (rest : List ℕ)
         → Gives (λ x. x.now) result (row_after (head_seen head) (modrm ∷ rest)) }
 {
-    match first(rows_near(head.map, head.opcode), head, Some(modrm)) {
+    match first(head, Some(modrm)) {
         None => Err(DecodeFault::NotInTable),
         Some(row) => Ok(row),
     }
 }
 
 /// The row that the bytes after the opcode are of.
+#[inline(always)]
 pub fn row_of(head: Head, bytes: &[u8]) -> Result<&'static Row, DecodeFault>
     ensures { Gives (λ x. x.now) result (row_after (head_seen head) bytes.now) }
 {

@@ -11,7 +11,8 @@ use crate::text::quote_at;
 use mx_text::{begins_name, is_digit, is_letter, number_of};
 
 fn punctuation_of(byte: u8) -> Option<Punctuation>
-    ensures { MatchOption result ((m : Punctuation) → byte ≢ punctuation_byte m) (λ m. byte ≡ punctuation_byte m) }
+    ensures { MatchOption result ((m : Punctuation) → byte ≢ punctuation_byte m)
+        (λ m. byte ≡ punctuation_byte m) }
 {
     match byte {
         b'[' => Some(Punctuation::Open),

@@ -46,7 +46,7 @@ fn is_full(answer: Result<Answer, Refusal>) -> bool
 }
 
 /// Offers an event. Answers whether it was refused because the history is full.
-pub(crate) fn offer(machine: &mut Machine, actor: u8, event: Event) -> bool
+pub fn offer(machine: &mut Machine, actor: u8, event: Event) -> bool
     requires { IsActor (world_of machine.old) actor event }
     ensures offered { HasOffered machine.old (offered (world_of machine.old) ((actor, event) ∷ []))
         result machine.new }
@@ -82,7 +82,7 @@ fn offer_steps(machine: &mut Machine, cpu: u8)
 }
 
 /// The steps of what a processor holds, up to its stop, and its return.
-fn offer_run(machine: &mut Machine, cpu: u8)
+pub fn offer_run(machine: &mut Machine, cpu: u8)
     ensures offered { HasOffered machine.old (offered (world_of machine.old) (run_of cpu)) false
         machine.new }
     ensures actors { actors (world_of machine.new) ≡ actors (world_of machine.old) }

@@ -41,7 +41,7 @@ fn event_now(machine: &Machine, line: OutsideLine) -> Event
 }
 
 /// The event that comes from outside next, as it is now.
-pub(crate) fn next_now(machine: &Machine, next: Option<OutsideLine>) -> Option<Event>
+pub fn next_now(machine: &Machine, next: Option<OutsideLine>) -> Option<Event>
     ensures { result ≡ next_now (world_of machine.now).table next }
 {
     match next {

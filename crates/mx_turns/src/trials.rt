@@ -157,7 +157,7 @@ fn push_shown(text: &mut Vec<u8>, bytes: &[u8]) -> Result<(), AllocError>
 }
 
 /// Appends the last bytes of the console, as lines.
-fn push_kept(text: &mut Vec<u8>, bytes: &[u8]) -> Result<(), AllocError>
+pub fn push_kept(text: &mut Vec<u8>, bytes: &[u8]) -> Result<(), AllocError>
     ensures { OnOk result (text.new.items ≡ text.old.items ++ kept_text bytes.now) }
 {
     let mut rest = bytes;

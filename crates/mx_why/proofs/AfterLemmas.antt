@@ -17,18 +17,20 @@ use Rattle.mx_why.specs.declared.outside.LostLine.{LostLine}
 use Rattle.mx_why.specs.declared.seats.End.{End}
 use Rattle.mx_why.specs.AfterRun.{IsToldOf, IsToldWithin, are_many, line_after, line_if_marked, line_told, marked_if_any}
 use Rattle.mx_why.specs.Begun.{FileNames}
+use Rattle.mx_why.specs.FailedCalls.{failed_calls}
 use Rattle.mx_why.specs.Marks.{is_marked}
 use Rattle.mx_why.specs.Noting.{notes_of_records}
 use Rattle.mx_why.specs.Seeing.{end_of}
 use Rattle.mx_why.specs.Telling.{IsNoted}
 
-pub told_marked : (c : Config) (w u : World) (records : List Record) (ns slice : List Note) (cs : List FailedCall) (said : List (Option OutsideLine)) (f : FileNames) (line : Option (List ℕ))
-    → slice ≡ ns → IsNoted w u records None ns cs → line ≡ line_told c (end_of u) slice records said f
+pub told_marked : (c : Config) (w u : World) (records : List Record) (ns slice : List Note) (cs calls : List FailedCall) (said : List (Option OutsideLine)) (f : FileNames) (line : Option (List ℕ))
+    → slice ≡ ns → calls ≡ cs → IsNoted w u records None ns cs → line ≡ line_told c (end_of u) slice calls records said f
     → IsToldOf w records c said f line
-told_marked c w u records ns slice cs said f line same (accepted, world, noted, failed) h = inl (
+told_marked c w u records ns slice cs calls said f line same alike (accepted, world, noted, failed) h = inl (
   accepted,
-  h ∙ ap (λ (ms : List Note). line_told c (end_of u) ms records said f) (same ∙ noted)
-      ∙ ap (λ (v : World). line_told c (end_of v) (notes_of_records w records) records said f) world,
+  h ∙ ap (λ (ms : List Note). line_told c (end_of u) ms calls records said f) (same ∙ noted)
+      ∙ ap (λ (ds : List FailedCall). line_told c (end_of u) (notes_of_records w records) ds records said f) (alike ∙ failed)
+      ∙ ap (λ (v : World). line_told c (end_of v) (notes_of_records w records) (failed_calls w records) records said f) world,
 )
 
 -- what is told of some records, by the line of all
@@ -55,16 +57,16 @@ pub told_refused : (c : Config) (w u : World) (records : List Record) (ns : List
 told_refused c w u records ns cs p said f refused = inr (p.0, p.1, refused, refl)
 
 -- a history without a mark
-pub unmarked : (c : Config) (e : End) (ns : List Note) (os : List LostLine) (n : ℕ) (b : Bool) (f : FileNames) → b ≡ is_marked c e ns os n → b ≡ false
-    → None ≡ line_if_marked c e ns os n f
+pub unmarked : (c : Config) (e : End) (ns : List Note) (cs : List FailedCall) (os : List LostLine) (n : ℕ) (b : Bool) (f : FileNames) → b ≡ is_marked c e ns cs os n → b ≡ false
+    → None ≡ line_if_marked c e ns cs os n f
 unfolding line_if_marked
-unmarked c e ns os n b f is without =
-    ap (λ (v : Bool). if v then Some (line_after c e (marked_if_any c e ns os n) n f) else None) (sym without ∙ is)
+unmarked c e ns cs os n b f is without =
+    ap (λ (v : Bool). if v then Some (line_after c e (marked_if_any c e ns cs os n) n f) else None) (sym without ∙ is)
 
 -- a history with one
-pub marked : (c : Config) (e : End) (ns : List Note) (os : List LostLine) (n : ℕ) (b : Bool) (f : FileNames) (lines slice text : List ℕ) → b ≡ is_marked c e ns os n → b ≡ true
-    → lines ≡ marked_if_any c e ns os n → slice ≡ lines → text ≡ line_after c e slice n f → Some text ≡ line_if_marked c e ns os n f
+pub marked : (c : Config) (e : End) (ns : List Note) (cs : List FailedCall) (os : List LostLine) (n : ℕ) (b : Bool) (f : FileNames) (lines slice text : List ℕ) → b ≡ is_marked c e ns cs os n → b ≡ true
+    → lines ≡ marked_if_any c e ns cs os n → slice ≡ lines → text ≡ line_after c e slice n f → Some text ≡ line_if_marked c e ns cs os n f
 unfolding line_if_marked
-marked c e ns os n b f lines slice text is within some alike whole =
+marked c e ns cs os n b f lines slice text is within some alike whole =
     ap (λ (t : List ℕ). Some t) (whole ∙ ap (λ (ls : List ℕ). line_after c e ls n f) (alike ∙ some))
-    ∙ ap (λ (v : Bool). if v then Some (line_after c e (marked_if_any c e ns os n) n f) else None) (sym within ∙ is)
+    ∙ ap (λ (v : Bool). if v then Some (line_after c e (marked_if_any c e ns cs os n) n f) else None) (sym within ∙ is)

@@ -18,8 +18,9 @@ use Rattle.mx_why.specs.declared.failed_calls.FailedCall.{FailedCall}
 use Rattle.mx_why.specs.declared.notes.Note.{Note}
 use Rattle.mx_why.specs.declared.telling.Told.{Told}
 use Rattle.mx_why.specs.declared.telling.Told.TheVariants.{Whole, Refused}
-use Rattle.mx_why.specs.FailedCalls.{counted_in, failed_calls, failed_from}
+use Rattle.mx_why.specs.FailedCalls.{counted_in, failed_calls, failed_from, next_calls}
 use Rattle.mx_why.specs.Noting.{notes_from, notes_of, notes_of_records}
+use Rattle.mx_why.specs.Readings.{followed}
 use Rattle.mx_why.specs.RefusedRecords.{refused_record_text}
 
 notes_more : (w : World) (n k : ℕ) (xs : List Record) (x : Record) → k ≡ n + length xs
@@ -46,31 +47,31 @@ next_noted w v records i n d x before after within e world is so_far more =
 
 failed_more : (w : World) (n k : ℕ) (cs : List FailedCall) (xs : List Record) (x : Record) → k ≡ n + length xs
     → failed_from w n cs (xs ++ x ∷ [])
-    ≡ (let v = world_after_events w (events_of_history xs) in counted_in (world_after_events v (events_of x.actor x.event)) (transition_of v k x) (failed_from w n cs xs))
+    ≡ (let v = world_after_events w (events_of_history xs) in next_calls v k x (failed_from w n cs xs))
 failed_more w n k cs [] x e =
     let here : n ≡ k = omega (arith, e) in
-    ap (λ (m : ℕ). counted_in (world_after_events w (events_of x.actor x.event)) (transition_of w m x) cs) here
+    ap (λ (m : ℕ). next_calls w m x cs) here
 failed_more w n k cs (y ∷ ys) x e =
     let u = world_after_events w (events_of y.actor y.event) in
     let next : k ≡ n + 1 + length ys = omega (arith, e) in
-    let ds = counted_in u (transition_of w n y) cs in
+    let ds = next_calls w n y cs in
     failed_more u (n + 1) k ds ys x next
-    ∙ ap (λ (v : World). counted_in (world_after_events v (events_of x.actor x.event)) (transition_of v k x) (failed_from u (n + 1) ds ys))
+    ∙ ap (λ (v : World). next_calls v k x (failed_from u (n + 1) ds ys))
     (sym (after_both w (events_of y.actor y.event) (events_of_history ys)))
 
-pub next_failed : (w v u : World) (records : List Record) (i n : ℕ) (d : Record) (x : Transition) (before after : List FailedCall) → i < length records
+pub next_failed : (w v u : World) (records : List Record) (i n : ℕ) (d : Record) (x : Transition) (before looked after : List FailedCall) → i < length records
     → n ≡ i + 1 → v ≡ world_after_events w (events_of_history (take i records))
     → u ≡ world_after_events v (events_of (get_or records i d).actor (get_or records i d).event) → x ≡ transition_of v n (get_or records i d)
-    → before ≡ failed_calls w (take i records) → after ≡ counted_in u x before
+    → before ≡ failed_calls w (take i records) → looked ≡ followed v (get_or records i d).actor (get_or records i d).event before → after ≡ counted_in u x looked
     → after ≡ failed_calls w (take (i + 1) records)
-next_failed w v u records i n d x before after within e world made is so_far more =
+next_failed w v u records i n d x before looked after within e world made is so_far on more =
     let y = get_or records i d in
     let cs = failed_calls w (take i records) in
     let at : n ≡ 1 + length (take i records) = omega (arith, e, length-take-le i records (omega arith)) in
-    more ∙ ap (λ (t : List FailedCall). counted_in u x t) so_far
-    ∙ ap (λ (z : Transition). counted_in u z cs) is
-    ∙ ap (λ (z : World). counted_in z (transition_of v n y) cs) made
-    ∙ ap (λ (z : World). counted_in (world_after_events z (events_of y.actor y.event)) (transition_of z n y) cs) world
+    more ∙ ap (λ (t : List FailedCall). counted_in u x t) (on ∙ ap (λ (t : List FailedCall). followed v y.actor y.event t) so_far)
+    ∙ ap (λ (z : Transition). counted_in u z (followed v y.actor y.event cs)) is
+    ∙ ap (λ (z : World). counted_in z (transition_of v n y) (followed v y.actor y.event cs)) made
+    ∙ ap (λ (z : World). next_calls z n y cs) world
     ∙ sym (ap (λ (rs : List Record). failed_from w 1 [] rs) (take_more records i d within) ∙ failed_more w 1 n [] (take i records) y at)
 
 pub all_noted : (w u : World) (records : List Record) (i : ℕ) (ns : List Note) (cs : List FailedCall) → length records ≤ i
@@ -95,12 +96,13 @@ why_printed Prints c d vs records slice w said lines how same e is alike h =
 
 pub lines_printed : (Prints : List ℕ → Type 0) (c : Config) (w u : World) (records : List Record) (ns slice : List Note) (cs calls : List FailedCall) (said : List (Option OutsideLine)) (marked : Bool)
     → slice ≡ ns → calls ≡ cs
-    → IsNoted w u records None ns cs → marked ≡ told_marked c (end_of u) slice records said → Prints (told_text c (end_of u) slice calls records said)
+    → IsNoted w u records None ns cs → marked ≡ told_marked c (end_of u) slice calls records said → Prints (told_text c (end_of u) slice calls records said)
     → IsWhyPrinted w records c said (Whole marked) Prints
 lines_printed Prints c w u records ns slice cs calls said marked same alike (accepted, world, noted, failed) mark h = (
   accepted,
-  mark ∙ ap (λ (ms : List Note). told_marked c (end_of u) ms records said) (same ∙ noted)
-      ∙ ap (λ (v : World). told_marked c (end_of v) (notes_of_records w records) records said) world,
+  mark ∙ ap (λ (ms : List Note). told_marked c (end_of u) ms calls records said) (same ∙ noted)
+      ∙ ap (λ (ds : List FailedCall). told_marked c (end_of u) (notes_of_records w records) ds records said) (alike ∙ failed)
+      ∙ ap (λ (v : World). told_marked c (end_of v) (notes_of_records w records) (failed_calls w records) records said) world,
   subst (λ (v : World). Prints (told_text c (end_of v) (notes_of_records w records) (failed_calls w records) records said)) world
       (subst (λ (ds : List FailedCall). Prints (told_text c (end_of u) (notes_of_records w records) ds records said)) (alike ∙ failed)
       (subst (λ (ms : List Note). Prints (told_text c (end_of u) ms calls records said)) (same ∙ noted) h)),

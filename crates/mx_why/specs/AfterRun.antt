@@ -14,6 +14,7 @@ use Rattle.mx_turns.specs.declared.outside.OutsideLine.{OutsideLine}
 use Rattle.mx_why.specs.declared.after_run.AfterRun.{AfterRun}
 use Rattle.mx_why.specs.declared.after_run.AfterRun.TheVariants as after
 use Rattle.mx_why.specs.declared.deaths.Death.{Death}
+use Rattle.mx_why.specs.declared.failed_calls.FailedCall.{FailedCall}
 use Rattle.mx_why.specs.declared.notes.Note.{Note}
 use Rattle.mx_why.specs.declared.outside.LostLine.{LostLine}
 use Rattle.mx_why.specs.declared.seats.End.{End}
@@ -21,10 +22,13 @@ use Rattle.mx_why.specs.Begun.{FileNames}
 use Rattle.mx_why.specs.Busy.{busy, busy_lines}
 use Rattle.mx_why.specs.Deaths.{deaths}
 use Rattle.mx_why.specs.Endings.{death_text, ending, ending_by}
+use Rattle.mx_why.specs.FailedCalls.{failed_calls}
+use Rattle.mx_why.specs.FailedLines.{failed_line}
 use Rattle.mx_why.specs.Lines.{idle_text, waits_text}
 use Rattle.mx_why.specs.Marks.{is_faulted, is_marked}
 use Rattle.mx_why.specs.Noting.{notes_of_records}
 use Rattle.mx_why.specs.Outside.{lost_lines, outside_text}
+use Rattle.mx_why.specs.Readings.{is_careless}
 use Rattle.mx_why.specs.Telling.{end_after}
 use Rattle.mx_why.specs.Unfit.{unfit}
 use Rattle.mx_why.specs.UnfitLines.{unfit_lines}
@@ -47,17 +51,23 @@ fault_line e ns d = if is_fault ns d then death_text e ns d else []
 unfoldable pub fault_lines : End → List Note → List ℕ
 fault_lines e ns = flat_map (fault_line e ns) (deaths ns)
 
+abbrev pub careless_line : Config → End → FailedCall → List ℕ
+careless_line c e f = if is_careless f then failed_line c e f else []
+
+abbrev pub careless_lines : Config → End → List FailedCall → List ℕ
+careless_lines c e cs = flat_map (careless_line c e) cs
+
 unfoldable pub idle_if_at_rest : End → List Note → List ℕ
 idle_if_at_rest e ns = if e.at_rest then idle_text e ns else []
 
-unfoldable pub marked_lines : Config → End → List Note → List LostLine → List ℕ
-marked_lines c e ns os =
+unfoldable pub marked_lines : Config → End → List Note → List FailedCall → List LostLine → List ℕ
+marked_lines c e ns cs os =
     waits_text e ns (verdicts e) true ++ unheard_lines e ns (unheard e ns) ++ busy_lines e (busy e ns)
-    ++ fault_lines e ns ++ outside_text e os ++ idle_if_at_rest e ns ++ unfit_lines c (unfit c e)
+    ++ fault_lines e ns ++ careless_lines c e cs ++ outside_text e os ++ idle_if_at_rest e ns ++ unfit_lines c (unfit c e)
 
 -- of a machine that has done nothing there are none
-unfoldable pub marked_if_any : Config → End → List Note → List LostLine → ℕ → List ℕ
-marked_if_any c e ns os n = if n == 0 then [] else marked_lines c e ns os
+unfoldable pub marked_if_any : Config → End → List Note → List FailedCall → List LostLine → ℕ → List ℕ
+marked_if_any c e ns cs os n = if n == 0 then [] else marked_lines c e ns cs os
 
 -- ---- the line
 
@@ -93,18 +103,18 @@ line_after c e lines n f =
     codes "mx: " ++ ending_by e n c.log (ending e n c.log) ++ told_marks lines f ++ codes "\n"
 
 -- WHAT IS TOLD OF A HISTORY of n records: nothing, if it has no mark
-unfoldable pub line_if_marked : Config → End → List Note → List LostLine → ℕ → FileNames → Option (List ℕ)
-line_if_marked c e ns os n f =
-    if is_marked c e ns os n then Some (line_after c e (marked_if_any c e ns os n) n f) else None
+unfoldable pub line_if_marked : Config → End → List Note → List FailedCall → List LostLine → ℕ → FileNames → Option (List ℕ)
+line_if_marked c e ns cs os n f =
+    if is_marked c e ns cs os n then Some (line_after c e (marked_if_any c e ns cs os n) n f) else None
 
 -- of these records, and of a file of outside events whose lines say this
-abbrev pub line_told : Config → End → List Note → List Record → List (Option OutsideLine) → FileNames → Option (List ℕ)
-line_told c e ns records said f = line_if_marked c e ns (lost_lines c e records said) (length records) f
+abbrev pub line_told : Config → End → List Note → List FailedCall → List Record → List (Option OutsideLine) → FileNames → Option (List ℕ)
+line_told c e ns cs records said f = line_if_marked c e ns cs (lost_lines c e records said) (length records) f
 
 -- WHAT IS TOLD OF RECORDS, by the names of their files: of a history of which one is refused nothing
 abbrev pub IsToldOf : World → List Record → Config → List (Option OutsideLine) → FileNames → Option (List ℕ) → Type 0
 IsToldOf w records c said f line =
-    (AreAccepted w (events_of_history records) × (line ≡ line_told c (end_after w records) (notes_of_records w records) records said f))
+    (AreAccepted w (events_of_history records) × (line ≡ line_told c (end_after w records) (notes_of_records w records) (failed_calls w records) records said f))
     ⊎ ((n : ℕ) × (r : Refusal) × IsRefusedAt w records n r × (line ≡ None))
 
 -- ---- histories that aren't run again unasked

@@ -81,6 +81,13 @@ ending e n log =
 unfoldable pub after_text : List ℕ → ℕ → List ℕ
 after_text word n = word ++ codes " after " ++ decimal n ++ codes " records"
 
+-- there is no room for a tick, a line or a kill
+unfoldable pub no_room_text : ℕ → ℕ → List ℕ
+no_room_text n log = if nat_lt n log then [] else codes ", and full: CONFIG has log " ++ decimal log
+
+unfoldable pub rest_text : ℕ → ℕ → List ℕ
+rest_text n log = after_text (codes "rest") n ++ no_room_text n log
+
 unfoldable pub unfinished_text : End → List ℕ
 unfinished_text e = listed_text e Running ++ listed_text e ToRespawn
 
@@ -93,7 +100,7 @@ open_text e n = after_text (codes "open") n ++ unfinished_text e
 
 unfoldable pub ending_by : End → ℕ → ℕ → Ending → List ℕ
 ending_by e n log Nothing = codes "no record: LOG is the history of a machine that has done nothing"
-ending_by e n log Rest = after_text (codes "rest") n
+ending_by e n log Rest = rest_text n log
 ending_by e n log Full = full_text e n log
 ending_by e n log Open = open_text e n
 

@@ -3,7 +3,7 @@ use Rattle.std.specs.Prelude.{ℕ, ◌-◌, ◌==◌, if◌then◌else◌, List,
 use Rattle.std.specs.List.{range_with_len}
 use Rattle.std.specs.Option.{option_map}
 use Rattle.mx_machine.specs.Proc.declared.process.Process.{Process}
-use Rattle.mx_machine.specs.Proc.TableState.{TableState, process_at}
+use Rattle.mx_machine.specs.Proc.TableState.{TableState, endpoint_of, process_at}
 use Rattle.mx_machine.specs.Rest.{at_rest}
 use Rattle.mx_machine.specs.Service.{Service}
 use Rattle.mx_machine.specs.World.{World}
@@ -21,6 +21,7 @@ restarts_left p v = if is_worn p v then 0 else v.terms.restarts - p.restarts_use
 unfoldable pub seat_of : TableState → ℕ → Service → Seat
 seat_of t s v = let p = process_at t s in record {
   name = v.name;
+  endpoint = endpoint_of t s;
   doing = doing_of Slots t s p.state;
   traps = p.schedule.terms.masks.traps;
   sends = p.schedule.terms.masks.sends;

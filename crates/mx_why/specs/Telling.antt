@@ -35,7 +35,7 @@ unfoldable pub later_lines : Config → End → List Note → List FailedCall �
 later_lines c e ns cs os =
     waits_text e ns (verdicts e) true ++ waits_text e ns (verdicts e) false ++ unheard_lines e ns (unheard e ns)
     ++ busy_lines e (busy e ns)
-    ++ deaths_text e ns (deaths ns) ++ failed_lines e cs ++ outside_text e os ++ idle_text e ns
+    ++ deaths_text e ns (deaths ns) ++ failed_lines c e cs ++ outside_text e os ++ idle_text e ns
     ++ unfit_lines c (unfit c e)
 
 -- ALL LINES of a history of n records: of a machine that has done nothing, how it ended alone
@@ -46,8 +46,8 @@ lines_text c e ns cs os n = ending_text e n c.log ++ (if n == 0 then [] else lat
 abbrev pub told_text : Config → End → List Note → List FailedCall → List Record → List (Option OutsideLine) → List ℕ
 told_text c e ns cs records said = lines_text c e ns cs (lost_lines c e records said) (length records)
 
-abbrev pub told_marked : Config → End → List Note → List Record → List (Option OutsideLine) → Bool
-told_marked c e ns records said = is_marked c e ns (lost_lines c e records said) (length records)
+abbrev pub told_marked : Config → End → List Note → List FailedCall → List Record → List (Option OutsideLine) → Bool
+told_marked c e ns cs records said = is_marked c e ns cs (lost_lines c e records said) (length records)
 
 -- what is known after records: their notes and the calls that they refuse, or which one is refused
 abbrev pub IsNoted :
@@ -67,7 +67,7 @@ why_text w records c said =
 
 -- they have a mark
 abbrev pub why_marked : World → List Record → Config → List (Option OutsideLine) → Bool
-why_marked w records c said = told_marked c (end_after w records) (notes_of_records w records) records said
+why_marked w records c said = told_marked c (end_after w records) (notes_of_records w records) (failed_calls w records) records said
 
 -- WHAT IS PRINTED of records: the lines, and whether one has a mark; or which record is refused
 abbrev pub IsWhyPrinted : World → List Record → Config → List (Option OutsideLine) → Told → (List ℕ → Type 0) → Type 0

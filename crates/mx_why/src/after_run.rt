@@ -10,7 +10,7 @@ ghost use Rattle.mx_machine.specs.declared.history.Record.{Record as Noted};
 ghost use Rattle.mx_machine.specs.Boot.{world_at_boot};
 ghost use Rattle.mx_machine.specs.World.{actors};
 ghost use Rattle.mx_turns.specs.declared.outside.OutsideLine.{OutsideLine as Event};
-ghost use Rattle.mx_why.specs.AfterRun.{IsToldOf, IsToldWithin, are_many, command_text, events_word, fault_line, fault_lines, first_line, idle_if_at_rest, is_fault, line_after, line_if_marked, line_told, marked_if_any, marked_lines, more_text, steps_of, told_marks};
+ghost use Rattle.mx_why.specs.AfterRun.{IsToldOf, IsToldWithin, are_many, careless_line, careless_lines, command_text, events_word, fault_line, fault_lines, first_line, idle_if_at_rest, is_fault, line_after, line_if_marked, line_told, marked_if_any, marked_lines, more_text, steps_of, told_marks};
 ghost use Rattle.mx_why.specs.Begun.{IsBegun, IsUntold, names_of};
 ghost use Rattle.mx_why.specs.Deaths.{deaths};
 ghost use Rattle.mx_why.specs.Lines.{waits_text};
@@ -20,10 +20,13 @@ ghost use Rattle.mx_why.specs.Verdicts.{verdicts};
 use crate::begun::{HistoryNames, begin};
 use crate::deaths::{Death, deaths_of};
 use crate::ends::{ending_of, push_death, push_ending_by};
+use crate::failed_calls::FailedCall;
+use crate::failed_lines::push_failed;
 use crate::lines::{push_idle, push_waits};
 use crate::marks::{is_faulted, is_marked};
 use crate::notes::Note;
 use crate::outside::{LostLine, lost_lines, push_outside};
+use crate::readings::is_careless;
 use crate::seats::End;
 use crate::seeing::end_of;
 use crate::telling::{note_records, push_busy_lines, push_lacking_lines, push_unheard_lines};
@@ -130,6 +133,39 @@ fn push_faults(
     push_each_fault(out, end, notes, found.as_slice())
 }
 
+/// Appends the line of calls whose result had to be read, if it wasn't.
+fn push_careless(
+    out: &mut Vec<u8>,
+    config: &Config,
+    end: &End,
+    call: &FailedCall,
+) -> Result<(), AllocError>
+    ensures { OnOk result (out.new.items ≡ out.old.items
+        ++ careless_line config.now end.now call.now) }
+{
+    if is_careless(call) {
+        push_failed(out, config, end, call)
+    } else {
+        Ok(())
+    }
+}
+
+/// Appends the lines of those calls whose result had to be read, and wasn't.
+fn push_each_careless(
+    out: &mut Vec<u8>,
+    config: &Config,
+    end: &End,
+    calls: &[FailedCall],
+) -> Result<(), AllocError>
+    ensures { OnOk result (out.new.items ≡ out.old.items
+        ++ careless_lines config.now end.now calls.now) }
+{
+    for call in calls {
+        push_careless(out, config, end, call)?;
+    }
+    Ok(())
+}
+
 /// Appends the lines of those that never go on.
 fn push_never(out: &mut Vec<u8>, alloc: Global, end: &End, notes: &[Note]) -> Result<(), AllocError>
     ensures { OnOk result (out.new.items ≡ out.old.items
@@ -159,15 +195,17 @@ fn push_marked_lines(
     config: &Config,
     end: &End,
     notes: &[Note],
+    calls: &[FailedCall],
     lost: &[LostLine],
 ) -> Result<(), AllocError>
     ensures { OnOk result (out.new.items ≡ out.old.items
-        ++ marked_lines config.now end.now notes.now lost.now) }
+        ++ marked_lines config.now end.now notes.now calls.now lost.now) }
 {
     push_never(out, alloc, end, notes)?;
     push_unheard_lines(out, end, notes)?;
     push_busy_lines(out, end, notes)?;
     push_faults(out, alloc, end, notes)?;
+    push_each_careless(out, config, end, calls)?;
     push_outside(out, end, lost)?;
     push_idle_at_rest(out, end, notes)?;
     push_lacking_lines(out, alloc, config, end)
@@ -180,17 +218,18 @@ fn marked_lines(
     config: &Config,
     end: &End,
     notes: &[Note],
+    calls: &[FailedCall],
     lost: &[LostLine],
     records: usize,
 ) -> Result<Vec<u8>, AllocError>
     ensures { IfOk result (λ lines. lines.items
-        ≡ marked_if_any config.now end.now notes.now lost.now records) }
+        ≡ marked_if_any config.now end.now notes.now calls.now lost.now records) }
 {
     let mut lines = Vec::new(alloc);
     if records == 0 {
         return Ok(lines);
     }
-    push_marked_lines(&mut lines, alloc, config, end, notes, lost)?;
+    push_marked_lines(&mut lines, alloc, config, end, notes, calls, lost)?;
     Ok(lines)
 }
 
@@ -311,17 +350,18 @@ fn line_if_marked(
     config: &Config,
     end: &End,
     notes: &[Note],
+    calls: &[FailedCall],
     lost: &[LostLine],
     records: usize,
     names: HistoryNames<'_>,
 ) -> Result<Option<Vec<u8>>, AllocError>
     ensures { IfOk result (λ line. option_map (λ l. l.items) line
-        ≡ line_if_marked config.now end.now notes.now lost.now records (names_of names.entry)) }
+        ≡ line_if_marked config.now end.now notes.now calls.now lost.now records (names_of names.entry)) }
 {
-    if !is_marked(alloc, config, end, notes, lost, records)? {
+    if !is_marked(alloc, config, end, notes, calls, lost, records)? {
         return Ok(None);
     }
-    let lines = marked_lines(alloc, config, end, notes, lost, records)?;
+    let lines = marked_lines(alloc, config, end, notes, calls, lost, records)?;
     let mut line = Vec::new(alloc);
     push_line_after(&mut line, config, end, lines.as_slice(), records, names)?;
     Ok(Some(line))
@@ -333,13 +373,14 @@ fn line_told(
     config: &Config,
     machine: &Machine,
     notes: &[Note],
+    calls: &[FailedCall],
     records: &[Record],
     said: &[Option<OutsideLine>],
     names: HistoryNames<'_>,
 ) -> Result<Option<Vec<u8>>, AllocError>
     ensures { IfOk result (λ line. option_map (λ l. l.items) line
-        ≡ line_told config.now (end_of (world_of machine.now)) notes.now records.now said.now
-        (names_of names.entry)) }
+        ≡ line_told config.now (end_of (world_of machine.now)) notes.now calls.now records.now
+        said.now (names_of names.entry)) }
 {
     let end = end_of(machine);
     let lost = lost_lines(alloc, config, &end, records, said)?;
@@ -348,6 +389,7 @@ fn line_told(
         config,
         &end,
         notes,
+        calls,
         lost.as_slice(),
         records.len(),
         names,
@@ -376,6 +418,7 @@ fn line_of(
             config,
             machine,
             notes.as_slice(),
+            calls.as_slice(),
             records,
             said,
             names,

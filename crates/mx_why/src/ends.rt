@@ -3,7 +3,7 @@
 ghost use Rattle.std.specs.Prelude.{◌≡◌, ◌++◌, ◌<◌, ◌^◌, ◌≤◌, OnOk};
 ghost use Rattle.std.specs.List.{flat_map, list_any, range_with_len};
 ghost use Rattle.mx_look.specs.Doings.{is_ready};
-ghost use Rattle.mx_why.specs.Endings.{after_text, before_text, death_line, death_text, deaths_text, does, ending, full_text, has_held, has_ready, ending_by, ending_text, is_held, is_listed, is_unfinished, listed_at, listed_text, open_text, respawned_text, restarts_in, several_text, then_text, times_text, unfinished_text, wanted_records, word_of};
+ghost use Rattle.mx_why.specs.Endings.{after_text, before_text, death_line, death_text, deaths_text, does, ending, full_text, has_held, has_ready, ending_by, ending_text, is_held, is_listed, is_unfinished, listed_at, listed_text, no_room_text, open_text, respawned_text, rest_text, restarts_in, several_text, then_text, times_text, unfinished_text, wanted_records, word_of};
 ghost use Rattle.mx_why.specs.Seats.{doing_in, seat_in};
 
 use crate::deaths::Death;
@@ -195,6 +195,27 @@ fn push_after(out: &mut Vec<u8>, word: &[u8], records: usize) -> Result<(), Allo
     out.extend_from_slice(b" records")
 }
 
+/// Appends that there is no room for a record more, if there is none.
+#[tactic(auto, unfolding(crate::specs::Endings::no_room_text))]
+fn push_no_room(out: &mut Vec<u8>, records: usize, log: u32) -> Result<(), AllocError>
+    ensures { OnOk result (out.new.items ≡ out.old.items ++ no_room_text records log) }
+{
+    if records < log as usize {
+        return Ok(());
+    }
+    out.extend_from_slice(b", and full: CONFIG has log ")?;
+    push_decimal(out, log)
+}
+
+/// Appends that nothing more happens.
+#[tactic(auto, unfolding(crate::specs::Endings::rest_text))]
+fn push_rest(out: &mut Vec<u8>, records: usize, log: u32) -> Result<(), AllocError>
+    ensures { OnOk result (out.new.items ≡ out.old.items ++ rest_text records log) }
+{
+    push_after(out, b"rest", records)?;
+    push_no_room(out, records, log)
+}
+
 /// Appends that a history is full, and who could have gone on.
 #[tactic(auto, unfolding(crate::specs::Endings::full_text))]
 fn push_full(out: &mut Vec<u8>, end: &End, records: usize, log: u32) -> Result<(), AllocError>
@@ -231,7 +252,7 @@ pub(crate) fn push_ending_by(
         Ending::Nothing => out.extend_from_slice(
             b"no record: LOG is the history of a machine that has done nothing",
         ),
-        Ending::Rest => push_after(out, b"rest", records),
+        Ending::Rest => push_rest(out, records, log),
         Ending::Full => push_full(out, end, records, log),
         Ending::Open => push_open(out, end, records),
     }

@@ -4,9 +4,13 @@ ghost use Rattle.std.specs.Prelude.{◌≡◌, ◌<◌, ◌++◌, ◌∷◌, [],
 ghost use Rattle.mx_machine.specs.Machine.{world_of};
 ghost use Rattle.mx_why.specs.FailedCalls.{counted, counted_in, counted_of, first_call, is_alike, once_more};
 ghost use Rattle.mx_why.specs.Failing.{call_place};
+ghost use Rattle.mx_why.specs.Readings.{reading_of};
+ghost use Rattle.mx_why.specs.Wants.{want_of};
 
 use crate::failing::{push_call_place, push_failed_text};
 use crate::notes::NoteText;
+use crate::readings::{Reading, reading_of};
+use crate::wants::{Want, want_of};
 use mx_look::Transition;
 use mx_machine::Machine;
 use mx_proc::Slot;
@@ -24,6 +28,10 @@ pub struct FailedCall {
     pub text: NoteText,
     /// Where the first was made.
     pub place: NoteText,
+    /// What the first wanted.
+    pub want: Want,
+    /// What is known of their results.
+    pub reading: Reading,
 }
 
 /// Whether a call is one of a slot with this text.
@@ -41,11 +49,12 @@ fn place_of(calls: &[FailedCall], slot: Slot, text: &[u8]) -> Option<usize>
     calls.iter().position(|call| is_alike(call, slot, text))
 }
 
-/// Counts a call once more.
-fn count_again(call: &mut FailedCall)
-    ensures { call.new ≡ once_more call.old }
+/// Counts a call once more, of whose result this is known.
+fn count_again(call: &mut FailedCall, last: Reading)
+    ensures { call.new ≡ once_more last call.old }
 {
     call.times = call.times.saturating_add(1);
+    call.reading.open(last.cell);
 }
 
 /// Appends a call of a slot with this text, as the first.
@@ -58,7 +67,7 @@ fn push_first(
 ) -> Result<(), AllocError>
     ensures { OnOk result (calls.new.items ≡ calls.old.items
         ++ first_call transition.now.number slot text.items (call_place (world_of machine.now) slot)
-        ∷ []) }
+        (want_of transition.now slot) (reading_of (world_of machine.now) transition.now slot) ∷ []) }
 {
     let mut place = Vec::new(*calls.allocator());
     push_call_place(&mut place, machine, slot)?;
@@ -68,6 +77,8 @@ fn push_first(
         times: 1,
         text: NoteText::from_vec(text),
         place: NoteText::from_vec(place),
+        want: want_of(transition, u32::from(slot)),
+        reading: reading_of(machine, transition, slot),
     })?;
     Ok(())
 }
@@ -82,11 +93,12 @@ fn count_call(
 ) -> Result<(), AllocError>
     ensures { OnOk result (calls.new.items
         ≡ counted calls.old.items transition.now.number slot text.items
-        (call_place (world_of machine.now) slot)) }
+        (call_place (world_of machine.now) slot) (want_of transition.now slot)
+        (reading_of (world_of machine.now) transition.now slot)) }
 {
     match place_of(calls.as_slice(), slot, text.as_slice()) {
         Some(index) => {
-            count_again(&mut calls[index]);
+            count_again(&mut calls[index], reading_of(machine, transition, slot));
             Ok(())
         }
         None => push_first(calls, machine, transition, slot, text),

@@ -1,13 +1,15 @@
 //! Which histories have a mark: a line that no right machine has.
 
 ghost use Rattle.std.specs.Prelude.{◌≡◌, IfOk};
-ghost use Rattle.mx_why.specs.Marks.{has_busy, has_faulted, has_idle, has_never, has_unfit, has_unheard, is_faulted, is_marked, is_marked_end};
+ghost use Rattle.mx_why.specs.Marks.{has_busy, has_careless, has_faulted, has_idle, has_never, has_unfit, has_unheard, is_faulted, is_marked, is_marked_end};
 
 use crate::busy::{busy_of, count_busy};
 use crate::ends::{Ending, ending_of};
+use crate::failed_calls::FailedCall;
 use crate::lines::{count_idle, count_said};
 use crate::notes::{Deed, Note};
 use crate::outside::{LostLine, has_lost};
+use crate::readings::is_careless;
 use crate::seats::End;
 use crate::unfit::unfit_by;
 use crate::unheard::{count_unheard, unheard_of};
@@ -61,6 +63,13 @@ fn has_faulted(notes: &[Note]) -> bool
     notes.iter().any(|note| is_faulted(note.deed))
 }
 
+/// Whether somebody had to read why a call was refused, and didn't.
+fn has_careless(calls: &[FailedCall]) -> bool
+    ensures { result ≡ has_careless calls.now }
+{
+    calls.iter().any(|call| is_careless(call))
+}
+
 /// Whether somebody never ran, at rest.
 #[tactic(auto, unfolding(crate::specs::Marks::has_idle))]
 fn has_idle(end: &End, notes: &[Note]) -> bool
@@ -85,11 +94,12 @@ pub(crate) fn is_marked(
     config: &Config,
     end: &End,
     notes: &[Note],
+    calls: &[FailedCall],
     lost: &[LostLine],
     records: usize,
 ) -> Result<bool, AllocError>
     ensures { IfOk result (λ marked. marked
-        ≡ is_marked config.now end.now notes.now lost.now records) }
+        ≡ is_marked config.now end.now notes.now calls.now lost.now records) }
 {
     let never = has_never(alloc, end)?;
     let unfit = has_unfit(alloc, config, end)?;
@@ -99,6 +109,7 @@ pub(crate) fn is_marked(
             || has_unheard(end, notes)
             || has_busy(end, notes)
             || has_faulted(notes)
+            || has_careless(calls)
             || has_lost(lost)
             || has_idle(end, notes)
             || unfit,

@@ -1,7 +1,7 @@
 //! The outside events of a file that have no record in the history that was made with it.
 
-ghost use Rattle.std.specs.Prelude.{◌≡◌, ◌<◌, ◌≤◌, ◌++◌, ◌||◌, IfOk, OnOk, Some, filter, length, nat_lt, slice_get};
-ghost use Rattle.mx_why.specs.Outside.{event_text, has_caller, has_lost, is_made, is_of_file, is_record_of, found_after, is_sought, lost_by, lost_from, lost_if, lost_lines, lost_text, more_lost_text, outside_text, records_of_file};
+ghost use Rattle.std.specs.Prelude.{◌≡◌, ◌<◌, ◌≤◌, ◌++◌, ◌||◌, IfOk, OnOk, Some, count_by, filter, length, nat_le, nat_lt, slice_get};
+ghost use Rattle.mx_why.specs.Outside.{event_text, has_caller, has_lost, is_made, is_of_file, is_record_of, found_after, is_back, is_first_back, is_sought, lost_by, lost_from, lost_if, lost_lines, lost_text, more_lost_text, outside_text, records_of_file, tried_lines, turns_with_line};
 
 use crate::reasons::push_verb;
 use crate::seats::End;
@@ -10,6 +10,9 @@ use mx_print_report::{push_counted, push_long};
 use mx_proc::slot_of;
 use mx_turns::OutsideLine;
 use std::alloc::{AllocError, Global};
+
+/// A take wants room for itself and for the process to come back.
+const RECORDS_OF_TAKE: usize = 2;
 
 /// A line of a file of outside events that has no record.
 #[derive(Clone, Copy)]
@@ -96,11 +99,50 @@ fn is_made(line: OutsideLine, made: &[Record], place: usize) -> bool
     }
 }
 
-/// Whether a line without a record was refused, and not only left out: at rest, or if a later line has a record.
-fn is_refused(at_rest: bool, made: &[Record], found: usize) -> bool
-    ensures { result ≡ (at_rest || nat_lt found (length made.now)) }
+/// Whether this is that a processor comes back.
+fn is_back(event: Recorded) -> bool
+    ensures { result ≡ is_back event }
 {
-    at_rest || found < made.len()
+    matches!(event, Recorded::Back(_))
+}
+
+/// Whether processor 0 comes back in a record.
+fn is_first_back(entry: &Record) -> bool
+    ensures { result ≡ is_first_back entry.now }
+{
+    entry.actor == 0 && is_back(entry.event)
+}
+
+/// How many turns, at least, tried a line.
+fn turns_with_line(config: &Config, records: &[Record]) -> usize
+    ensures { result ≡ turns_with_line config.now records.now }
+{
+    let backs = records.iter().filter(|entry| is_first_back(entry)).count();
+    let free = (config.log as usize).saturating_sub(records.len());
+    backs.saturating_sub(if free >= RECORDS_OF_TAKE { 0 } else { 1 })
+}
+
+/// How many lines, at least, were tried of a file that has so many.
+#[tactic(auto, unfolding(crate::specs::Outside::tried_lines))]
+fn tried_lines(config: &Config, end: &End, records: &[Record], count: usize) -> usize
+    ensures { result ≡ tried_lines config.now end.now records.now count }
+{
+    if !end.at_rest {
+        0
+    } else if !has_caller(config.cpus, records) {
+        turns_with_line(config, records)
+    } else if records.len() < config.log as usize {
+        count
+    } else {
+        0
+    }
+}
+
+/// Whether a line without a record was refused, and not only left out: if it was tried, or a later line has a record.
+fn is_refused(tried: usize, made: &[Record], number: usize, found: usize) -> bool
+    ensures { result ≡ (nat_le number tried || nat_lt found (length made.now)) }
+{
+    number <= tried || found < made.len()
 }
 
 /// Appends a line, if it was refused.
@@ -123,21 +165,21 @@ fn push_if_refused(
 fn follow_event(
     lost: &mut Vec<LostLine>,
     made: &[Record],
-    at_rest: bool,
+    tried: usize,
     number: usize,
     found: usize,
     line: OutsideLine,
 ) -> Result<usize, AllocError>
     requires { found < number }
     ensures lost { OnOk result (lost.new.items ≡ lost.old.items
-        ++ lost_by at_rest made.now number found (Some line)) }
+        ++ lost_by tried made.now number found (Some line)) }
     ensures found { IfOk result (λ now. now ≡ found_after made.now found (Some line)) }
     ensures few { IfOk result (λ now. now ≤ number) }
 {
     if is_made(line, made, found) {
         return Ok(found + 1);
     }
-    let refused = is_refused(at_rest, made, found);
+    let refused = is_refused(tried, made, number, found);
     push_if_refused(lost, refused, number, line)?;
     Ok(found)
 }
@@ -146,36 +188,36 @@ fn follow_event(
 fn follow_line(
     lost: &mut Vec<LostLine>,
     made: &[Record],
-    at_rest: bool,
+    tried: usize,
     number: usize,
     found: usize,
     said: Option<OutsideLine>,
 ) -> Result<usize, AllocError>
     requires { found < number }
     ensures lost { OnOk result (lost.new.items ≡ lost.old.items
-        ++ lost_by at_rest made.now number found said) }
+        ++ lost_by tried made.now number found said) }
     ensures found { IfOk result (λ now. now ≡ found_after made.now found said) }
     ensures few { IfOk result (λ now. now ≤ number) }
 {
     match said {
-        Some(line) => follow_event(lost, made, at_rest, number, found, line),
+        Some(line) => follow_event(lost, made, tried, number, found, line),
         None => Ok(found),
     }
 }
 
-/// The lines that have none of these records, at rest or not.
+/// The lines that have none of these records, if so many were tried.
 fn lost_among(
     alloc: Global,
     made: &[Record],
     said: &[Option<OutsideLine>],
-    at_rest: bool,
+    tried: usize,
 ) -> Result<Vec<LostLine>, AllocError>
-    ensures { IfOk result (λ lost. lost.items ≡ lost_from at_rest made.now 1 0 said.now) }
+    ensures { IfOk result (λ lost. lost.items ≡ lost_from tried made.now 1 0 said.now) }
 {
     let mut lost = Vec::new(alloc);
     let mut found = 0;
     for (index, event) in said.iter().enumerate() {
-        found = follow_line(&mut lost, made, at_rest, index + 1, found, *event)?;
+        found = follow_line(&mut lost, made, tried, index + 1, found, *event)?;
     }
     Ok(lost)
 }
@@ -192,7 +234,8 @@ pub(crate) fn lost_lines(
     ensures { IfOk result (λ lost. lost.items ≡ lost_lines config.now end.now records.now said.now) }
 {
     let made = records_of_file(alloc, config.cpus, records)?;
-    lost_among(alloc, made.as_slice(), said, end.at_rest)
+    let tried = tried_lines(config, end, records, said.len());
+    lost_among(alloc, made.as_slice(), said, tried)
 }
 
 /// Whether there is such a line.

@@ -5,12 +5,15 @@ ghost use Rattle.std.specs.Prelude.{◌≡◌, None, Some, MatchOption};
 ghost use Rattle.mx_why.specs.Seats.{doing_in, first_line, owns, seat_in};
 
 use mx_print_report::Doing;
+use mx_proc::Endpoint;
 use mx_text::Name;
 
 /// What is known of a slot that has a service.
 #[derive(Clone, Copy)]
 pub struct Seat {
     pub name: Name,
+    /// The number of its process.
+    pub endpoint: Endpoint,
     /// What its process does. Its partners are told by their slots.
     pub doing: Doing,
     /// The traps that it may make, bit n for trap n.

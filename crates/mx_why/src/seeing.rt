@@ -32,6 +32,7 @@ fn seat_of(table: &Table, slot: Slot, service: &Service) -> Seat
     let masks = process.schedule.terms.masks;
     Seat {
         name: service.name,
+        endpoint: table.endpoint(slot),
         doing: doing_of(Naming::Slots, table, slot, process.state),
         traps: masks.traps,
         sends: masks.sends,

@@ -35,6 +35,7 @@ use crate::marks::is_marked;
 use crate::notes::Note;
 use crate::noting::push_notes;
 use crate::outside::{LostLine, lost_lines, push_outside};
+use crate::readings::follow;
 use crate::refused_record::print_refused_record;
 use crate::seats::End;
 use crate::seeing::end_of;
@@ -76,6 +77,7 @@ pub(crate) fn note_records(
     let mut transition = resting_transition(machine);
     for (index, entry) in records.iter().enumerate() {
         let number = index as u32 + 1;
+        follow(calls, machine, *entry)?;
         match look_record(machine, number, *entry, &mut transition) {
             Ok(()) => {
                 push_notes(notes, &transition)?;
@@ -175,7 +177,7 @@ fn push_later(
     push_unheard_lines(out, end, notes)?;
     push_busy_lines(out, end, notes)?;
     push_death_lines(out, alloc, end, notes)?;
-    push_failed_lines(out, end, calls)?;
+    push_failed_lines(out, config, end, calls)?;
     push_outside(out, end, lost)?;
     push_idle(out, end, notes)?;
     push_lacking_lines(out, alloc, config, end)
@@ -222,7 +224,7 @@ fn print_lines<W: Write>(
     ensures bytes { OnOk result (Appends (W.contents out.old) (W.contents out.new)
         (told_text config.now (end_of (world_of machine.now)) notes.now calls.now records.now said.now)) }
     ensures marked { IfOk result (λ marked. marked
-        ≡ told_marked config.now (end_of (world_of machine.now)) notes.now records.now said.now) }
+        ≡ told_marked config.now (end_of (world_of machine.now)) notes.now calls.now records.now said.now) }
 {
     let end = end_of(machine);
     let found = lost_lines(alloc, config, &end, records, said)?;
@@ -230,7 +232,7 @@ fn print_lines<W: Write>(
     let count = records.len();
     let mut text = Vec::new(alloc);
     push_lines(&mut text, alloc, config, &end, notes, calls, lost, count)?;
-    let marked = is_marked(alloc, config, &end, notes, lost, count)?;
+    let marked = is_marked(alloc, config, &end, notes, calls, lost, count)?;
     print_text(text.as_slice(), out)?;
     Ok(marked)
 }

@@ -1,4 +1,4 @@
-use Rattle.std.proofs.Common.{◌≡◌, ◌∙◌, ◌++◌, ℕ, Bor, List, [], ◌∷◌, ap, map, refl, sym}
+use Rattle.std.proofs.Common.{◌≡◌, ◌∙◌, ℕ, Bor, List, ap, map, refl, sym}
 use Rattle.std.specs.Prelude.{codes}
 use Rattle.mx_app.specs.Asking.{begin_with, help_last}
 use Rattle.mx_app.proofs.Moved.{moved, unmoved}

@@ -6,9 +6,9 @@ use Rattle.clap.specs.declared.error.kind.ErrorKind.TheVariants.{OutOfMemory}
 use Rattle.clap.specs.declared.parser.matches.ArgMatches.{ArgMatches}
 use Rattle.clap.specs.declared.parser.matches.ArgMatches.TheViews.{out-ArgMatches}
 use Rattle.mx_app_command.specs.declared.command_line.Mistake.{Mistake}
-use Rattle.mx_app_command.specs.declared.command_line.Mistake.TheVariants.{Grammar, TicksAndEvents, LiveWithCourse, NotLive, NoFault}
-use Rattle.mx_app_command.specs.Mistakes.{IsMistake, IsOutOfMemory, has_both, has_course, lacks_fault, lacks_live, mistake_given, mistake_in}
-use Rattle.mx_app_command.specs.Words.{Asks, AsksBy, AsksForForce, AsksForSilence, AsksForSums, AsksToBeStrict, AsksToExplain, IsAsked, IsFlag, is_on, mx_grammar, sums_asked}
+use Rattle.mx_app_command.specs.declared.command_line.Mistake.TheVariants.{Grammar, TicksAndEvents, LiveWithCourse, NotLive, NoFault, NoPart}
+use Rattle.mx_app_command.specs.Mistakes.{IsMistake, IsOutOfMemory, has_both, has_course, lacks_fault, lacks_live, lacks_part, mistake_given, mistake_in}
+use Rattle.mx_app_command.specs.Words.{Asks, AsksBy, AsksForForce, AsksForSilence, AsksForSums, AsksToBeStrict, AsksToExplain, IsAsked, IsFlag, MayHaveText, is_on, mx_grammar, sums_asked}
 use Rattle.mx_app_command.proofs.AskedWords.{words_asked}
 use Rattle.mx_app_command.proofs.command_line.command.Goals as goal
 
@@ -37,14 +37,15 @@ not_passed a o m is h = absurd (never a (subst (λ (x : Option Mistake). (a && i
 -- they are no mistake of the grammar's
 not_grammar : (o : Option (Text × List Row)) (e : Error) → mistake_given o ≡ Some (Grammar e) → ⊥
 not_grammar None e h = absurd cc
-not_grammar (Some found) e h = by (has_both found.0 found.1) (has_course found.0 found.1) (lacks_live found.0 found.1) (lacks_fault found.0 found.1) h
+not_grammar (Some found) e h = by (has_both found.0 found.1) (has_course found.0 found.1) (lacks_live found.0 found.1) (lacks_fault found.0 found.1) (lacks_part found.0 found.1) h
   where
-    by : (a b c d : Bool) → (if a then Some TicksAndEvents else if b then Some LiveWithCourse else if c then Some NotLive else if d then Some NoFault else None) ≡ Some (Grammar e) → ⊥
-    by true b c d h = absurd cc
-    by false true c d h = absurd cc
-    by false false true d h = absurd cc
-    by false false false true h = absurd cc
-    by false false false false h = absurd cc
+    by : (a b c d f : Bool) → (if a then Some TicksAndEvents else if b then Some LiveWithCourse else if c then Some NotLive else if d then Some NoFault else if f then Some NoPart else None) ≡ Some (Grammar e) → ⊥
+    by true b c d f h = absurd cc
+    by false true c d f h = absurd cc
+    by false false true d f h = absurd cc
+    by false false false true f h = absurd cc
+    by false false false false true h = absurd cc
+    by false false false false false h = absurd cc
 
 mistaken : (words : List Text) (m : Mistake) → fault_of mx_grammar words ≡ [] → mistake_given (subcommand_of mx_grammar words) ≡ Some m → IsMistake words m
 mistaken words (Grammar e) fine is = absurd (not_grammar (subcommand_of mx_grammar words) e is)
@@ -52,6 +53,7 @@ mistaken words TicksAndEvents fine is = (fine, is)
 mistaken words LiveWithCourse fine is = (fine, is)
 mistaken words NotLive fine is = (fine, is)
 mistaken words NoFault fine is = (fine, is)
+mistaken words NoPart fine is = (fine, is)
 
 firsts : {X A B : Type 0} (f : X → A) (g : X → B) (o : Option X) → option_map f o ≡ option_map (λ (q : A × B). q.0) (option_map (λ x. (f x, g x)) o)
 firsts f g None = refl

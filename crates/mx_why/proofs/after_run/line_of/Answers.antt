@@ -14,7 +14,7 @@ returns-in-None c =
     let ns = c.note_records.new.notes.items in
     let cs = c.note_records.new.calls.items in
     let noted = subst (λ (o : Option (ℕ × Refusal)). IsNoted w u c.args.records.now o ns cs) c.in-None.is c.in_ok-note_records.ensures.noted in
-    IfOk-weaker c.line_told.result _ _ (λ line e. told_marked c.args.config.now w u c.args.records.now ns c.as_slice.result.now cs c.args.said.now (names_of c.args.names) _ c.as_slice.ensures.value noted e) c.line_told.ensures
+    IfOk-weaker c.line_told.result _ _ (λ line e. told_marked c.args.config.now w u c.args.records.now ns c.as_slice.result.now cs c.as_slice-in-None.result.now c.args.said.now (names_of c.args.names) _ c.as_slice.ensures.value c.as_slice-in-None.ensures.value noted e) c.line_told.ensures
 
 pub returns : goal.returns
 returns c =

@@ -8,10 +8,10 @@ use Rattle.mx_why.proofs.failed_lines.push_each.Goals as goal
 
 pub loop-call-preserved : goal.loop-call-preserved
 loop-call-preserved c =
-    next_item (failed_line c.args.end.now) c.args.calls.now c.loop-call.call-index _ c.args.out.now.items c.loop-call.out.items c.push_failed.new.out.items
-    c.loop-call-test.true c.loop-call.invariant (c.in_ok-push_failed.ensures ∙ ap (λ (v : FailedCall). c.loop-call.out.items ++ failed_line c.args.end.now v) c.call-item.is)
+    next_item (failed_line c.args.config.now c.args.end.now) c.args.calls.now c.loop-call.call-index _ c.args.out.now.items c.loop-call.out.items c.push_failed.new.out.items
+    c.loop-call-test.true c.loop-call.invariant (c.in_ok-push_failed.ensures ∙ ap (λ (v : FailedCall). c.loop-call.out.items ++ failed_line c.args.config.now c.args.end.now v) c.call-item.is)
 
 pub returns : goal.returns
 returns c =
     c.loop-call.invariant
-    ∙ ap (λ (cs : List FailedCall). c.args.out.now.items ++ flat_map (failed_line c.args.end.now) cs) (take_all c.loop-call.call-index c.args.calls.now (omega arith))
+    ∙ ap (λ (cs : List FailedCall). c.args.out.now.items ++ flat_map (failed_line c.args.config.now c.args.end.now) cs) (take_all c.loop-call.call-index c.args.calls.now (omega arith))

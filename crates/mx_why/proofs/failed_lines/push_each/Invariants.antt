@@ -5,4 +5,4 @@ use Rattle.mx_why.proofs.failed_lines.push_each.Given as goal
 
 -- the lines so far
 abbrev pub invariant-loop-call : goal.invariant-loop-call
-invariant-loop-call l = l.out.items ≡ l.initial.out.items ++ flat_map (failed_line l.end) (take l.call-index l.calls)
+invariant-loop-call l = l.out.items ≡ l.initial.out.items ++ flat_map (failed_line l.config l.end) (take l.call-index l.calls)

@@ -29,8 +29,8 @@ loop-index-preserved c =
       world = next_world w v c.args.records.now i _ c.loop-index-test.true inv.accepted inv.world (world_of c.look_record.new.machine) done.1;
       noted = next_noted w v c.args.records.now i (i + 1) _ c.look_record.new.transition c.loop-index.notes.items c.push_notes.new.notes.items
           c.loop-index-test.true refl inv.world c.in-Ok.ensures.transition inv.noted c.in_ok-push_notes-in-Ok.ensures;
-      failed = next_failed w v (world_of c.look_record.new.machine) c.args.records.now i (i + 1) _ c.look_record.new.transition c.loop-index.calls.items c.count_all.new.calls.items
-          c.loop-index-test.true refl inv.world done.1 c.in-Ok.ensures.transition inv.failed c.in_ok-count_all-in-Ok.ensures;
+      failed = next_failed w v (world_of c.look_record.new.machine) c.args.records.now i (i + 1) _ c.look_record.new.transition c.loop-index.calls.items c.follow.new.calls.items c.count_all.new.calls.items
+          c.loop-index-test.true refl inv.world done.1 c.in-Ok.ensures.transition inv.failed c.in_ok-follow.ensures c.in_ok-count_all-in-Ok.ensures;
     }
 
 pub returns-clause-noted : goal.returns-clause-noted

@@ -24,7 +24,7 @@ returns-in_err-marked-in-None-clause-begun g c =
     let noted = subst (λ (o : Option (ℕ × Refusal)). IsNoted w u c.args.records.now o ns cs) c.in-None.is c.in_ok-note_records.ensures.noted in
     err_always c.from_residual-in_err-marked-in-None.result _
     (inr (
-      Whole (told_marked c.args.config.now (end_of u) c.as_slice-noted.result.now c.args.records.now c.args.said.now),
+      Whole (told_marked c.args.config.now (end_of u) c.as_slice-noted.result.now c.as_slice-counted.result.now c.args.records.now c.args.said.now),
       lines_printed front c.args.config.now w u c.args.records.now ns c.as_slice-noted.result.now cs c.as_slice-counted.result.now c.args.said.now _
           c.as_slice-noted.ensures.value c.as_slice-counted.ensures.value noted refl c.in_err-marked-in-None.ensures.front,
     ))

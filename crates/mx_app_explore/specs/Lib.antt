@@ -1,0 +1,2 @@
+pub mod FoundText
+pub mod Exploring
