@@ -1,6 +1,6 @@
 //! A history that is swept, position after position: what is printed alike joins the block before.
 
-ghost use Rattle.std.specs.Prelude.{◌≡◌, ◌<◌, ◌≤◌, ◌+◌, ◌-◌, ◌^◌, ◌++◌, ◌∷◌, ◌⊎◌, if◌then◌else◌, [], ℕ, All, Err, List, IfErr, IfOk, Ok, OnOk, false, length, min, option_map, true};
+ghost use Rattle.std.specs.Prelude.{◌≡◌, ◌<◌, ◌≤◌, ◌+◌, ◌-◌, ◌^◌, ◌++◌, ◌∷◌, ◌⊎◌, if◌then◌else◌, [], ℕ, All, Err, List, IfErr, IfOk, IfSome, Ok, OnOk, false, length, max, min, option_map, true};
 ghost use Rattle.std.specs.Io.KnownBytes.{Appends};
 ghost use Rattle.std.specs.List.{flat_map};
 ghost use Rattle.std.specs.Str.{bytes_eq};
@@ -326,6 +326,7 @@ const MOST_JOBS: usize = 64;
 pub fn jobs_of<T: Threads>(rt: &T, wanted: Option<u32>) -> usize
     ensures some { 0 < result }
     ensures few { result ≤ 64 }
+    ensures asked { IfSome wanted (λ jobs. result ≡ min (max jobs 1) 64) }
 {
     let jobs = match wanted {
         Some(jobs) => jobs as usize,

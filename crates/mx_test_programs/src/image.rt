@@ -1173,7 +1173,7 @@ fn run_long_loop(alloc: Global, code: usize) -> Result<((u32, Stop), u32, u32), 
     Ok((made, image.reg(Register::Eax), image.eip()))
 }
 
-/// A cache has 1,024 entries at least, so the loop's instructions take each other's entries in one cache, and
+/// A cache has 128 entries at least, so the loop's instructions take each other's entries in one cache, and
 /// not in the other.
 #[test]
 fn loops_longer_than_a_cache(rt: HostRuntime) -> Result<(), Fail> {

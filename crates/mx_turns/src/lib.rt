@@ -38,5 +38,6 @@ pub use joining_laws::{rest_is_still, turn_of_one, turns_join};
 pub use offers::{offer, offer_run};
 pub use outside::{Outside, OutsideLine, next_now};
 pub use pairs::Pair;
+pub use services::copy_services;
 pub use trials::{Findings, Trial, push_kept, trial_at};
 pub use turns::{Ending, make_turns};

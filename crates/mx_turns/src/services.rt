@@ -54,7 +54,7 @@ fn copy_service(alloc: Global, service: &Service) -> Result<Service, NoMemory>
 }
 
 /// Copies of services, in order.
-pub(crate) fn copy_services(alloc: Global, services: &[Service]) -> Result<Vec<Service>, NoMemory>
+pub fn copy_services(alloc: Global, services: &[Service]) -> Result<Vec<Service>, NoMemory>
     ensures { IfOk result (λ copies. copies.items ≡ services.now) }
 {
     let mut copies = Vec::with_capacity(alloc, services.len())?;
