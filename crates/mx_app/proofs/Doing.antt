@@ -87,7 +87,7 @@ untyped WasShown (Turns config log ticks events bound stop) force asks qs ws Pri
 untyped WasShown (Live config log raw hertz stop) force asks qs ws Prints r h = absurd h
 untyped WasShown (Sweep config log fault bound from to jobs strict save) force asks qs ws Prints r h = absurd h
 untyped WasShown (SweptPage config log fault bound from to jobs) force asks qs ws Prints r h = absurd h
-untyped WasShown (Explore config departures events bound part strict save) force asks qs ws Prints r h = absurd h
+untyped WasShown (Explore config departures events bound part jobs strict save) force asks qs ws Prints r h = absurd h
 untyped WasShown request force asks qs ws Prints r h = ((refl, refl), refl, refl, h)
 
 -- what is done of the request that this one is
@@ -202,11 +202,11 @@ swept_pages {given} {heard} {told} asked now files shown later config log fault 
     (record nothing_done { asked = p.0; shown = p.1 }, p.2, sym (append-nil files), sym (append-nil given), sym (append-nil heard), sym (append-nil told), p.3, ((refl, refl), refl, refl, d, p.4, e))
 
 -- schedules were explored, or they weren't
-pub explored : {given : List (Option (List ℕ))} {heard : List Heard} {told : List Note} (asked now : List Asked) (files written : List Written) (shown later : List Part) (config : List ℕ) (events save : Option (List ℕ)) (force : Bool) (departures bound part parts : ℕ) (strict : Bool) (x y : Option (List ℕ)) (d : Result Found Kind) (r : Result Done Kind)
-    → (qs : List Asked) × (ws : List Written) × (ps : List Part) × (now ≡ asked ++ qs) × (written ≡ files ++ ws) × (later ≡ shown ++ ps) × Explores config events save force departures bound part parts qs ws ps (λ text. Appends x y text) d
+pub explored : {given : List (Option (List ℕ))} {heard : List Heard} {told : List Note} (asked now : List Asked) (files written : List Written) (shown later : List Part) (config : List ℕ) (events save : Option (List ℕ)) (force : Bool) (departures bound part parts : ℕ) (jobs : Option ℕ) (strict : Bool) (x y : Option (List ℕ)) (d : Result Found Kind) (r : Result Done Kind)
+    → (qs : List Asked) × (ws : List Written) × (ps : List Part) × (now ≡ asked ++ qs) × (written ≡ files ++ ws) × (later ≡ shown ++ ps) × Explores config events save force departures bound part parts jobs qs ws ps (λ text. Appends x y text) d
     → r ≡ done_after_explore strict d
-    → Grows asked now files written given given heard heard told told shown later (λ did. IsAlone did × (did.typed ≡ []) × (e : Result Found Kind) × Explores config events save force departures bound part parts did.asked did.written did.shown (λ text. Appends x y text) e × (r ≡ done_after_explore strict e))
-explored {given} {heard} {told} asked now files written shown later config events save force departures bound part parts strict x y d r p e =
+    → Grows asked now files written given given heard heard told told shown later (λ did. IsAlone did × (did.typed ≡ []) × (e : Result Found Kind) × Explores config events save force departures bound part parts jobs did.asked did.written did.shown (λ text. Appends x y text) e × (r ≡ done_after_explore strict e))
+explored {given} {heard} {told} asked now files written shown later config events save force departures bound part parts jobs strict x y d r p e =
     (record { asked = p.0; written = p.1; typed = []; heard = []; told = []; shown = p.2 }, p.3, p.4, sym (append-nil given), sym (append-nil heard), sym (append-nil told), p.5, ((refl, refl), refl, d, p.6, e))
 
 -- a script was done, and its history saved or not

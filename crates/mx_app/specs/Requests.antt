@@ -280,7 +280,7 @@ PerformsUntyped (Run config log ticks events stop) qs ws Prints r = ⊥
 PerformsUntyped (Turns config log ticks events bound stop) qs ws Prints r = ⊥
 PerformsUntyped (Live config log raw hertz stop) qs ws Prints r = ⊥
 PerformsUntyped (Sweep config log fault bound from to jobs strict save) qs ws Prints r = ⊥
-PerformsUntyped (Explore config departures events bound part strict save) qs ws Prints r = ⊥
+PerformsUntyped (Explore config departures events bound part jobs strict save) qs ws Prints r = ⊥
 PerformsUntyped (Replay config log) qs ws Prints r =
     (d : Result Replayed Kind) × (ws ≡ []) × Replays config.now log.now qs Prints d × (r ≡ done_after_replay d)
 PerformsUntyped (Trace config log range) qs ws Prints r =
@@ -333,10 +333,10 @@ PerformsApart WasShown (SweptPage config log fault bound from to jobs) force ask
     IsAlone did × (did.written ≡ []) × (did.typed ≡ []) × (d : Result Swept Kind)
     × PrintsSweptPage config.now log.now fault.now from to bound did.asked did.shown Prints d
     × (r ≡ done_after_sweep false d)
-PerformsApart WasShown (Explore config departures events bound part strict save) force asks did Prints r =
+PerformsApart WasShown (Explore config departures events bound part jobs strict save) force asks did Prints r =
     IsAlone did × (did.typed ≡ []) × (d : Result Found Kind)
     × Explores config.now (option_map (λ s. s.now) events) (option_map (λ s. s.now) save) force departures bound
-    part.before part.after did.asked did.written did.shown Prints d
+    part.before part.after jobs did.asked did.written did.shown Prints d
     × (r ≡ done_after_explore strict d)
 PerformsApart WasShown request force asks did Prints r =
     IsAlone did × (did.typed ≡ []) × (did.shown ≡ []) × PerformsUntyped request did.asked did.written Prints r

@@ -363,6 +363,7 @@ where
             events,
             bound,
             part,
+            jobs,
             strict,
             save,
         } => {
@@ -372,10 +373,11 @@ where
                 bound,
                 before: part.before,
                 after: part.after,
+                jobs,
                 save,
                 force,
             };
-            let found = explore(alloc, channels, names, wanted, &mut io.progress);
+            let found = explore(rt, alloc, channels, names, wanted, &mut io.progress);
             done_after_explore(found, strict)
         }
         CommandRequest::Replay { config, log } => {

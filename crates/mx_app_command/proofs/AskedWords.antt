@@ -338,13 +338,16 @@ departures_sets : SetsValue departures_rule
 departures_sets = record { set = refl; least = omega arith; defaults = refl }
 
 only_explore_config : IsOnly config_rule explore_whole.rules
-only_explore_config = ((λ e. refl), ((λ e. never e), ((λ e. never e), ((λ e. never e), ((λ e. never e), ((λ e. never e), ((λ e. never e), ((λ e. never e), ((λ e. never e), ((λ e. never e), ((λ e. never e), ((λ e. never e), ((λ e. never e), tt)))))))))))))
+only_explore_config = ((λ e. refl), ((λ e. never e), ((λ e. never e), ((λ e. never e), ((λ e. never e), ((λ e. never e), ((λ e. never e), ((λ e. never e), ((λ e. never e), ((λ e. never e), ((λ e. never e), ((λ e. never e), ((λ e. never e), ((λ e. never e), tt))))))))))))))
 
 only_departures : IsOnly departures_rule explore_whole.rules
-only_departures = ((λ e. never e), ((λ e. refl), ((λ e. never e), ((λ e. never e), ((λ e. never e), ((λ e. never e), ((λ e. never e), ((λ e. never e), ((λ e. never e), ((λ e. never e), ((λ e. never e), ((λ e. never e), ((λ e. never e), tt)))))))))))))
+only_departures = ((λ e. never e), ((λ e. refl), ((λ e. never e), ((λ e. never e), ((λ e. never e), ((λ e. never e), ((λ e. never e), ((λ e. never e), ((λ e. never e), ((λ e. never e), ((λ e. never e), ((λ e. never e), ((λ e. never e), ((λ e. never e), tt))))))))))))))
 
 only_explore_bound : IsOnly (with_index 4 (filled (number_after (codes "turns") (codes "N")))) explore_whole.rules
-only_explore_bound = ((λ e. never e), ((λ e. never e), ((λ e. never e), ((λ e. refl), ((λ e. never e), ((λ e. never e), ((λ e. never e), ((λ e. never e), ((λ e. never e), ((λ e. never e), ((λ e. never e), ((λ e. never e), ((λ e. never e), tt)))))))))))))
+only_explore_bound = ((λ e. never e), ((λ e. never e), ((λ e. never e), ((λ e. refl), ((λ e. never e), ((λ e. never e), ((λ e. never e), ((λ e. never e), ((λ e. never e), ((λ e. never e), ((λ e. never e), ((λ e. never e), ((λ e. never e), ((λ e. never e), tt))))))))))))))
+
+only_explore_jobs : IsOnly (with_index 6 (filled (jobs_after (codes "jobs") (codes "J")))) explore_whole.rules
+only_explore_jobs = ((λ e. never e), ((λ e. never e), ((λ e. never e), ((λ e. never e), ((λ e. never e), ((λ e. refl), ((λ e. never e), ((λ e. never e), ((λ e. never e), ((λ e. never e), ((λ e. never e), ((λ e. never e), ((λ e. never e), ((λ e. never e), tt))))))))))))))
 
 explore_fits : Fits explore_whole
 explore_fits words fine =
@@ -352,7 +355,8 @@ explore_fits words fine =
     let departures = value_given departures_rule departures_sets explore_whole only_departures words refl (inr (inl refl)) refl fine in
     let number = number_of departures.0 (departures_of departures.0 (accepts-Accepts departures_rule.ignore_case (Signed (pos 0) (pos 8)) departures.0 departures.3)) in
     let bound = number_if_given explore_whole (codes "turns") (codes "N") 4 only_explore_bound words fine in
-    ((λ e. (ap is_some config.1, inl (inr (refl, ((number.0, (without_minus departures.0, departures.2, number.1)), bound))))), (λ e. absurd (true≢false e)))
+    let jobs = jobs_if_given explore_whole (codes "jobs") (codes "J") 6 only_explore_jobs words fine in
+    ((λ e. (ap is_some config.1, inl (inr (refl, ((number.0, (without_minus departures.0, departures.2, number.1)), bound, jobs))))), (λ e. absurd (true≢false e)))
 
 abbrev following_whole : Text → Shape
 following_whole name = whole_of (following_shape name)

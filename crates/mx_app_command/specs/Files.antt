@@ -67,7 +67,7 @@ files_read (Run config log ticks events stop) = with_events config.now (option_m
 files_read (Turns config log ticks events bound stop) = with_events config.now (option_map (λ s. s.now) events)
 files_read (Live config log raw hertz stop) = one_file (codes "CONFIG") config.now
 files_read (Sweep config log fault bound from to jobs strict save) = with_fault config.now log.now fault.now
-files_read (Explore config departures events bound part strict save) = with_events config.now (option_map (λ s. s.now) events)
+files_read (Explore config departures events bound part jobs strict save) = with_events config.now (option_map (λ s. s.now) events)
 files_read (Replay config log) = with_course config.now (codes "LOG") log.now
 files_read (Trace config log range) = with_course config.now (codes "LOG") log.now
 files_read (Draw config log range) = with_course config.now (codes "LOG") log.now
@@ -86,7 +86,7 @@ file_written (Run config log ticks events stop) = Some (file_word (codes "LOG") 
 file_written (Turns config log ticks events bound stop) = Some (file_word (codes "LOG") log.now)
 file_written (Live config log raw hertz stop) = Some (file_word (codes "LOG") log.now)
 file_written (Sweep config log fault bound from to jobs strict (Some file)) = Some (file_word (codes "FILE") file.now)
-file_written (Explore config departures events bound part strict (Some name)) = Some (file_word (codes "NAME") name.now)
+file_written (Explore config departures events bound part jobs strict (Some name)) = Some (file_word (codes "NAME") name.now)
 file_written r = None
 
 -- what that file holds, or each of several
@@ -96,7 +96,7 @@ written_kind r = kinds.History
 
 -- several files are written: their names are this one and then a number
 abbrev pub writes_several : CommandRequest → Bool
-writes_several (Explore config departures events bound part strict save) = true
+writes_several (Explore config departures events bound part jobs strict save) = true
 writes_several r = false
 
 -- ---- names

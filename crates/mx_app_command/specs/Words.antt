@@ -129,14 +129,15 @@ sweep_shape =
     ∷ number_after (codes "to") (codes "B") ∷ jobs_after (codes "jobs") (codes "J") ∷ flag (codes "strict")
     ∷ after_name (codes "save") (codes "FILE") ∷ sums_rule ∷ no_sums_rule ∷ force_rule ∷ [])
 
--- `explore CONFIG --departures K --events EVENTS --turns N --part I/N --strict --save NAME --sums SUMS --no-sums --force`
+-- `explore CONFIG --departures K --events EVENTS --turns N --part I/N --jobs J --strict --save NAME --sums SUMS --no-sums
+-- --force`
 abbrev pub explore_shape : Shape
 explore_shape =
     subcommand (codes "explore")
     (required_text (codes "CONFIG") ∷ departures_after (codes "departures") (codes "K")
     ∷ after_name (codes "events") (codes "EVENTS") ∷ number_after (codes "turns") (codes "N")
-    ∷ after_name (codes "part") (codes "I/N") ∷ flag (codes "strict") ∷ after_name (codes "save") (codes "NAME")
-    ∷ sums_rule ∷ no_sums_rule ∷ force_rule ∷ [])
+    ∷ after_name (codes "part") (codes "I/N") ∷ jobs_after (codes "jobs") (codes "J") ∷ flag (codes "strict")
+    ∷ after_name (codes "save") (codes "NAME") ∷ sums_rule ∷ no_sums_rule ∷ force_rule ∷ [])
 
 -- `NAME CONFIG LOG --from A --to B --sums SUMS --no-sums`, what is printed of a history's records
 abbrev pub looking_shape : Text → Shape
@@ -312,10 +313,10 @@ AsksBy (Sweep config log fault bound from to jobs strict save) name rows =
     × HasNumberOr 1000 (codes "N") rows bound × HasNumberOr 0 (codes "A") rows from
     × HasNumberOr 4294967295 (codes "B") rows to × HasNumberIf (codes "J") rows jobs
     × IsFlag (codes "strict") rows strict × MayHaveText (codes "FILE") rows (option_map (λ s. s.now) save)
-AsksBy (Explore config departures events bound part strict save) name rows =
+AsksBy (Explore config departures events bound part jobs strict save) name rows =
     (name ≡ codes "explore") × HasText (codes "CONFIG") rows config.now × HasNumber (codes "K") rows departures
     × MayHaveText (codes "EVENTS") rows (option_map (λ s. s.now) events) × HasNumberOr 1000 (codes "N") rows bound
-    × HasPart rows part × IsFlag (codes "strict") rows strict
+    × HasPart rows part × HasNumberIf (codes "J") rows jobs × IsFlag (codes "strict") rows strict
     × MayHaveText (codes "NAME") rows (option_map (λ s. s.now) save)
 AsksBy (Replay config log) name rows =
     (name ≡ codes "replay") × HasText (codes "CONFIG") rows config.now × HasText (codes "LOG") rows log.now
@@ -415,9 +416,10 @@ pub record MayHaveSweep (rows : List Row) : Type 0 where
   pub range : MayHaveRange rows
   pub jobs : MayHaveNumber (codes "J") rows
 
--- `explore` has a number of departures, and may have one of turns
+-- `explore` has a number of departures, and may have those of turns and of jobs
 abbrev pub MayHaveExplore : List Row → Type 0
-MayHaveExplore rows = ((n : ℕ) × HasNumber (codes "K") rows n) × MayHaveNumber (codes "N") rows
+MayHaveExplore rows =
+    ((n : ℕ) × HasNumber (codes "K") rows n) × MayHaveNumber (codes "N") rows × MayHaveNumber (codes "J") rows
 
 -- a page may have the numbers of turns and of jobs
 abbrev pub MayHaveStrip : List Row → Type 0

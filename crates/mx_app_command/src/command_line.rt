@@ -114,7 +114,7 @@ pub enum CommandRequest<'a> {
         strict: bool,
         save: Option<&'a str>,
     },
-    /// `explore CONFIG --departures K`, with `--events EVENTS`, `--turns N`, `--part I/N`, `--strict` and
+    /// `explore CONFIG --departures K`, with `--events EVENTS`, `--turns N`, `--part I/N`, `--jobs J`, `--strict` and
     /// `--save NAME` or without.
     Explore {
         config: &'a str,
@@ -124,6 +124,8 @@ pub enum CommandRequest<'a> {
         /// The most turns of a schedule.
         bound: u32,
         part: SchedulePart,
+        /// How many threads run schedules.
+        jobs: Option<u32>,
         strict: bool,
         /// How the files begin that histories are written to.
         save: Option<&'a str>,
@@ -440,6 +442,7 @@ fn explore_request<'a>(config: &'a str, matches: &ArgMatches<'a>) -> CommandRequ
     let events = value_if_asked(matches, "EVENTS");
     let bound = number_or(matches, "N", TURNS_AFTER);
     let part = part_or_whole(matches);
+    let jobs = number_if_asked(matches, "J");
     let strict = flag_asked(matches, "strict");
     let save = value_if_asked(matches, "NAME");
     CommandRequest::Explore {
@@ -448,6 +451,7 @@ fn explore_request<'a>(config: &'a str, matches: &ArgMatches<'a>) -> CommandRequ
         events,
         bound,
         part,
+        jobs,
         strict,
         save,
     }

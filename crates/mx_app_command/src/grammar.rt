@@ -9,7 +9,7 @@ use crate::help::Example;
 use clap::{Arg, ArgAction, Command};
 use std::alloc::{AllocError, Global};
 
-/// The most jobs that a sweep may have.
+/// The most jobs that a sweep or schedules may have.
 const MOST_JOBS: i64 = 64;
 
 /// The most departures that schedules may have.
@@ -282,6 +282,13 @@ const PART: CommandArgument<'static> = CommandArgument {
     form: ArgumentForm::After("part"),
 };
 
+/// How many threads run schedules.
+const EXPLORE_JOBS: CommandArgument<'static> = CommandArgument {
+    name: "J",
+    help: "How many threads run schedules, 1 to 64; without it as many as there are processors",
+    form: ArgumentForm::JobsAfter("jobs"),
+};
+
 /// Whether several outcomes are an error.
 const STRICT_OUTCOMES: CommandArgument<'static> = CommandArgument {
     name: "strict",
@@ -534,6 +541,7 @@ static TURN_COMMANDS: [Subcommand<'static>; 3] = [
             EXPLORED_EVENTS,
             TURNS_OF_EACH,
             PART,
+            EXPLORE_JOBS,
             STRICT_OUTCOMES,
             SAVED_OUTCOMES,
             SUMS,

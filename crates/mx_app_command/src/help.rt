@@ -312,7 +312,8 @@ several turns. Prints each outcome (each service's state, how the turns ended, a
 console) with how many schedules lead to it, and of the first of these where it departs:
 after how many records, and what waits. --save NAME writes the history of outcome 1 to
 NAME1, and so on. --part I/N runs the schedules whose first departure is an offer whose
-number leaves I when it is divided by N.
+number leaves I when it is divided by N. What is printed is the same for each J of
+--jobs.
 
 Status: 0 done; 1 a text or a program's file is refused, or, with --strict, there are
 several outcomes; 2 a mistake in the words; 3 a file can't be read or written; 4 no

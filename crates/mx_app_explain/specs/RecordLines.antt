@@ -43,7 +43,7 @@ record_wanted (Run config log ticks events stop) about =
     codes "line L, tick, kill E, respawn S or wait N, where a service's name may stand for E and S; --events "
     ++ codes "wants others 2 or more in CONFIG"
 record_wanted (Turns config log ticks events bound stop) about = outside_wanted
-record_wanted (Explore config departures events bound part strict save) about = outside_wanted
+record_wanted (Explore config departures events bound part jobs strict save) about = outside_wanted
 record_wanted (Sweep config log fault bound from to jobs strict save) Fault = fault_wanted
 record_wanted (SweptPage config log fault bound from to jobs) Fault = fault_wanted
 record_wanted (Why config log events strict) Fault =
@@ -57,7 +57,7 @@ own_looks (Step config script save numbered) about = Script
 own_looks (Db config script) about = Debugger
 own_looks (Run config log ticks events stop) about = Script
 own_looks (Turns config log ticks events bound stop) about = Script
-own_looks (Explore config departures events bound part strict save) about = Script
+own_looks (Explore config departures events bound part jobs strict save) about = Script
 own_looks (Sweep config log fault bound from to jobs strict save) Fault = Script
 own_looks (SweptPage config log fault bound from to jobs) Fault = Script
 own_looks (Why config log events strict) Fault = Script

@@ -1,6 +1,7 @@
 -- What is printed and saved of outcomes.
-use Rattle.std.proofs.Common.{◌≡◌, ◌∙◌, ◌⊎◌, ◌<◌, Bool, ℕ, zero, suc, ◌+◌, ◌++◌, true, false, List, [], ◌∷◌, length, take, Option, Some, Result, Ok, Err, IfErr, append_assoc, inl, inr, refl, ap, sym, subst, arith}
-use Rattle.std.specs.Prelude.{IfOk, IsErrAnd, get_or, replicate, slice_get}
+use Rattle.std.proofs.Common.{◌≡◌, ◌∙◌, ◌⊎◌, ◌<◌, Bool, ℕ, zero, suc, ◌+◌, ◌++◌, true, false, List, [], ◌∷◌, length, max, min, take, Option, Some, None, Result, Ok, Err, IfErr, append_assoc, inl, inr, refl, ap, sym, subst, arith}
+use Rattle.std.specs.Prelude.{IfOk, IfSome, IsErrAnd, get_or, replicate, slice_get}
+use Rattle.std.proofs.lemmas.Bool.{lt-ltb}
 use Rattle.std.proofs.lemmas.Option.{get_or_from_slice_get}
 use Rattle.std.specs.Io.KnownBytes.{Appends}
 use Rattle.std.proofs.KnownBytes.{Appends-nil, Appends-trans}
@@ -29,10 +30,11 @@ use Rattle.mx_turns.specs.declared.outside.OutsideLine.{OutsideLine}
 use Rattle.mx_turns.specs.declared.outside.OutsideLine.TheVariants.{Plain}
 use Rattle.mx_walk.specs.declared.progress.Part.{Part as Parts}
 use Rattle.mx_explore.proofs.CountLemmas.{services_back}
-use Rattle.mx_explore.specs.Exploring.{IsAtBoot, IsDone, ShowsCounts, part_of, setting}
+use Rattle.mx_explore.specs.Exploring.{IsAtBoot, IsDone, part_of, setting}
 use Rattle.mx_explore.specs.Passages.{HasRoom, IsRun}
 use Rattle.mx_explore.specs.Passing.{Setting, end_of, run_of_schedule}
-use Rattle.mx_explore.specs.Schedules.{IsExplored}
+use Rattle.mx_explore.specs.Schedules.{IsExplored, Part}
+use Rattle.mx_explore.specs.Shares.{IsShownBy}
 use Rattle.mx_explore.specs.declared.exploring.Explored.{Explored}
 use Rattle.mx_explore.specs.declared.exploring.Terms.{Terms}
 use Rattle.mx_explore.specs.declared.outcomes.Outcome.{Outcome}
@@ -42,7 +44,7 @@ use Rattle.mx_explore.specs.declared.passing.Met.{Met}
 use Rattle.mx_explore.specs.declared.passing.Ran.{Ran}
 use Rattle.mx_app_explore.specs.declared.exploring.Found.{Found}
 use Rattle.mx_app_explore.specs.FoundText.{departure_lines, found_text, head_text, numbered, outcome_lines, total_text}
-use Rattle.mx_app_explore.specs.Exploring.{AreAllFree, AreFree, Explores, IsOneSpared, IsUnsaved, IsUnsavedOne, asking, found_of, history_text, name_spared, saved_of, saved_one, saves_program}
+use Rattle.mx_app_explore.specs.Exploring.{AreAllFree, AreFree, Explores, IsOneSpared, IsShown, IsUnsaved, IsUnsavedOne, asking, found_of, history_text, name_spared, saved_of, saved_one, saves_program}
 
 pub err_both : {A E : Type 0} (r : Result A E) (P Q : E → Type 0) → IfErr r P → IfErr r Q → IfErr r (λ e. P e × Q e)
 err_both (Ok a) P Q h k = tt
@@ -293,32 +295,41 @@ module _ (terms : Terms) (m : MachineState) (e : Explored) (done : IsDone terms 
   pub explored_setting : setting terms e.boot ≡ record { turns = terms.bound; boot = world_at_boot c vs; coming = xs }
   explored_setting = ap (λ (k : MachineState). setting terms k) done.boot ∙ setting_as terms m c vs xs events ticks booted
 
-  pub explored_all : IsExplored (setting terms e.boot) terms.departures (part_of terms) e.tally
+  explored_all : IsExplored (setting terms e.boot) terms.departures (part_of terms) e.tally
   explored_all = subst (λ (k : MachineState). IsExplored (setting terms k) terms.departures (part_of terms) e.tally) (sym done.boot) done.found
+
+  pub explored_part : (p : Part) → part_of terms ≡ p → IsExplored (setting terms e.boot) terms.departures p e.tally
+  explored_part p is = subst (λ (q : Part). IsExplored (setting terms e.boot) terms.departures q e.tally) is explored_all
 
   pub explored_ready : IsAtBoot e.boot e.services.items
   explored_ready = subst (λ (k : MachineState). IsAtBoot k e.services.items) (sym done.boot) done.ready
 
-module _ (config : List ℕ) (events save : Option (List ℕ)) (force : Bool) (k n before after : ℕ) (read : List Asked) (Prints : List ℕ → Type 0) where
-  pub not_begun : (f : Kind) (r : Result Found Kind) → IsNotBegun config events read f → Prints [] → IsErrAnd r (λ y. y ≡ f) → Explores config events save force k n before after read [] [] Prints r
+-- what is shown by one thread, or by several
+pub shown_as : (wanted : Option ℕ) (jobs n : ℕ) (ps : List Parts) → IfSome wanted (λ j. jobs ≡ min (max j 1) 64) → IsShownBy jobs ps n → IsShown wanted ps n
+shown_as wanted jobs n ps is (inl counts) = inl counts
+shown_as None jobs n ps is (inr (several, none)) = inr (refl, none)
+shown_as (Some j) jobs n ps is (inr (several, none)) = inr (lt-ltb 1 j (omega (arith, is, several)), none)
+
+module _ (config : List ℕ) (events save : Option (List ℕ)) (force : Bool) (k n before after : ℕ) (jobs : Option ℕ) (read : List Asked) (Prints : List ℕ → Type 0) where
+  pub not_begun : (f : Kind) (r : Result Found Kind) → IsNotBegun config events read f → Prints [] → IsErrAnd r (λ y. y ≡ f) → Explores config events save force k n before after jobs read [] [] Prints r
   not_begun f (Ok how) why printed h = absurd h
   not_begun f (Err y) why printed h = inl (refl, refl, printed, subst (λ z. IsNotBegun config events read z) (sym h) why)
 
   module _ (c : Config) (vs : List Service) (xs : List OutsideLine) (begun : IsBegun config events read c vs xs) where
     -- a program isn't written over
-    pub spared : (f : Kind) (r : Result Found Kind) → saves_program c save ≡ true → f ≡ over_program → Prints [] → IsErrAnd r (λ y. y ≡ f) → Explores config events save force k n before after read [] [] Prints r
+    pub spared : (f : Kind) (r : Result Found Kind) → saves_program c save ≡ true → f ≡ over_program → Prints [] → IsErrAnd r (λ y. y ≡ f) → Explores config events save force k n before after jobs read [] [] Prints r
     spared f (Ok how) is why printed h = absurd h
     spared f (Err y) is why printed h = inr (inl (c, vs, xs, begun, is, refl, refl, printed, h ∙ why))
 
     module _ (other : saves_program c save ≡ false) (ps : List Parts) where
       -- memory was out
-      pub unexplored : (m : ℕ) (f : Kind) (r : Result Found Kind) → ShowsCounts 0 ps m → f ≡ NoMemory → Prints [] → IsErrAnd r (λ y. y ≡ f) → Explores config events save force k n before after read [] ps Prints r
+      pub unexplored : (m : ℕ) (f : Kind) (r : Result Found Kind) → IsShown jobs ps m → f ≡ NoMemory → Prints [] → IsErrAnd r (λ y. y ≡ f) → Explores config events save force k n before after jobs read [] ps Prints r
       unexplored m f (Ok how) shown why printed h = absurd h
       unexplored m f (Err y) shown why printed h = inr (inr (c, vs, xs, read, [], sym (append-nil read), begun, other, inl (m, shown, refl, refl, printed, h ∙ why)))
 
-      module _ (found : Tally) (t : Setting) (same : t ≡ (asking c vs xs n k before after save force).setting) (explored : IsExplored t k (record { before = before; after = after }) found) (shown : ShowsCounts 0 ps found.schedules) (looked : List Asked) where
+      module _ (found : Tally) (t : Setting) (same : t ≡ (asking c vs xs n k before after jobs save force).setting) (explored : IsExplored t k (record { before = before; after = after }) found) (shown : IsShown jobs ps found.schedules) (looked : List Asked) where
         abbrev asked : Setting
-        asked = (asking c vs xs n k before after save force).setting
+        asked = (asking c vs xs n k before after jobs save force).setting
 
         abbrev os : List Outcome
         os = found.outcomes.items
@@ -327,7 +338,7 @@ module _ (config : List ℕ) (events save : Option (List ℕ)) (force : Bool) (k
         all = subst (λ (s : Setting). IsExplored s k (record { before = before; after = after }) found) same explored
 
         -- a file is spared
-        pub held_back : (f : Kind) (r : Result Found Kind) → IsOneSpared (name_spared force save) (length os) looked f → Prints [] → IsErrAnd r (λ y. y ≡ f) → Explores config events save force k n before after (read ++ looked) [] ps Prints r
+        pub held_back : (f : Kind) (r : Result Found Kind) → IsOneSpared (name_spared force save) (length os) looked f → Prints [] → IsErrAnd r (λ y. y ≡ f) → Explores config events save force k n before after jobs (read ++ looked) [] ps Prints r
         held_back f (Ok how) why printed h = absurd h
         held_back f (Err y) why printed h =
             inr (inr (c, vs, xs, read, looked, refl, begun, other, inr (inl (found, all, shown, subst (λ z. IsOneSpared (name_spared force save) (length os) looked z) (sym h) why, refl, printed))))
@@ -337,11 +348,11 @@ module _ (config : List ℕ) (events save : Option (List ℕ)) (force : Bool) (k
           IsEnd s r = IfOk r (λ how. (how ≡ found_of found) × (now ≡ old ++ saved_of s save os) × Prints (found_text s k found))
               × IfErr r (λ f. (m : ℕ) × (us : List Written) × (now ≡ old ++ saved_of s save (take m os) ++ us) × (((us ≡ []) × IsWanting f) ⊎ IsUnsaved s save m (slice_get os m) us f) × PrintsFront Prints (found_text s k found))
 
-          ended : (r : Result Found Kind) → IsEnd asked r → (ws : List Written) × (now ≡ old ++ ws) × Explores config events save force k n before after (read ++ looked) ws ps Prints r
+          ended : (r : Result Found Kind) → IsEnd asked r → (ws : List Written) × (now ≡ old ++ ws) × Explores config events save force k n before after jobs (read ++ looked) ws ps Prints r
           ended (Ok how) (ok, err) = (saved_of asked save os, ok.1, (c, vs, xs, read, looked, refl, begun, other, (found, all, shown, free, ok.0, refl, ok.2)))
           ended (Err f) (ok, err) =
               let ws = saved_of asked save (take err.0 os) in
               (ws ++ err.1, err.2 ∙ append_assoc old ws err.1, inr (inr (c, vs, xs, read, looked, refl, begun, other, inr (inr (found, err.0, err.1, all, shown, free, refl, err.3, err.4)))))
 
-          pub ends : (r : Result Found Kind) → IsEnd t r → (ws : List Written) × (now ≡ old ++ ws) × Explores config events save force k n before after (read ++ looked) ws ps Prints r
+          pub ends : (r : Result Found Kind) → IsEnd t r → (ws : List Written) × (now ≡ old ++ ws) × Explores config events save force k n before after jobs (read ++ looked) ws ps Prints r
           ends r h = ended r (subst (λ (s : Setting). IsEnd s r) same h)

@@ -30,20 +30,23 @@ use Rattle.mx_app_explore.specs.declared.exploring.Found.TheVariants.{One, Sever
 
 -- ---- what is asked for
 
--- Schedules of a setting with at most so many departures, of a part of them; how the files begin that histories are
--- saved in, if they are; and whether they are written over files that hold something else.
+-- Schedules of a setting with at most so many departures, of a part of them, by so many threads, if that is said; how
+-- the files begin that histories are saved in, if they are; and whether they are written over files that hold something
+-- else.
 pub record Asking : Type 0 where
   pub setting : Setting
   pub most : ℕ
   pub part : Part
+  pub jobs : Option ℕ
   pub save : Option (List ℕ)
   pub force : Bool
 
-abbrev pub asking : Config → List Service → List OutsideLine → ℕ → ℕ → ℕ → ℕ → Option (List ℕ) → Bool → Asking
-asking c vs xs n k before after save force = record {
+abbrev pub asking : Config → List Service → List OutsideLine → ℕ → ℕ → ℕ → ℕ → Option ℕ → Option (List ℕ) → Bool → Asking
+asking c vs xs n k before after jobs save force = record {
   setting = record { turns = n; boot = world_at_boot c vs; coming = xs };
   most = k;
   part = record { before = before; after = after };
+  jobs = jobs;
   save = save;
   force = force;
 }
@@ -104,6 +107,18 @@ abbrev pub IsUnsaved : Setting → Option (List ℕ) → ℕ → Option Outcome 
 IsUnsaved t save m None ws f = ⊥
 IsUnsaved t save m (Some o) ws f = IsUnsavedOne save (m + 1) (history_text t o) ws f
 
+-- ---- what is shown
+
+-- the threads may be several: they are as many as there are processors, if it isn't said
+abbrev pub may_be_several : Option ℕ → Bool
+may_be_several None = true
+may_be_several (Some jobs) = nat_lt 1 jobs
+
+-- while schedules run: one thread shows after each how many are done. Several show it as they come to it, and no clause
+-- says when.
+abbrev pub IsShown : Option ℕ → List Parts → ℕ → Type 0
+IsShown jobs ps n = ShowsCounts 0 ps n ⊎ ((may_be_several jobs ≡ true) × (ps ≡ []))
+
 -- ---- how it ends
 
 abbrev pub found_of : Tally → Found
@@ -113,27 +128,27 @@ found_of found = if nat_lt 1 (length found.outcomes.items) then Several else One
 -- saved
 abbrev pub IsTold : Asking → List Asked → List Written → List Parts → (List ℕ → Type 0) → Found → Type 0
 IsTold a looked ws ps Prints how =
-    (found : Tally) × IsExplored a.setting a.most a.part found × ShowsCounts 0 ps found.schedules
+    (found : Tally) × IsExplored a.setting a.most a.part found × IsShown a.jobs ps found.schedules
     × AreAllFree (name_spared a.force a.save) (length found.outcomes.items) looked
     × (how ≡ found_of found)
     × (ws ≡ saved_of a.setting a.save found.outcomes.items) × Prints (found_text a.setting a.most found)
 
 -- memory was out before all were run, and nothing is printed or saved
-abbrev pub IsUnexplored : List Asked → List Written → List Parts → (List ℕ → Type 0) → Kind → Type 0
-IsUnexplored looked ws ps Prints f =
-    (n : ℕ) × ShowsCounts 0 ps n × (looked ≡ []) × (ws ≡ []) × Prints [] × (f ≡ NoMemory)
+abbrev pub IsUnexplored : Asking → List Asked → List Written → List Parts → (List ℕ → Type 0) → Kind → Type 0
+IsUnexplored a looked ws ps Prints f =
+    (n : ℕ) × IsShown a.jobs ps n × (looked ≡ []) × (ws ≡ []) × Prints [] × (f ≡ NoMemory)
 
 -- all were run, but a file is spared, and nothing is printed or saved
 abbrev pub IsHeldBack : Asking → List Asked → List Written → List Parts → (List ℕ → Type 0) → Kind → Type 0
 IsHeldBack a looked ws ps Prints f =
-    (found : Tally) × IsExplored a.setting a.most a.part found × ShowsCounts 0 ps found.schedules
+    (found : Tally) × IsExplored a.setting a.most a.part found × IsShown a.jobs ps found.schedules
     × IsOneSpared (name_spared a.force a.save) (length found.outcomes.items) looked f × (ws ≡ []) × Prints []
 
 -- memory, standard output or a file was wanting then, and the first outcomes are saved
 abbrev pub IsCutOff : Asking → List Asked → List Written → List Parts → (List ℕ → Type 0) → Kind → Type 0
 IsCutOff a looked ws ps Prints f =
     (found : Tally) × (m : ℕ) × (us : List Written) × IsExplored a.setting a.most a.part found
-    × ShowsCounts 0 ps found.schedules
+    × IsShown a.jobs ps found.schedules
     × AreAllFree (name_spared a.force a.save) (length found.outcomes.items) looked
     × (ws ≡ saved_of a.setting a.save (take m found.outcomes.items) ++ us)
     × (((us ≡ []) × IsWanting f)
@@ -143,19 +158,19 @@ IsCutOff a looked ws ps Prints f =
 -- why it isn't finished
 abbrev pub IsUntold : Asking → List Asked → List Written → List Parts → (List ℕ → Type 0) → Kind → Type 0
 IsUntold a looked ws ps Prints f =
-    IsUnexplored looked ws ps Prints f
+    IsUnexplored a looked ws ps Prints f
     ⊎ (IsHeldBack a looked ws ps Prints f ⊎ IsCutOff a looked ws ps Prints f)
 
-abbrev pub Explores : List ℕ → Option (List ℕ) → Option (List ℕ) → Bool → ℕ → ℕ → ℕ → ℕ → List Asked → List Written
+abbrev pub Explores : List ℕ → Option (List ℕ) → Option (List ℕ) → Bool → ℕ → ℕ → ℕ → ℕ → Option ℕ → List Asked → List Written
     → List Parts → (List ℕ → Type 0) → Result Found Kind → Type 0
-Explores config events save force k n before after qs ws ps Prints (Ok how) =
+Explores config events save force k n before after jobs qs ws ps Prints (Ok how) =
     (c : Config) × (vs : List Service) × (xs : List OutsideLine) × (asked looked : List Asked)
     × (qs ≡ asked ++ looked) × IsBegun config events asked c vs xs × (saves_program c save ≡ false)
-    × IsTold (asking c vs xs n k before after save force) looked ws ps Prints how
-Explores config events save force k n before after qs ws ps Prints (Err f) =
+    × IsTold (asking c vs xs n k before after jobs save force) looked ws ps Prints how
+Explores config events save force k n before after jobs qs ws ps Prints (Err f) =
     ((ws ≡ []) × (ps ≡ []) × Prints [] × IsNotBegun config events qs f)
     ⊎ (((c : Config) × (vs : List Service) × (xs : List OutsideLine) × IsBegun config events qs c vs xs
     × (saves_program c save ≡ true) × (ws ≡ []) × (ps ≡ []) × Prints [] × (f ≡ over_program))
     ⊎ ((c : Config) × (vs : List Service) × (xs : List OutsideLine) × (asked looked : List Asked)
     × (qs ≡ asked ++ looked) × IsBegun config events asked c vs xs × (saves_program c save ≡ false)
-    × IsUntold (asking c vs xs n k before after save force) looked ws ps Prints f))
+    × IsUntold (asking c vs xs n k before after jobs save force) looked ws ps Prints f))

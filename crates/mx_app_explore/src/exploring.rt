@@ -19,15 +19,16 @@ use crate::found_text::{push_departures, push_head, push_total};
 use mx_app_command::{FileKind, is_numbered};
 use mx_app_failure::{About, Failure, FileProblem, print_text};
 use mx_app_spare::spare_numbered;
-use mx_app_start::{Channels, FileWriter, Reader};
+use mx_app_start::{Channels, FileWriter, Reader, SharedProgress};
 use mx_app_step::write_history;
-use mx_app_turns::{TurnsBegun, begin_turns};
-use mx_explore::{Explored, Outcome, Ran, Tally, Terms, explore as explore_machine};
+use mx_app_turns::{TurnsBegun, begin_turns, jobs_of};
+use mx_explore::{Explored, Outcome, Ran, Tally, Terms, explore_by};
 use mx_machine::Config;
 use mx_turns::Outside;
 use mx_walk::Progress;
 use std::alloc::{AllocError, Global};
 use std::io::Write;
+use std::thread::Threads;
 
 /// The names of the files that are read: of the configuration, and of the outside events, if one is named.
 #[derive(Clone, Copy)]
@@ -45,6 +46,8 @@ pub struct ExploreWanted<'a> {
     /// How many parts of the schedules come before the one that is explored, and how many after it.
     pub before: u32,
     pub after: u32,
+    /// How many threads run schedules: as many as there are processors, if it isn't said.
+    pub jobs: Option<u32>,
     /// How the files begin that the first schedule of each outcome is written to, if they are.
     pub save: Option<&'a str>,
     /// Whether they are written over files that hold something else than a history.
@@ -292,7 +295,14 @@ fn print_found<F: FileWriter, W: Write>(
 /// name, and the number of the outcome. If a service's program could have such a name, nothing is run, printed or
 /// written. If one of the files is there and holds something else, nothing is printed or written, unless that is forced.
 /// After each schedule `progress` is shown how many are done, of those that are known so far.
-pub fn explore<R: Reader + Drop, F: FileWriter + Drop, W: Write + Drop, P: Progress>(
+pub fn explore<
+    T: Threads + Sync,
+    R: Reader + Drop,
+    F: FileWriter + Drop,
+    W: Write + Drop,
+    P: Progress + SharedProgress + Sync,
+>(
+    rt: &T,
     alloc: Global,
     channels: &mut Channels<R, F, W>,
     names: ExploreNames<'_>,
@@ -305,7 +315,7 @@ pub fn explore<R: Reader + Drop, F: FileWriter + Drop, W: Write + Drop, P: Progr
         × (P.shown progress.new ≡ P.shown progress.old ++ ps)
         × Explores names.entry.config.now (option_map (λ s. s.now) names.entry.events)
         (option_map (λ s. s.now) wanted.entry.save) wanted.entry.force wanted.entry.departures
-        wanted.entry.bound wanted.entry.before wanted.entry.after qs ws ps
+        wanted.entry.bound wanted.entry.before wanted.entry.after wanted.entry.jobs qs ws ps
         (λ text. Appends (W.contents channels.old.out) (W.contents channels.new.out) text) result }
 {
     let begun = begin_turns(alloc, &mut channels.reader, names.config, names.events)?;
@@ -323,10 +333,11 @@ pub fn explore<R: Reader + Drop, F: FileWriter + Drop, W: Write + Drop, P: Progr
         outside,
         bound: wanted.bound,
         departures: wanted.departures,
-        before: wanted.before,
-        after: wanted.after,
+        before: u64::from(wanted.before),
+        after: u64::from(wanted.after),
     };
-    let mut explored = explore_machine(alloc, machine, terms, progress)?;
+    let jobs = jobs_of(rt, wanted.jobs);
+    let mut explored = explore_by(rt, alloc, machine, terms, jobs, progress)?;
     progress.clear();
     let outcomes = explored.tally.outcomes.len();
     spare_found(alloc, &mut channels.reader, outcomes, wanted.spared())?;

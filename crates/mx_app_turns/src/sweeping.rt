@@ -318,24 +318,30 @@ fn print_more<T: Threads + Sync, P: Progress, W: Write>(
     })
 }
 
-/// The most threads that try positions.
+/// The most threads that try positions or run schedules.
 const MOST_JOBS: usize = 64;
 
-/// How many threads try positions: as many as were asked for, or else as many as there are processors, if the system
-/// says so.
+/// So many threads, but at least one, and not too many.
+fn few_jobs(jobs: usize) -> usize
+    ensures { result ≡ min (max jobs 1) 64 }
+{
+    jobs.max(1).min(MOST_JOBS)
+}
+
+/// How many threads try positions or run schedules: as many as were asked for, or else as many as there are processors,
+/// if the system says so.
 pub fn jobs_of<T: Threads>(rt: &T, wanted: Option<u32>) -> usize
     ensures some { 0 < result }
     ensures few { result ≤ 64 }
     ensures asked { IfSome wanted (λ jobs. result ≡ min (max jobs 1) 64) }
 {
-    let jobs = match wanted {
-        Some(jobs) => jobs as usize,
+    match wanted {
+        Some(jobs) => few_jobs(jobs as usize),
         None => match available_parallelism(rt) {
-            Ok(processors) => processors.get(),
+            Ok(processors) => few_jobs(processors.get()),
             Err(_) => 1,
         },
-    };
-    jobs.max(1).min(MOST_JOBS)
+    }
 }
 
 /// Sweeps positions, and prints their blocks.

@@ -14,4 +14,6 @@ mod StateLemmas
 mod MeetLemmas
 mod NoneLemmas
 mod PartLemmas
+mod GroupLemmas
+mod ShareLemmas
 mod HistoryLemmas

@@ -57,7 +57,7 @@ one_at y x (suc k) low e = absurd (let few : suc k < 1 = low in omega (arith, fe
 only_one : {X : Type 0} (y x : X) → Contains (y ∷ []) x → x ≡ y
 only_one y x h = one_at y x h.0 h.1 h.2
 
-has_filter : {X : Type 0} (p : X → Bool) (xs : List X) (x : X) → p x ≡ true → Contains xs x → Contains (filter p xs) x
+pub has_filter : {X : Type 0} (p : X → Bool) (xs : List X) (x : X) → p x ≡ true → Contains xs x → Contains (filter p xs) x
 has_filter p [] x is h = absurd (let none : h.0 < 0 = h.1 in omega (arith, none))
 has_filter p (y ∷ ys) x is h = by (has_filter p ys x is) (p y) refl (Contains-append_cases (y ∷ []) ys x h)
   where

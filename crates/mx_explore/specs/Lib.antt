@@ -6,3 +6,4 @@ pub mod Schedules
 pub mod Tree
 pub mod Histories
 pub mod Exploring
+pub mod Shares

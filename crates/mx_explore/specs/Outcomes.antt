@@ -1,5 +1,5 @@
 -- OUTCOMES of schedules: which there are, how many schedules lead to each, and the first of them (our own).
-use Rattle.std.specs.Prelude.{ℕ, ◌+◌, ◌-◌, ◌^◌, ◌≡◌, min, Bool, false, List, [], ◌∷◌, ◌++◌, All, Contains, codes, filter, length, map}
+use Rattle.std.specs.Prelude.{ℕ, ◌+◌, ◌-◌, ◌^◌, ◌≡◌, min, Bool, false, true, List, [], ◌∷◌, ◌++◌, All, Contains, codes, filter, length, map}
 use Rattle.std.specs.Cmp.Lexicographic.{slice_cmp}
 use Rattle.std.specs.Fmt.{decimal}
 use Rattle.std.specs.List.{IsDistinct}
@@ -96,6 +96,11 @@ pub record IsOutcomeOf (fs : List Found) (o : Tallied) : Type 0 where
   pub count : o.count ≡ count_of (leading_to o.first.text fs)
   pub among : Contains fs o.first
   pub first : All (λ f. is_before f o.first ≡ false) (leading_to o.first.text fs)
+
+-- these schedules lead to this outcome, and to no other
+pub record AreOne (fs : List Found) (o : Tallied) : Type 0 where
+  pub outcome : IsOutcomeOf fs o
+  pub alike : All (λ (f : Found). bytes_eq f.text o.first.text ≡ true) fs
 
 -- the texts of outcomes
 abbrev pub texts : List Tallied → List (List ℕ)

@@ -7,6 +7,7 @@ ghost use Rattle.mx_explore.specs.declared.outcomes.Outcome.{Outcome as Outcomes
 ghost use Rattle.mx_explore.specs.Offers.{is_outside};
 ghost use Rattle.mx_explore.specs.Passages.{IsRun};
 ghost use Rattle.mx_explore.specs.Schedules.{is_in_part};
+ghost use Rattle.mx_explore.specs.Shares.{HasShares, share_of};
 ghost use Rattle.mx_explore.specs.Tree.{below, can_wait, departed, departing, itself, waits_on};
 
 use crate::outcomes::{Tally, outcome_of};
@@ -26,8 +27,8 @@ pub struct Terms<'a> {
     /// The most departures of a schedule.
     pub departures: u32,
     /// How many parts of the schedules come before the one that is explored, and how many after it.
-    pub before: u32,
-    pub after: u32,
+    pub before: u64,
+    pub after: u64,
 }
 
 impl Terms<'_> {
@@ -36,8 +37,30 @@ impl Terms<'_> {
         ensures { result
             ≡ ((at % (self.entry.before + 1 + self.entry.after)) == self.entry.before) }
     {
-        let parts = u64::from(self.before) + 1 + u64::from(self.after);
-        at as u64 % parts == u64::from(self.before)
+        let parts = u128::from(self.before) + 1 + u128::from(self.after);
+        at as u128 % parts == u128::from(self.before)
+    }
+}
+
+impl<'a> Terms<'a> {
+    /// Those of one of so many shares of these schedules.
+    pub(crate) fn share(self, number: usize, shares: usize) -> Terms<'a>
+        requires room { HasShares (part_of self) shares }
+        requires there { number < shares }
+        ensures share { part_of result ≡ share_of (part_of self.entry) shares number }
+        ensures outside { result.outside ≡ self.entry.outside }
+        ensures bound { result.bound ≡ self.entry.bound }
+        ensures departures { result.departures ≡ self.entry.departures }
+    {
+        let parts = self.before + 1 + self.after;
+        let before = self.before + parts * number as u64;
+        Terms {
+            outside: self.outside,
+            bound: self.bound,
+            departures: self.departures,
+            before,
+            after: parts * shares as u64 - before - 1,
+        }
     }
 }
 
@@ -290,7 +313,7 @@ pub fn explore<P: Progress>(
         boot,
         departures: Vec::new(alloc),
         tally: Tally::new(alloc),
-        known: 1,
+        known: usize::from(terms.before == 0),
     };
     let (services, _) = explorer.explore(alloc, progress, services, terms.departures)?;
     let Explorer {

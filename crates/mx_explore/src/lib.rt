@@ -12,6 +12,11 @@
 //! once more. So all schedules are a tree, whose root is the order of turns, and each is there once. Nothing is kept
 //! between two runs but the machine at its boot, so no run can depend on another.
 //!
+//! # Shares
+//!
+//! A part is shared out to several threads: the share of each is a part itself, and has a machine of its own. Their
+//! tallies are joined, so what is found is the same for every number of threads.
+//!
 //! # What it costs
 //!
 //! Each schedule is run from its boot. That costs some four times what runs with shared beginnings would, and the tree
@@ -23,6 +28,7 @@ mod offers;
 mod outcomes;
 mod passing;
 mod schedule_laws;
+mod sharing;
 
 pub use exploring::{Explored, Terms, explore};
 pub use offers::Offer;
@@ -32,3 +38,4 @@ pub use schedule_laws::{
     every_order_is_a_schedule, every_schedule_is_in_the_tree, none_is_turns, parts_join,
     shorter_is_a_schedule, shorter_wait_is_a_schedule,
 };
+pub use sharing::explore_by;

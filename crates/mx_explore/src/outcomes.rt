@@ -5,7 +5,7 @@ ghost use Rattle.mx_machine.specs.Machine.{world_of};
 ghost use Rattle.mx_machine.specs.History.{replay};
 ghost use Rattle.std.specs.Str.{bytes_eq};
 ghost use Rattle.mx_explore.specs.declared.outcomes.Outcome.{Outcome as Outcomes};
-ghost use Rattle.mx_explore.specs.Outcomes.{AreOutcomes, Found, IsCounted, IsTally, end_text, first_of, found_cmp, is_before, outcome_text, state_line, state_lines, tallied};
+ghost use Rattle.mx_explore.specs.Outcomes.{AreOne, AreOutcomes, Found, IsCounted, IsTally, end_text, first_of, found_cmp, is_before, outcome_text, state_line, state_lines, tallied};
 
 use crate::passing::{Departure, Ran, records_of};
 use mx_machine::{Kernel, Service};
@@ -163,12 +163,11 @@ impl Tally {
             .position(|outcome| outcome.text.as_slice() == text)
     }
 
-    /// Counts a schedule among the outcomes.
+    /// Counts the schedules of an outcome among the outcomes.
     fn add(&mut self, outcome: Outcome) -> Result<(), NoMemory>
-        requires { outcome.count ≡ 1 }
-        ensures added { OnOk result ((fs : List Found)
-            → AreOutcomes fs (map tallied self.old.outcomes.items)
-            → AreOutcomes (fs ++ first_of outcome ∷ []) (map tallied self.new.outcomes.items)) }
+        ensures added { OnOk result ((fs gs : List Found)
+            → AreOutcomes fs (map tallied self.old.outcomes.items) → AreOne gs (tallied outcome)
+            → AreOutcomes (fs ++ gs) (map tallied self.new.outcomes.items)) }
         ensures schedules { self.new.schedules ≡ self.old.schedules }
     {
         let Some(place) = self.place_of(outcome.text.as_slice()) else {
@@ -192,6 +191,22 @@ impl Tally {
     {
         self.add(outcome)?;
         self.schedules = self.schedules.saturating_add(1);
+        Ok(())
+    }
+
+    /// Counts the schedules of another tally too.
+    pub(crate) fn join(&mut self, other: Tally) -> Result<(), NoMemory>
+        ensures { OnOk result ((fs gs : List Found) → IsCounted fs self.old → IsCounted gs other
+            → IsCounted (fs ++ gs) self.new) }
+    {
+        let Tally {
+            outcomes,
+            schedules,
+        } = other;
+        for outcome in outcomes {
+            self.add(outcome)?;
+        }
+        self.schedules = self.schedules.saturating_add(schedules);
         Ok(())
     }
 

@@ -79,7 +79,7 @@ returns-in-Sweep-clause-done g c =
 pub returns-in-Explore-clause-done : goal.returns-in-Explore-clause-done
 returns-in-Explore-clause-done g c =
     as_typed (g.P.SharedProgress.was_shown c.args.io.now.progress) _ _ _ _ _ _ _ _ _ _ _ _ _ _ _ _ _ _ c.in-Explore.is
-    (explored _ _ _ _ _ _ c.in-Explore.config.now (option_map (λ s. s.now) c.in-Explore.events) (option_map (λ s. s.now) c.in-Explore.save) c.args.force c.in-Explore.departures c.in-Explore.bound c.in-Explore.part.before c.in-Explore.part.after c.in-Explore.strict _ _ c.explore-found.result c.done_after_explore.result c.explore-found.ensures c.done_after_explore.ensures)
+    (explored _ _ _ _ _ _ c.in-Explore.config.now (option_map (λ s. s.now) c.in-Explore.events) (option_map (λ s. s.now) c.in-Explore.save) c.args.force c.in-Explore.departures c.in-Explore.bound c.in-Explore.part.before c.in-Explore.part.after c.in-Explore.jobs c.in-Explore.strict _ _ c.explore-found.result c.done_after_explore.result c.explore-found.ensures c.done_after_explore.ensures)
 
 pub returns-in-Replay-clause-done : goal.returns-in-Replay-clause-done
 returns-in-Replay-clause-done g c =
