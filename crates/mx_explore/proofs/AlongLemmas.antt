@@ -25,7 +25,7 @@ module _ (K : Standing → Type 0) (lasts : (s : Standing) (m : Met) → K s →
   at_lasts start p [] k = k
   at_lasts start p (x ∷ xs) k = at_lasts start (at_place start p x) xs (met_lasts start p (open_at start p x) k)
 
-  turn_lasts : (p : Passage) → K p.standing → K (passed_turn p).standing
+  pub turn_lasts : (p : Passage) → K p.standing → K (passed_turn p).standing
   turn_lasts p k = at_lasts (turn_start p) p (places (length p.world.cpus) (length p.world.services)) k
 
   pub turns_last : (k : ℕ) (p : Passage) → K p.standing → K (passed_turns k p).0.standing
@@ -87,7 +87,7 @@ module _ (T A : Standing → Standing → Type 0)
       inr (at_lasts (λ (s : Standing). A s (At start q (x ∷ xs)).standing) (first (At start q (x ∷ xs)).standing) start p (x ∷ xs)
       (at_lasts (λ (t : Standing). A p.standing t) (second p.standing) start q (x ∷ xs) g))
 
-  goes_turn : (p : Passage) (t : Standing) → T p.standing t → Goes (passed_turn p) (passed_turn (stood p t))
+  pub goes_turn : (p : Passage) (t : Standing) → T p.standing t → Goes (passed_turn p) (passed_turn (stood p t))
   goes_turn p t h = goes_at (turn_start p) p (stood p t) (places (length p.world.cpus) (length p.world.services)) (inl (refl, h))
 
   rest_parted : (k j : ℕ) (p q : Passage) → A p.standing q.standing → A (passed_turns k p).0.standing (passed_turns j q).0.standing

@@ -8,6 +8,7 @@ mod FollowLemmas
 mod WaitLemmas
 mod ScheduleLemmas
 mod BoundLemmas
+mod LedLemmas
 mod TreeLemmas
 pub mod CountLemmas
 mod StateLemmas

@@ -5,4 +5,5 @@ pub mod Outcomes
 pub mod Schedules
 pub mod Tree
 pub mod Histories
+pub mod Rests
 pub mod Exploring

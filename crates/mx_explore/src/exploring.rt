@@ -9,9 +9,13 @@ ghost use Rattle.mx_explore.specs.Passages.{IsRun};
 ghost use Rattle.mx_explore.specs.Schedules.{is_in_part};
 ghost use Rattle.mx_explore.specs.Tree.{below, can_wait, departed, departing, itself, waits_on};
 
-use crate::outcomes::{Tally, outcome_of};
-use crate::passing::{Departure, Met, Ran, run_passing};
-use mx_machine::{Checkpoint, Machine, Service};
+use crate::alike::same_table;
+use crate::outcomes::Tally;
+use crate::passing::{Departure, Led, Met, Ran, Schedule, Spot, Way, end_here, pass_departures, records_of, run_passing};
+use crate::rests::{Rest, first_begun};
+use mx_exec::CopyFor;
+use mx_machine::{Checkpoint, Machine, Record, Service};
+use mx_proc::Table;
 use mx_turns::Outside;
 use mx_walk::{Part, Progress};
 use mx_word::NoMemory;
@@ -51,36 +55,48 @@ pub struct Explored {
     pub services: Vec<Service>,
 }
 
-/// Schedules that are run one after another, each from the boot.
+/// The beginning of a turn, to run schedules from it; and its table, if no processor holds a process.
+#[derive(Drop)]
+struct Start {
+    spot: Spot,
+    checkpoint: Checkpoint,
+    records: Vec<Record>,
+    table: Option<Table>,
+}
+
+/// Turns of a run, in which nothing is passed.
+#[derive(Drop)]
+struct Stretch {
+    start: Option<Start>,
+    met: Vec<Met>,
+    turns: u32,
+}
+
+/// The beginning of a turn, no processor holding a process, from which on all is known.
+#[derive(Drop)]
+struct Known {
+    table: Table,
+    made: u64,
+    records: usize,
+    rest: Rest,
+}
+
+/// Schedules that are run one after another.
 #[derive(Drop)]
 struct Explorer<'a> {
-    terms: Terms<'a>,
-    boot: Checkpoint,
-    /// The departures of the schedule that is run next.
-    departures: Vec<Departure>,
-    tally: Tally,
-    /// How many schedules are known so far.
-    known: usize,
+    outside: Outside<'a>,
+    services: Vec<Service>,
+    /// The later turns of the runs that are departed from, the latest turn of each first.
+    known: Vec<Known>,
 }
 
-/// A schedule that was run: the services for the next machine, and what it tells of longer ones.
+/// A run by departures, from a turn on.
 #[derive(Drop)]
 struct Tried {
-    services: Vec<Service>,
+    machine: Machine,
     met: Vec<Met>,
     after: usize,
-}
-
-/// Whether the first offer of the outside among these is in a turn that has a record already.
-fn waits_on(offers: &[Met]) -> bool
-    ensures { result ≡ waits_on offers.now }
-{
-    for met in offers {
-        if met.offer.is_outside() {
-            return met.is_begun;
-        }
-    }
-    false
+    way: Way,
 }
 
 /// Whether a departure at an offer that was met goes on for a turn more, if it can.
@@ -90,183 +106,331 @@ fn goes_on(met: Met, can_wait: bool) -> bool
     can_wait && met.offer.is_outside()
 }
 
+/// Whether no processor holds a process.
+fn none_is_out(machine: &Machine) -> bool {
+    for cpu in 0..machine.kernel().cpus() {
+        if machine.slot_on(cpu).is_some() {
+            return false;
+        }
+    }
+    true
+}
+
+impl Start {
+    fn new(alloc: Global, machine: &Machine, spot: Spot) -> Result<Start, NoMemory> {
+        let table = if none_is_out(machine) {
+            Some(machine.kernel().table().copied(alloc, CopyFor::Storing)?)
+        } else {
+            None
+        };
+        Ok(Start {
+            spot,
+            checkpoint: Checkpoint::new(alloc, machine)?,
+            records: Vec::from_slice(alloc, machine.kernel().history())?,
+            table,
+        })
+    }
+}
+
+impl Known {
+    /// Whether a machine is where this turn begins, and all that is known of it takes no more turns than are left.
+    fn is_at(&self, machine: &Machine, spot: Spot) -> bool {
+        if self.made != spot.made || self.records != records_of(machine) {
+            return false;
+        }
+        let Some(turns) = self.rest.turns else {
+            return false;
+        };
+        turns <= spot.left
+            && none_is_out(machine)
+            && same_table(&self.table, machine.kernel().table())
+    }
+}
+
 impl Explorer<'_> {
-    /// Whether the schedule is in the part that is explored.
-    fn is_in_part(&self) -> bool
-        ensures { result ≡ is_in_part (part_of self.now.terms) self.now.departures.items }
-    {
-        match self.departures.first() {
-            None => self.terms.before == 0,
-            Some(first) => self.terms.is_part_of(first.at),
+    /// What is known from a turn on: the turn that is known and is the same, if there is one.
+    fn find(&self, machine: &Machine, spot: Spot) -> Option<usize> {
+        let count = self.known.len();
+        for later in 0..count {
+            let place = count - 1 - later;
+            if self.known[place].is_at(machine, spot) {
+                return Some(place);
+            }
+        }
+        None
+    }
+
+    /// What is left at the beginning of a turn: if it is known, or turns end there.
+    fn rest_here(
+        &self,
+        alloc: Global,
+        machine: &Machine,
+        spot: Spot,
+        most: usize,
+    ) -> Result<Option<Rest>, NoMemory> {
+        if let Some(place) = self.find(machine, spot) {
+            return Ok(Some(self.known[place].rest.copied(alloc, most)?));
+        }
+        match end_here(machine, self.outside, spot) {
+            Some(ending) => Ok(Some(Rest::ended(alloc, machine, ending, most)?)),
+            None => Ok(None),
         }
     }
 
-    /// Whether a schedule that departs at this offer next is in the part.
-    fn is_asked(&self, at: usize) -> bool
-        ensures { result ≡ is_in_part (part_of self.now.terms)
-            (departed self.now.departures.items at 1) }
-    {
-        match self.departures.first() {
-            None => self.terms.is_part_of(at),
-            Some(first) => self.terms.is_part_of(first.at),
-        }
-    }
-
-    /// Counts a schedule that was run, if it is in the part.
-    fn count<P: Progress>(
+    /// Runs a machine, and passes nothing, up to a turn from which on all is known.
+    fn walk(
         &mut self,
         alloc: Global,
-        progress: &mut P,
-        ran: &Ran,
-    ) -> Result<(), NoMemory>
-        requires { IsRun (setting self.old.terms self.old.boot) self.old.departures.items ran.now }
-        ensures same { OnOk result (IsSame self.old self.new) }
-        ensures counted { OnOk result (HasCounted self.old
-            (itself (part_of self.old.terms) self.old.departures.items) self.new) }
-        ensures shown { (ps : List Parts) × (P.shown progress.new ≡ P.shown progress.old ++ ps)
-            × ShowsCounts self.old.tally.schedules ps self.new.tally.schedules }
-    {
-        if !self.is_in_part() {
-            return Ok(());
+        machine: Machine,
+        spot: Spot,
+        most: usize,
+        stretches: &mut Vec<Stretch>,
+    ) -> Result<Rest, NoMemory> {
+        let mut machine = machine;
+        let mut spot = spot;
+        let mut found = None;
+        for _ in 0..=spot.left {
+            if let Some(rest) = self.rest_here(alloc, &machine, spot, most)? {
+                found = Some(rest);
+                break;
+            }
+            let start = if most > 0 {
+                Some(Start::new(alloc, &machine, spot)?)
+            } else {
+                None
+            };
+            let mut schedule = Schedule::new(alloc, &[]);
+            let way = pass_departures(&mut machine, &mut schedule, self.outside, spot)?;
+            let met = schedule.into_met();
+            let turns = way.turns;
+            let Ok(()) = stretches.push(Stretch { start, met, turns }) else {
+                return Err(NoMemory);
+            };
+            match way.led {
+                Led::To(next) => spot = next,
+                Led::End(ending) => {
+                    found = Some(Rest::ended(alloc, &machine, ending, most)?);
+                    break;
+                }
+            }
         }
-        let outcome = outcome_of(alloc, ran, self.departures.as_slice())?;
-        self.tally.count(outcome)?;
-        let done = self.tally.schedules as usize;
-        let all = self.known.max(done);
-        progress.show(Part { done, all });
+        self.services = machine.into_kernel().into_services();
+        let Some(rest) = found else {
+            unreachable!();
+        };
+        Ok(rest)
+    }
+
+    /// Explores the schedules from a turn on that depart at most so often.
+    #[cycle(schedules)]
+    fn explore(
+        &mut self,
+        alloc: Global,
+        machine: Machine,
+        spot: Spot,
+        most: usize,
+    ) -> Result<Rest, NoMemory> {
+        let mut stretches = Vec::new(alloc);
+        let mut rest = self.walk(alloc, machine, spot, most, &mut stretches)?;
+        let known = self.known.len();
+        for _ in 0..stretches.len() {
+            let Some(stretch) = stretches.pop() else {
+                unreachable!();
+            };
+            self.explore_stretch(alloc, stretch, most, &mut rest)?;
+        }
+        self.known.truncate(known);
+        Ok(rest)
+    }
+
+    /// Explores the schedules that depart first in some turns, and adds them to the later ones.
+    #[cycle(schedules)]
+    fn explore_stretch(
+        &mut self,
+        alloc: Global,
+        stretch: Stretch,
+        most: usize,
+        rest: &mut Rest,
+    ) -> Result<(), NoMemory> {
+        let Stretch { start, met, turns } = stretch;
+        rest.begin_before(met.as_slice(), turns);
+        let Some(start) = start else {
+            return Ok(());
+        };
+        let mut departures = Vec::new(alloc);
+        for at in 0..met.len() {
+            self.depart(alloc, &start, most - 1, met[at], at, &mut departures, rest)?;
+        }
+        self.know(alloc, start, most - 1, rest)
+    }
+
+    /// Knows what is left from a turn on.
+    fn know(
+        &mut self,
+        alloc: Global,
+        start: Start,
+        most: usize,
+        rest: &Rest,
+    ) -> Result<(), NoMemory> {
+        let Start {
+            spot,
+            checkpoint: _,
+            records,
+            table,
+        } = start;
+        let Some(table) = table else {
+            return Ok(());
+        };
+        let rest = rest.copied(alloc, most)?;
+        let Ok(()) = self.known.push(Known {
+            table,
+            made: spot.made,
+            records: records.len(),
+            rest,
+        }) else {
+            return Err(NoMemory);
+        };
         Ok(())
     }
 
-    /// Runs the schedule, and counts it.
-    fn run<P: Progress>(
+    /// Runs departures from a turn on, up to the beginning of the first turn after them.
+    fn run(
         &mut self,
         alloc: Global,
-        progress: &mut P,
-        services: Vec<Service>,
-    ) -> Result<Tried, NoMemory>
-        requires { IsAtBoot self.old.boot services.items }
-        ensures same { OnOk result (IsSame self.old self.new) }
-        ensures counted { OnOk result (HasCounted self.old
-            (itself (part_of self.old.terms) self.old.departures.items) self.new) }
-        ensures services { IfOk result (λ tried. tried.services.items ≡ services.items) }
-        ensures met { IfOk result (λ tried. tried.met.items ≡ (end_now self.old).met) }
-        ensures after { IfOk result (λ tried. tried.after ≡ (end_now self.old).after) }
-        ensures shown { (ps : List Parts) × (P.shown progress.new ≡ P.shown progress.old ++ ps)
-            × ShowsCounts self.old.tally.schedules ps self.new.tally.schedules }
-    {
-        let machine = self.boot.machine(alloc, services, Vec::new(alloc))?;
-        let ran = run_passing(
-            alloc,
-            machine,
-            self.terms.outside,
-            self.terms.bound,
-            self.departures.as_slice(),
-        )?;
-        self.count(alloc, progress, &ran)?;
-        let Ran {
-            machine,
-            ending: _,
-            met,
-            after,
-        } = ran;
-        let services = machine.into_kernel().into_services();
+        start: &Start,
+        departures: &[Departure],
+    ) -> Result<Tried, NoMemory> {
+        let services = mem::replace(&mut self.services, Vec::new(alloc));
+        let records = Vec::from_slice(alloc, start.records.as_slice())?;
+        let mut machine = start.checkpoint.machine(alloc, services, records)?;
+        let mut schedule = Schedule::new(alloc, departures);
+        let way = pass_departures(&mut machine, &mut schedule, self.outside, start.spot)?;
+        let after = schedule.after;
+        let met = schedule.into_met();
         Ok(Tried {
-            services,
+            machine,
             met,
             after,
+            way,
         })
     }
 
-    /// Knows of the schedules that depart once more, at these offers, for a turn.
-    fn know(&mut self, from: usize, end: usize)
-        ensures same { IsSame self.old self.new }
-        ensures tally { self.new.tally ≡ self.old.tally }
-    {
-        for at in from..end {
-            if self.is_asked(at) {
-                self.known = self.known.saturating_add(1);
+    /// What is left after a run by departures.
+    #[cycle(schedules)]
+    fn explore_later(
+        &mut self,
+        alloc: Global,
+        machine: Machine,
+        led: Led,
+        most: usize,
+    ) -> Result<Rest, NoMemory> {
+        match led {
+            Led::To(spot) => self.explore(alloc, machine, spot, most),
+            Led::End(ending) => {
+                let rest = Rest::ended(alloc, &machine, ending, most)?;
+                self.services = machine.into_kernel().into_services();
+                Ok(rest)
             }
         }
     }
 
-    /// Runs the schedule and all that depart at most `left` times more. Answers the services, and whether its last
-    /// departure can wait for a turn more.
+    /// Explores the schedules that begin with these departures and depart at most so many times more. Answers whether
+    /// the last of them can wait for a turn more.
     #[cycle(schedules)]
-    fn explore<P: Progress>(
+    fn explore_from(
         &mut self,
         alloc: Global,
-        progress: &mut P,
-        services: Vec<Service>,
-        left: u32,
-    ) -> Result<(Vec<Service>, bool), NoMemory>
-        requires { IsAtBoot self.old.boot services.items }
-        ensures same { OnOk result (IsSame self.old self.new) }
-        ensures counted { OnOk result (HasCounted self.old (below (part_of self.old.terms)
-            (setting self.old.terms self.old.boot) left self.old.departures.items) self.new) }
-        ensures services { IfOk result (λ r. r.0.items ≡ services.items) }
-        ensures can_wait { IfOk result (λ r. r.1 ≡ can_wait (end_now self.old)) }
-        ensures shown { (ps : List Parts) × (P.shown progress.new ≡ P.shown progress.old ++ ps)
-            × ShowsCounts self.old.tally.schedules ps self.new.tally.schedules }
-    {
-        let tried = self.run(alloc, progress, services)?;
+        start: &Start,
+        left: usize,
+        departures: &mut Vec<Departure>,
+        rest: &mut Rest,
+    ) -> Result<bool, NoMemory> {
         let Tried {
-            mut services,
+            machine,
             met,
             after,
-        } = tried;
-        let can_wait = waits_on(&met.as_slice()[after..]);
+            way,
+        } = self.run(alloc, start, departures.as_slice())?;
+        let later = self.explore_later(alloc, machine, way.led, left)?;
+        let can_wait = first_begun(&met.as_slice()[after..]).unwrap_or(later.is_begun);
+        rest.count_after(alloc, later, departures.as_slice(), met.len(), way.turns)?;
         if left == 0 {
-            return Ok((services, can_wait));
+            return Ok(can_wait);
         }
-        self.know(after, met.len());
         for at in after..met.len() {
-            if !self.is_asked(at) {
-                continue;
-            }
-            services = self.depart(alloc, progress, services, left - 1, met[at], at)?;
+            self.depart(alloc, start, left - 1, met[at], at, departures, rest)?;
         }
-        Ok((services, can_wait))
+        Ok(can_wait)
     }
 
-    /// Runs the schedules whose next departure is at this offer: for one turn, and, of an outside event, for as many
-    /// as it can wait.
+    /// Explores the schedules whose next departure is at this offer: for one turn, and, of an outside event, for as
+    /// many as it can wait.
     #[cycle(schedules)]
-    fn depart<P: Progress>(
+    fn depart(
         &mut self,
         alloc: Global,
-        progress: &mut P,
-        services: Vec<Service>,
-        left: u32,
+        start: &Start,
+        left: usize,
         met: Met,
         at: usize,
-    ) -> Result<Vec<Service>, NoMemory>
-        requires boot { IsAtBoot self.old.boot services.items }
-        requires met { slice_get (end_now self.old).met at ≡ Some met }
-        ensures same { OnOk result (IsSame self.old self.new) }
-        ensures counted { OnOk result (HasCounted self.old
-            (departing (below (part_of self.old.terms) (setting self.old.terms self.old.boot) left)
-            (setting self.old.terms self.old.boot) self.old.departures.items at 1
-            self.old.terms.bound) self.new) }
-        ensures services { IfOk result (λ back. back.items ≡ services.items) }
-        ensures shown { (ps : List Parts) × (P.shown progress.new ≡ P.shown progress.old ++ ps)
-            × ShowsCounts self.old.tally.schedules ps self.new.tally.schedules }
-    {
-        let mut services = services;
-        for waited in 0..self.terms.bound {
+        departures: &mut Vec<Departure>,
+        rest: &mut Rest,
+    ) -> Result<(), NoMemory> {
+        for waited in 0..start.spot.left {
             let turns = waited + 1;
-            let Ok(()) = self.departures.push(Departure { at, turns }) else {
+            let Ok(()) = departures.push(Departure { at, turns }) else {
                 return Err(NoMemory);
             };
-            let (back, can_wait) = self.explore(alloc, progress, services, left)?;
-            services = back;
-            self.departures.pop();
+            let can_wait = self.explore_from(alloc, start, left, departures, rest)?;
+            departures.pop();
             if !goes_on(met, can_wait) {
-                return Ok(services);
+                return Ok(());
             }
-            self.known = self.known.saturating_add(1);
         }
-        Ok(services)
+        Ok(())
     }
+}
+
+/// How many offers were met in some stretches.
+fn offers_in(stretches: &[Stretch]) -> usize {
+    let mut offers = 0;
+    for stretch in stretches {
+        offers += stretch.met.len();
+    }
+    offers
+}
+
+/// Explores the schedules of a part that depart first in some turns, before which so many offers are.
+fn explore_part<P: Progress>(
+    explorer: &mut Explorer<'_>,
+    alloc: Global,
+    progress: &mut P,
+    terms: Terms<'_>,
+    stretch: Stretch,
+    offers: usize,
+    rest: &mut Rest,
+) -> Result<(), NoMemory> {
+    let most = terms.departures as usize;
+    let Stretch { start, met, turns } = stretch;
+    rest.begin_before(met.as_slice(), turns);
+    let Some(start) = start else {
+        return Ok(());
+    };
+    let mut departures = Vec::new(alloc);
+    for at in 0..met.len() {
+        if terms.is_part_of(offers + at) {
+            explorer.depart(alloc, &start, most - 1, met[at], at, &mut departures, rest)?;
+            let done = rest.tallies[most].schedules as usize;
+            let left = offers + met.len() - at;
+            progress.show(Part {
+                done,
+                all: done.saturating_add(left),
+            });
+        } else if most > 1 {
+            explorer.depart(alloc, &start, most - 2, met[at], at, &mut departures, rest)?;
+        }
+    }
+    explorer.know(alloc, start, most - 1, rest)
 }
 
 /// Runs every schedule of a part that departs at most so often, each from the machine's boot. Answers the outcomes.
@@ -284,22 +448,30 @@ pub fn explore<P: Progress>(
         × IfOk result (λ explored. explored.tally.schedules ≡ n) }
 {
     let boot = Checkpoint::new(alloc, &machine)?;
-    let services = machine.into_kernel().into_services();
     let mut explorer = Explorer {
-        terms,
-        boot,
-        departures: Vec::new(alloc),
-        tally: Tally::new(alloc),
-        known: 1,
+        outside: terms.outside,
+        services: Vec::new(alloc),
+        known: Vec::new(alloc),
     };
-    let (services, _) = explorer.explore(alloc, progress, services, terms.departures)?;
-    let Explorer {
-        terms: _,
-        boot,
-        departures: _,
-        mut tally,
-        known: _,
-    } = explorer;
+    let spot = Spot {
+        made: 0,
+        left: terms.bound,
+    };
+    let most = terms.departures as usize;
+    let mut stretches = Vec::new(alloc);
+    let mut rest = explorer.walk(alloc, machine, spot, most, &mut stretches)?;
+    if terms.before > 0 {
+        rest.tallies[most] = Tally::new(alloc);
+    }
+    for _ in 0..stretches.len() {
+        let Some(stretch) = stretches.pop() else {
+            unreachable!();
+        };
+        let offers = offers_in(stretches.as_slice());
+        explore_part(&mut explorer, alloc, progress, terms, stretch, offers, &mut rest)?;
+    }
+    let services = explorer.services;
+    let mut tally = rest.into_last();
     tally.sort();
     Ok(Explored {
         tally,

@@ -18,10 +18,12 @@
 //! needs no memory for worlds.
 #![tactic(auto)]
 
+mod alike;
 mod exploring;
 mod offers;
 mod outcomes;
 mod passing;
+mod rests;
 mod schedule_laws;
 
 pub use exploring::{Explored, Terms, explore};
@@ -30,5 +32,5 @@ pub use outcomes::{Outcome, Tally};
 pub use passing::{Departure, Met, Ran, run_passing};
 pub use schedule_laws::{
     every_order_is_a_schedule, every_schedule_is_in_the_tree, none_is_turns, parts_join,
-    shorter_is_a_schedule, shorter_wait_is_a_schedule,
+    rest_is_a_run, shorter_is_a_schedule, shorter_wait_is_a_schedule,
 };

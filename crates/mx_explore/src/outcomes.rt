@@ -7,8 +7,8 @@ ghost use Rattle.std.specs.Str.{bytes_eq};
 ghost use Rattle.mx_explore.specs.declared.outcomes.Outcome.{Outcome as Outcomes};
 ghost use Rattle.mx_explore.specs.Outcomes.{AreOutcomes, Found, IsCounted, IsTally, end_text, first_of, found_cmp, is_before, outcome_text, state_line, state_lines, tallied};
 
-use crate::passing::{Departure, Ran, records_of};
-use mx_machine::{Kernel, Service};
+use crate::passing::{Departure, records_of};
+use mx_machine::{Kernel, Machine, Service};
 use mx_print_report::{Naming, doing_of, push_console, push_count, push_doing, push_name};
 use mx_proc::{Slot, Table};
 use mx_turns::{Ending, push_kept};
@@ -85,26 +85,26 @@ fn outcome_text(alloc: Global, kernel: &Kernel, ending: Ending) -> Result<Vec<u8
     Ok(text)
 }
 
-/// The outcome of one schedule.
+/// The outcome of turns that ended here, without a departure.
 #[tactic(auto, unfolding(mx_machine::specs::Machine::world_of))]
 pub(crate) fn outcome_of(
     alloc: Global,
-    ran: &Ran,
-    departures: &[Departure],
+    machine: &Machine,
+    ending: Ending,
 ) -> Result<Outcome, NoMemory>
     ensures found { IfOk result (λ o. first_of o
         ≡ record {
-          text = outcome_text (world_of ran.now.machine) ran.now.ending;
-          departures = departures.now;
-          records = (world_of ran.now.machine).records;
+          text = outcome_text (world_of machine.now) ending;
+          departures = [];
+          records = (world_of machine.now).records;
         }) }
     ensures one { IfOk result (λ o. o.count ≡ 1) }
 {
     Ok(Outcome {
-        text: outcome_text(alloc, ran.machine.kernel(), ran.ending)?,
+        text: outcome_text(alloc, machine.kernel(), ending)?,
         count: 1,
-        departures: Vec::from_slice(alloc, departures)?,
-        records: records_of(&ran.machine),
+        departures: Vec::new(alloc),
+        records: records_of(machine),
     })
 }
 
@@ -130,6 +130,34 @@ impl Outcome {
             *self = other;
         }
         self.count = count;
+    }
+}
+
+impl Outcome {
+    /// The same outcome. Takes memory for it.
+    fn copied(&self, alloc: Global) -> Result<Outcome, AllocError> {
+        Ok(Outcome {
+            text: Vec::from_slice(alloc, self.text.as_slice())?,
+            count: self.count,
+            departures: Vec::from_slice(alloc, self.departures.as_slice())?,
+            records: self.records,
+        })
+    }
+
+    /// Numbers the offers from so many before them on.
+    fn renumber(&mut self, offers: usize) {
+        for place in 0..self.departures.len() {
+            self.departures[place].at += offers;
+        }
+    }
+
+    /// Puts departures in front, in whose run so many offers were met before these.
+    fn follow(&mut self, alloc: Global, first: &[Departure], offers: usize) -> Result<(), AllocError> {
+        let mut departures = Vec::from_slice(alloc, first)?;
+        self.renumber(offers);
+        departures.extend_from_slice(self.departures.as_slice())?;
+        self.departures = departures;
+        Ok(())
     }
 }
 
@@ -178,6 +206,48 @@ impl Tally {
             return Ok(());
         };
         self.outcomes[place].join(outcome);
+        Ok(())
+    }
+
+    /// The same tally. Takes memory for it.
+    pub(crate) fn copied(&self, alloc: Global) -> Result<Tally, NoMemory> {
+        let mut outcomes = Vec::with_capacity(alloc, self.outcomes.len())?;
+        for outcome in &self.outcomes {
+            let Ok(()) = outcomes.push(outcome.copied(alloc)?) else {
+                return Err(NoMemory);
+            };
+        }
+        Ok(Tally {
+            outcomes,
+            schedules: self.schedules,
+        })
+    }
+
+    /// Numbers the offers of all schedules from so many before them on.
+    pub(crate) fn renumber(&mut self, offers: usize) {
+        for place in 0..self.outcomes.len() {
+            self.outcomes[place].renumber(offers);
+        }
+    }
+
+    /// Counts schedules that were counted apart, each with these departures in front of it.
+    pub(crate) fn count_after(
+        &mut self,
+        alloc: Global,
+        later: Tally,
+        first: &[Departure],
+        offers: usize,
+    ) -> Result<(), NoMemory> {
+        let Tally {
+            outcomes,
+            schedules,
+        } = later;
+        for outcome in outcomes {
+            let mut outcome = outcome;
+            outcome.follow(alloc, first, offers)?;
+            self.add(outcome)?;
+        }
+        self.schedules = self.schedules.saturating_add(schedules);
         Ok(())
     }
 

@@ -419,6 +419,108 @@ fn pass_turns(
     }
 }
 
+/// Where a turn begins: how many outside events were made before it, and how many turns there may be from it on.
+#[derive(Clone, Copy)]
+pub(crate) struct Spot {
+    pub(crate) made: u64,
+    pub(crate) left: u32,
+}
+
+/// Where some turns led: to the beginning of a turn, or to their end.
+#[derive(Clone, Copy)]
+pub(crate) enum Led {
+    To(Spot),
+    End(Ending),
+}
+
+/// How some turns went, and how many there were.
+#[derive(Clone, Copy)]
+pub(crate) struct Way {
+    pub(crate) led: Led,
+    pub(crate) turns: u32,
+}
+
+/// Whether a schedule has no departure ahead, and no event waits.
+fn is_through(schedule: &Schedule<'_>) -> bool {
+    schedule.ahead.is_empty() && schedule.waits == 0
+}
+
+/// Makes turns of a schedule, one at least, up to the first turn that begins with no departure ahead.
+pub(crate) fn pass_departures(
+    machine: &mut Machine,
+    schedule: &mut Schedule<'_>,
+    outside: Outside<'_>,
+    spot: Spot,
+) -> Result<Way, AllocError> {
+    let mut made = spot.made;
+    for turns in 0..spot.left {
+        let next = outside.get(made);
+        if is_over(machine, next) {
+            let led = Led::End(Ending::Rest);
+            return Ok(Way { led, turns });
+        }
+        let turned = pass_turn(machine, schedule, next)?;
+        let turns = turns + 1;
+        if turned.is_full {
+            let led = Led::End(Ending::Full);
+            return Ok(Way { led, turns });
+        }
+        made += u64::from(turned.is_gone);
+        if is_through(schedule) {
+            let left = spot.left - turns;
+            let led = Led::To(Spot { made, left });
+            return Ok(Way { led, turns });
+        }
+    }
+    let turns = spot.left;
+    let led = Led::End(end_by_turns(machine, outside.get(made)));
+    Ok(Way { led, turns })
+}
+
+/// How turns end of which no more may be made.
+fn end_by_turns(machine: &Machine, next: Option<OutsideLine>) -> Ending {
+    if is_over(machine, next) {
+        Ending::Rest
+    } else {
+        Ending::Turns
+    }
+}
+
+/// How turns end that may be made from here on, if they end here.
+pub(crate) fn end_here(machine: &Machine, outside: Outside<'_>, spot: Spot) -> Option<Ending> {
+    let ending = end_by_turns(machine, outside.get(spot.made));
+    if spot.left == 0 || ending == Ending::Rest {
+        Some(ending)
+    } else {
+        None
+    }
+}
+
+impl Schedule<'_> {
+    /// A schedule at its beginning.
+    pub(crate) fn new(alloc: Global, departures: &[Departure]) -> Schedule<'_> {
+        Schedule {
+            ahead: departures,
+            waits: 0,
+            met: Vec::new(alloc),
+            after: 0,
+            is_kept: true,
+        }
+    }
+
+    /// The offers that were met.
+    pub(crate) fn into_met(self) -> Vec<Met> {
+        let Schedule {
+            ahead: _,
+            waits: _,
+            met,
+            after: _,
+            is_kept: _,
+        } = self;
+        met
+    }
+}
+
 /// Runs a machine by turns, as `make_turns` does, but for the departures of a schedule. Takes memory for what it meets.
 pub fn run_passing(
     alloc: Global,

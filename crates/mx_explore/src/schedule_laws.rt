@@ -1,6 +1,6 @@
 //! Laws of schedules.
 
-ghost use Rattle.std.specs.Prelude.{◌≡◌, ◌<◌, ◌+◌, ◌++◌, ◌∷◌, [], ℕ, List, length};
+ghost use Rattle.std.specs.Prelude.{◌≡◌, ◌<◌, ◌+◌, ◌-◌, ◌++◌, ◌∷◌, [], ℕ, List, length};
 ghost use Rattle.std.specs.List.{flat_map, range_with_len};
 ghost use Rattle.mx_explore.specs.declared.passing.Departure.{Departure as Departures};
 ghost use Rattle.mx_machine.specs.declared.events.Event.{Event as Events};
@@ -9,6 +9,8 @@ ghost use Rattle.mx_turns.specs.Turns.{turns};
 ghost use Rattle.mx_walk.specs.Kept.{kept_of};
 ghost use Rattle.mx_explore.specs.Histories.{IsInOrder, IsOf};
 ghost use Rattle.mx_explore.specs.Passing.{IsSchedule, Place, Setting, run_of_schedule};
+ghost use Rattle.mx_explore.specs.Passing.{Passage};
+ghost use Rattle.mx_explore.specs.Rests.{GoesOnAs, IsThrough, from_here, then_departing};
 ghost use Rattle.mx_explore.specs.Schedules.{AreAll, Part, part_at, whole};
 ghost use Rattle.mx_explore.specs.Tree.{below};
 
@@ -49,4 +51,11 @@ pub fn parts_join()
 pub fn every_order_is_a_schedule()
     ensures { (t : Setting) (order : List Place) (xs : List (ℕ × Events)) → t.turns ≡ length order
         → IsInOrder t.boot t.coming order xs → (ds : List Departures) × IsOf t xs ds }
+{}
+
+/// Law: a run that is through with its departures goes on as one that begins where it is, whatever departs later.
+pub fn rest_is_a_run()
+    ensures { (t : Setting) (ds es : List Departures) (j : ℕ) (q : Passage) → IsThrough t ds j q
+        → GoesOnAs q (run_of_schedule (from_here (t.turns - j) q) es)
+        (run_of_schedule t (then_departing ds (length q.standing.met) es)) }
 {}
