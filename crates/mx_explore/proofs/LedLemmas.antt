@@ -29,7 +29,7 @@ led_turns (suc j) n p q h =
     ap (λ k. passed_turns k p) more ∙ next_turns (j + n) p (passed_turn p) h.0 refl h.1 ∙ led_turns j n (passed_turn p) q h.2
 
 -- what lasts has lasted
-led_lasts : (K : Standing → Type 0) → ((s : Standing) (m : Met) → K s → K (noted s m)) → (j : ℕ) (p q : Passage) → LedBy j p q → K p.standing → K q.standing
+pub led_lasts : (K : Standing → Type 0) → ((s : Standing) (m : Met) → K s → K (noted s m)) → (j : ℕ) (p q : Passage) → LedBy j p q → K p.standing → K q.standing
 led_lasts K lasts zero p q h k = subst (λ (x : Passage). K x.standing) (sym h) k
 led_lasts K lasts (suc j) p q h k = led_lasts K lasts j (passed_turn p) q h.2 (turn_lasts K lasts p k)
 

@@ -9,6 +9,8 @@ mod WaitLemmas
 mod ScheduleLemmas
 mod BoundLemmas
 mod LedLemmas
+mod RestLemmas
+mod EnoughLemmas
 mod TreeLemmas
 pub mod CountLemmas
 mod StateLemmas

@@ -86,7 +86,7 @@ range_within a zero = tt
 range_within a (suc n) =
     ((omega arith, omega arith), rec_weaker (λ k. (a + 1 ≤ k) × (k < a + 1 + n)) (λ k. (a ≤ k) × (k < a + suc n)) (λ k h. (let low = h.0 in omega (arith, low), let high = h.1 in omega (arith, high))) (range_with_len (a + 1) n) (range_within (a + 1) n))
 
-get_within : {X : Type 0} (xs : List X) (k : ℕ) → k < length xs → (x : X) × (slice_get xs k ≡ Some x)
+pub get_within : {X : Type 0} (xs : List X) (k : ℕ) → k < length xs → (x : X) × (slice_get xs k ≡ Some x)
 get_within [] k h = absurd (omega (arith, h))
 get_within (x ∷ xs) zero h = (x, refl)
 get_within (x ∷ xs) (suc k) h = get_within xs k (omega (arith, h))
@@ -425,7 +425,7 @@ Quiet s = (s.ahead ≡ []) × (s.waits ≡ 0) × (s.kept ≡ true)
 quiet_lasts : (s : Standing) (m : Met) → Quiet s → Quiet (noted s m)
 quiet_lasts s m h = subst Quiet (sym (noted_quiet s m h.0 h.1)) h
 
-none_is_schedule : (t : Setting) → IsSchedule t []
+pub none_is_schedule : (t : Setting) → IsSchedule t []
 unfolding run_of_schedule
 none_is_schedule t = let q = turns_last Quiet quiet_lasts t.turns (from_boot t []) (refl, refl, refl) in record { begun = q.0; ended = q.1; kept = q.2 }
 
