@@ -11,6 +11,7 @@ mod BoundLemmas
 mod LedLemmas
 mod RestLemmas
 mod EnoughLemmas
+mod LaterLemmas
 mod TreeLemmas
 pub mod CountLemmas
 mod StateLemmas

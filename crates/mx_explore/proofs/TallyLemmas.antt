@@ -30,10 +30,10 @@ IsOf gs x = IsOutcomeOf gs x × AllByRecursion (λ (g : Found). g.text ≡ x.fir
 
 -- ---- texts
 
-same_text : (s t : List ℕ) → bytes_eq s t ≡ true → s ≡ t
+pub same_text : (s t : List ℕ) → bytes_eq s t ≡ true → s ≡ t
 same_text s t h = (bytes_eq-Decides s t).0 h
 
-itself : (t : List ℕ) → bytes_eq t t ≡ true
+pub itself : (t : List ℕ) → bytes_eq t t ≡ true
 itself t = (bytes_eq-Decides t t).1 refl
 
 other_way : (s t : List ℕ) → bytes_eq s t ≡ false → bytes_eq t s ≡ false
@@ -52,7 +52,7 @@ text_kept o x e = by (is_before x.first o.first)
 
 -- ---- schedules that lead to a text
 
-leading_same : (t : List ℕ) (gs : List Found) → AllByRecursion (λ (g : Found). g.text ≡ t) gs → leading_to t gs ≡ gs
+pub leading_same : (t : List ℕ) (gs : List Found) → AllByRecursion (λ (g : Found). g.text ≡ t) gs → leading_to t gs ≡ gs
 leading_same t [] h = refl
 leading_same t (g ∷ gs) h =
     ap (λ b. cond b (g ∷ leading_to t gs) (leading_to t gs)) (ap (λ u. bytes_eq u t) h.0 ∙ itself t) ∙ ap (λ (l : List Found). g ∷ l) (leading_same t gs h.1)
@@ -126,7 +126,7 @@ module _ (fs gs : List Found) (x : Tallied) (is_of : IsOf gs x) where
         first = subst (All (λ (g : Found). is_before g x.first ≡ false)) (sym more) is_of.0.first;
       }
 
--- ---- all of them
+  -- ---- all of them
 
   -- none of these outcomes has the text
   abbrev Lacks : List Tallied → Type 0

@@ -36,7 +36,7 @@ rec_flat P f [] h = tt
 rec_flat P f (x ∷ xs) h = rec_append P (f x) (flat_map f xs) h.0 (rec_flat P f xs h.1)
 
 -- what a filter keeps
-rec_filter : {X : Type 0} (p : X → Bool) (P : X → Type 0) (xs : List X) → AllByRecursion P xs → AllByRecursion (λ x. P x × (p x ≡ true)) (filter p xs)
+pub rec_filter : {X : Type 0} (p : X → Bool) (P : X → Type 0) (xs : List X) → AllByRecursion P xs → AllByRecursion (λ x. P x × (p x ≡ true)) (filter p xs)
 rec_filter p P [] h = tt
 rec_filter p P (x ∷ xs) h = by (rec_filter p P xs h.1) (p x) refl
   where
@@ -44,20 +44,20 @@ rec_filter p P (x ∷ xs) h = by (rec_filter p P xs h.1) (p x) refl
     by later true e = ((h.0, e), later)
     by later false e = later
 
-has_first : {X : Type 0} (x : X) (xs : List X) → Contains (x ∷ xs) x
+pub has_first : {X : Type 0} (x : X) (xs : List X) → Contains (x ∷ xs) x
 has_first x xs = (0, omega arith, refl)
 
-has_later : {X : Type 0} (y : X) (xs : List X) (x : X) → Contains xs x → Contains (y ∷ xs) x
+pub has_later : {X : Type 0} (y : X) (xs : List X) (x : X) → Contains xs x → Contains (y ∷ xs) x
 has_later y xs x h = Contains-append_right (y ∷ []) xs x h
 
 one_at : {X : Type 0} (y x : X) (k : ℕ) → k < length (y ∷ []) → slice_index_or (y ∷ []) k x ≡ x → x ≡ y
 one_at y x zero low e = sym e
 one_at y x (suc k) low e = absurd (let few : suc k < 1 = low in omega (arith, few))
 
-only_one : {X : Type 0} (y x : X) → Contains (y ∷ []) x → x ≡ y
+pub only_one : {X : Type 0} (y x : X) → Contains (y ∷ []) x → x ≡ y
 only_one y x h = one_at y x h.0 h.1 h.2
 
-has_filter : {X : Type 0} (p : X → Bool) (xs : List X) (x : X) → p x ≡ true → Contains xs x → Contains (filter p xs) x
+pub has_filter : {X : Type 0} (p : X → Bool) (xs : List X) (x : X) → p x ≡ true → Contains xs x → Contains (filter p xs) x
 has_filter p [] x is h = absurd (let none : h.0 < 0 = h.1 in omega (arith, none))
 has_filter p (y ∷ ys) x is h = by (has_filter p ys x is) (p y) refl (Contains-append_cases (y ∷ []) ys x h)
   where

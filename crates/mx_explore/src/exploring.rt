@@ -72,6 +72,17 @@ struct Stretch {
     turns: u32,
 }
 
+/// A run in which nothing is passed, as stretches of so many turns at most.
+#[derive(Drop)]
+struct Walk {
+    stretches: Vec<Stretch>,
+    most_turns: u32,
+}
+
+/// How many stretches a walk may have: a machine is kept for each of them, with a copy of its table. A walk of more
+/// turns has longer ones.
+const MOST_STRETCHES: usize = 128;
+
 /// The beginning of a turn, no processor holding a process, from which on all is known.
 #[derive(Drop)]
 struct Known {
@@ -132,6 +143,68 @@ impl Start {
     }
 }
 
+impl Stretch {
+    /// Goes on with later turns, whose beginning isn't kept.
+    fn append(&mut self, later: Stretch) -> Result<(), NoMemory> {
+        let Stretch {
+            start: _,
+            met,
+            turns,
+        } = later;
+        self.met.extend_from_slice(met.as_slice())?;
+        self.turns += turns;
+        Ok(())
+    }
+}
+
+impl Walk {
+    fn new(alloc: Global) -> Walk {
+        Walk {
+            stretches: Vec::new(alloc),
+            most_turns: 1,
+        }
+    }
+
+    /// Whether the last stretch can't be longer.
+    fn is_at_end(&self) -> bool {
+        match self.stretches.last() {
+            None => true,
+            Some(stretch) => stretch.turns >= self.most_turns,
+        }
+    }
+
+    /// Adds turns: a stretch of their own if their beginning is kept, else to the last one.
+    fn add(&mut self, stretch: Stretch) -> Result<(), NoMemory> {
+        if !self.is_at_end() {
+            let last = self.stretches.len() - 1;
+            return self.stretches[last].append(stretch);
+        }
+        let Ok(()) = self.stretches.push(stretch) else {
+            return Err(NoMemory);
+        };
+        Ok(())
+    }
+
+    /// Makes one of each two stretches, if there are as many as there may be.
+    fn halve(self, alloc: Global) -> Result<Walk, NoMemory> {
+        if self.stretches.len() < MOST_STRETCHES {
+            return Ok(self);
+        }
+        let Walk {
+            stretches,
+            most_turns,
+        } = self;
+        let mut walk = Walk {
+            stretches: Vec::new(alloc),
+            most_turns: most_turns.saturating_mul(2),
+        };
+        for stretch in stretches {
+            walk.add(stretch)?;
+        }
+        Ok(walk)
+    }
+}
+
 impl Known {
     /// Whether a machine is where this turn begins, and all that is known of it takes no more turns than are left.
     fn is_at(&self, machine: &Machine, spot: Spot) -> bool {
@@ -177,6 +250,28 @@ impl Explorer<'_> {
         }
     }
 
+    /// Makes a turn in which nothing is passed, and keeps its beginning if a stretch begins there.
+    fn pass_nothing(
+        &self,
+        alloc: Global,
+        machine: &mut Machine,
+        spot: Spot,
+        is_kept: bool,
+        walk: &mut Walk,
+    ) -> Result<Led, NoMemory> {
+        let start = if is_kept && walk.is_at_end() {
+            Some(Start::new(alloc, machine, spot)?)
+        } else {
+            None
+        };
+        let mut schedule = Schedule::new(alloc, &[]);
+        let way = pass_departures(machine, &mut schedule, self.outside, spot)?;
+        let met = schedule.into_met();
+        let turns = way.turns;
+        walk.add(Stretch { start, met, turns })?;
+        Ok(way.led)
+    }
+
     /// Runs a machine, and passes nothing, up to a turn from which on all is known.
     fn walk(
         &mut self,
@@ -184,29 +279,18 @@ impl Explorer<'_> {
         machine: Machine,
         spot: Spot,
         most: usize,
-        stretches: &mut Vec<Stretch>,
-    ) -> Result<Rest, NoMemory> {
+    ) -> Result<(Vec<Stretch>, Rest), NoMemory> {
         let mut machine = machine;
         let mut spot = spot;
+        let mut walk = Walk::new(alloc);
         let mut found = None;
         for _ in 0..=spot.left {
             if let Some(rest) = self.rest_here(alloc, &machine, spot, most)? {
                 found = Some(rest);
                 break;
             }
-            let start = if most > 0 {
-                Some(Start::new(alloc, &machine, spot)?)
-            } else {
-                None
-            };
-            let mut schedule = Schedule::new(alloc, &[]);
-            let way = pass_departures(&mut machine, &mut schedule, self.outside, spot)?;
-            let met = schedule.into_met();
-            let turns = way.turns;
-            let Ok(()) = stretches.push(Stretch { start, met, turns }) else {
-                return Err(NoMemory);
-            };
-            match way.led {
+            walk = walk.halve(alloc)?;
+            match self.pass_nothing(alloc, &mut machine, spot, most > 0, &mut walk)? {
                 Led::To(next) => spot = next,
                 Led::End(ending) => {
                     found = Some(Rest::ended(alloc, &machine, ending, most)?);
@@ -218,7 +302,11 @@ impl Explorer<'_> {
         let Some(rest) = found else {
             unreachable!();
         };
-        Ok(rest)
+        let Walk {
+            stretches,
+            most_turns: _,
+        } = walk;
+        Ok((stretches, rest))
     }
 
     /// Explores the schedules from a turn on that depart at most so often.
@@ -230,8 +318,7 @@ impl Explorer<'_> {
         spot: Spot,
         most: usize,
     ) -> Result<Rest, NoMemory> {
-        let mut stretches = Vec::new(alloc);
-        let mut rest = self.walk(alloc, machine, spot, most, &mut stretches)?;
+        let (mut stretches, mut rest) = self.walk(alloc, machine, spot, most)?;
         let known = self.known.len();
         for _ in 0..stretches.len() {
             let Some(stretch) = stretches.pop() else {
@@ -458,8 +545,7 @@ pub fn explore<P: Progress>(
         left: terms.bound,
     };
     let most = terms.departures as usize;
-    let mut stretches = Vec::new(alloc);
-    let mut rest = explorer.walk(alloc, machine, spot, most, &mut stretches)?;
+    let (mut stretches, mut rest) = explorer.walk(alloc, machine, spot, most)?;
     if terms.before > 0 {
         rest.tallies[most] = Tally::new(alloc);
     }
