@@ -9,13 +9,21 @@
 //! # The tree
 //!
 //! A run tells which open offers it met. Each of them that is after the last departure gives a schedule that departs
-//! once more. So all schedules are a tree, whose root is the order of turns, and each is there once. Nothing is kept
-//! between two runs but the machine at its boot, so no run can depend on another.
+//! once more. So all schedules are a tree, whose root is the order of turns, and each is there once.
+//!
+//! # Where a run ends
+//!
+//! At the beginning of a turn with no departure ahead, what is left is as of a machine that boots there. Departures are
+//! explored from the last turn of a run to the first, so of each later turn all outcomes are known. A run that comes to
+//! a world that is known, with the same outside events to come, ends there: its outcomes are those that are known, with
+//! its departures in front. Worlds are compared whole, their records and deliveries too; no hash stands for them. All
+//! that is known has to end in the turns that are left.
 //!
 //! # What it costs
 //!
-//! Each schedule is run from its boot. That costs some four times what runs with shared beginnings would, and the tree
-//! needs no memory for worlds.
+//! Of a run at most 128 turns are kept, with a machine and a table for each; the longest list of departures has that
+//! many runs at once, and one more. On four processors, of 96,692 schedules with 438 records each, 23,369 runs make
+//! 0.9 million records in place of 42.
 #![tactic(auto)]
 
 mod alike;
