@@ -1,7 +1,7 @@
 -- A run that is through with its departures goes on as a run that begins where it is.
 use Rattle.std.proofs.Common.{◌≡◌, ◌∙◌, ◌⊎◌, ◌≤◌, ◌<◌, ◌+◌, ◌-◌, ◌==◌, ◌&&◌, ◌||◌, ◌++◌, ℕ, zero, suc, Bool, true, false, List, [], ◌∷◌, drop, map, length, length-append, cond, nat_lt, Option, Some, None, is_none, inl, inr, refl, ap, sym, subst, arith, true≢false}
 use Rattle.std.specs.Prelude.{⊤, slice_get}
-use Rattle.std.proofs.lemmas.Bool.{cases_Bool, eq-eqb, eqb-true}
+use Rattle.std.proofs.lemmas.Bool.{cases_Bool, eq-eqb, eqb-true, ne_eqb}
 use Rattle.std.proofs.lemmas.List.{append-nil, append_assoc}
 use Rattle.mx_machine.specs.History.{BootAndHistory}
 use Rattle.mx_turns.specs.Turns.{is_over}
@@ -23,7 +23,7 @@ use Rattle.mx_explore.proofs.TurnLemmas.{next_turns}
 
 -- they are its first
 pub led_turns : (j n : ℕ) (p q : Passage) → LedBy j p q → passed_turns (j + n) p ≡ passed_turns n q
-led_turns zero n p q h = ap (passed_turns n) (sym h)
+led_turns zero n p q h = let none : zero + n ≡ n = omega arith in ap (λ k. passed_turns k p) none ∙ ap (passed_turns n) (sym h)
 led_turns (suc j) n p q h =
     let more : suc j + n ≡ suc (j + n) = omega arith in
     ap (λ k. passed_turns k p) more ∙ next_turns (j + n) p (passed_turn p) h.0 refl h.1 ∙ led_turns j n (passed_turn p) q h.2
@@ -237,8 +237,7 @@ module _ (q : Standing) where
       all ∙ ap (λ b. cond b q.after (length (s.met ++ m ∷ []) + long)) (sym (some (length (s.met ++ m ∷ [])) (omega (arith, three))))
     where
       some : (k : ℕ) → 0 < k → (k == 0) ≡ false
-      some zero h = absurd (omega (arith, h))
-      some (suc k) h = refl
+      some k h = ne_eqb k 0 (λ e. omega (arith, h, e))
 
   and_later : (a b c : Bool) → ((a && b) && c) ≡ (a && (b && c))
   and_later true b c = refl

@@ -2,7 +2,7 @@
 use Rattle.std.proofs.Common.{◌≡◌, ◌∙◌, ◌⊎◌, ◌≤◌, ◌<◌, ◌+◌, ◌-◌, ◌==◌, ◌&&◌, ◌++◌, ℕ, zero, suc, Bool, true, false, List, [], ◌∷◌, drop, map, length, length-append, cond, inl, inr, Some, refl, ap, sym, subst, arith, true≢false}
 use Rattle.std.specs.Prelude.{slice_get}
 use Rattle.std.specs.List.{flat_map, range_with_len}
-use Rattle.std.proofs.lemmas.Bool.{cases_Bool}
+use Rattle.std.proofs.lemmas.Bool.{ne_eqb}
 use Rattle.std.proofs.lemmas.List.{append-nil, append_assoc, map-append}
 use Rattle.mx_explore.specs.Offers.{is_outside}
 use Rattle.mx_explore.specs.declared.passing.Departure.{Departure}
@@ -89,8 +89,7 @@ module _ (t : Setting) (ds : List Departure) (j : ℕ) (q : Passage) (h : IsThro
   after_all es some = ap (λ (s : Standing). s.after) (end_all es) ∙ by (end_of here es).after some
     where
       by : (k : ℕ) → 0 < k → cond (k == 0) q.standing.after (k + many) ≡ k + many
-      by zero lt = absurd (omega (arith, lt))
-      by (suc k) lt = refl
+      by k lt = ap (λ b. cond b q.standing.after (k + many)) (ne_eqb k 0 (λ e. omega (arith, lt, e)))
 
   can_all : (es : List Departure) → 0 < (end_of here es).after → can_wait (end_of t (all es)) ≡ can_wait (end_of here es)
   can_all es some =
