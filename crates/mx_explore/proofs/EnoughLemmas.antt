@@ -83,7 +83,8 @@ module _ (t : Setting) (most n m : ℕ) (low : most ≤ n) (high : most ≤ m) w
       → departing (beginning (of m) k) (of m) ds at i more ≡ departing (beginning (of n) k) (of n) ds at i few
   same_departing k deep ds at met own there zero more i lt s e f h =
       let lasts = few_turns (of n) ds (record { at = at; turns = i }) s in absurd (omega (arith, lasts, e))
-  same_departing k deep ds at met own there (suc few) more i lt s e f h = by more f
+  same_departing k deep ds at met own there (suc few) more i lt s e f h =
+      by (λ later g goes_on all. same_departing k deep ds at met own there few later (i + 1) (omega arith) (longer goes_on) (omega (arith, e)) (omega (arith, g)) all) more f
     where
       es : List Departure
       es = departed ds at i
@@ -101,26 +102,30 @@ module _ (t : Setting) (most n m : ℕ) (low : most ≤ n) (high : most ≤ m) w
       same = ap (λ (x : Standing). can_wait x && is_of_outside (slice_get (end_of (of m) ds).met at)) (same_end es ends) ∙ ap (λ (x : Standing). can_wait (end_of (of n) es) && is_of_outside (slice_get x.met at)) (same_end ds own)
 
       longer : goes ≡ true → IsSchedule (of n) (departed ds at (i + 1))
-      longer yes =
+      longer goes_on =
           let d : Departure = record { at = at; turns = i } in
-          let two = both_true _ _ yes in
+          let two = both_true _ _ goes_on in
           let out : is_outside met.offer ≡ true = ap is_of_outside (sym there) ∙ two.1 in
           let it = (shorter (of n) ds d s).2 in
           let one_of : Some it.0 ≡ Some met = sym it.1 ∙ there in
           let one : it.0 ≡ met = cc in
           wait_more (of n) ds d it.0 lt s it.2 (ap (λ (x : Met). is_outside x.offer) one ∙ out) two.0
 
-      rest : (more : ℕ) → i + suc more ≡ m + 1 → (b : Bool) → goes ≡ b → AllByRecursion (EndsBy most t) (cond b (departing (beginning (of n) k) (of n) ds at (i + 1) few) [])
-          → cond b (departing (beginning (of m) k) (of m) ds at (i + 1) more) [] ≡ cond b (departing (beginning (of n) k) (of n) ds at (i + 1) few) []
-      rest more g true yes all = same_departing k deep ds at met own there few more (i + 1) (omega arith) (longer yes) (omega (arith, e)) (omega (arith, g)) all
-      rest more g false yes all = refl
+      Later : Type 0
+      Later = (later : ℕ) → i + suc later ≡ m + 1 → goes ≡ true → AllByRecursion (EndsBy most t) (departing (beginning (of n) k) (of n) ds at (i + 1) few)
+          → departing (beginning (of m) k) (of m) ds at (i + 1) later ≡ departing (beginning (of n) k) (of n) ds at (i + 1) few
 
-      by : (more : ℕ) → i + more ≡ m + 1 → departing (beginning (of m) k) (of m) ds at i more ≡ departing (beginning (of n) k) (of n) ds at i (suc few)
-      by zero g = let most_waits = few_waits ds at i ends s in absurd (omega (arith, most_waits, high, g))
-      by (suc more) g =
-          ap (λ l. l ++ cond (can_wait (end_of (of m) es) && is_of_outside (slice_get (end_of (of m) ds).met at)) (departing (beginning (of m) k) (of m) ds at (i + 1) more) []) (deep es s parts.0)
-          ∙ ap (λ b. beginning (of n) k es ++ cond b (departing (beginning (of m) k) (of m) ds at (i + 1) more) []) same
-          ∙ ap (λ l. beginning (of n) k es ++ l) (rest more g goes refl parts.1)
+      rest : Later → (later : ℕ) → i + suc later ≡ m + 1 → (b : Bool) → goes ≡ b → AllByRecursion (EndsBy most t) (cond b (departing (beginning (of n) k) (of n) ds at (i + 1) few) [])
+          → cond b (departing (beginning (of m) k) (of m) ds at (i + 1) later) [] ≡ cond b (departing (beginning (of n) k) (of n) ds at (i + 1) few) []
+      rest go later g true is all = go later g is all
+      rest go later g false is all = refl
+
+      by : Later → (later : ℕ) → i + later ≡ m + 1 → departing (beginning (of m) k) (of m) ds at i later ≡ departing (beginning (of n) k) (of n) ds at i (suc few)
+      by go zero g = let most_waits = few_waits ds at i ends s in absurd (omega (arith, most_waits, high, g))
+      by go (suc later) g =
+          ap (λ l. l ++ cond (can_wait (end_of (of m) es) && is_of_outside (slice_get (end_of (of m) ds).met at)) (departing (beginning (of m) k) (of m) ds at (i + 1) later) []) (deep es s parts.0)
+          ∙ ap (λ b. beginning (of n) k es ++ cond b (departing (beginning (of m) k) (of m) ds at (i + 1) later) []) same
+          ∙ ap (λ l. beginning (of n) k es ++ l) (rest go later g goes refl parts.1)
 
   same_flat : (k : ℕ) → AreSame k → (ds : List Departure) → IsSchedule (of n) ds → EndsBy most t ds → (len a : ℕ) → (end_of (of n) ds).after ≤ a → a + len ≤ length (end_of (of n) ds).met
       → AllByRecursion (EndsBy most t) (flat_map (λ at. departing (beginning (of n) k) (of n) ds at 1 n) (range_with_len a len))

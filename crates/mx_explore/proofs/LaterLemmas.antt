@@ -1,6 +1,6 @@
 -- Schedules that were counted apart, each with departures in front of it.
 use Rattle.std.proofs.Common.{◌≡◌, ◌∙◌, ◌<◌, ◌≤◌, ◌+◌, ◌==◌, ◌++◌, ℕ, zero, suc, Bool, true, false, List, [], ◌∷◌, map, not, length, length-append, cond, nat_lt, inl, inr, refl, ap, sym, subst, arith, true≢false}
-use Rattle.std.specs.Prelude.{All, Contains, filter}
+use Rattle.std.specs.Prelude.{All, Contains, filter, fold}
 use Rattle.std.specs.Cmp.{both_ways}
 use Rattle.std.specs.Cmp.Lexicographic.{slice_cmp}
 use Rattle.std.specs.List.{AllByRecursion, IsDistinct, flat_map, sum_by}
@@ -142,17 +142,20 @@ module _ (ds : List Departure) (n : ℕ) where
 
 -- ---- schedules in another order
 
--- how many lead to a text
-lead_count : (t : List ℕ) (xs : List Found) → length (leading_to t xs) ≡ sum_by (λ (g : Found). cond (bytes_eq g.text t) 1 0) xs
-lead_count t [] = refl
-lead_count t (x ∷ xs) = by (lead_count t xs) (bytes_eq x.text t)
-  where
-    rest : ℕ
-    rest = sum_by (λ (g : Found). cond (bytes_eq g.text t) 1 0) xs
+-- how many lead to a text, with k before
+abbrev weighed : List ℕ → ℕ → Found → ℕ
+weighed t k g = k + cond (bytes_eq g.text t) 1 0
 
-    by : length (leading_to t xs) ≡ rest → (b : Bool) → length (cond b (x ∷ leading_to t xs) (leading_to t xs)) ≡ cond b 1 0 + rest
-    by e true = omega (arith, e)
-    by e false = omega (arith, e)
+lead_from : (t : List ℕ) (k : ℕ) (xs : List Found) → k + length (leading_to t xs) ≡ fold (weighed t) k xs
+lead_from t k [] = let z : k + 0 ≡ k = omega arith in z
+lead_from t k (x ∷ xs) = by (λ i. lead_from t i xs) (bytes_eq x.text t)
+  where
+    by : ((i : ℕ) → i + length (leading_to t xs) ≡ fold (weighed t) i xs) → (b : Bool) → k + length (cond b (x ∷ leading_to t xs) (leading_to t xs)) ≡ fold (weighed t) (k + cond b 1 0) xs
+    by rest true = (let z : k + suc (length (leading_to t xs)) ≡ (k + 1) + length (leading_to t xs) = omega arith in z) ∙ rest (k + 1)
+    by rest false = (let z : k + length (leading_to t xs) ≡ (k + 0) + length (leading_to t xs) = omega arith in z) ∙ rest (k + 0)
+
+lead_count : (t : List ℕ) (xs : List Found) → length (leading_to t xs) ≡ sum_by (λ (g : Found). cond (bytes_eq g.text t) 1 0) xs
+lead_count t xs = (let z : length (leading_to t xs) ≡ 0 + length (leading_to t xs) = omega arith in z) ∙ lead_from t 0 xs
 
 lead_in : (P : Found → Type 0) (t : List ℕ) (xs : List Found) → AllByRecursion P (leading_to t xs) → AllByRecursion (λ (g : Found). bytes_eq g.text t ≡ true → P g) xs
 lead_in P t [] h = tt

@@ -30,7 +30,7 @@ drop_append [] ys k = let e : k + 0 ≡ k = omega arith in ap (λ i. drop i ys) 
 drop_append (x ∷ xs) ys k = let e : k + suc (length xs) ≡ suc (k + length xs) = omega arith in ap (λ i. drop i (x ∷ (xs ++ ys))) e ∙ drop_append xs ys k
 
 pub range_split : (a n m : ℕ) → range_with_len a (n + m) ≡ range_with_len a n ++ range_with_len (a + n) m
-range_split a zero m = let e : a ≡ a + 0 = omega arith in ap (λ i. range_with_len i m) e
+range_split a zero m = let none : zero + m ≡ m = omega arith in let e : a ≡ a + 0 = omega arith in ap (range_with_len a) none ∙ ap (λ i. range_with_len i m) e
 range_split a (suc n) m =
     let e : suc n + m ≡ suc (n + m) = omega arith in
     let f : a + 1 + n ≡ a + suc n = omega arith in
@@ -129,13 +129,13 @@ module _ (t : Setting) (ds : List Departure) (j : ℕ) (q : Passage) (h : IsThro
       ∙ ap (λ l. map all (beginning here k (departed es at n)) ++ l)
       (map_cond (can_wait (end_of t (departed (all es) (at + many) n)) && is_of_outside (slice_get (end_of t (all es)).met (at + many))) (can_wait (end_of here (departed es at n)) && is_of_outside (slice_get (end_of here es).met at))
       (departing (beginning t k) t (all es) (at + many) (n + 1) more) (departing (beginning here k) here es at (n + 1) few) both
-      (λ yes. departing_all k deep es at m there few more (n + 1) (omega arith) (longer yes) (omega (arith, e)) (omega (arith, le))))
+      (λ more_turns. departing_all k deep es at m there few more (n + 1) (omega arith) (longer more_turns) (omega (arith, e)) (omega (arith, le))))
       ∙ sym (map-append all (beginning here k (departed es at n)) (cond (can_wait (end_of here (departed es at n)) && is_of_outside (slice_get (end_of here es).met at)) (departing (beginning here k) here es at (n + 1) few) []))
     where
       longer : (can_wait (end_of here (departed es at n)) && is_of_outside (slice_get (end_of here es).met at)) ≡ true → IsSchedule here (departed es at (n + 1))
-      longer yes =
+      longer more_turns =
           let d : Departure = record { at = at; turns = n } in
-          let two = both_true _ _ yes in
+          let two = both_true _ _ more_turns in
           let out : is_outside m.offer ≡ true = ap is_of_outside (sym there) ∙ two.1 in
           let it = (shorter here es d s).2 in
           let same : Some it.0 ≡ Some m = sym it.1 ∙ there in
