@@ -196,21 +196,6 @@ class Check:
                 words += ["--events", self.write("events", case["events"])]
             self.compare(case, self.mx("turns", *words))
 
-    def do_explore(self):
-        """A machine in each order that departs in so many places from that of the turns: of each outcome the history of the first
-        schedule has what is wanted. The turns come first: where these are wrong, others aren't asked for."""
-        for case in self.cases():
-            config, bound = self.machine(case), ["--turns", str(self.row["turns"])]
-            self.compare(case, self.mx("turns", config, self.log, *bound))
-            saved = f"{self.number}.outcome"
-            found, total = outcomes(self.mx("explore", config, "--departures", str(self.row["departures"]), *bound,
-                                            "--save", saved))
-            for number, outcome in enumerate(found, 1):
-                self.log = f"{saved}{number}"
-                printed = run([MX, "replay", config, self.log], self.room, self.student.bounds)
-                self.compare({**case, "name": f"{case['name']}, {outcome_in_words(outcome, total)}"}, printed)
-            self.log = f"{self.number}.log"
-
     def do_sweep(self):
         """A fault at each position of a run: the machine ends at rest, with the wanted console and states, at each of
         them; and at some the history is looked at. A case without a fault is a run alone."""
@@ -423,24 +408,6 @@ def blocks(printed):
         elif re.fullmatch(r"  \S+ \d+ (ready|out|doomed|down .*|(sending|calling|receiving|awaiting) \S+)", line):
             found[-1]["states"].append(line.strip())
     return [{**it, "console": console_of(it)} for it in found]
-
-
-def outcomes(printed):
-    """What `mx explore` found: of each outcome how many schedules lead to it, and the departures of the first; and how many
-    schedules there are."""
-    found = []
-    for line in printed.splitlines():
-        if it := re.match(r"outcome \d+: (\d+) schedules", line):
-            found.append({"schedules": int(it[1]), "departures": []})
-        elif it := re.match(r"  after (\d+): (.*)", line):
-            found[-1]["departures"].append(f"after {it[1]} records {it[2]}")
-    return found, int(re.search(r"(?m)^(\d+) schedules with", printed)[1])
-
-
-def outcome_in_words(outcome, total):
-    """How many schedules lead to an outcome, and how the first of them departs."""
-    departs = "; ".join(outcome["departures"]) or "without a departure"
-    return f"in {outcome['schedules']} of {total} schedules, the first: {departs}"
 
 
 def console_of(block):

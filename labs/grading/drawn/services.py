@@ -230,12 +230,11 @@ def guests(draw, to_the_end):
     return {it: [*steps, (ASK, "names", LOOKUP, NAME_JUDGE)] for it, steps in plans.items()}
 
 
-def six(draw, cpus, levels=(7, 7), given=(), takers=("waits", "polls"), is_visited=True, **want):
+def six(draw, cpus, levels=(7, 7), given=(), takers=("waits", "polls"), **want):
     """Name server, queue, judge, two producers with items of their own, two consumers and guests, in slots that are drawn. The
     levels are those of producers and consumers; without them all are drawn. Guests ask to the end, but where the queue is to
-    be full; a machine that isn't visited has none. On one processor the judge runs when all others wait: so who looks it up does
-    so before it has its name. The servers that are `given` are the grader's; then the items are large. The consumers are of the
-    programs `takers`."""
+    be full. On one processor the judge runs when all others wait: so who looks it up does so before it has its name. The
+    servers that are `given` are the grader's; then the items are large. The consumers are of the programs `takers`."""
     items = [[draw.randint(1, LARGEST if given else 1000) for _ in range(ITEMS)] for _ in range(2)]
     names, queue = (f"good_{it}.out" if it in given else f"{it}.out" for it in ("names", "queue"))
     makes, takes = levels or (0, 0)
@@ -245,7 +244,7 @@ def six(draw, cpus, levels=(7, 7), given=(), takers=("waits", "polls"), is_visit
             *[(name, f"{program}.out", takes, "3") for name, program in consumers.items()]]
     if not levels:
         rows = [(name, program, draw.choice([5, 7, 8]), calls) for name, program, _, calls in rows]
-    visitors = guests(draw, levels != FULL) if is_visited else {}
+    visitors = guests(draw, levels != FULL)
     rows = in_any_slots(draw, [*rows, *[(it, "actor.out", draw.randint(2, 3), "1") for it in visitors]])
     slots = {"names": 0} | {it[0]: slot for slot, it in enumerate(rows, 1)}
     plans = {it: plan(*[(what, slots[to], *rest) for what, to, *rest in steps]) for it, steps in visitors.items()}
@@ -297,13 +296,6 @@ def by_threads(draw):
     """The runs are of these machines by turns."""
     yield six(draw, 4) | {"name": on(4)}
     yield from of_two(draw)
-
-
-def in_every_order(draw):
-    """Without guests nobody asks too early in the order of turns, and in few others: these show who doesn't keep who waits. With
-    guests many wait for a name at once."""
-    yield six(draw, 4, is_visited=False) | {"name": f"{on(4)}, without guests"}
-    yield six(draw, 4, FULL) | {"name": f"{on(4)}, with guests"}
 
 
 ADDERS = ("ann", "ben", "cleo")
